@@ -24,6 +24,8 @@ pub mod ReachedStates
 pub mod Invariants
 -- a page that a job may miss stays once it is there
 pub mod PagesThere
+-- a bucket that a table has stays where it is
+pub mod BucketsThere
 -- the invariant holds in every run
 pub mod InvariantRuns
 -- in every run each caller works at the call of its book, and its calls took out as many nodes as that says

@@ -1,5 +1,3 @@
--- so far a bucket has its place whatever the words of the pages are
-pub mod FlatBuckets
 -- which tables are in force
 pub mod TablesInForce
 -- what the words stand for is what the ghost says

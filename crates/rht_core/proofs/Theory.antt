@@ -16,8 +16,6 @@ pub mod PlacesRead
 pub mod MissingEntries
 -- what a caller that goes from table to table has passed
 pub mod Passed
--- and of its bucket, while each table is flat
-pub mod FlatTables
 -- what may be known
 pub mod Knowns
 -- what each caller knows

@@ -46,7 +46,7 @@ use Rattle.rht_core.proofs.Machines.JobSteps.{JobIn}
 use Rattle.rht_core.proofs.Events.Invariants.{step_of}
 use Rattle.rht_core.proofs.Events.InvariantRuns.{has_inv}
 use Rattle.rht_core.proofs.Events.Worlds.{induct_by_last, take-push, take-push_all, run_of-push, step_none, step_words}
-use Rattle.rht_core.proofs.Tracing.TracedJobs.{Performs, LeadsOn, IsKeeping, IsAtJob, jobs_keep_in}
+use Rattle.rht_core.proofs.Tracing.TracedJobs.{Performs, LeadsOn, IsKeeping, IsAtJob, jobs_keep_standing}
 use Rattle.rht_core.proofs.Tracing.TracedRuns.{world-traced_of}
 use Rattle.rht_core.proofs.Tracing.TracesInRuns.{remembers}
 use Rattle.rht_core.proofs.Reasons.CausesInRuns.{JobSaw, EndsSeen, job-leads, first_job-saw}
@@ -261,11 +261,11 @@ module _ (M : Type 0) (mix : ℕ → ℕ → ℕ → ℕ) (env : Env) (roomy : I
     calls-calm : (c : ℕ) → IsAdmitted env.config.kind events
         → let r : Traced M = traced_of mix env events in IsKeeping M mix env Now Ended (view_of r.world c) (r.traces c)
     calls-calm c admitted =
-        jobs_keep_in M mix env Now Ended events record {
+        jobs_keep_standing M mix env Now Ended events record {
           begins = λ call job is. (first_job-saw M mix env events call job is, first-so (CalmJob env) (first_job env call) job (first-calm call) is);
           goes = λ job steps did performs now kept.
               both-lead job (steps ++ did ∷ []) (job_after mix env job did.old)
-              (job-leads M mix env events job steps did performs now kept.0) (job-calm job steps did performs now kept);
+              (job-leads M mix env events job steps did performs now kept.0) (job-calm job steps did performs now.now kept);
         } c admitted
 
   -- ---- one event

@@ -76,7 +76,7 @@ use Rattle.rht_core.proofs.Events.JobsOfCallers.{first_job-machine, left-job, do
 use Rattle.rht_core.proofs.Events.RangesInRuns.{AllIn, opens-all, event-all}
 use Rattle.rht_core.proofs.Events.SoundRuns.{has_place, made_in}
 use Rattle.rht_core.proofs.Events.Worlds.{induct_by_last, beginning-some, planned-some, run_of-push, begin_none, begin_self, begin_other, step_none, step_self, step_other}
-use Rattle.rht_core.proofs.Tracing.TracedJobs.{Performs, IsAtJob, jobs_keep_in}
+use Rattle.rht_core.proofs.Tracing.TracedJobs.{Performs, IsAtJob, jobs_keep_standing}
 use Rattle.rht_core.proofs.Tracing.TracedRuns.{world-traced_of}
 use Rattle.rht_core.proofs.Reasons.AttachedTables.{lock-none, make-none, unmake-none}
 use Rattle.rht_core.proofs.Reasons.CausesInRuns.{JobSaw, EndsSeen, job-leads, first_job-saw}
@@ -397,7 +397,7 @@ module _ (L : Type 0) (mix : ℕ → ℕ → ℕ → ℕ) (env : Env) (keeps : e
           let r : Traced L = traced_of mix env events in
           let Now = JobSaw env (words_before L mix env events) in
           let Ended = EndsSeen L mix env events in
-          let now = (jobs_keep_in L mix env Now Ended events
+          let now = (jobs_keep_standing L mix env Now Ended events
           record { begins = first_job-saw L mix env events; goes = job-leads L mix env events } c admitted).now in
           let local = ap (λ (v : World L). job_of (local_of v.core c).doing) (world-traced_of L mix env events) ∙ of.is in
           (subst (λ (j : Option Job). IsAtJob L mix env Now Ended j (r.world.books c) (r.traces c).steps) local now).now

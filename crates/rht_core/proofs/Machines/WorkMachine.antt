@@ -603,7 +603,7 @@ module _ (env : Env) (mix : ℕ → ℕ → ℕ → ℕ) (c : ℕ) where
     table_found : (emptying : Emptying) (op : Op) (last : Last) (known : KnownAim)
         → word_after (old_of words op) op ≡ old_of words op
         → knowing (moving_at (Some emptying.bucket.place)) (in_bucket emptying known) M G
-        → (WorkMeans env mix c M G (in_bucket emptying known)
+        → (is_nested last.shape ≡ false → WorkMeans env mix c M G (in_bucket emptying known)
         → WorkMeans env mix c M G (in_bucket emptying (Beyond last.table (Some last.shape) None)))
         → let next = cond (is_nested last.shape) (unlocking emptying true) (at.Seed emptying last) in
         Step env mix c call words G op (moving_at (Some emptying.bucket.place)) (held_of_work next) (WorkNext (next, Go))
@@ -616,7 +616,7 @@ module _ (env : Env) (mix : ℕ → ℕ → ℕ → ℕ) (c : ℕ) where
         (λ k. record { works = k.works; more = record { next = k.more.next; out = k.more.out; aim_is = tt } })
         (says (replies.Moved true) tt refl refl refl) refl refl)
         (λ f. load_moving op (Some emptying.bucket.place) (in_bucket emptying known)
-        (in_bucket emptying (Beyond last.table (Some last.shape) None)) (at.Seed emptying last) same knows learns
+        (in_bucket emptying (Beyond last.table (Some last.shape) None)) (at.Seed emptying last) same knows (learns f)
         (inl refl) refl refl)
 
     seek_entry : (emptying : Emptying) (state : LastTableAt)

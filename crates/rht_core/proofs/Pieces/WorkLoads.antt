@@ -1,5 +1,5 @@
 -- What the caller that does the work learns by its loads.
-use Rattle.std.proofs.Common.{◌≡◌, ◌≢◌, ℕ, ◌+◌, ◌*◌, ◌^◌, ◌<◌, ◌≤◌, List, [], ◌∷◌, ◌++◌, Option, Some, None, true, false, nat_lt, cond, refl, sym, ◌∙◌, ap, subst, inl, inr, arith}
+use Rattle.std.proofs.Common.{◌≡◌, ◌≢◌, ℕ, ◌+◌, ◌^◌, ◌<◌, ◌≤◌, List, [], ◌∷◌, ◌++◌, Option, Some, None, true, false, nat_lt, cond, refl, sym, ◌∙◌, ap, subst, inl, inr, arith}
 use Rattle.std.proofs.Math.Nat.{mod-eq_of_lt}
 use Rattle.std.proofs.Math.Seq.{append_snoc}
 use Rattle.std.proofs.lemmas.Bool.{lt-ltb, cases_lt, le-ltb}
@@ -18,16 +18,15 @@ use Rattle.rht_words.proofs.Members.{in-middle}
 use Rattle.rht_words.proofs.LinksRead.{links_tell_apart}
 use Rattle.rht_words.proofs.ChainLemmas.{IsSegment-cut}
 use Rattle.rht_policy.specs.Mix.{bucket_of}
-use Rattle.rht_nest.specs.Place.{PlaceModel, bucket_index, flat_place, nested_place, entered, behind_entry, place_or_last}
+use Rattle.rht_nest.specs.Place.{PlaceModel, flat_place, nested_place, entered, behind_entry, place_or_last}
 use Rattle.rht_nest.specs.Tables.{is_nested}
 use Rattle.rht_core.proofs.Theory.Ghosts.{Ghost, has_table, index_at, lock_bit, none-some}
-use Rattle.rht_core.proofs.Theory.Wholes.{chain_of, key_of, place_at, word_index, place_at-index, index-place_at, index-within, hash_in, future_in, stop, TableRight, Whole}
+use Rattle.rht_core.proofs.Theory.Wholes.{chain_of, key_of, place_at, word_index, place_at-index, index-within, hash_in, future_in, stop, TableRight, Whole}
 use Rattle.rht_core.proofs.Theory.Passed.{hash-below, held-no_entry}
 use Rattle.rht_core.proofs.Theory.Knowns.{KnownAim, NoAim, Onward, From, Beyond, KnownRehash, KnownPlace, KnownEntry, KnownWork, Works, Rooted, Follows, Empties, Nears, Faces, InBucket, Bare, AtEntry, AtTail, Aims}
 use Rattle.rht_core.proofs.Theory.Knowledge.{DoesWork, HasLock, IsEmptying, IsNearing, IsInBucket, WorkMeans}
 use Rattle.rht_core.proofs.Theory.WaysRead.{words_of_pages, read_by_entry, flat_read, near_read, near_next, place_of_bucket, missing_home}
 use Rattle.rht_core.proofs.Moves.Relinking.{last_of-more}
-use Rattle.rht_core.proofs.Theory.FlatTables.{flat_right, home-index}
 
 -- Behind a load of a table's future: the last table, which may be the current one, and the last one where there is one behind the
 -- current one
@@ -373,6 +372,7 @@ module _ (env : Env) (mix : ℕ → ℕ → ℕ → ℕ) (c : ℕ) (M : Memory) 
           table = is.aim_is.table;
           later = omega (arith, leads, more);
           shape_is = tt;
+          flat = tt;
           seed_is = tt;
         };
       })
@@ -382,9 +382,11 @@ module _ (env : Env) (mix : ℕ → ℕ → ℕ → ℕ) (c : ℕ) (M : Memory) 
         aim_is = record { table = leads.table; from = omega (arith, leads.index_is, from) };
       })
 
-  pub aim_shape : (root : KnownRehash) (at : KnownPlace) (slot : ℕ) → Knows (InBucket root at (Beyond slot None None))
+  -- its shape, where that isn't nested
+  pub aim_shape : (root : KnownRehash) (at : KnownPlace) (slot : ℕ) → is_nested (M (Slot slot ShapeWord)) ≡ false
+      → Knows (InBucket root at (Beyond slot None None))
       → Knows (InBucket root at (Beyond slot (Some (M (Slot slot ShapeWord))) None))
-  aim_shape root at slot knows =
+  aim_shape root at slot flat knows =
       in_bucket root at (Beyond slot None None) (Beyond slot (Some (M (Slot slot ShapeWord))) None) knows
       (λ is. record {
         next = is.next;
@@ -393,6 +395,7 @@ module _ (env : Env) (mix : ℕ → ℕ → ℕ → ℕ) (c : ℕ) (M : Memory) 
           table = is.aim_is.table;
           later = is.aim_is.later;
           shape_is = sym (shape_word slot is.aim_is.table);
+          flat = flat;
           seed_is = tt;
         };
       })
@@ -409,6 +412,7 @@ module _ (env : Env) (mix : ℕ → ℕ → ℕ → ℕ) (c : ℕ) (M : Memory) 
           table = is.aim_is.table;
           later = is.aim_is.later;
           shape_is = is.aim_is.shape_is;
+          flat = is.aim_is.flat;
           seed_is = sym (seed_word slot is.aim_is.table);
         };
       })
@@ -533,7 +537,7 @@ module _ (env : Env) (mix : ℕ → ℕ → ℕ → ℕ) (c : ℕ) (M : Memory) 
         ≡ place
     pub knows : Knows (Aims root at entry place)
 
-  -- by its key, which is that of a port that is bound, and so has 32 bits
+  -- by its key, which is that of a port that is bound, and so has 32 bits. The table isn't nested, so the bucket's place needs no words.
   pub key_seen : (root : KnownRehash) (at : KnownPlace) (entry : KnownEntry) (slot shape seed : ℕ)
       → Knows (AtTail root at entry (Beyond slot (Some shape) (Some seed)))
       → HasAim root at entry shape seed
@@ -551,17 +555,18 @@ module _ (env : Env) (mix : ℕ → ℕ → ℕ → ℕ) (c : ℕ) (M : Memory) 
       let τ = index_at G slot in
       let attached = (whole.tables.slots slot aim.table).attached in
       let key = key_of M entry.node in
-      let placed = flat_right env mix M G whole τ attached in
-      let j = bucket_index (G.table τ).shape (hash_in env mix G key τ) in
-      let within : j < 64 * env.geometry.pages = omega (arith, hash-below env mix M G whole key τ, placed.fits) in
+      let number = hash_in env mix G key τ in
+      let below = hash-below env mix M G whole key τ in
+      let place = flat_place env.geometry (G.table τ).shape number in
+      let placed = place_of_bucket env mix M G whole τ number attached below place
+      (flat_read env mix M G whole τ number attached below (ap is_nested aim.shape_is ∙ aim.flat)) in
       let same : port_of key ≡ key = mod-eq_of_lt {n = key} {m = 2 ^ 32} small in
       record {
-        place = place_at env mix j;
+        place = place;
         there = ap (λ k. flat_place env.geometry shape (bucket_of mix k shape seed)) same
             ∙ ap (λ s. flat_place env.geometry s (bucket_of mix key s seed)) (sym aim.shape_is)
             ∙ ap (λ d. flat_place env.geometry (G.table τ).shape (bucket_of mix key (G.table τ).shape d))
-            (sym aim.seed_is)
-            ∙ omega (arith, within);
+            (sym aim.seed_is);
         knows = record {
           works = knows.works;
           more = record {
@@ -573,11 +578,11 @@ module _ (env : Env) (mix : ℕ → ℕ → ℕ → ℕ) (c : ℕ) (M : Memory) 
               last = tail.last;
             };
             aim = record {
-              bucket = (omega arith, omega (arith, within));
+              bucket = placed.bucket;
               table = τ;
               later = aim.later;
               attached = attached;
-              here = home-index env mix M G whole key τ attached ∙ ap Some (sym (index-place_at env mix j));
+              here = placed.here;
             };
           };
         };

@@ -121,14 +121,14 @@ use Rattle.rht_core.proofs.Theory.Knowns.{OnWay}
 use Rattle.rht_core.proofs.Pieces.Locates.{known_locate}
 use Rattle.rht_core.proofs.Reasons.PagesMissed.{SawGrowing, SawGrown, grow-saw, SeesMissing, begins-missing, SeesMissing-push, SawNoPage-push, misses-page}
 use Rattle.rht_core.proofs.Tracing.TracesAtEvents.{at_events}
-use Rattle.rht_core.proofs.Tracing.TracedJobs.{Performs, LeadsOn, IsEndedSo, jobs_keep_in}
+use Rattle.rht_core.proofs.Tracing.TracedJobs.{Performs, StandsIn, LeadsOn, IsEndedSo, jobs_keep_standing}
 use Rattle.rht_move.specs.Work as work
 use Rattle.rht_move.specs.declared.work.WorkAt.TheVariants as works_at
 use Rattle.rht_core.proofs.Reasons.WorkChoices.{SawIdle-nothing, SawReplaced-published, SawForWork, SawAtWork, work-saw}
 use Rattle.rht_core.proofs.Counting.FullTables.{counted_at}
 use Rattle.rht_core.proofs.Reasons.TablesWalked.{IsNoRaise, IsAside, no_load, aside, elsewhere, node_loads, probe_loads, relink_stores, CameTo-append, came-current, came-future, walked-came, LastWalked-push, Walked, Walked-push, WalkedSeeing, WalkedSeeing-push, LoadedNoKey, WalkedAt, CameBeyond, WalkedNext, same_table, locate-walked}
 use Rattle.rht_core.proofs.Reasons.KeyLoads.{no_key, no_key-behind, no_key-run}
-use Rattle.rht_core.proofs.Reasons.ChainsCounted.{none-counted, HasCounted, HasCounted-push, CountedAt, CountedNext, probe-counted, long-counted}
+use Rattle.rht_core.proofs.Reasons.ChainsCounted.{HasCounted, HasCounted-none, HasCounted-push, CountedAt, CountedNext, probe-counted, long-counted}
 use Rattle.rht_core.proofs.Reasons.AttachedTables.{IsNoFutureExchange, IsNoAttach, no_attach, AttachedSo, AttachedSo-push, SawAttached, attached-saw, relink-none, unmake-none}
 use Rattle.rht_core.proofs.Reasons.UnraisedBinds.{grow-none, SawUnraised, unraised-saw}
 use Rattle.rht_core.proofs.Reasons.RefusedBinds.{no_slot, no_key-future, Behind, Behind-push, SawWhy, SawWhy-push, SawRoot, SawOther, SawRefusal, SawToMake, SawFullUp, refusal-why, Settled, IsFollowing, FollowedSeen, FollowedSeen-push, BusySeen, BusySeen-push, NoTableSeen, NoTableSeen-push, above-why, root-saw, begins-making, other-saw, making-saw, no_room-saw, busy-saw, no_table-saw, followed-saw}
@@ -217,7 +217,7 @@ module _ (env : Env) (words_at : ℕ → List ℕ) where
   -- once the walk has ended: how many nodes it counted in the bucket
   abbrev SawCounted : Claimed → ℕ → List Did → Type 0
   SawCounted claimed length steps =
-      let counted = HasCounted env.geometry words_at claimed.bucket.place length in
+      let counted = HasCounted env.geometry words_at claimed.shape claimed.bucket.place length in
       WalkedSeeing env.geometry claimed.table claimed.shape counted steps
 
   -- behind an unlocking it goes on in a table that it came to, or gives its answer
@@ -232,7 +232,7 @@ module _ (env : Env) (words_at : ℕ → List ℕ) where
   SawAt (at.Entering attempt table shape place grow) steps =
       WalkedSeeing env.geometry table shape (SeesMissing env words_at shape (SawGrowing env.geometry grow.at)) steps
   SawAt (at.Probing attempt table shape probe) steps =
-      WalkedSeeing env.geometry table shape (CountedAt env.geometry words_at probe.at) steps
+      WalkedSeeing env.geometry table shape (CountedAt env.geometry words_at shape probe.at) steps
   SawAt (at.FoundOwner claimed found) steps = Unit {0}
   SawAt (at.ListLink list) steps = Walked env.geometry list.claimed.table list.claimed.shape steps
   SawAt (at.ChainLink list) steps = Walked env.geometry list.claimed.table list.claimed.shape steps
@@ -457,7 +457,7 @@ module _ (env : Env) (words_at : ℕ → List ℕ) where
 
   probed-saw : (kind : Kind) (attempt : Attempt) (table shape : ℕ) (probe : ProbeModel) (r : ProbeAt × Next Probed)
       (steps : List Did)
-      → WalkedSeeing env.geometry table shape (CountedNext env.geometry words_at r) steps
+      → WalkedSeeing env.geometry table shape (CountedNext env.geometry words_at shape r) steps
       → SawAt (probed kind attempt table shape (record probe { at = r.0 }) r.1) steps
   probed-saw kind attempt table shape probe (state, Go) steps seeing = seeing
   probed-saw kind attempt table shape probe (state, Done end) steps seeing =
@@ -466,10 +466,11 @@ module _ (env : Env) (words_at : ℕ → List ℕ) where
 
   -- 16 nodes that were counted are a long chain, where no table is behind
   future-saw : (claimed : Claimed) (length : ℕ) (future : Option ℕ) (steps : List Did)
-      → ((behind : List Did) → 16 ≤ length → HasCounted env.geometry words_at claimed.bucket.place length behind
+      → ((behind : List Did) → 16 ≤ length → HasCounted env.geometry words_at claimed.shape claimed.bucket.place length behind
       → SawLongChain env.geometry words_at claimed.shape behind)
       → ((table : ℕ) → future ≡ Some table → CameTo env.geometry table steps)
-      → WalkedSeeing env.geometry claimed.table claimed.shape (HasCounted env.geometry words_at claimed.bucket.place length) steps
+      → WalkedSeeing env.geometry claimed.table claimed.shape
+      (HasCounted env.geometry words_at claimed.shape claimed.bucket.place length) steps
       → SawAt (future_or_count claimed length future) steps
   future-saw claimed length None steps long came seeing =
       by_test (λ t. SawAt (cond t (unlocking_full claimed full.Chain) (at.Count claimed)) steps) (nat_le 16 length)
@@ -694,11 +695,7 @@ module _ (env : Env) (words_at : ℕ → List ℕ) where
         → MissedAt table shape bucket steps → SawAt (at_bucket env port attempt table shape bucket) steps
     bucket-saw attempt table shape (buckets.At place) steps walked came missed = record {
       walked = walked.walked;
-      saw = record {
-        nodes = [];
-        counted = none-counted env.geometry words_at place 0 walked.walked.last.behind walked.saw;
-        many = refl;
-      };
+      saw = HasCounted-none env.geometry words_at shape place walked.walked.last.behind walked.saw;
     }
     bucket-saw attempt table shape (buckets.Missing place (Some next)) steps walked came missed = came
     bucket-saw attempt table shape (buckets.Missing place None) steps walked came missed = missed
@@ -924,14 +921,16 @@ module _ (env : Env) (words_at : ℕ → List ℕ) where
         })) saw))
 
     bind-saw : (state : BindAt) (steps : List Did) (did : Did)
-        → (does : Performs mix env (binds port owner once state) did) → does.words ≡ words_at did.index
+        → (does : Performs mix env (binds port owner once state) did)
+        → StandsIn mix env words_at (binds port owner once state) did does
         → SawAt state steps → SawAttached env state steps → SawUnraised env state steps
         → SawNext (steps ++ did ∷ []) (after_at mix env port once state did.old)
     bind-saw (at.Filling new) steps did does now saw so unraised =
         bind_made-saw new (new_node_after_at new.at did.old) (steps ++ did ∷ [])
         (new-saw new new.at steps did refl does.within.at_in does.planned saw)
     bind-saw (at.CurrentTable attempt) steps did does now saw so unraised = came-current env.geometry steps did does.planned
-    bind-saw (at.Locating attempt locate) steps did does now saw so unraised = locating-saw attempt locate steps did does now saw
+    bind-saw (at.Locating attempt locate) steps did does now saw so unraised =
+        locating-saw attempt locate steps did does now.now saw
     bind-saw (at.Entering attempt table shape place grow) steps did does now saw so unraised =
         let within = does.within.at_in.grow_in in
         let after = grow_after_at env.geometry grow.at did.old in
@@ -951,10 +950,11 @@ module _ (env : Env) (words_at : ℕ → List ℕ) where
         let within = does.within.at_in.probe_in.at_in in
         let after = probe_after_at probe.geometry probe.key probe.at did.old in
         probed-saw env.config.kind attempt table shape probe after (steps ++ did ∷ [])
-        (WalkedSeeing-push env.geometry table shape (CountedAt env.geometry words_at probe.at)
-        (CountedNext env.geometry words_at after) steps did (probe_loads env.geometry did probe.at within does.planned)
-        (λ behind counted. probe-counted env mix words_at does.caller port does.words does.ghost does.whole probe.geometry
-        probe.key probe.at behind did within does.knows.knowing.means.bucket does.planned now counted) saw)
+        (WalkedSeeing-push env.geometry table shape (CountedAt env.geometry words_at shape probe.at)
+        (CountedNext env.geometry words_at shape after) steps did (probe_loads env.geometry did probe.at within does.planned)
+        (λ behind counted. probe-counted env mix words_at does.caller port does.words does.ghost does.whole table shape
+        probe.geometry probe.key probe.at behind did within does.knows.knowing.means.table does.knows.knowing.means.bucket
+        does.planned now.now now.stay counted) saw)
     bind-saw (at.FoundOwner claimed found) steps did does now saw so unraised = does.knows.fits
     bind-saw (at.ListLink list) steps did does now saw so unraised =
         Walked-push env.geometry list.claimed.table list.claimed.shape steps did
@@ -976,7 +976,7 @@ module _ (env : Env) (words_at : ℕ → List ℕ) where
         (relink_stores env.geometry did relink relink.at does.planned).no_raise)
     bind-saw (at.Future claimed length) steps did does now saw so unraised =
         let place = claimed.bucket.place in
-        let counted = HasCounted env.geometry words_at place length in
+        let counted = HasCounted env.geometry words_at claimed.shape place length in
         future-saw claimed length (slot_of did.old) (steps ++ did ∷ [])
         (λ behind enough has. long-counted env mix words_at does.caller port does.words does.ghost does.whole claimed.table
         claimed.shape place length behind does.knows.knowing.means.table enough has)
@@ -984,7 +984,7 @@ module _ (env : Env) (words_at : ℕ → List ℕ) where
         (walked-came env.geometry claimed.table claimed.shape steps saw.walked.last))
         (WalkedSeeing-push env.geometry claimed.table claimed.shape counted counted steps did
         (elsewhere env.geometry did _ does.planned (λ table below same. absurd (omega arith)))
-        (λ behind has. HasCounted-push env.geometry words_at place length behind did
+        (λ behind has. HasCounted-push env.geometry words_at claimed.shape place length behind did
         (no_key-future env words_at did claimed.table does.within.at_in.table_in does.planned) has) saw)
     bind-saw (at.Count claimed) steps did does now saw so unraised =
         count-saw claimed steps did does.planned saw
@@ -1105,7 +1105,7 @@ module _ (M : Type 0) (mix : ℕ → ℕ → ℕ → ℕ) (env : Env) (events : 
   nothing-saw (state, Done end) = tt
 
   pub job-leads : (job : Job) (steps : List Did) (did : Did)
-      → (performs : Performs mix env job did) → performs.words ≡ words_at did.index → JobSaw env words_at job steps
+      → (performs : Performs mix env job did) → StandsIn mix env words_at job did performs → JobSaw env words_at job steps
       → LeadsOn M mix env (JobSaw env words_at) EndsSeen job (steps ++ did ∷ []) (job_after mix env job did.old)
   job-leads (finds port state) steps did performs now saw =
       let next = find_after_at mix env port state did.old in
@@ -1164,7 +1164,7 @@ module _ (M : Type 0) (mix : ℕ → ℕ → ℕ → ℕ) (env : Env) (events : 
   pub past-saw : (c : ℕ) → IsAdmitted env.config.kind events
       → AllByRecursion (λ (past : Past). SawOf env words_at past.done.call past.done.reply past.steps) ((traced_of {M = M} mix env events).traces c).past
   past-saw c admitted =
-      (jobs_keep_in M mix env (JobSaw env words_at) EndsSeen events record { begins = first_job-saw; goes = job-leads } c
+      (jobs_keep_standing M mix env (JobSaw env words_at) EndsSeen events record { begins = first_job-saw; goes = job-leads } c
       admitted).past
 
   -- ---- the causes

@@ -4,7 +4,10 @@
 -- a load the bucket is locked, so the nodes met from its word are the bucket's; the walk has as many of them behind it as it has
 -- counted, by what the bind knows; and each of them is what a port is bound to. So the operation counted its node. Any other
 -- operation leaves what was counted.
-use Rattle.std.proofs.Common.{◌≡◌, ℕ, ◌+◌, ◌<◌, ◌≤◌, ◌%◌, ◌==◌, List, [], ◌∷◌, ◌++◌, length, cond, refl, sym, ap, ◌∙◌, subst, inl, inr, arith}
+--
+-- At the event of such a load the port's bucket is at the place at which the bind walks, by the words. From then on it stays there, and no
+-- other bucket of the table is ever there. So all these loads found one bucket.
+use Rattle.std.proofs.Common.{◌≡◌, ◌⊎◌, ℕ, ◌+◌, ◌<◌, ◌≤◌, ◌%◌, ◌==◌, List, [], ◌∷◌, ◌++◌, length, cond, refl, sym, ap, ◌∙◌, subst, inl, inr, arith}
 use Rattle.std.specs.Prelude.{Option, Some, None}
 use Rattle.std.specs.List.{AllByRecursion}
 use Rattle.std.proofs.lemmas.List.{length-append, length_push}
@@ -17,7 +20,7 @@ use Rattle.rht_words.specs.Links.{node_of, head_of}
 use Rattle.rht_words.specs.Places.{Node, KeyWord, place_of}
 use Rattle.rht_words.specs.Shapes.{unpacked, size_of}
 use Rattle.rht_words.proofs.Memory.{Memory}
-use Rattle.rht_words.proofs.EachElement.{AllByRecursion-push}
+use Rattle.rht_words.proofs.EachElement.{AllByRecursion-push, AllByRecursion-weaker}
 use Rattle.rht_chain.specs.Lock.{LockModel, lock_after_at}
 use Rattle.rht_chain.specs.declared.lock.LockAt.{LockAt}
 use Rattle.rht_chain.specs.declared.lock.LockAt.TheVariants as locks
@@ -31,29 +34,24 @@ use Rattle.rht_chain.specs.declared.probe.ProbeAt.{ProbeAt}
 use Rattle.rht_chain.specs.declared.probe.ProbeAt.TheVariants as probes
 use Rattle.rht_chain.specs.declared.probe.Probed.{Probed}
 use Rattle.rht_core.specs.Traces.{Did}
-use Rattle.rht_core.specs.StandsFor.{page_word, bucket_in, bucket_nodes, stands_for, AreBound}
+use Rattle.rht_core.specs.StandsFor.{bucket_in, bucket_nodes, stands_for, AreBound}
 use Rattle.rht_core.specs.ResizeCauses.{IsNoKeyLoad, CountsNode, AreCounted, FindsBucketAt, SawLongChain}
 use Rattle.rht_core.proofs.Theory.Ghosts.{Ghost, index_at}
 use Rattle.rht_core.proofs.Theory.Wholes.{word_index, hash_in, place_at-index, index-within, Whole}
 use Rattle.rht_core.proofs.Theory.Passed.{hash-below, held-no_entry}
 use Rattle.rht_core.proofs.Theory.Knowledge.{IsAtHome, IsReaching, BucketMeans}
 use Rattle.rht_core.proofs.Theory.Steps.{mem, by_test}
-use Rattle.rht_core.proofs.Pieces.Probes.{known_walk, known_probe, one_more-counted}
+use Rattle.rht_core.proofs.Pieces.Probes.{place_of_probe, known_walk, known_probe, one_more-counted}
+use Rattle.rht_core.proofs.Events.BucketsThere.{StaysAt, BucketsStay}
 use Rattle.rht_core.proofs.Meaning.BoundPorts.{still_met}
-use Rattle.rht_core.proofs.Meaning.FlatBuckets.{flat_home}
 use Rattle.rht_core.proofs.Counting.CountedPorts.{members-AreBound}
 use Rattle.rht_core.proofs.Reasons.KeyLoads.{no_key-link, no_key-lock}
-
--- what is so of every operation is so of each of these
-each_of : (P : Did → Type 0) → ((did : Did) → P did) → (steps : List Did) → AllByRecursion P steps
-each_of P all [] = tt
-each_of P all (did ∷ steps) = (all did, each_of P all steps)
 
 module _ (g : Geometry) (words_at : ℕ → List ℕ) where
   -- ---- further operations
 
   -- where no key was loaded no node was counted
-  pub none-counted : (place number : ℕ) (steps : List Did) → AllByRecursion (IsNoKeyLoad g) steps
+  none-counted : (place number : ℕ) (steps : List Did) → AllByRecursion (IsNoKeyLoad g) steps
       → AreCounted g words_at place number steps []
   none-counted place number [] none = refl
   none-counted place number (did ∷ steps) none = (none.0, none-counted place number steps none.1)
@@ -98,66 +96,130 @@ module _ (g : Geometry) (words_at : ℕ → List ℕ) where
     many = saw.many;
   }
 
+  -- ---- where the bucket is found
+
+  -- from this event on a bucket of a table of this shape has its word at this place
+  pub record HasPlace (shape place from : ℕ) : Type 0 where
+    pub number : ℕ
+    pub within : number < size_of (unpacked shape)
+    pub stays : StaysAt g words_at shape number place from
+
+  -- and each load of a key found that bucket there
+  pub record FoundAt (shape place : ℕ) (steps : List Did) : Type 0 where
+    pub from : ℕ
+    pub has : HasPlace shape place from
+    pub each : AllByRecursion (FindsBucketAt g words_at shape has.number place) steps
+
+  -- so it is of these operations, unless none of them loaded a key
+  abbrev pub FoundSoFar : ℕ → ℕ → List Did → Type 0
+  FoundSoFar shape place steps = AllByRecursion (IsNoKeyLoad g) steps ⊎ FoundAt shape place steps
+
+  finds-nothing : (shape number place : ℕ) (steps : List Did) → AllByRecursion (IsNoKeyLoad g) steps
+      → AllByRecursion (FindsBucketAt g words_at shape number place) steps
+  finds-nothing shape number place steps none =
+      AllByRecursion-weaker (IsNoKeyLoad g) (FindsBucketAt g words_at shape number place)
+      (λ did no_key node loads. absurd (no_key node loads)) steps none
+
+  found-still : (shape place : ℕ) (steps : List Did) (did : Did) → IsNoKeyLoad g did → FoundSoFar shape place steps
+      → FoundSoFar shape place (steps ++ did ∷ [])
+  found-still shape place steps did no_key (inl none) = inl (AllByRecursion-push (IsNoKeyLoad g) steps did none no_key)
+  found-still shape place steps did no_key (inr found) = inr (record {
+    from = found.from;
+    has = found.has;
+    each = AllByRecursion-push (FindsBucketAt g words_at shape found.has.number place) steps did found.each
+        (λ node loads. absurd (no_key node loads));
+  })
+
+  -- where a bucket has its word at this place from the operation's event on, it is the one that those before found
+  found-more : (shape place : ℕ) (steps : List Did) (did : Did) → HasPlace shape place did.index → FoundSoFar shape place steps
+      → FoundSoFar shape place (steps ++ did ∷ [])
+  found-more shape place steps did has (inl none) = inr (record {
+    from = did.index;
+    has = has;
+    each = AllByRecursion-push (FindsBucketAt g words_at shape has.number place) steps did
+        (finds-nothing shape has.number place steps none) (λ node loads. has.stays.there did.index (omega arith));
+  })
+  found-more shape place steps did has (inr found) =
+      let number = found.has.number in
+      let later = found.from + did.index in
+      let same : number ≡ has.number = has.stays.only later number (omega arith) found.has.within
+      (found.has.stays.there later (omega arith)) in
+      inr (record {
+        from = found.from;
+        has = found.has;
+        each = AllByRecursion-push (FindsBucketAt g words_at shape number place) steps did found.each
+            (λ node loads. ap (bucket_in g (words_at did.index) shape) same ∙ has.stays.there did.index (omega arith));
+      })
+
   -- ---- a bind in a bucket
 
-  -- so many nodes were counted in the bucket at this place
-  pub record HasCounted (place count : ℕ) (steps : List Did) : Type 0 where
+  -- so many nodes were counted in the bucket at this place, of a table of this shape
+  pub record HasCounted (shape place count : ℕ) (steps : List Did) : Type 0 where
     pub nodes : List ℕ
     pub counted : AreCounted g words_at place 0 steps nodes
     pub many : count ≡ length nodes
+    pub found : FoundSoFar shape place steps
 
-  pub HasCounted-push : (place count : ℕ) (steps : List Did) (did : Did) → IsNoKeyLoad g did
-      → HasCounted place count steps → HasCounted place count (steps ++ did ∷ [])
-  HasCounted-push place count steps did none has = record {
+  -- before a key is loaded none was
+  pub HasCounted-none : (shape place : ℕ) (steps : List Did) → AllByRecursion (IsNoKeyLoad g) steps
+      → HasCounted shape place 0 steps
+  HasCounted-none shape place steps none =
+      record { nodes = []; counted = none-counted place 0 steps none; many = refl; found = inl none }
+
+  pub HasCounted-push : (shape place count : ℕ) (steps : List Did) (did : Did) → IsNoKeyLoad g did
+      → HasCounted shape place count steps → HasCounted shape place count (steps ++ did ∷ [])
+  HasCounted-push shape place count steps did none has = record {
     nodes = has.nodes;
     counted = counted-still place 0 steps has.nodes did none has.counted;
     many = has.many;
+    found = found-still shape place steps did none has.found;
   }
 
   -- while it takes the lock and walks the bucket
-  abbrev pub CountedAt : ProbeAt → List Did → Type 0
-  CountedAt (probes.Locking lock) steps = HasCounted lock.place 0 steps
-  CountedAt (probes.Walking bucket walk) steps = HasCounted bucket.place walk.length steps
+  abbrev pub CountedAt : ℕ → ProbeAt → List Did → Type 0
+  CountedAt shape (probes.Locking lock) steps = HasCounted shape lock.place 0 steps
+  CountedAt shape (probes.Walking bucket walk) steps = HasCounted shape bucket.place walk.length steps
 
   -- after an operation of the walk, and of all of that
-  abbrev CountedWalk : ℕ → LockedWalkModel × Next Seen → List Did → Type 0
-  CountedWalk place (walk, Go) steps = HasCounted place walk.length steps
-  CountedWalk place (walk, Done seen) steps = HasCounted place seen.length steps
+  abbrev CountedWalk : ℕ → ℕ → LockedWalkModel × Next Seen → List Did → Type 0
+  CountedWalk shape place (walk, Go) steps = HasCounted shape place walk.length steps
+  CountedWalk shape place (walk, Done seen) steps = HasCounted shape place seen.length steps
 
-  abbrev pub CountedNext : ProbeAt × Next Probed → List Did → Type 0
-  CountedNext (at, Go) steps = CountedAt at steps
-  CountedNext (at, Done probed) steps = HasCounted probed.bucket.place probed.seen.length steps
+  abbrev pub CountedNext : ℕ → ProbeAt × Next Probed → List Did → Type 0
+  CountedNext shape (at, Go) steps = CountedAt shape at steps
+  CountedNext shape (at, Done probed) steps = HasCounted shape probed.bucket.place probed.seen.length steps
 
   -- the walk begins with no node counted
-  began-counted : (h : Geometry) (key first : ℕ) (lock : LockModel) (bucket : Locked) (next : Option ℕ) (steps : List Did)
-      → HasCounted bucket.place 0 steps → CountedNext (walk_or_seen lock bucket (walk_from h key first next)) steps
-  began-counted h key first lock bucket None steps has = has
-  began-counted h key first lock bucket (Some node) steps has = has
+  began-counted : (shape : ℕ) (h : Geometry) (key first : ℕ) (lock : LockModel) (bucket : Locked) (next : Option ℕ)
+      (steps : List Did) → HasCounted shape bucket.place 0 steps
+      → CountedNext shape (walk_or_seen lock bucket (walk_from h key first next)) steps
+  began-counted shape h key first lock bucket None steps has = has
+  began-counted shape h key first lock bucket (Some node) steps has = has
 
   -- once the lock is taken
-  lock-counted : (h : Geometry) (key : ℕ) (lock : LockModel) (state : LockAt) (word : ℕ) (steps : List Did)
-      → HasCounted lock.place 0 steps
-      → let r = lock_after_at lock state word in CountedNext (lock_taken h key r.0 r.1) steps
-  lock-counted h key lock locks.Word word steps has =
+  lock-counted : (shape : ℕ) (h : Geometry) (key : ℕ) (lock : LockModel) (state : LockAt) (word : ℕ) (steps : List Did)
+      → HasCounted shape lock.place 0 steps
+      → let r = lock_after_at lock state word in CountedNext shape (lock_taken h key r.0 r.1) steps
+  lock-counted shape h key lock locks.Word word steps has =
       by_test (λ t. let r = cond {A = LockModel × Next ℕ} t (lock, Go) (record lock { at = locks.Exchange word }, Go) in
-      CountedNext (lock_taken h key r.0 r.1) steps) (word % 2 == 1) (λ t. has) (λ f. has)
-  lock-counted h key lock (locks.Exchange found) word steps has =
+      CountedNext shape (lock_taken h key r.0 r.1) steps) (word % 2 == 1) (λ t. has) (λ f. has)
+  lock-counted shape h key lock (locks.Exchange found) word steps has =
       let first = head_of lock.place found in
       by_test (λ t. let r = cond {A = LockModel × Next ℕ} t (lock, Done found) (record lock { at = locks.Word }, Go) in
-      CountedNext (lock_taken h key r.0 r.1) steps) (word == found)
-      (λ t. began-counted h key first lock (record { place = lock.place; word = found }) (node_of h.nodes first) steps has)
+      CountedNext shape (lock_taken h key r.0 r.1) steps) (word == found)
+      (λ t. began-counted shape h key first lock (record { place = lock.place; word = found }) (node_of h.nodes first) steps has)
       (λ f. has)
 
   -- behind the link of a node as many nodes are counted as before
-  followed-counted : (place : ℕ) (walk : LockedWalkModel) (node link : ℕ) (next : Option ℕ) (steps : List Did)
-      → HasCounted place walk.length steps → CountedWalk place (followed walk node link next) steps
-  followed-counted place walk node link None steps has = has
-  followed-counted place walk node link (Some next) steps has = has
+  followed-counted : (shape place : ℕ) (walk : LockedWalkModel) (node link : ℕ) (next : Option ℕ) (steps : List Did)
+      → HasCounted shape place walk.length steps → CountedWalk shape place (followed walk node link next) steps
+  followed-counted shape place walk node link None steps has = has
+  followed-counted shape place walk node link (Some next) steps has = has
 
-  walk_taken-counted : (bucket : Locked) (r : LockedWalkModel × Next Seen) (steps : List Did)
-      → CountedWalk bucket.place r steps → CountedNext (walk_taken bucket r.0 r.1) steps
-  walk_taken-counted bucket (walk, Go) steps has = has
-  walk_taken-counted bucket (walk, Done seen) steps has = has
+  walk_taken-counted : (shape : ℕ) (bucket : Locked) (r : LockedWalkModel × Next Seen) (steps : List Did)
+      → CountedWalk shape bucket.place r steps → CountedNext shape (walk_taken bucket r.0 r.1) steps
+  walk_taken-counted shape bucket (walk, Go) steps has = has
+  walk_taken-counted shape bucket (walk, Done seen) steps has = has
 
 -- ---- at the event of an operation, in these words
 
@@ -193,60 +255,86 @@ module _ (env : Env) (mix : ℕ → ℕ → ℕ → ℕ) (words_at : ℕ → Lis
         bound = subst (λ w. AreBound (stands_for g w) (count + 1)) now bound;
       }
 
-  walk-counted : (place word : ℕ) (walk : LockedWalkModel) (state : LockedWalkAt) (steps : List Did) (did : Did)
-      → IsWalkAtIn g walk.before state
+  -- the bucket of the port in a table is at its place from the event on
+  home-place : (table shape place from : ℕ) → IsAtHome env mix G port table (Some shape) place
+      → BucketsStay env mix words_at G from → HasPlace g words_at shape place from
+  home-place table shape place from is stay =
+      let τ = index_at G table in
+      let number = hash_in env mix G port τ in
+      let below = hash-below env mix M G whole port τ in
+      subst (λ s. HasPlace g words_at s place from) is.shape_is (record {
+        number = number;
+        within = below;
+        stays = subst (λ p. StaysAt g words_at (G.table τ).shape number p from) (place_at-index env mix place is.bucket)
+            (stay τ number (word_index env mix place) is.passing.passed.attached below is.here);
+      })
+
+  walk-counted : (shape place word : ℕ) (walk : LockedWalkModel) (state : LockedWalkAt) (steps : List Did) (did : Did)
+      → IsWalkAtIn g walk.before state → HasPlace g words_at shape place did.index
       → BucketMeans env mix c M G (known_walk place word port walk.before walk.length state)
-      → did.op ≡ walk_plan_at g state → words ≡ words_at did.index → HasCounted g words_at place walk.length steps
-      → CountedWalk g words_at place (walk_after_at walk state did.old) (steps ++ did ∷ [])
-  walk-counted place word walk (walks.Key node) steps did within knows is now has =
+      → did.op ≡ walk_plan_at g state → words ≡ words_at did.index → HasCounted g words_at shape place walk.length steps
+      → CountedWalk g words_at shape place (walk_after_at walk state did.old) (steps ++ did ∷ [])
+  walk-counted shape place word walk (walks.Key node) steps did within there knows is now has =
       let one = key-counts place word node walk.before walk.length did within.0 knows is now in
       let further = one_more-counted env mix c port M G whole place word node walk.before walk.length knows in
       let counted_so = knows.counted in
       let many = has.many in
       let longer = length_push has.nodes node in
-      let more : HasCounted g words_at place (one_more walk.length) (steps ++ did ∷ []) = record {
+      let more : HasCounted g words_at shape place (one_more walk.length) (steps ++ did ∷ []) = record {
         nodes = has.nodes ++ node ∷ [];
         counted = counted-more g words_at place 0 steps has.nodes walk.length node did (omega (arith, many)) one has.counted;
         many = omega (arith, further, counted_so, many, longer);
+        found = found-more g words_at shape place steps did there has.found;
       } in
       let found : LockedWalkModel × Next Seen = (counted walk, Done (found_at (counted walk) node)) in
       let other : LockedWalkModel × Next Seen = (record (counted walk) { at = walks.ChainLink node }, Go) in
-      by_test (λ t. CountedWalk g words_at place (cond t found other) (steps ++ did ∷ [])) (did.old == walk.key)
+      by_test (λ t. CountedWalk g words_at shape place (cond t found other) (steps ++ did ∷ [])) (did.old == walk.key)
       (λ t. more) (λ f. more)
-  walk-counted place word walk (walks.ChainLink node) steps did within knows is now has =
-      followed-counted g words_at place walk node did.old (node_of walk.geometry.nodes did.old) (steps ++ did ∷ [])
-      (HasCounted-push g words_at place walk.length steps did (no_key-link g did node is) has)
+  walk-counted shape place word walk (walks.ChainLink node) steps did within there knows is now has =
+      followed-counted g words_at shape place walk node did.old (node_of walk.geometry.nodes did.old) (steps ++ did ∷ [])
+      (HasCounted-push g words_at shape place walk.length steps did (no_key-link g did node is) has)
 
-  pub probe-counted : (h : Geometry) (key : ℕ) (state : ProbeAt) (steps : List Did) (did : Did) → IsProbeAtIn g state
+  pub probe-counted : (table shape : ℕ) (h : Geometry) (key : ℕ) (state : ProbeAt) (steps : List Did) (did : Did)
+      → IsProbeAtIn g state → IsAtHome env mix G port table (Some shape) (place_of_probe state)
       → BucketMeans env mix c M G (known_probe port state) → did.op ≡ probe_plan_at state
-      → words ≡ words_at did.index → CountedAt g words_at state steps
-      → CountedNext g words_at (probe_after_at h key state did.old) (steps ++ did ∷ [])
-  probe-counted h key (probes.Locking lock) steps did within knows is now has =
-      lock-counted g words_at h key lock lock.at did.old (steps ++ did ∷ [])
-      (HasCounted-push g words_at lock.place 0 steps did (no_key-lock g did lock.place lock.at within.place_in is) has)
-  probe-counted h key (probes.Walking bucket walk) steps did within knows is now has =
+      → words ≡ words_at did.index → BucketsStay env mix words_at G did.index → CountedAt g words_at shape state steps
+      → CountedNext g words_at shape (probe_after_at h key state did.old) (steps ++ did ∷ [])
+  probe-counted table shape h key (probes.Locking lock) steps did within home knows is now stay has =
+      lock-counted g words_at shape h key lock lock.at did.old (steps ++ did ∷ [])
+      (HasCounted-push g words_at shape lock.place 0 steps did (no_key-lock g did lock.place lock.at within.place_in is) has)
+  probe-counted table shape h key (probes.Walking bucket walk) steps did within home knows is now stay has =
       let planned = is ∙ ap (λ (of : Geometry). walk_plan_at of walk.at) within.walk_in.geometry_same in
-      walk_taken-counted g words_at bucket (walk_after_at walk walk.at did.old) (steps ++ did ∷ [])
-      (walk-counted bucket.place bucket.word walk walk.at steps did within.walk_in.at_in knows planned now has)
+      walk_taken-counted g words_at shape bucket (walk_after_at walk walk.at did.old) (steps ++ did ∷ [])
+      (walk-counted shape bucket.place bucket.word walk walk.at steps did within.walk_in.at_in
+      (home-place table shape bucket.place did.index home stay) knows planned now has)
 
   -- 16 nodes that were counted in a port's bucket are a long chain
   pub long-counted : (table shape place count : ℕ) (steps : List Did) → IsAtHome env mix G port table (Some shape) place
-      → 16 ≤ count → HasCounted g words_at place count steps → SawLongChain g words_at shape steps
-  long-counted table shape place count steps is enough has =
-      let τ = index_at G table in
-      let bucket = hash_in env mix G port τ in
-      let same : (G.table τ).shape ≡ shape = is.shape_is in
-      let many = has.many in
-      let there : (now : List ℕ) → bucket_in g now shape bucket ≡ Some place =
-      λ now. subst (λ s. bucket_in g now s bucket ≡ Some place) same
-      (flat_home env mix M G whole (page_word g now) port τ (word_index env mix place) is.passing.passed.attached is.here
-      ∙ ap Some (place_at-index env mix place is.bucket)) in
-      record {
-        bucket = bucket;
-        within = subst (λ s. bucket < size_of (unpacked s)) same (hash-below env mix M G whole port τ);
+      → 16 ≤ count → HasCounted g words_at shape place count steps → SawLongChain g words_at shape steps
+  long-counted table shape place count steps is enough has = go has.found
+    where
+      many : 16 ≤ length has.nodes
+      many = let many = has.many in omega (arith, enough, many)
+
+      go : FoundSoFar g words_at shape place steps → SawLongChain g words_at shape steps
+      go (inl none) =
+          let τ = index_at G table in
+          let number = hash_in env mix G port τ in
+          record {
+            bucket = number;
+            within = subst (λ s. number < size_of (unpacked s)) is.shape_is (hash-below env mix M G whole port τ);
+            place = place;
+            place_is = finds-nothing g words_at shape number place steps none;
+            nodes = has.nodes;
+            counted = has.counted;
+            many = many;
+          }
+      go (inr found) = record {
+        bucket = found.has.number;
+        within = found.has.within;
         place = place;
-        place_is = each_of (FindsBucketAt g words_at shape bucket place) (λ did node loads. there (words_at did.index)) steps;
+        place_is = found.each;
         nodes = has.nodes;
         counted = has.counted;
-        many = omega (arith, enough, many);
+        many = many;
       }

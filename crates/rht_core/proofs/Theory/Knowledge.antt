@@ -324,7 +324,7 @@ module _ (env : Env) (mix : ℕ → ℕ → ℕ → ℕ) where
     pub within : count ≤ size_of (unpacked (G.table G.current).shape)
     pub each : (b j : ℕ) → b < count → (G.table G.current).place b ≡ Some j → IsEmptied (G.bucket j)
 
-  -- a table that isn't before the current one, or one behind it
+  -- a table that isn't before the current one, or one behind it, which isn't nested where its shape is known
   pub record IsFrom (G : Ghost) (slot : ℕ) : Type 0 where
     pub table : has_table (G.slot slot) ≡ true
     pub from : G.current ≤ index_at G slot
@@ -333,6 +333,7 @@ module _ (env : Env) (mix : ℕ → ℕ → ℕ → ℕ) where
     pub table : has_table (G.slot slot) ≡ true
     pub later : G.current < index_at G slot
     pub shape_is : IfSome shape (λ s. (G.table (index_at G slot)).shape ≡ s)
+    pub flat : IfSome shape (λ s. is_nested s ≡ false)
     pub seed_is : IfSome seed (λ s. (G.table (index_at G slot)).seed ≡ s)
 
   abbrev pub AimMeans : Ghost → KnownAim → Type 0

@@ -154,6 +154,7 @@ module _ (env : Env) (mix : ℕ → ℕ → ℕ → ℕ) where
       table = keeps.grow.slots slot is.table;
       later = omega (arith, is.later, stays.current, index-stays slot is.table);
       shape_is = known-shape_stays slot shape is.table is.shape_is;
+      flat = is.flat;
       seed_is = known-seed_stays slot seed is.table is.seed_is;
     }
 

@@ -3,7 +3,8 @@
 --
 -- It is enough to look at jobs, one operation at a time. A call begins as its first job with no operations; an operation
 -- leads to one more of them, and where it ends the call, to what is kept of an ended one. What callers keep besides is
--- shown here once for all: that the call of a book is that of the job, and what the rooms have.
+-- shown here once for all: that the call of a book is that of the job, and what the rooms have. So is how an operation
+-- stands in its run: it is performed in the words before its event, and the buckets that tables have then stay where they are.
 use Rattle.std.proofs.Common.{◌≡◌, ℕ, Bool, true, false, cond, List, [], ◌∷◌, ◌++◌, length, take, refl, sym, ap, ◌∙◌, subst, append_assoc}
 use Rattle.std.specs.Prelude.{Option, Some, None}
 use Rattle.std.specs.List.{AllByRecursion, last_or}
@@ -34,6 +35,8 @@ use Rattle.rht_core.specs.Replies.{IsBookOfIdle, owners_with, pairs_with, HasLis
 use Rattle.rht_core.specs.Laws.{view_begun, view_stepped}
 use Rattle.rht_core.proofs.Events.JobsOfCallers.{is_no_job, has_ended, HasNoLists, same_call, left-told, nothing-job, first_job-machine, local_after-job}
 use Rattle.rht_core.proofs.Events.RoomsOfCallers.{owners_beside-none, owners_after-stay}
+use Rattle.rht_core.proofs.Events.Invariants.{Inv}
+use Rattle.rht_core.proofs.Events.BucketsThere.{BucketsStay, buckets-stay}
 use Rattle.rht_core.proofs.Theory.Ghosts.{Ghost}
 use Rattle.rht_core.proofs.Theory.Wholes.{Whole}
 use Rattle.rht_core.proofs.Theory.Steps.{mem}
@@ -114,16 +117,23 @@ module _ (mix : ℕ → ℕ → ℕ → ℕ) (env : Env) where
         let r = job_after mix env job did.old in
         JobStepOf env mix caller words ghost did.op job r
 
-  -- the step of a caller is its job's, in these words
-  pub record PerformsAs (doing : Option Job) (words : List ℕ) (did : Did) : Type 0 where
+  -- where these are the words before the event with each number: the operation was performed in those before its event, and
+  -- the buckets that tables had then stay where they were
+  pub record StandsIn (words_at : ℕ → List ℕ) (job : Job) (did : Did) (performs : Performs job did) : Type 0 where
+    pub now : performs.words ≡ words_at did.index
+    pub stay : BucketsStay env mix words_at performs.ghost did.index
+
+  -- the step of a caller is its job's, in the words of this core, of which the invariant holds
+  pub record PerformsAs {M : Type 0} (doing : Option Job) (core : Core M) (did : Did) : Type 0 where
     pub job : Job
     pub does : doing ≡ Some job
     pub performs : Performs job did
-    pub here : performs.words ≡ words
+    pub here : performs.words ≡ core.words
+    pub inv : Inv env mix M core performs.ghost
 
   pub performs-made : (M : Type 0) (events : List Event) (c : ℕ) (local : Local M) (did : Did)
       → IsMade M mix env events c local did
-      → PerformsAs (job_of local.doing) (run_of {M = M} mix env events).core.words did
+      → PerformsAs (job_of local.doing) (run_of {M = M} mix env events).core did
   performs-made M events c local did made =
       let known = made.known in
       let of = known.step in
@@ -145,6 +155,7 @@ module _ (mix : ℕ → ℕ → ℕ → ℕ) (env : Env) where
               (sym known.found) of.step;
         };
         here = ap (λ (core : Core M). core.words) made.now;
+        inv = subst (λ (core : Core M). Inv env mix M core known.ghost) made.now known.inv;
       }
 
 -- ---- what is kept of calls
@@ -171,6 +182,13 @@ module _ (M : Type 0) (mix : ℕ → ℕ → ℕ → ℕ) (env : Env) (Now : Job
           → performs.words ≡ words_before M mix env events did.index → Now job steps
           → LeadsOn job (steps ++ did ∷ []) (job_after mix env job did.old)
 
+    -- and the buckets that tables have then stay where they are
+    pub record JobsKeepStanding (events : List Event) : Type 0 where
+      pub begins : (call : Call) (job : Job) → first_job env call ≡ Some job → Now job []
+      pub goes : (job : Job) (steps : List Did) (did : Did) (performs : Performs mix env job did)
+          → StandsIn mix env (words_before M mix env events) job did performs → Now job steps
+          → LeadsOn job (steps ++ did ∷ []) (job_after mix env job did.old)
+
     -- what holds of a call that has ended
     abbrev pub IsEndedSo : Past → Type 0
     IsEndedSo past = Ended past.done.call (ending_in past.done) past.steps
@@ -193,7 +211,7 @@ module _ (M : Type 0) (mix : ℕ → ℕ → ℕ → ℕ) (env : Env) (Now : Job
 
     -- ---- the beginning of a call
 
-    module _ (events : List Event) (keep : JobsKeepIn events) where
+    module _ (events : List Event) (keep : JobsKeepStanding events) where
       begins-keeping : (c : ℕ) (call : Call) (machine : Doing M) (index : ℕ) (here : View M) (trace : Trace)
           → machine_of env c call ≡ Some machine → IsKeeping here trace
           → IsKeeping (view_begun call machine here) (trace_begun index trace)
@@ -245,13 +263,29 @@ module _ (M : Type 0) (mix : ℕ → ℕ → ℕ → ℕ) (env : Env) (Now : Job
           ap (λ (first : List Event). (run_of {M = M} mix env first).core.words)
           (sym (ap (λ n. take n events) is ∙ ap (take (length past)) all ∙ take-append_seam past rest))
 
+      -- an operation stands in the run
+      stands_in : (past rest : List Event) (job : Job) (did : Did) (performs : Performs mix env job did)
+          → IsAdmitted env.config.kind events → events ≡ past ++ rest → did.index ≡ length past
+          → performs.words ≡ (run_of {M = M} mix env past).core.words
+          → Inv env mix M (run_of mix env past).core performs.ghost
+          → StandsIn mix env (words_before M mix env events) job did performs
+      stands_in past rest job did performs admitted all is here inv =
+          let stay = buckets-stay env mix M past rest performs.ghost inv (subst (IsAdmitted env.config.kind) all admitted) in
+          record {
+            now = here ∙ words_now past rest did.index all is;
+            stay =
+                subst (BucketsStay env mix (words_before M mix env events) performs.ghost) (sym is)
+                (subst (λ (es : List Event). BucketsStay env mix (words_before M mix env es) performs.ghost (length past)) (sym all)
+                stay);
+          }
+
       steps-keeping : (past rest : List Event) (c : ℕ) (did : Did) (here : View M) (trace : Trace)
-          → events ≡ past ++ rest
+          → IsAdmitted env.config.kind events → events ≡ past ++ rest
           → IsMade M mix env past c here.local did → IsKeeping here trace
           → let next = local_after mix here.local did.old in
           IsKeeping (view_stepped mix did.old here) (trace_did here.book.call did
           (ending_of next.0 next.1) trace)
-      steps-keeping past rest c did here trace all made keeping =
+      steps-keeping past rest c did here trace admitted all made keeping =
           let next = local_after mix here.local did.old in
           let planning = performs-made mix env M past c here.local did made in
           let job = planning.job in
@@ -260,8 +294,8 @@ module _ (M : Type 0) (mix : ℕ → ℕ → ℕ → ℕ) (env : Env) (Now : Job
           let work : IsAtWork job here.book trace.steps =
           subst (λ (j : Option Job). IsAtJob j here.book trace.steps) planning.does keeping.now in
           let performs = planning.performs in
-          let then = planning.here ∙ words_now past rest did.index all made.index in
-          let leads = keep.goes job trace.steps did performs then work.now in
+          let stands = stands_in past rest job did performs admitted all made.index planning.here planning.inv in
+          let leads = keep.goes job trace.steps did performs stands work.now in
           let after = job_after mix env job did.old in
           let left = local_after-job mix env here.local job did.old none made.table planning.does in
           let kept =
@@ -296,8 +330,8 @@ module _ (M : Type 0) (mix : ℕ → ℕ → ℕ → ℕ) (env : Env) (Now : Job
           → events ≡ past ++ event ∷ rest
       next_event past event rest all = all ∙ append_assoc past (event ∷ []) rest
 
-      keeps : IsKeptTraced M mix env IsKeepingSoFar
-      keeps = record {
+      keeps : IsAdmitted env.config.kind events → IsKeptTraced M mix env IsKeepingSoFar
+      keeps admitted = record {
         opens = λ c rest all. record {
           past = tt;
           now = record { call = refl; steps = refl };
@@ -308,14 +342,23 @@ module _ (M : Type 0) (mix : ℕ → ℕ → ℕ → ℕ) (env : Env) (Now : Job
             index here trace is (keeping (Begin c call ∷ rest) (next_event past (Begin c call) rest all));
         steps = λ past c did here trace made keeping rest all.
             let next = next_event past (Steps c) rest all in
-            steps-keeping past (Steps c ∷ rest) c did here trace next made (keeping (Steps c ∷ rest) next);
+            steps-keeping past (Steps c ∷ rest) c did here trace admitted next made (keeping (Steps c ∷ rest) next);
       }
 
       -- so what jobs keep holds of the calls of every caller
-      pub jobs_keep_in : (c : ℕ) → IsAdmitted env.config.kind events
+      pub jobs_keep_standing : (c : ℕ) → IsAdmitted env.config.kind events
           → let r : Traced M = traced_of mix env events in IsKeeping (view_of r.world c) (r.traces c)
-      jobs_keep_in c admitted =
-          traced_callers_keep M mix env IsKeepingSoFar keeps events c admitted [] (sym (append-nil events))
+      jobs_keep_standing c admitted =
+          traced_callers_keep M mix env IsKeepingSoFar (keeps admitted) events c admitted [] (sym (append-nil events))
+
+    -- where the words alone are asked for
+    pub jobs_keep_in : (events : List Event) → JobsKeepIn events → (c : ℕ) → IsAdmitted env.config.kind events
+        → let r : Traced M = traced_of mix env events in IsKeeping (view_of r.world c) (r.traces c)
+    jobs_keep_in events keep c =
+        jobs_keep_standing events record {
+          begins = keep.begins;
+          goes = λ job steps did performs stands now. keep.goes job steps did performs stands.now now;
+        } c
 
     -- in every run, where it doesn't depend on the run
     pub jobs_keep : JobsKeep → (events : List Event) (c : ℕ) → IsAdmitted env.config.kind events
