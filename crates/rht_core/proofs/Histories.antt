@@ -26,6 +26,8 @@ pub mod AnsweredInOrder
 pub mod WorkedAnswers
 -- in a run whose table is large enough for the commands that it serves none is refused
 pub mod NeverRefused
+-- a resizing that was alone and answers that it moved made another table the current one
+pub mod LoneResizings
 -- a resizing that was alone and found nothing due leaves nothing due
 pub mod SettledTables
 -- where all binds of a run are of some ports, no other port is ever bound

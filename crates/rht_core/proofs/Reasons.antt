@@ -26,8 +26,12 @@ pub mod ListingsKept
 pub mod ReleaseKicks
 -- the table that a resizing makes has the size that is due
 pub mod MadeSizes
+-- which table is the last one, and that it stays so
+pub mod LastTables
 -- by which loads a resizing chose what is due, and which table it made the current one
 pub mod WorkChoices
+-- that a resizing which is alone doesn't stop before a nested table
+pub mod LoneWorks
 -- when a bind hasn't found the last table full
 pub mod CalmBinds
 -- what calls come to while no table was made and few ports are bound

@@ -37,6 +37,7 @@ use Rattle.rht_core.proofs.Reasons.WorkChoices.{SawIdle, Published, SawReplaced,
 use Rattle.rht_core.proofs.Reasons.CausesInRuns.{SawOf, past-saw}
 use Rattle.rht_core.proofs.Counting.CountedRuns.{counted, at_rest}
 use Rattle.rht_core.proofs.Counting.FullTables.{taken}
+use Rattle.rht_core.proofs.Histories.LoneResizings.{moved_alone}
 use Rattle.rht_core.proofs.Tracing.LoneCalls.{Spares, SparesWithin, steps_rising, begins_before, idle_at_end, loaded_at_end, loaded_at_begin, stored_at_end}
 
 -- ---- where nothing is due
@@ -327,8 +328,6 @@ worked M mix env events c past admitted ended work alone =
     record {
       idle = λ is. settled M mix env events c past admitted ended alone
           (subst (λ reply. SawForWork env reply past.steps) is saw);
-      moved = λ again is. elim (subst (λ reply. SawForWork env reply past.steps) is saw) [
-        | inl left ↦ replaced M mix env events c past admitted ended alone again left
-        | inr stops ↦ let both = sym stops.stopped.nested ∙ stops.flat in absurd (cc)
-      ];
+      moved = λ again is. replaced M mix env events c past admitted ended alone again
+          (moved_alone M mix env events c past admitted ended alone work again is);
     }

@@ -1,5 +1,5 @@
 -- What the caller that does the work learns by its loads.
-use Rattle.std.proofs.Common.{◌≡◌, ◌≢◌, ℕ, ◌+◌, ◌^◌, ◌<◌, ◌≤◌, List, [], ◌∷◌, ◌++◌, Option, Some, None, true, false, nat_lt, cond, refl, sym, ◌∙◌, ap, subst, inl, inr, arith}
+use Rattle.std.proofs.Common.{◌≡◌, ◌≢◌, ℕ, ◌+◌, ◌^◌, ◌<◌, ◌≤◌, List, [], ◌∷◌, ◌++◌, Option, Some, None, true, false, nat_lt, max, min, cond, refl, sym, ◌∙◌, ap, subst, inl, inr, arith}
 use Rattle.std.proofs.Math.Nat.{mod-eq_of_lt}
 use Rattle.std.proofs.Math.Seq.{append_snoc}
 use Rattle.std.proofs.lemmas.Bool.{lt-ltb, cases_lt, le-ltb}
@@ -16,12 +16,13 @@ use Rattle.rht_words.specs.Members.{In}
 use Rattle.rht_words.proofs.Memory.{Memory}
 use Rattle.rht_words.proofs.Members.{in-middle}
 use Rattle.rht_words.proofs.LinksRead.{links_tell_apart}
+use Rattle.rht_words.proofs.Rounding.{powers-rise}
 use Rattle.rht_words.proofs.ChainLemmas.{IsSegment-cut}
 use Rattle.rht_policy.specs.Mix.{bucket_of}
 use Rattle.rht_nest.specs.Place.{PlaceModel, flat_place, nested_place, entered, behind_entry, place_or_last}
 use Rattle.rht_nest.specs.Tables.{is_nested}
 use Rattle.rht_core.proofs.Theory.Ghosts.{Ghost, has_table, index_at, lock_bit, none-some}
-use Rattle.rht_core.proofs.Theory.Wholes.{chain_of, key_of, place_at, word_index, place_at-index, index-within, hash_in, future_in, stop, TableRight, Whole}
+use Rattle.rht_core.proofs.Theory.Wholes.{chain_of, key_of, place_at, word_index, place_at-index, index-within, hash_in, future_in, stop, PlacedRight, TableRight, Whole}
 use Rattle.rht_core.proofs.Theory.Passed.{hash-below, held-no_entry}
 use Rattle.rht_core.proofs.Theory.Knowns.{KnownAim, NoAim, Onward, From, Beyond, KnownRehash, KnownPlace, KnownEntry, KnownWork, Works, Rooted, Follows, Empties, Nears, Faces, InBucket, Bare, AtEntry, AtTail, Aims}
 use Rattle.rht_core.proofs.Theory.Knowledge.{DoesWork, HasLock, IsEmptying, IsNearing, IsInBucket, WorkMeans}
@@ -206,9 +207,19 @@ module _ (env : Env) (mix : ℕ → ℕ → ℕ → ℕ) (c : ℕ) (M : Memory) 
       let more = knows.more.aim_is in
       absurd (omega (arith, last, has.1, more))
 
-  -- so far no table is nested, so the last one isn't
-  pub flat_seen : (slot : ℕ) → has_table (G.slot slot) ≡ true → is_nested (M (Slot slot ShapeWord)) ≡ false
-  flat_seen slot has = ap is_nested (shape_word slot has) ∙ ap (nat_lt 0) (whole.tables.flat (index_at G slot) (whole.tables.slots slot has).attached)
+  -- a nested table has no more buckets than its shape may have
+  pub nested_size : (slot : ℕ) → has_table (G.slot slot) ≡ true → is_nested (M (Slot slot ShapeWord)) ≡ true
+      → size_of (unpacked (M (Slot slot ShapeWord))) ≤ 2 ^ 17
+  nested_size slot has nested =
+      subst (λ shape. size_of (unpacked shape) ≤ 2 ^ 17) (sym (shape_word slot has))
+      (go (table_right slot has).placed (sym (ap is_nested (shape_word slot has)) ∙ nested))
+    where
+      go : PlacedRight env mix (G.table (index_at G slot)) G.page (index_at G slot)
+          → is_nested (G.table (index_at G slot)).shape ≡ true → size_of (unpacked (G.table (index_at G slot)).shape) ≤ 2 ^ 17
+      go (inl flat) is = let none = sym is ∙ ap (nat_lt 0) flat.flat in absurd (cc)
+      go (inr nested) is =
+          let most = nested.shaped.most in
+          powers-rise (max 2 (min (unpacked (G.table (index_at G slot)).shape).exponent 18)) 17 (omega (arith, most))
 
   -- the table behind the current one, and the current one's shape
   pub future_seen : (root future : ℕ) (aim : KnownAim) → Knows (Rooted root aim)

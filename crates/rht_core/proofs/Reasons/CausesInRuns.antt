@@ -1056,7 +1056,7 @@ module _ (env : Env) where
   work-cause : (past : Past) (reply : Reply) → SawForWork env reply past.steps → IsWorkReply reply → WorkCause env past reply
   work-cause past (Moved again) saw is = elim saw [
     | inl has ↦ inl (SawReplaced-published env again past.steps has)
-    | inr stops ↦ inr stops.stopped
+    | inr stops ↦ inr stops
   ]
   work-cause past Idle saw is = SawIdle-nothing env past.steps saw
   work-cause past (NoTable size) saw is = saw

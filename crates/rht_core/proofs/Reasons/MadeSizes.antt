@@ -1,6 +1,6 @@
--- The table that a resizing makes has the size that is due: this is one of the sizes of tables, where the last table isn't nested.
-use Rattle.std.proofs.Common.{◌≡◌, ℕ, ◌*◌, ◌/◌, ◌%◌, ◌^◌, ◌<◌, inl, inr, sym, ap, ◌∙◌, arith, w32}
-use Rattle.std.specs.Prelude.{false, ◌&&◌, Bool, nat_lt, min, max}
+-- The table that a resizing makes has the size that is due: this is one of the sizes of tables, where a nested last table has one.
+use Rattle.std.proofs.Common.{◌≡◌, ℕ, ◌*◌, ◌/◌, ◌%◌, ◌^◌, ◌<◌, ◌≤◌, inl, inr, sym, ap, ◌∙◌, arith, w32}
+use Rattle.std.specs.Prelude.{true, ◌&&◌, Bool, nat_lt, min, max}
 use Rattle.std.specs.Int.{trailing_zeros}
 use Rattle.std.proofs.Math.Pow.{pow-lt}
 use Rattle.std.proofs.lemmas.Nat.{pow_pos}
@@ -21,9 +21,9 @@ use Rattle.rht_move.specs.declared.work.choice.Choice.TheVariants.{Attach, Later
 use Rattle.rht_move.proofs.DueSizes.{tables_due_have_sizes}
 
 -- the greatest table that a shape can have is never too full
-pub due_size : (env : Env) (count shape : ℕ) (alone : Bool) → is_nested shape ≡ false
-    → IsOfASize (choice_of env count shape alone)
-due_size env count shape alone flat =
+pub due_size : (env : Env) (count shape : ℕ) (alone : Bool)
+    → (is_nested shape ≡ true → size_of (unpacked shape) ≤ 2 ^ 17) → IsOfASize (choice_of env count shape alone)
+due_size env count shape alone bound =
     let ports = min count 65536 in
     let size = size_of (unpacked shape) in
     let smaller = shrunk_size ports env.config.min in
@@ -38,7 +38,7 @@ due_size env count shape alone flat =
           (λ f. cond_both (sparse && alone) (Attach smaller) _ IsOfASize
           (λ t. IsSizeUpTo-shrunk_size ports env.config.min (omega arith) env.settled.least)
           (λ f. cond_both (is_nested shape) (Attach size) _ IsOfASize
-          (λ t. let both = sym t ∙ flat in cc)
+          (λ t. let small = bound t in absurd (omega (arith, large, small)))
           (λ f. cond_both sparse Later Nothing IsOfASize (λ t. tt) (λ f. tt))))
       | inr small ↦ tables_due_have_sizes env count shape alone small
     ]

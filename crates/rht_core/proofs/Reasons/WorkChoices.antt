@@ -4,7 +4,7 @@
 -- What was chosen is kept behind the choice, with whether a table of its size was attached since. Where one was due there is a future
 -- to be found, by what the caller knows then. For each entry the last table is looked for anew, and where that is nested the move
 -- stops.
-use Rattle.std.proofs.Common.{◌≡◌, ◌≢◌, ◌⊎◌, ◌↔◌, ℕ, ◌<◌, ◌+◌, ◌^◌, Bool, true, false, cond, nat_lt, List, [], ◌∷◌, ◌++◌, map, append_assoc, refl, sym, ap, ◌∙◌, subst, inl, inr, arith}
+use Rattle.std.proofs.Common.{◌≡◌, ◌≢◌, ◌⊎◌, ◌↔◌, ℕ, ◌<◌, ◌≤◌, ◌+◌, ◌^◌, Bool, true, false, cond, nat_lt, List, [], ◌∷◌, ◌++◌, map, append_assoc, refl, sym, ap, ◌∙◌, subst, inl, inr, arith}
 use Rattle.std.specs.Prelude.{Option, Some, None, ◌==◌, ◌||◌}
 use Rattle.std.specs.List.{AllByRecursion, Any}
 use Rattle.std.proofs.lemmas.Bool.{eqb-true, eqb-false}
@@ -68,7 +68,7 @@ use Rattle.rht_core.proofs.Theory.Ghosts.{index_at}
 use Rattle.rht_core.proofs.Theory.Steps.{mem, by_test}
 use Rattle.rht_core.proofs.Theory.Knowns.{Onward, Rooted}
 use Rattle.rht_core.proofs.Theory.Knowledge.{WorkMeans}
-use Rattle.rht_core.proofs.Pieces.WorkLoads.{has_future, future_seen, flat_seen}
+use Rattle.rht_core.proofs.Pieces.WorkLoads.{has_future, future_seen, nested_size}
 use Rattle.rht_core.proofs.Machines.WorkMachine.{known_rehash, known_place, known_entry}
 use Rattle.rht_core.proofs.Tracing.TracedJobs.{Performs}
 use Rattle.rht_core.proofs.Tracing.LoneCalls.{Spares}
@@ -152,7 +152,7 @@ module _ (env : Env) where
     pub read : AreFuturesRead env.geometry root last.table futures
     pub shape_read : Loaded env.geometry (Slot last.table ShapeWord) shape.old shape
     pub same : shape.old ≡ last.shape
-    pub flat : is_nested last.shape ≡ false
+    pub small : is_nested last.shape ≡ true → size_of (unpacked last.shape) ≤ 2 ^ 17
 
   -- ---- what was chosen, and what has become of it
 
@@ -296,13 +296,9 @@ module _ (env : Env) where
   AnewSaw rehash (seeks.Future slot) steps = SeeksAnew rehash slot steps
   AnewSaw rehash (seeks.Shape slot) steps = FindsAnew rehash slot steps
 
-  -- it has stopped before a nested table; so far each one is flat
-  pub record Stops (again : Bool) (steps : List Did) : Type 0 where
-    pub stopped : SawStopped env again steps
-    pub flat : is_nested stopped.shape.old ≡ false
-
+  -- it stops before a nested table
   abbrev pub UnlockingSaw : Rehash → Bool → List Did → Type 0
-  UnlockingSaw rehash true steps = Stops true steps
+  UnlockingSaw rehash true steps = SawStopped env true steps
   UnlockingSaw rehash false steps = RehashSaw rehash steps
 
   -- for an answer
@@ -310,7 +306,7 @@ module _ (env : Env) where
   SawForWork Elsewhere steps = SawElsewhere env.geometry steps
   SawForWork (NoTable size) steps = SawNoTableDue env size steps
   SawForWork Idle steps = SawIdle steps
-  SawForWork (Moved again) steps = SawReplaced again steps ⊎ Stops again steps
+  SawForWork (Moved again) steps = SawReplaced again steps ⊎ SawStopped env again steps
   SawForWork _ steps = Unit {0}
 
   abbrev pub SawAtWork : WorkAt → List Did → Type 0
@@ -393,25 +389,25 @@ module _ (env : Env) where
     to = futures_more env.geometry root slot next seek.futures did seek.to reads;
   }
 
-  -- what it finds of a shape is flat
-  abbrev FindsFlat : LastTableAt → Did → Type 0
-  FindsFlat (seeks.Future slot) did = Unit {0}
-  FindsFlat (seeks.Shape slot) did = is_nested did.old ≡ false
+  -- what it finds of a shape has no more buckets than a nested table, where it is nested
+  abbrev FindsSmall : LastTableAt → Did → Type 0
+  FindsSmall (seeks.Future slot) did = Unit {0}
+  FindsSmall (seeks.Shape slot) did = is_nested did.old ≡ true → size_of (unpacked did.old) ≤ 2 ^ 17
 
   last-saw : (root : ℕ) (h : Geometry) (state : LastTableAt) (steps : List Did) (did : Did) → IsLastTableAtIn state
-      → FindsFlat state did → did.op ≡ last_table_plan_at env.geometry state → SeekSaw root state steps
+      → FindsSmall state did → did.op ≡ last_table_plan_at env.geometry state → SeekSaw root state steps
       → let next = last_table_after (record { geometry = h; at = state }) did.old in
       SawAtWork (last_seen root next.0 next.1) (steps ++ did ∷ [])
-  last-saw root h (seeks.Future slot) steps did l flat is seek =
+  last-saw root h (seeks.Future slot) steps did l small is seek =
       seek-saw root slot steps did (slot_of did.old) (reads (Slot slot FutureWord) did (l, tt) is, refl) seek
-  last-saw root h (seeks.Shape slot) steps did l flat is found = record {
+  last-saw root h (seeks.Shape slot) steps did l small is found = record {
     futures = found.futures;
     shape = did;
     began = Began-push root found.futures steps did found.began;
     read = found.read;
     shape_read = reads (Slot slot ShapeWord) did (l, tt) is;
     same = refl;
-    flat = flat;
+    small = small;
   }
 
   -- the load of the count is the last one by which it chooses
@@ -452,7 +448,7 @@ module _ (env : Env) where
       root_same = refl;
       last_same = refl;
       shape_same = saw.same;
-      size_in = subst IsOfASize chosen (due_size env did.old last.shape (root == last.table) saw.flat);
+      size_in = subst IsOfASize chosen (due_size env did.old last.shape (root == last.table) saw.small);
       none = tt;
     };
     seen = saw_nothing env.geometry (exponent_made size) [] tt tt;
@@ -821,7 +817,7 @@ module _ (env : Env) where
   second_locked-saw emptying entry table lock Go all saw = saw
   second_locked-saw emptying entry table lock (Done word) all saw = saw
 
-  cut-none : (place : ℕ) (before : Option ℕ) → IsNoFutureExchange env.geometry (cut_plan env.geometry place before)
+  pub cut-none : (place : ℕ) (before : Option ℕ) → IsNoFutureExchange env.geometry (cut_plan env.geometry place before)
   cut-none place None table old new l e = cc
   cut-none place (Some before) table old new l e = cc
 
@@ -851,64 +847,56 @@ module _ (env : Env) where
 
   -- where the last one is nested the move stops
   found-saw : (emptying : Emptying) (slot : ℕ) (steps : List Did) (did : Did) → Loaded env.geometry (Slot slot ShapeWord) did.old did
-      → emptying.rehash.root ≢ slot → is_nested did.old ≡ false → FindsAnew emptying.rehash slot steps
+      → emptying.rehash.root ≢ slot → FindsAnew emptying.rehash slot steps
       → let last : Last = record { table = slot; shape = did.old } in
       SawAtWork (cond (is_nested did.old) (unlocking emptying true) (at.Seed emptying last)) (steps ++ did ∷ [])
   unfolding HasChosen-push
-  found-saw emptying slot steps did loaded apart flat saw =
+  found-saw emptying slot steps did loaded apart saw =
       let last : Last = record { table = slot; shape = did.old } in
       by_test (λ t. SawAtWork (cond t (unlocking emptying true) (at.Seed emptying last)) (steps ++ did ∷ [])) (is_nested did.old)
       (λ t. record {
-        stopped = record {
-          more = refl;
-          choice = saw.moves.choice;
-          chose = HasChosen-push saw.moves.choice steps did saw.moves.chose;
-          last = slot;
-          before = saw.before;
-          futures = saw.futures;
-          shape = did;
-          behind = [];
-          split = ap (λ s. s ++ did ∷ []) saw.behind_is;
-          futures_read = saw.read;
-          apart = λ same. apart (sym saw.moves.root_same ∙ same);
-          shape_read = loaded;
-          nested = t;
-          stores = tt;
-        };
-        flat = flat;
+        more = refl;
+        choice = saw.moves.choice;
+        chose = HasChosen-push saw.moves.choice steps did saw.moves.chose;
+        last = slot;
+        before = saw.before;
+        futures = saw.futures;
+        shape = did;
+        behind = [];
+        split = ap (λ s. s ++ did ∷ []) saw.behind_is;
+        futures_read = saw.read;
+        apart = λ same. apart (sym saw.moves.root_same ∙ same);
+        shape_read = loaded;
+        nested = t;
+        stores = tt;
       })
       (λ f. goes emptying.rehash _ steps did loaded.word.loads (λ table old new l e. cc) saw.moves)
 
   -- and then words are stored alone
-  Stops-push : (again : Bool) (steps : List Did) (did : Did) → IsStore did → Stops again steps → Stops again (steps ++ did ∷ [])
+  SawStopped-push : (again : Bool) (steps : List Did) (did : Did) → IsStore did → SawStopped env again steps
+      → SawStopped env again (steps ++ did ∷ [])
   unfolding HasChosen-push
-  Stops-push again steps did stores stops =
-      let saw = stops.stopped in
-      record {
-        stopped = record {
-          more = saw.more;
-          choice = saw.choice;
-          chose = HasChosen-push saw.choice steps did saw.chose;
-          last = saw.last;
-          before = saw.before;
-          futures = saw.futures;
-          shape = saw.shape;
-          behind = saw.behind ++ did ∷ [];
-          split = ap (λ s. s ++ did ∷ []) saw.split
-              ∙ append_assoc (saw.before ++ saw.futures) (saw.shape ∷ saw.behind) (did ∷ []);
-          futures_read = saw.futures_read;
-          apart = saw.apart;
-          shape_read = saw.shape_read;
-          nested = saw.nested;
-          stores = AllByRecursion-push IsStore saw.behind did saw.stores stores;
-        };
-        flat = stops.flat;
-      }
+  SawStopped-push again steps did stores saw = record {
+    more = saw.more;
+    choice = saw.choice;
+    chose = HasChosen-push saw.choice steps did saw.chose;
+    last = saw.last;
+    before = saw.before;
+    futures = saw.futures;
+    shape = saw.shape;
+    behind = saw.behind ++ did ∷ [];
+    split = ap (λ s. s ++ did ∷ []) saw.split ∙ append_assoc (saw.before ++ saw.futures) (saw.shape ∷ saw.behind) (did ∷ []);
+    futures_read = saw.futures_read;
+    apart = saw.apart;
+    shape_read = saw.shape_read;
+    nested = saw.nested;
+    stores = AllByRecursion-push IsStore saw.behind did saw.stores stores;
+  }
 
   unlocked-saw : (rehash : Rehash) (number : ℕ) (stop : Bool) (steps : List Did) (did : Did)
       → IsStore did → IsNoAttach env.geometry did → UnlockingSaw rehash stop steps
       → SawAtWork (unlocked_bucket env.geometry rehash number stop) (steps ++ did ∷ [])
-  unlocked-saw rehash number true steps did stores quiet saw = inr (Stops-push true steps did stores saw)
+  unlocked-saw rehash number true steps did stores quiet saw = inr (SawStopped-push true steps did stores saw)
   unlocked-saw rehash number false steps did stores quiet saw =
       next-saw rehash number (steps ++ did ∷ []) (Moves-push rehash.root rehash.future rehash.again steps did quiet saw)
 
@@ -965,7 +953,7 @@ module _ (env : Env) where
   }
 
   -- a store of another word attaches nothing and finds nothing
-  stored-saw : (again : Bool) (address : Address) (value : ℕ) (steps : List Did) (did : Did) → IsAddress env.geometry address
+  pub stored-saw : (again : Bool) (address : Address) (value : ℕ) (steps : List Did) (did : Did) → IsAddress env.geometry address
       → address ≢ CurrentTable → did.op ≡ Store (place_of env.geometry address) value → SawReplaced again steps
       → SawReplaced again (steps ++ did ∷ [])
   unfolding Published-push HasChosen-push
@@ -1081,29 +1069,17 @@ module _ (env : Env) where
         has_future env mix does.caller (mem env mix does.words) does.ghost does.whole root knows
         (sym (ap slot_of found) ∙ none)
 
-    -- each table is flat
-    last_flat : (root : ℕ) (h : Geometry) (state : LastTableAt) (did : Did)
-        → Performs mix env (works (at.LastTable root (record { geometry = h; at = state }))) did → FindsFlat state did
-    last_flat root h (seeks.Future slot) did does = tt
-    last_flat root h (seeks.Shape slot) did does =
+    -- a nested table has no more
+    last_small : (root : ℕ) (h : Geometry) (state : LastTableAt) (did : Did)
+        → Performs mix env (works (at.LastTable root (record { geometry = h; at = state }))) did → FindsSmall state did
+    last_small root h (seeks.Future slot) did does = tt
+    last_small root h (seeks.Shape slot) did does =
         let found : did.old ≡ mem env mix does.words (Slot slot ShapeWord) =
         does.found ∙ ap (old_of does.words)
         (does.planned ∙ ap (λ (g : Geometry). last_table_plan_at g (seeks.Shape slot)) does.within.seek_in.geometry_same) in
-        ap is_nested found
-        ∙ flat_seen env mix does.caller (mem env mix does.words) does.ghost does.whole slot
-        does.knows.knowing.means.work.more.aim_is.table
-
-    -- and its shape, where it is the last one
-    flat_shape : (emptying : Emptying) (h : Geometry) (slot : ℕ) (did : Did)
-        → Performs mix env (works (at.EntryTable emptying (record { geometry = h; at = seeks.Shape slot }))) did
-        → is_nested did.old ≡ false
-    flat_shape emptying h slot did does =
-        let found : did.old ≡ mem env mix does.words (Slot slot ShapeWord) =
-        does.found ∙ ap (old_of does.words)
-        (does.planned ∙ ap (λ (g : Geometry). last_table_plan_at g (seeks.Shape slot)) does.within.seek_in.geometry_same) in
-        ap is_nested found
-        ∙ flat_seen env mix does.caller (mem env mix does.words) does.ghost does.whole slot
-        does.knows.knowing.means.work.more.aim_is.table
+        subst (λ shape. is_nested shape ≡ true → size_of (unpacked shape) ≤ 2 ^ 17) (sym found)
+        (nested_size env mix does.caller (mem env mix does.words) does.ghost does.whole slot
+        does.knows.knowing.means.work.more.aim_is.table)
 
     -- nor is the next one the current one itself
     other_future : (root : ℕ) (due : Due) (did : Did) → Performs mix env (works (at.RootFuture root due)) did → (future : ℕ)
@@ -1152,7 +1128,7 @@ module _ (env : Env) where
     table-saw emptying h (seeks.Shape slot) steps did does saw =
         let is = does.planned ∙ ap (λ (g : Geometry). last_table_plan_at g (seeks.Shape slot)) does.within.seek_in.geometry_same in
         found-saw emptying slot steps did (reads (Slot slot ShapeWord) did (does.within.seek_in.at_in, tt) is)
-        (other_last emptying h slot did does) (flat_shape emptying h slot did does) saw
+        (other_last emptying h slot did does) saw
 
   -- ---- all states
 
@@ -1203,7 +1179,7 @@ module _ (env : Env) where
   ended-saw (outcomes.NoTable size) steps did is saw = no_table-push size steps did is saw
   ended-saw (outcomes.Moved again) steps did is saw = elim saw [
     | inl replaced ↦ inl (stored-saw again WorkLock 0 steps did tt (λ e. cc) is replaced)
-    | inr stops ↦ inr (Stops-push again steps did (_, _, is) stops)
+    | inr stops ↦ inr (SawStopped-push again steps did (_, _, is) stops)
   ]
 
   pub work-saw : (mix : ℕ → ℕ → ℕ → ℕ) (state : WorkAt) (steps : List Did) (did : Did)
@@ -1212,7 +1188,7 @@ module _ (env : Env) where
   work-saw mix at.WorkLock steps did does saw = lock-saw steps did does.planned saw
   work-saw mix at.CurrentTable steps did does saw = current-saw steps did does.planned saw
   work-saw mix (at.LastTable root seek) steps did does saw =
-      last-saw root seek.geometry seek.at steps did does.within.seek_in.at_in (last_flat mix root seek.geometry seek.at did does)
+      last-saw root seek.geometry seek.at steps did does.within.seek_in.at_in (last_small mix root seek.geometry seek.at did does)
       (does.planned ∙ ap (λ (h : Geometry). last_table_plan_at h seek.at) does.within.seek_in.geometry_same) saw
   work-saw mix (at.Count root last) steps did does saw =
       begun-saw root last (choice_of env did.old last.shape (root == last.table)) steps did does.planned refl saw

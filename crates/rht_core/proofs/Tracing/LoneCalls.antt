@@ -2,17 +2,18 @@
 -- that the operations of one of its calls leave from one event up to another is behind these events what it was before.
 -- By induction over the events from the last one back: an enrolling changes the word of the enrolled callers alone, a beginning
 -- none, a step of a caller in no call none, and one of the caller itself is one of the call.
-use Rattle.std.proofs.Common.{◌≡◌, ◌≢◌, ◌⊎◌, ℕ, zero, suc, ◌+◌, ◌-◌, ◌<◌, ◌≤◌, Bool, true, false, cond, nat_lt, List, length, take, get_or, refl, sym, ap, ◌∙◌, subst, inl, inr, arith}
+use Rattle.std.proofs.Common.{◌≡◌, ◌≢◌, ◌⊎◌, ℕ, zero, suc, ◌+◌, ◌-◌, ◌<◌, ◌≤◌, Bool, true, false, cond, nat_lt, List, [], ◌∷◌, ◌++◌, length, take, append_assoc, get_or, refl, sym, ap, ◌∙◌, subst, inl, inr, arith}
 use Rattle.std.specs.Prelude.{Option, Some, None}
 use Rattle.std.specs.List.{AllByRecursion, Contains, slice_get}
 use Rattle.std.proofs.lemmas.Bool.{cases_eq}
-use Rattle.std.proofs.lemmas.List.Elements.{All-contains, All-from_recursion, Contains-push}
+use Rattle.std.proofs.lemmas.List.Elements.{All-contains, All-from_recursion, Contains-push, Contains-append_right}
 use Rattle.std.proofs.lemmas.Option.{slice_get-get_or}
 use Rattle.rht_words.specs.declared.op.Op.{Op}
 use Rattle.rht_words.specs.declared.op.Op.TheVariants.{Store}
 use Rattle.rht_words.specs.declared.env.Env.{Env}
 use Rattle.rht_words.specs.Operations.{op_place, old_of, word_after, applied}
 use Rattle.rht_words.specs.Places.{Address, EnrolledCallers, IsAddress, place_of, word_at}
+use Rattle.rht_words.proofs.EachElement.{AllByRecursion-append, AllByRecursion-weaker}
 use Rattle.rht_words.proofs.PlacesApart.{place_of-apart, place_of-below}
 use Rattle.rht_words.proofs.WordChanges.{applied-same, applied-other}
 use Rattle.rht_core.specs.declared.event.Event.{Event}
@@ -30,11 +31,16 @@ use Rattle.rht_core.proofs.Events.CallBeginnings.{idle_plans}
 use Rattle.rht_core.proofs.Events.BusyCallers.{ends}
 use Rattle.rht_core.proofs.Events.SoundRuns.{runs-in, has_place}
 use Rattle.rht_core.proofs.Tracing.TracesAtEvents.{behind_steps-push, at_events, past-ends}
-use Rattle.rht_core.proofs.Tracing.StepsInTraces.{stands_within, call_in_order, LiesWithin, rising-within}
+use Rattle.rht_core.proofs.Tracing.StepsInTraces.{stands_within, call_in_order, rising_around, LiesWithin, rising-within}
 
 -- the operation leaves the word at this place
 abbrev pub Spares : ℕ → Did → Type 0
 Spares place did = (op_place did.op ≢ place) ⊎ (word_after did.old did.op ≡ did.old)
+
+-- the words that the first of these operations found, or these where there is none
+abbrev pub found_first : (ℕ → List ℕ) → List Did → List ℕ → List ℕ
+found_first words_at [] now = now
+found_first words_at (did ∷ dids) now = words_at did.index
 
 spared_word : (words : List ℕ) (place : ℕ) (did : Did) → old_of words did.op ≡ did.old → Spares place did
     → get_or (applied words did.op) place 0 ≡ get_or words place 0
@@ -249,3 +255,69 @@ module _ (M : Type 0) (mix : ℕ → ℕ → ℕ → ℕ) (env : Env) (events : 
       sym (same_over place (did.index + 1) (behind_call past) (omega (arith, within.0)) (omega arith) spared
       (not_enrolled address is_address other) (omega (arith, within.1)))
       ∙ ap (word place) next ∙ ap (λ ws. get_or ws place 0) words ∙ applied-same w.core.words (Store place value) inside
+
+  -- each of its operations finds the words as the one before has left them, and the last one leaves them so for the end
+  pub left_so : (before rest : List Did) (did : Did) → past.steps ≡ before ++ did ∷ rest → (address : Address)
+      → IsAddress env.geometry address → address ≢ EnrolledCallers
+      → word_at env.geometry (found_first (λ n. (behind n).core.words) rest (behind (behind_call past)).core.words) address
+      ≡ word_at env.geometry (applied (behind did.index).core.words did.op) address
+  left_so before rest did split address is_address other =
+      go rest (rising_around (past.begin + 1) before did rest (subst (IsRising (past.begin + 1)) split steps_rising)) split
+    where
+      place : ℕ
+      place = place_of env.geometry address
+
+      there : Contains past.steps did
+      there =
+          subst (λ s. Contains s did) (sym split)
+          (Contains-append_right before (did ∷ rest) did (0, omega arith, refl))
+
+      left : (to : ℕ) → did.index + 1 ≤ to → to ≤ behind_call past
+          → AllByRecursion (SparesWithin place (did.index + 1) to) past.steps
+          → word place to ≡ get_or (applied (behind did.index).core.words did.op) place 0
+      left to low high spared =
+          let within = steps_within did there in
+          let recorded = recorded_in did there in
+          let words : (behind (suc did.index)).core.words ≡ applied (behind did.index).core.words did.op =
+          ap (λ (v : World M). v.core.words) (behind-suc did.index (Step c) recorded.event)
+          ∙ step_words M mix (behind did.index) c did.op recorded.plan in
+          let next : did.index + 1 ≡ suc did.index = omega arith in
+          sym (same_over place (did.index + 1) to (omega (arith, within.0)) high spared (not_enrolled address is_address other) low)
+          ∙ ap (word place) next ∙ ap (λ ws. get_or ws place 0) words
+
+      -- none of them stands between the two
+      spares : (to : ℕ) (behind : List Did) → past.steps ≡ before ++ did ∷ behind
+          → AllByRecursion (λ (d : Did). d.index < did.index) before → AllByRecursion (λ (d : Did). to ≤ d.index) behind
+          → AllByRecursion (SparesWithin place (did.index + 1) to) past.steps
+      spares to behind is early late =
+          let P = SparesWithin place (did.index + 1) to in
+          let earlier : AllByRecursion P before =
+          AllByRecursion-weaker (λ (d : Did). d.index < did.index) P
+          (λ d less first last. absurd (omega (arith, less, first))) before early in
+          let here : P did = λ first last. absurd (omega (arith, first)) in
+          let later : AllByRecursion P behind =
+          AllByRecursion-weaker (λ (d : Did). to ≤ d.index) P (λ d more first last. absurd (omega (arith, more, last)))
+          behind late in
+          subst (AllByRecursion P) (sym is) (AllByRecursion-append P before (did ∷ behind) earlier (here, later))
+
+      go : (rest : List Did)
+          → AllByRecursion (λ (d : Did). d.index < did.index) before × AllByRecursion (λ (d : Did). did.index < d.index) rest
+          → past.steps ≡ before ++ did ∷ rest
+          → word_at env.geometry (found_first (λ n. (behind n).core.words) rest (behind (behind_call past)).core.words) address
+          ≡ word_at env.geometry (applied (behind did.index).core.words did.op) address
+      go [] rising is =
+          let within = steps_within did there in
+          left (behind_call past) (omega (arith, within.1)) (omega arith) (spares (behind_call past) [] is rising.0 tt)
+      go (next ∷ more) rising is =
+          let behind_next = rising_around (past.begin + 1) (before ++ did ∷ []) next more
+          (subst (IsRising (past.begin + 1)) (is ∙ sym (append_assoc before (did ∷ []) (next ∷ more))) steps_rising) in
+          let next_there : Contains past.steps next =
+          subst (λ s. Contains s next) (sym is) (Contains-append_right before (did ∷ next ∷ more) next (1, omega arith, refl)) in
+          let within = steps_within next next_there in
+          let above = rising.1.0 in
+          left next.index (omega (arith, above)) (omega (arith, within.1))
+          (spares next.index (next ∷ more) is rising.0 (
+            omega arith,
+            AllByRecursion-weaker (λ (d : Did). next.index < d.index) (λ (d : Did). next.index ≤ d.index)
+                (λ d later. omega (arith, later)) more behind_next.1,
+          ))

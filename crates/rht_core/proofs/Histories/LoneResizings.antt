@@ -1,0 +1,171 @@
+-- A resizing that was alone and answers that it moved has made another table the current one: it hasn't stopped before a nested one.
+--
+-- Whatever others do, what its operations show is kept while it is made; and beside it what it knows in each state where the words of
+-- tables have always stayed, from one of its operations to the next, as that one left them. In a call that is alone they have.
+use Rattle.std.proofs.Common.{◌≡◌, ℕ, Bool, List, [], ◌∷◌, ◌++◌, append_assoc, refl, sym, ap, ◌∙◌, subst}
+use Rattle.std.specs.Prelude.{Some}
+use Rattle.std.specs.List.{AllByRecursion, Contains}
+use Rattle.std.proofs.lemmas.List.Elements.{All-contains, All-from_recursion}
+use Rattle.rht_words.specs.declared.config.Kind.{Kind}
+use Rattle.rht_words.specs.declared.config.Kind.TheVariants.{Single, Listed}
+use Rattle.rht_words.specs.declared.env.Env.{Env}
+use Rattle.rht_words.specs.declared.machine.Next.{Next}
+use Rattle.rht_words.specs.declared.machine.Next.TheVariants.{Go, Done}
+use Rattle.rht_words.specs.Machines.{GoesOrEnds}
+use Rattle.rht_words.specs.Operations.{applied}
+use Rattle.rht_words.specs.Places.{CurrentTable, Slot, ShapeWord, FutureWord}
+use Rattle.rht_model.specs.declared.history.Call.{Call}
+use Rattle.rht_model.specs.declared.history.Call.TheVariants.{Bind, Find, All, Release, Rebind, Walk, Work, Tidy, Count}
+use Rattle.rht_model.specs.declared.history.Reply.{Reply}
+use Rattle.rht_model.specs.declared.history.Reply.TheVariants.{Moved}
+use Rattle.rht_model.specs.Endings.{Ending, plain_ending, ending_in}
+use Rattle.rht_find.specs.Find.{after_at as find_after_at}
+use Rattle.rht_bind.specs.Bind as bind
+use Rattle.rht_release.specs.All as all
+use Rattle.rht_release.specs.Release as release
+use Rattle.rht_release.specs.Rebind as rebind
+use Rattle.rht_move.specs.Work as work
+use Rattle.rht_move.specs.declared.work.WorkAt.{WorkAt}
+use Rattle.rht_move.specs.declared.work.WorkAt.TheVariants as works_at
+use Rattle.rht_core.specs.declared.event.Event.{Event}
+use Rattle.rht_core.specs.Jobs.{listing_ending, node_ending, call_of, Job, finds, binds, releases, rebinds, lists, works, counts, first_job, first_rebind, job_next, job_after}
+use Rattle.rht_core.specs.Runs.{IsAdmitted}
+use Rattle.rht_core.specs.Seen.{words_before}
+use Rattle.rht_core.specs.Traces.{Did, Past, traced_of, behind_call}
+use Rattle.rht_core.specs.Worked.{IsAloneDuring, words_behind}
+use Rattle.rht_core.proofs.Tracing.LoneCalls.{found_first, left_so}
+use Rattle.rht_core.proofs.Tracing.TracedJobs.{Performs, LeadsOn, IsEndedSo, jobs_keep_in}
+use Rattle.rht_core.proofs.Reasons.LastTables.{AreSame}
+use Rattle.rht_core.proofs.Reasons.LoneWorks.{CalmAt, CalmReply, CalmNext, calm-work}
+use Rattle.rht_core.proofs.Reasons.WorkChoices.{SawReplaced, SawAtWork, SawNextWork, work-saw}
+
+module _ (M : Type 0) (mix : ℕ → ℕ → ℕ → ℕ) (env : Env) (events : List Event) where
+  abbrev words_at : ℕ → List ℕ
+  words_at n = words_before M mix env events n
+
+  -- from each of these operations to the next the words of tables stayed as it left them, and from the last one up to now
+  abbrev IsStill : List Did → List ℕ → Type 0
+  IsStill steps now =
+      (before behind : List Did) (did : Did) → steps ≡ before ++ did ∷ behind
+      → AreSame env (applied (words_at did.index) did.op) (found_first words_at behind now)
+
+  -- so they did up to the last of them
+  still-before : (steps : List Did) (did : Did) (now : List ℕ) → IsStill (steps ++ did ∷ []) now
+      → IsStill steps (words_at did.index)
+  still-before steps did now still before behind at split =
+      subst (AreSame env (applied (words_at at.index) at.op)) (first behind)
+      (still before (behind ++ did ∷ []) at
+      (ap (λ s. s ++ did ∷ []) split ∙ append_assoc before (at ∷ behind) (did ∷ [])))
+    where
+      first : (behind : List Did)
+          → found_first words_at (behind ++ did ∷ []) now ≡ found_first words_at behind (words_at did.index)
+      first [] = refl
+      first (one ∷ rest) = refl
+
+  -- ---- what is kept
+
+  abbrev Now : Job → List Did → Type 0
+  Now (works state) steps = SawAtWork env state steps × ((now : List ℕ) → IsStill steps now → CalmAt env mix state steps now)
+  Now _ steps = Unit {0}
+
+  abbrev Ended : Call → Ending → List Did → Type 0
+  Ended Work ending steps = (now : List ℕ) → IsStill steps now → CalmReply env mix ending.answer.reply steps
+  Ended _ ending steps = Unit {0}
+
+  -- a resizing begins with the work lock
+  no_work : (port owner new : ℕ) (kind : Kind) (state : WorkAt) → first_rebind env port owner new kind ≡ Some (works state) → ⊥
+  no_work port owner new Single state is = cc
+  no_work port owner new Listed state is = cc
+
+  work-begins : (call : Call) (state : WorkAt) → first_job env call ≡ Some (works state) → Now (works state) []
+  work-begins (Find port) state is = absurd (cc)
+  work-begins (Bind port owner once) state is = absurd (cc)
+  work-begins (All port) state is = absurd (cc)
+  work-begins (Release port owner) state is = absurd (cc)
+  work-begins (Rebind port owner new) state is = absurd (no_work port owner new env.config.kind state is)
+  work-begins (Walk from limit) state is = absurd (cc)
+  work-begins Work state is =
+      let here : works_at.WorkLock ≡ state = cc in
+      subst (λ s. Now (works s) []) here (refl, λ now still. tt)
+  work-begins Tidy state is = absurd (cc)
+  work-begins Count state is = absurd (cc)
+
+  begins : (call : Call) (job : Job) → first_job env call ≡ Some job → Now job []
+  begins call (finds port state) is = tt
+  begins call (binds port owner once state) is = tt
+  begins call (lists port room state) is = tt
+  begins call (releases port owner state) is = tt
+  begins call (rebinds port owner new state) is = tt
+  begins call (works state) is = work-begins call state is
+  begins call counts is = tt
+
+  next-leads : {S A : Type 0} (start : Job) (job : S → Job) (ending : A → Ending) (all : List Did) (next : S × Next A)
+      → GoesOrEnds (λ state. Now (job state) all) (λ end. Ended (call_of start) (ending end) all) next
+      → LeadsOn M mix env Now Ended start all (job_next job ending next)
+  next-leads start job ending all (state, Go) kept = kept
+  next-leads start job ending all (state, Done end) kept = kept
+
+  -- of the other calls nothing is kept
+  nothing-kept : {S A : Type 0} (next : S × Next A) → GoesOrEnds (λ (state : S). Unit {0}) (λ (end : A). Unit {0}) next
+  nothing-kept (state, Go) = tt
+  nothing-kept (state, Done end) = tt
+
+  work-kept : (all : List Did) (next : WorkAt × Next Reply) → SawNextWork env all next
+      → ((now : List ℕ) → IsStill all now → CalmNext env mix all now next)
+      → GoesOrEnds (λ state. Now (works state) all) (λ reply. Ended Work (plain_ending reply) all) next
+  work-kept all (state, Go) saw calm = (saw, calm)
+  work-kept all (state, Done reply) saw calm = calm
+
+  goes : (job : Job) (steps : List Did) (did : Did) (performs : Performs mix env job did)
+      → performs.words ≡ words_before M mix env events did.index → Now job steps
+      → LeadsOn M mix env Now Ended job (steps ++ did ∷ []) (job_after mix env job did.old)
+  goes (finds port state) steps did performs here kept =
+      let next = find_after_at mix env port state did.old in
+      next-leads (finds port state) (finds port) plain_ending (steps ++ did ∷ []) next (nothing-kept next)
+  goes (binds port owner once state) steps did performs here kept =
+      let next = bind.after_at mix env port once state did.old in
+      next-leads (binds port owner once state) (binds port owner once) plain_ending (steps ++ did ∷ []) next (nothing-kept next)
+  goes (lists port room state) steps did performs here kept =
+      let after = all.room_after state room did.old in
+      let next = all.after_at mix env port state did.old in
+      next-leads (lists port room state) (lists port after) (listing_ending after) (steps ++ did ∷ []) next (nothing-kept next)
+  goes (releases port owner state) steps did performs here kept =
+      let next = release.after_at mix env port owner state did.old in
+      next-leads (releases port owner state) (releases port owner) node_ending (steps ++ did ∷ []) next (nothing-kept next)
+  goes (rebinds port owner new state) steps did performs here kept =
+      let next = rebind.after_at mix env port owner state did.old in
+      next-leads (rebinds port owner new state) (rebinds port owner new) node_ending (steps ++ did ∷ []) next (nothing-kept next)
+  goes (works state) steps did performs here kept =
+      let next = work.after_at mix env state did.old in
+      next-leads (works state) works plain_ending (steps ++ did ∷ []) next
+      (work-kept (steps ++ did ∷ []) next (work-saw env mix state steps did performs kept.0)
+      (λ now still. calm-work env mix state steps did performs now
+      (subst (λ words. AreSame env (applied words did.op) now) (sym here) (still steps [] did refl)) kept.0
+      (subst (CalmAt env mix state steps) (sym here) (kept.1 (words_at did.index) (still-before steps did now still)))))
+  goes counts steps did performs here kept = tt
+
+  -- ---- a call that is alone
+
+  module _ (c : ℕ) (past : Past) (admitted : IsAdmitted env.config.kind events)
+      (ended : Contains ((traced_of {M = M} mix env events).traces c).past past)
+      (alone : IsAloneDuring M mix env events c past) where
+    all_still : IsStill past.steps (words_behind M mix env events (behind_call past))
+    all_still before rest did split =
+        let same = left_so M mix env events c past admitted ended alone before rest did split in
+        record {
+          current = same CurrentTable tt (λ e. cc);
+          shape = λ slot l. same (Slot slot ShapeWord) (l, tt) (λ e. cc);
+          future = λ slot l. same (Slot slot FutureWord) (l, tt) (λ e. cc);
+        }
+
+    -- where it answers that it moved, it has made another table the current one
+    pub moved_alone : past.done.call ≡ Work → (again : Bool) → past.done.reply ≡ Moved again
+        → SawReplaced env again past.steps
+    moved_alone is again =
+        let calls = ((traced_of {M = M} mix env events).traces c).past in
+        let P = IsEndedSo M mix env Now Ended in
+        let kept : AllByRecursion P calls =
+        (jobs_keep_in M mix env Now Ended events record { begins = begins; goes = goes } c admitted).past in
+        let mine : P past = All-contains P calls past (All-from_recursion P calls kept) ended in
+        (subst (λ call. Ended call (ending_in past.done) past.steps) is mine)
+        (words_behind M mix env events (behind_call past)) all_still again
