@@ -1,7 +1,7 @@
 -- Whatever words it is told, a bind stays in its table: a case a state.
 -- Slots, links, shapes and the node map are read totally, so what they name is there or is none.
 use Rattle.std.proofs.Common.{ℕ, ◌<◌, ◌≤◌, refl, sym, subst, arith}
-use Rattle.std.specs.Prelude.{Bool, Option, Some, None, min, nat_le, nat_eq, ◌*◌, ◌==◌}
+use Rattle.std.specs.Prelude.{Bool, true, false, Option, Some, None, min, nat_le, nat_eq, ◌*◌, ◌==◌}
 use Rattle.std.proofs.lemmas.Bool.{cond_both}
 use Rattle.rht_words.specs.declared.env.Env.{Env}
 use Rattle.rht_words.specs.declared.config.Kind.{Kind}
@@ -27,7 +27,7 @@ use Rattle.rht_nest.specs.Grow.{GrowModel, grow_after}
 use Rattle.rht_nest.proofs.Places.{entered_in}
 use Rattle.rht_nest.proofs.Grows.{GrowIsIn, begins_page, grow_stays}
 use Rattle.rht_nest.proofs.Locates.{LocateStays, locate_stays}
-use Rattle.rht_nest.specs.Make.{MakeModel, make_after, IsMadeIn}
+use Rattle.rht_nest.specs.Make.{MakeModel, make_after, IsMadeIn, made_shape}
 use Rattle.rht_nest.specs.Unmake.{UnmakeModel, unmake_after, IsUnmakeIn}
 use Rattle.rht_nest.proofs.MakesStay.{MakeIsIn, make_stays, unmake_begins, unmake_stays}
 use Rattle.rht_arena.specs.NewNode.{NewNodeModel, new_node_after}
@@ -252,21 +252,26 @@ module _ (mix : ℕ → ℕ → ℕ → ℕ) (env : Env) (port : ℕ) (once : Bo
       (λ t. making-in growing (size_grown growing) within.growing_in)
       (λ f. record { growing_in = within.growing_in; refusal_in = within.root_in }))
 
-  -- the shape of a table that was made is a word
-  made_word : (exponent slot shape : ℕ) → exponent ≤ 17 → IsMadeIn g exponent slot shape → IsWord shape
-  made_word exponent slot shape few is =
-      let pages_few = g.within.pages_within in
-      rw is.shape_is (omega (arith, few, is.run_in.some, is.run_in.within, pages_few))
+  -- the shape of a table that was made is a word, nested or not
+  packed_word : (nested : Bool) (exponent page : ℕ) → exponent ≤ 17 → page ≤ 4096 → IsWord (made_shape exponent nested page)
+  packed_word false exponent page few low = omega (arith, few, low)
+  packed_word true exponent page few low = omega (arith, few, low)
 
-  made-in : (growing : Growing) (size exponent : ℕ) (make : MakeModel) (next : Next (Option (ℕ × ℕ))) → exponent ≤ 17
-      → IsGrowingIn g growing → MakeIsIn g exponent (make, next) → IsBindAtIn env (made growing size make next)
-  made-in growing size exponent make Go few within stays =
+  made_word : (exponent slot shape : ℕ) (allowed : Bool) → exponent ≤ 17 → IsMadeIn g exponent allowed slot shape → IsWord shape
+  made_word exponent slot shape allowed few is =
+      let pages_few = g.within.pages_within in
+      rw is.shape_is (packed_word is.nested exponent is.page few (omega (arith, is.run_in.within, pages_few)))
+
+  made-in : (growing : Growing) (size exponent : ℕ) (allowed : Bool) (make : MakeModel) (next : Next (Option (ℕ × ℕ)))
+      → exponent ≤ 17 → IsGrowingIn g growing → MakeIsIn g exponent allowed (make, next)
+      → IsBindAtIn env (made growing size make next)
+  made-in growing size exponent allowed make Go few within stays =
       record { growing_in = within; make_in = stays.make_in }
-  made-in growing size exponent make (Done None) few within stays = record { growing_in = within; refusal_in = tt }
-  made-in growing size exponent make (Done (Some table)) few within stays = record {
+  made-in growing size exponent allowed make (Done None) few within stays = record { growing_in = within; refusal_in = tt }
+  made-in growing size exponent allowed make (Done (Some table)) few within stays = record {
     growing_in = within;
     slot_in = stays.made_in.slot_in;
-    shape_in = made_word exponent table.0 table.1 few stays.made_in;
+    shape_in = made_word exponent table.0 table.1 allowed few stays.made_in;
   }
 
   behind-in : (attempt : Attempt) (answer : Option Reply) → attempt.node < g.nodes
@@ -331,7 +336,7 @@ module _ (mix : ℕ → ℕ → ℕ → ℕ) (env : Env) (port : ℕ) (once : Bo
   bind_stays (at.Root growing) word within told = record { growing_in = within; root_in = omega arith }
   bind_stays (at.GrowthCount growing root) word within told = want-in growing root word within
   bind_stays (at.Making growing size make) word within told =
-      made-in growing size make.exponent (make_after make word).0 (make_after make word).1 within.make_in.greatest
+      made-in growing size make.exponent make.nested (make_after make word).0 (make_after make word).1 within.make_in.greatest
       within.growing_in (make_stays g make word within.make_in told)
   bind_stays (at.FutureAgain growing refusal) word within told =
       refused-in growing refusal (slot_of word) within.growing_in

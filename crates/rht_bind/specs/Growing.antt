@@ -52,7 +52,7 @@ want_or_busy env growing root count =
     else if nat_eq root growing.table then making env growing (size_grown growing)
     else at.FutureAgain growing (refusals.Busy root)
 
--- a table that was made is attached; where there was no slot or no run of pages the bind is refused
+-- a table that was made is attached; where there was no slot or there were no pages the bind is refused
 abbrev pub made : Growing → ℕ → MakeModel → Next (Option (ℕ × ℕ)) → BindAt
 made growing size make Go = at.Making growing size make
 made growing size make (Done (Some table)) = at.Attaching growing table.0 table.1

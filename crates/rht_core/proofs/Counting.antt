@@ -25,7 +25,7 @@ pub mod OutnumberedNodes
 pub mod SparedSlots
 -- in a run with few ports no table is made
 pub mod FewPorts
--- no table is smaller than 16 buckets where the first one isn't and shrinking is off
+-- no table is nested, or smaller than 16 buckets, where the first one isn't, shrinking is off and binds attach none
 pub mod SizedTables
 -- in a run of one caller with fewer than 16 ports no bind is refused because a table is full
 pub mod OneCaller

@@ -9,15 +9,14 @@ use Rattle.rht_model.specs.declared.history.Call.TheVariants.{Bind, Find, Releas
 use Rattle.rht_model.specs.declared.history.Reply.{Reply}
 use Rattle.rht_model.specs.Rooms.{Kept, emptied, no_room}
 use Rattle.rht_model.specs.Endings.{Ending}
-use Rattle.rht_find.specs.Find.{FindModel, find_new, find_plan, find_after}
-use Rattle.rht_bind.specs.Bind.{BindModel, bind_new, bind_plan, bind_after}
+use Rattle.rht_find.specs.Find.{find_new, find_plan, find_after}
+use Rattle.rht_bind.specs.Bind.{bind_new, bind_plan, bind_after}
 use Rattle.rht_release.specs.All.{AllModel, all_new, all_plan, all_after}
 use Rattle.rht_words.specs.declared.config.Kind.{Kind}
 use Rattle.rht_words.specs.declared.config.Kind.TheVariants.{Single, Listed}
-use Rattle.rht_release.specs.Release.{ReleaseModel, release_new, release_plan, release_after}
-use Rattle.rht_release.specs.Rebind.{RebindModel, rebind_new, rebind_plan, rebind_after}
-use Rattle.rht_move.specs.Work.{WorkModel, work_new, work_plan, work_after}
-use Rattle.rht_core.specs.declared.count.PortCount.{PortCount}
+use Rattle.rht_release.specs.Release.{release_new, release_plan, release_after}
+use Rattle.rht_release.specs.Rebind.{rebind_new, rebind_plan, rebind_after}
+use Rattle.rht_move.specs.Work.{work_new, work_plan, work_after}
 use Rattle.rht_core.specs.PortCounts.{count_plan, count_after}
 use Rattle.rht_core.specs.declared.local.Local.{Local}
 use Rattle.rht_core.specs.declared.local.Doing.{Doing}

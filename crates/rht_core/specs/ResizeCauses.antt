@@ -1,16 +1,16 @@
 -- Why a bind that found the last table full, or no page for its bucket, was refused or has to be made again: what its operations show of
 -- that.
 -- Every address that a row names is one of the table's words, since places alone don't tell it from a word that isn't there.
-use Rattle.std.specs.Prelude.{◌≡◌, ◌≢◌, ℕ, true, false, Some, ◌*◌, ◌+◌, ◌<◌, ◌≤◌, ◌⊎◌, List, [], ◌∷◌, ◌++◌, length, map, if◌then◌else◌}
+use Rattle.std.specs.Prelude.{◌≡◌, ◌≢◌, ℕ, Bool, true, false, nat_le, Some, ◌*◌, ◌+◌, ◌<◌, ◌≤◌, ◌⊎◌, List, [], ◌∷◌, ◌++◌, length, map, if◌then◌else◌}
 use Rattle.std.specs.List.{AllByRecursion, Any}
 use Rattle.rht_words.specs.declared.op.Op.{Op}
 use Rattle.rht_words.specs.declared.op.Op.TheVariants.{Load, Exchange}
 use Rattle.rht_words.specs.declared.env.Env.{Env}
 use Rattle.rht_words.specs.declared.geometry.Geometry.{Geometry}
-use Rattle.rht_words.specs.Links.{table_of, future_of}
+use Rattle.rht_words.specs.Links.{future_of}
 use Rattle.rht_words.specs.Machines.{Performed}
 use Rattle.rht_words.specs.Operations.{op_place}
-use Rattle.rht_words.specs.Places.{Address, CurrentTable, PortCount, Slot, FutureWord, StateWord, PageWord, Node, KeyWord, IsAddress, place_of}
+use Rattle.rht_words.specs.Places.{Address, PortCount, Slot, FutureWord, StateWord, PageWord, Node, KeyWord, place_of}
 use Rattle.rht_words.specs.Shapes.{unpacked, size_of}
 use Rattle.rht_policy.specs.Thresholds.{is_above_75, is_above_100}
 use Rattle.rht_arena.specs.RunLaws.{TakesPage, SeesRunTaken}
@@ -144,7 +144,8 @@ AreRunsTaken g pages next before (step ∷ steps) =
 -- where these are the words before the event with each number
 module _ (g : Geometry) (words_at : ℕ → List ℕ) where
   -- A bind is refused for want of a page on the way to its bucket: the last table that it walked is nested and of this size, an entry
-  -- of it that the bind loaded leads to no page, and behind that load each page was seen taken in its turn, and not by the bind.
+  -- of it that the bind loaded leads to no page, and behind that load each page was seen taken in its turn, and not by an operation of
+  -- the bind behind the load.
   pub record SawNoPage (size : ℕ) (steps : List Did) : Type 0 where
     pub table : ℕ
     pub shape : ℕ
@@ -159,10 +160,24 @@ module _ (g : Geometry) (words_at : ℕ → List ℕ) where
     pub missing : MissesPage g words_at shape entry at
     pub taken : AreRunsTaken g 1 0 [] (map performed_of taking)
 
--- no slot was to be had for a table of this size, or no run of pages: each was found taken, and not by these operations
-abbrev pub SawNoRoom : Geometry → ℕ → List Did → Type 0
-SawNoRoom g size steps =
-    AreSlotsTaken g (map performed_of steps) ⊎ AreRunsTaken g (pages_for size) 0 [] (map performed_of steps)
+-- each run of so many pages was found taken in its turn, and by the operations behind that each page in its
+pub record AreRunsThenPagesTaken (g : Geometry) (pages : ℕ) (steps : List Performed) : Type 0 where
+  pub flat : List Performed
+  pub nested : List Performed
+  pub are : steps ≡ flat ++ nested
+  pub runs : AreRunsTaken g pages 0 [] flat
+  pub tops : AreRunsTaken g 1 0 [] nested
+
+-- no pages were to be had for a table that takes so many, or one where it may be nested
+abbrev pub AreNoPages : Geometry → ℕ → Bool → List Performed → Type 0
+AreNoPages g pages false steps = AreRunsTaken g pages 0 [] steps
+AreNoPages g pages true steps = AreRunsThenPagesTaken g pages steps
+
+-- no slot was to be had for a table of this size, or no pages, neither for a flat one nor, where it may be nested, for a nested
+-- one: each was found taken, and not by these operations
+abbrev pub SawNoRoom : Geometry → ℕ → Bool → List Did → Type 0
+SawNoRoom g size nests steps =
+    AreSlotsTaken g (map performed_of steps) ⊎ AreNoPages g (pages_for size) nests (map performed_of steps)
 
 module _ (M : Type 0) (mix : ℕ → ℕ → ℕ → ℕ) (env : Env) (events : List Event) (c : ℕ) where
   -- a count was loaded that is above the size of a table of this shape, which may grow
@@ -222,5 +237,5 @@ module _ (M : Type 0) (mix : ℕ → ℕ → ℕ → ℕ) (env : Env) (events : 
     pub grows :
         (is_above_75 count (size_of (unpacked full.shape)) env.config.max ≡ true)
         ⊎ Any (LoadsCurrent env.geometry table) sooner
-    pub room : SawNoRoom env.geometry size making
+    pub room : SawNoRoom env.geometry size (nat_le 128 size) making
     pub none : Loaded env.geometry (Slot table FutureWord) 0 full.at

@@ -1,6 +1,6 @@
 -- Why a resizing was answered as it was: what its operations show of that.
 -- Every address that a row names is one of the table's words, since places alone don't tell it from a word that isn't there.
-use Rattle.std.specs.Prelude.{◌≡◌, ◌≢◌, ◌↔◌, ℕ, ◌+◌, ◌<◌, ◌==◌, ◌⊎◌, Bool, true, List, [], ◌∷◌, ◌++◌, map, Option, Some, None}
+use Rattle.std.specs.Prelude.{◌≡◌, ◌≢◌, ◌↔◌, ℕ, ◌<◌, ◌==◌, ◌⊎◌, Bool, true, false, List, [], ◌∷◌, ◌++◌, map, Option, Some, None}
 use Rattle.std.specs.List.{AllByRecursion, Any}
 use Rattle.rht_words.specs.declared.op.Op.TheVariants.{Store, Exchange}
 use Rattle.rht_words.specs.declared.env.Env.{Env}
@@ -81,7 +81,7 @@ pub record HasChosen (env : Env) (choice : Choice) (steps : List Did) : Type 0 w
 pub record SawNoTableDue (env : Env) (size : ℕ) (steps : List Did) : Type 0 where
   pub chose : HasChosen env (choices.Attach size) steps
   pub stays : (chose.root ≡ chose.last) ⊎ (is_nested chose.shape.old ≡ true)
-  pub room : SawNoRoom env.geometry size chose.behind
+  pub room : SawNoRoom env.geometry size false chose.behind
 
 -- no table was due, and behind this the current table was found to have no future
 pub record SawNothingDue (env : Env) (steps : List Did) : Type 0 where

@@ -108,15 +108,19 @@ pub fn taken_alone<M: Mix>()
 /// as its future. For `Busy` and `NoTable` it then loaded that future as none. Before, for `Busy`, it had
 /// found that another table is the current one, and that by the count the full one isn't due to grow; for
 /// `NoTable`, that each slot is taken, by each of its operations on the state of one, or each run of pages
-/// in its turn, by a page that it hadn't taken itself, for the size that is wanted: twice the full table's
-/// where that is due to grow by the count, and else its own, where it is the current one.
+/// in its turn and then, where a table of 128 buckets or more is wanted, each page, by a page that it hadn't
+/// taken itself, for the size that is wanted: twice the full table's where that is due to grow by the count,
+/// and else its own, where it is the current one. Or `NoTable` has another cause: the last table that the
+/// bind walked is nested and has the size that is named, an entry of it that the bind loaded led to no page,
+/// and behind that each page was seen taken in its turn.
 ///
 /// A `Work` that was answered `Elsewhere` found the work lock taken. Any other one took it, looked for
 /// the last table from the current one on and chose by its shape and by the count what is due:
 /// for `NoTable` a table that wasn't to be had, while the last one is the current one or nested; for
 /// `Idle` nothing, and the current table had no future. `Moved` stored another current table and then
 /// loaded its future; there is more to do exactly where it found one, or attached no table of the size
-/// that was due.
+/// that was due. Or `Moved` stopped, and there is more to do: it looked for the last table anew, found
+/// another one than the current one, loaded that this is nested, and behind that stored words alone.
 ///
 /// `Found` and `Missing` of a look-up, `Listed` of a listing, `Absent` of a release, `Rebound` and
 /// `Absent` of a rebind have nothing to show here. No other reply of these calls comes, and a call of
@@ -193,8 +197,9 @@ pub fn counted<M: Mix>()
 /// entry leads in a nested one; and each slot that isn't free is retired, or has a table in force. So no
 /// node is lost: a bind that is refused, or finds its port bound, has given its
 /// node back, and so has a rebind that is answered `Absent`. And no slot or page is lost: each that isn't
-/// free is a table's that is in force or retired, so what was taken for a table that wasn't attached has
-/// been given back, and each table that was left behind is retired. It doesn't say which nodes are out or
+/// free is a table's that is in force or retired, so what was taken for a table that wasn't attached, or
+/// for an entry behind which another page was entered, has been given back, and each table that was left
+/// behind is retired. It doesn't say which nodes are out or
 /// which call took one, that no table in force is retired, nor that such a moment comes.
 pub fn at_rest<M: Mix>()
     ensures { AtRest M M.mix_of }

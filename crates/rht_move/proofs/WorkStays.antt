@@ -1,6 +1,6 @@
 -- Whatever words it is told, a worker stays in its table: a case a state.
 -- Slots, links and shapes are read totally, so what they name is there or is none.
-use Rattle.std.proofs.Common.{ℕ, ◌+◌, ◌<◌, refl, arith}
+use Rattle.std.proofs.Common.{ℕ, ◌+◌, ◌<◌, refl, subst, arith}
 use Rattle.std.specs.Prelude.{Bool, true, false, Option, Some, None, ◌==◌, ◌||◌, nat_lt}
 use Rattle.std.proofs.lemmas.Bool.{cond_both, ltb-true}
 use Rattle.rht_words.specs.declared.env.Env.{Env}
@@ -80,6 +80,7 @@ module _ (mix : ℕ → ℕ → ℕ → ℕ) (env : Env) where
     wanted_in = within;
     size_same = refl;
     seed_same = refl;
+    flat = refl;
     make_in = make_begins g size env.config.seed false;
   }
   begun-in root last Later within = within.root_in
@@ -91,7 +92,7 @@ module _ (mix : ℕ → ℕ → ℕ → ℕ) (env : Env) where
       (λ f. within.root_in)
 
   made-in : (wanted : Wanted) (make : MakeModel) (next : Next (Option (ℕ × ℕ))) → IsMakingIn env wanted make
-      → IsMakeEndIn g make.exponent next → IsWorkAtIn env (made wanted make next)
+      → IsMakeEndIn g make.exponent false next → IsWorkAtIn env (made wanted make next)
   made-in wanted make Go within made_in = within
   made-in wanted make (Done None) within made_in = not_made-in wanted within.wanted_in
   made-in wanted make (Done (Some table)) within made_in = record {
@@ -273,9 +274,10 @@ module _ (mix : ℕ → ℕ → ℕ → ℕ) (env : Env) where
         wanted_in = within.wanted_in;
         size_same = within.size_same;
         seed_same = within.seed_same;
+        flat = within.flat;
         make_in = stays.make_in;
       })
-      stays.made_in
+      (subst (λ allowed. IsMakeEndIn g make.exponent allowed (make_after make word).1) within.flat stays.made_in)
   work_stays (at.Attaching root last slot shape) word within told = attached-in root last slot shape word within
   work_stays (at.Unmaking root unmake) word within told =
       unmade-in root (unmake_after unmake word).0 (unmake_after unmake word).1 within.root_in

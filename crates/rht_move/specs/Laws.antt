@@ -6,7 +6,7 @@ use Rattle.rht_words.specs.declared.geometry.Geometry.{Geometry}
 use Rattle.rht_words.specs.Shapes.{size_of, unpacked}
 use Rattle.rht_words.specs.Sizes.{IsSizeUpTo}
 use Rattle.rht_nest.specs.Tables.{pages_of_shape}
-use Rattle.rht_nest.specs.Make.{made_pages, IsMadeIn}
+use Rattle.rht_nest.specs.Make.{pages_taken, IsMadeIn}
 use Rattle.rht_move.specs.Choice.{choice_of}
 use Rattle.rht_move.specs.declared.work.choice.Choice.{Choice}
 use Rattle.rht_move.specs.declared.work.choice.Choice.TheVariants.{Attach, Later, Nothing}
@@ -26,6 +26,6 @@ TablesDueHaveSizes =
 -- of a table that was made a worker holds the pages of the run that was taken for it
 abbrev pub HoldsWhatWasMade : Type 0
 HoldsWhatWasMade =
-    (g : Geometry) (exponent slot shape : ℕ)
-    → exponent ≤ 17 → (made : IsMadeIn g exponent slot shape)
-    → pages_of_shape shape ≡ range_with_len made.page (made_pages exponent)
+    (g : Geometry) (exponent : ℕ) (allowed : Bool) (slot shape : ℕ)
+    → exponent ≤ 17 → (made : IsMadeIn g exponent allowed slot shape)
+    → pages_of_shape shape ≡ range_with_len made.page (pages_taken exponent made.nested)

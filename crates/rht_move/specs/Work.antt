@@ -302,11 +302,12 @@ pub record IsCountingIn (root : ℕ) (last : Last) : Type 0 where
   pub root_in : root < 8
   pub last_in : IsLastIn last
 
--- it makes a table of the size that is due, with the config's seed
+-- it makes a flat table of the size that is due, with the config's seed
 pub record IsMakingIn (env : Env) (wanted : Wanted) (make : MakeModel) : Type 0 where
   pub wanted_in : IsCountingIn wanted.root wanted.last
   pub size_same : make.exponent ≡ exponent_made wanted.size
   pub seed_same : make.seed ≡ env.config.seed
+  pub flat : make.nested ≡ false
   pub make_in : IsMakeIn env.geometry make
 
 -- it attaches a table that was made
@@ -316,7 +317,7 @@ pub record IsAttachingIn (g : Geometry) (root last slot shape : ℕ) : Type 0 wh
   pub exponent : ℕ
   pub least : 2 ≤ exponent
   pub greatest : exponent ≤ 17
-  pub made_in : IsMadeIn g exponent slot shape
+  pub made_in : IsMadeIn g exponent false slot shape
 
 -- it gives that table back
 pub record IsUnmakingIn (g : Geometry) (root : ℕ) (unmake : UnmakeModel) : Type 0 where

@@ -57,7 +57,8 @@ pub enum Outcome {
     Idle,
     /// A table of this size was due, and couldn't be had.
     NoTable { size: u32 },
-    /// Entries were moved; with `again`, there is more to do.
+    /// Entries were moved; with `again`, there is more to do, as where the move stopped before a nested
+    /// table.
     Moved { again: bool },
 }
 

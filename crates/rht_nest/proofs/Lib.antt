@@ -16,13 +16,17 @@ pub mod Grows
 pub mod PieceRuns
 -- runs seen in turn, with operations before and behind
 pub mod TurnsJoined
+-- what the taking of a run has shown once it has ended
+pub mod RunsLooked
 -- a page that is answered is there, and none is where each was seen taken
 pub mod GrowsEnter
 -- the making and the giving back of a table stay in range
 pub mod MakesStay
 -- and on which words they work
 pub mod MakesPlanned
--- no table is made exactly where no slot or no run of pages was to be had
+-- how a making ends once a slot is taken
+pub mod MakesEnd
+-- no table is made exactly where no slot or no pages were to be had
 pub mod MakesInTurn
 -- a table that is answered was made of a slot and pages that were free
 pub mod MakesMade

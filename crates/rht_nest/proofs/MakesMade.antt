@@ -1,303 +1,255 @@
 -- A table that is answered was made of a slot and of pages that were free until the machine took them.
 --
--- The invariant (`MadeSoFar`): in each state, what was taken and stored so far.
-use Rattle.std.proofs.Common.{◌≡◌, ℕ, ◌+◌, ◌-◌, ◌*◌, ◌^◌, ◌<◌, ◌≤◌, List, [], ◌∷◌, ◌++◌, Some, None, inl, inr, refl, sym, ap, ◌∙◌, subst, max, min, arith}
-use Rattle.std.specs.Prelude.{Option, Bool, ◌==◌, nat_le, nat_lt, if◌then◌else◌}
+-- The slot is taken by the operation that finds it free; the run of pages, or the top page of a nested table, by those of its taking,
+-- which has ended; and the last five operations take the serial and store the words. A nested table comes only behind a taking of a
+-- run that found none.
+use Rattle.std.proofs.Common.{◌≡◌, ℕ, Bool, true, false, ◌+◌, ◌-◌, ◌*◌, ◌/◌, ◌^◌, ◌<◌, ◌≤◌, List, [], ◌∷◌, ◌++◌, append_assoc, Some, None, inl, inr, refl, sym, ap, ◌∙◌, subst, max, min, arith}
+use Rattle.std.specs.Prelude.{Option, ◌==◌, nat_lt, if◌then◌else◌}
 use Rattle.std.specs.List.{Any}
-use Rattle.std.proofs.lemmas.Bool.{cases_lt, cond_both, eqb-true, leb-true, ltb-true}
-use Rattle.std.proofs.lemmas.List.Quantifiers.{Any-push}
-use Rattle.std.proofs.lemmas.List.Elements.{All-from_recursion}
+use Rattle.std.proofs.lemmas.Bool.{cases_lt, cond_both, eqb-true, ltb-true}
 use Rattle.std.proofs.Math.Pow.{pow_mono}
 use Rattle.std.proofs.lemmas.Nat.{pow-add}
 use Rattle.rht_words.specs.declared.machine.Next.{Next}
 use Rattle.rht_words.specs.declared.machine.Next.TheVariants.{Go, Done}
-use Rattle.rht_words.specs.declared.machine.Start.TheVariants as starts
 use Rattle.rht_words.specs.declared.geometry.Geometry.{Geometry}
 use Rattle.rht_words.specs.declared.shape.Shape.{Shape}
-use Rattle.rht_words.specs.Places.{SlotWord, ShapeWord, SeedWord, FutureWord, SerialWord}
+use Rattle.rht_words.specs.Places.{ShapeWord, SeedWord, FutureWord, SerialWord}
 use Rattle.rht_words.specs.Shapes.{size_of}
-use Rattle.rht_words.specs.Machines.{Performed}
-use Rattle.rht_words.proofs.EachElement.{Any-append_left}
-use Rattle.rht_words.proofs.MachineRuns.{performed, kept_to_end}
-use Rattle.rht_arena.specs.TakeRun.{TakeRunModel, take_run_new, take_run_after, run_length, first_run}
-use Rattle.rht_arena.specs.RunLaws.{RunWasTaken}
-use Rattle.rht_arena.proofs.RunsTaken.{TookSoFar, took_so_far-begins, took_goes_on, took_after, RunWasTaken-push, anything}
+use Rattle.rht_words.specs.Machines.{Performed, Ran, went_on}
+use Rattle.rht_arena.specs.TakeRun.{take_run_new}
+use Rattle.rht_arena.specs.RunLaws.{TakesPage, RunWasTaken}
+use Rattle.rht_arena.proofs.NodesInTurn.{Any-behind}
 use Rattle.rht_nest.specs.Tables.{exponent_made, flat_shape, table_pages, table_seed}
-use Rattle.rht_nest.specs.Make.{MakeModel, make_new, make_plan, make_plan_at, make_after, make_after_at, made_pages, made_shape, run_taken, run_started}
-use Rattle.rht_nest.specs.MakeLaws.{TakesSlot, StoresInSlot, TakesSerial, TableWasMade, MadeOfWhatWasFree}
+use Rattle.rht_nest.specs.Make.{may_nest, made_pages, made_shape, pages_taken, run_started}
+use Rattle.rht_nest.specs.MakeLaws.{TakesSlot, StoresInSlot, TakesSerial, IsKindMade, TableWasMade, MadeOfWhatWasFree}
 use Rattle.rht_nest.specs.declared.make.MakeAt.{MakeAt}
 use Rattle.rht_nest.specs.declared.make.MakeAt.TheVariants as at
-use Rattle.rht_nest.proofs.MakesStay.{made_pages-some}
+use Rattle.rht_nest.proofs.OneOfSteps.{Any-first, Any-within, Any-later}
+use Rattle.rht_nest.proofs.TurnsJoined.{turn-then}
+use Rattle.rht_nest.proofs.RunsLooked.{LookedThrough}
+use Rattle.rht_nest.proofs.MakesEnd.{making_from, step_at, stores, Stored, TopEnds, NoRunEnds, RunEnds, started_ends}
 
--- a table's buckets fit in its pages
-pub size_of-fits : (shape : Shape) → size_of shape ≤ 64 * table_pages shape
-size_of-fits shape =
+-- a flat table's buckets fit in its pages
+pub size_of-fits : (shape : Shape) → shape.nest ≡ 0 → size_of shape ≤ 64 * table_pages shape
+size_of-fits shape flat =
     let exponent = max 2 (min shape.exponent 18) in
+    let pages : table_pages shape ≡ max 1 (size_of shape / 64) = rw flat refl in
     elim (cases_lt exponent 6) [
-      | inl few ↦ omega (arith, pow_mono {i = exponent} {j = 6} (omega arith))
+      | inl few ↦ omega (arith, pages, pow_mono {i = exponent} {j = 6} (omega arith))
       | inr many ↦
           let more = exponent - 6 in
           let parts : 6 + more ≡ exponent = omega (arith, many) in
           let whole : 2 ^ exponent ≡ 64 * 2 ^ more = ap (λ e. 2 ^ e) (sym parts) ∙ pow-add 2 6 more in
-          omega (arith, whole)
+          omega (arith, pages, whole)
     ]
 
--- ---- what was done so far
+-- two answers that are one have one slot and one shape
+same_answer : (made other : ℕ × ℕ) → Some made ≡ Some other → (made.0 ≡ other.0) × (made.1 ≡ other.1)
+same_answer made other is =
+    let same : made ≡ other = cc in
+    (ap (λ (pair : ℕ × ℕ). pair.0) same, ap (λ (pair : ℕ × ℕ). pair.1) same)
 
--- a slot was taken
-record HasSlot (g : Geometry) (slot : ℕ) (steps : List Performed) : Type 0 where
-  slot_in : slot < 8
-  took_slot : Any (TakesSlot g slot) steps
+-- what was taken was so with more operations before and behind
+RunWasTaken-within : (g : Geometry) (pages first : ℕ) (before steps behind : List Performed)
+    → RunWasTaken g pages first steps → RunWasTaken g pages first (before ++ (steps ++ behind))
+RunWasTaken-within g pages first before steps behind was = record {
+  run = was.run;
+  multiple = was.multiple;
+  aligned = was.aligned;
+  taken = λ page of_run. Any-within (TakesPage g page) before steps behind (was.taken page of_run);
+}
 
--- and a run of pages
-record HasRun (g : Geometry) (pages slot page : ℕ) (steps : List Performed) : Type 0 where
-  has_slot : HasSlot g slot steps
-  run : RunWasTaken g pages page steps
-
-record HasSerial (g : Geometry) (pages slot page serial : ℕ) (steps : List Performed) : Type 0 where
-  run : HasRun g pages slot page steps
-  took_serial : Any (TakesSerial g serial) steps
-
--- what was done stays so
-module _ (steps : List Performed) (step : Performed) where
-  HasSlot-push : (g : Geometry) (slot : ℕ) → HasSlot g slot steps → HasSlot g slot (steps ++ step ∷ [])
-  HasSlot-push g slot has = record {
-    slot_in = has.slot_in;
-    took_slot = Any-append_left (TakesSlot g slot) steps (step ∷ []) has.took_slot;
-  }
-
-  HasRun-push : (g : Geometry) (pages slot page : ℕ) → HasRun g pages slot page steps
-      → HasRun g pages slot page (steps ++ step ∷ [])
-  HasRun-push g pages slot page has = record {
-    has_slot = HasSlot-push g slot has.has_slot;
-    run = RunWasTaken-push g pages page steps step has.run;
-  }
-
-  HasSerial-push : (g : Geometry) (pages slot page serial : ℕ) → HasSerial g pages slot page serial steps
-      → HasSerial g pages slot page serial (steps ++ step ∷ [])
-  HasSerial-push g pages slot page serial has = record {
-    run = HasRun-push g pages slot page has.run;
-    took_serial = Any-append_left (TakesSerial g serial) steps (step ∷ []) has.took_serial;
-  }
-
-  stored-push : (g : Geometry) (slot : ℕ) (word : SlotWord) (value : ℕ)
-      → Any (StoresInSlot g slot word value) steps → Any (StoresInSlot g slot word value) (steps ++ step ∷ [])
-  stored-push g slot word value some = Any-append_left (StoresInSlot g slot word value) steps (step ∷ []) some
-
-module _ (g : Geometry) (size seed : ℕ) (nested : Bool) where
+module _ (g : Geometry) (size seed : ℕ) (allowed : Bool) where
   abbrev exponent : ℕ
   exponent = exponent_made size
 
   abbrev pages : ℕ
   pages = made_pages exponent
 
-  -- the making of a table, in a state
-  abbrev making : MakeAt → MakeModel
-  making state = record { geometry = g; exponent = exponent; seed = seed; nested = nested; at = state }
+  abbrev nests : Bool
+  nests = may_nest exponent allowed
 
-  record IsTaking (steps : List Performed) (slot : ℕ) (take : TakeRunModel) : Type 0 where
-    has_slot : HasSlot g slot steps
-    so_far : TookSoFar g pages steps take
+  -- what comes of the making from a state on
+  abbrev from : MakeAt → List ℕ → Ran (Option (ℕ × ℕ))
+  from state olds = making_from g exponent seed allowed state olds
 
-  record HasShape (steps : List Performed) (slot page serial : ℕ) : Type 0 where
-    numbered : HasSerial g pages slot page serial steps
-    shape : Any (StoresInSlot g slot ShapeWord (made_shape exponent page)) steps
+  -- with an operation before that table was made, too
+  kind-first : (nested : Bool) (page : ℕ) (step : Performed) (steps : List Performed)
+      → IsKindMade g size allowed nested page steps → IsKindMade g size allowed nested page (step ∷ steps)
+  kind-first true page step steps kind = record { may = kind.may; no_run = inl kind.no_run }
+  kind-first false page step steps kind = kind
 
-  record HasSeed (steps : List Performed) (slot page serial : ℕ) : Type 0 where
-    shaped : HasShape steps slot page serial
-    seeded : Any (StoresInSlot g slot SeedWord (table_seed seed serial)) steps
+  made-first : (slot shape : ℕ) (step : Performed) (steps : List Performed)
+      → TableWasMade g size seed allowed slot shape steps → TableWasMade g size seed allowed slot shape (step ∷ steps)
+  made-first slot shape step steps was = record {
+    nested = was.nested;
+    page = was.page;
+    serial = was.serial;
+    slot_in = was.slot_in;
+    kind = kind-first was.nested was.page step steps was.kind;
+    shape_is = was.shape_is;
+    took_slot = Any-behind (TakesSlot g slot) step steps was.took_slot;
+    took_run = record {
+      run = was.took_run.run;
+      multiple = was.took_run.multiple;
+      aligned = was.took_run.aligned;
+      taken = λ page of_run. Any-behind (TakesPage g page) step steps (was.took_run.taken page of_run);
+    };
+    took_serial = Any-behind (TakesSerial g was.serial) step steps was.took_serial;
+    stored_shape = Any-behind (StoresInSlot g slot ShapeWord shape) step steps was.stored_shape;
+    stored_seed =
+        Any-behind (StoresInSlot g slot SeedWord (table_seed seed was.serial)) step steps was.stored_seed;
+    stored_future = Any-behind (StoresInSlot g slot FutureWord 0) step steps was.stored_future;
+    stored_serial = Any-behind (StoresInSlot g slot SerialWord was.serial) step steps was.stored_serial;
+  }
 
-  record HasFuture (steps : List Performed) (slot page serial : ℕ) : Type 0 where
-    seeds : HasSeed steps slot page serial
-    future : Any (StoresInSlot g slot FutureWord 0) steps
+  module _ (slot : ℕ) (slot_in : slot < 8) (shape : ℕ) where
+    -- its next operation in a state
+    abbrev step : MakeAt → ℕ → Performed
+    step state old = step_at g exponent seed allowed state old
 
-  abbrev MadeSoFar : List Performed → MakeAt → Type 0
-  MadeSoFar steps (at.Slot slot) = slot < 8
-  MadeSoFar steps (at.Taking slot take) = IsTaking steps slot take
-  MadeSoFar steps (at.SlotBack slot) = Unit {0}
-  MadeSoFar steps (at.NextSerial slot page) = HasRun g pages slot page steps
-  MadeSoFar steps (at.Shape slot page serial) = HasSerial g pages slot page serial steps
-  MadeSoFar steps (at.Seed slot page serial) = HasShape steps slot page serial
-  MadeSoFar steps (at.Future slot page serial) = HasSeed steps slot page serial
-  MadeSoFar steps (at.Serial slot page serial) = HasFuture steps slot page serial
-
-  -- what is said of an answer
-  abbrev IsMade : List Performed → Option (ℕ × ℕ) → Type 0
-  IsMade steps None = Unit {0}
-  IsMade steps (Some made) = TableWasMade g size seed made.0 made.1 steps
-
-  abbrev KeepsMade : List Performed → MakeAt × Next (Option (ℕ × ℕ)) → Type 0
-  KeepsMade steps (state, Go) = MadeSoFar steps state
-  KeepsMade steps (state, Done answer) = IsMade steps answer
-
-  module _ (steps : List Performed) (step : Performed) where
-    abbrev done : List Performed
-    done = steps ++ step ∷ []
-
-    HasShape-push : (slot page serial : ℕ) → HasShape steps slot page serial → HasShape done slot page serial
-    HasShape-push slot page serial has = record {
-      numbered = HasSerial-push steps step g pages slot page serial has.numbered;
-      shape = stored-push steps step g slot ShapeWord (made_shape exponent page) has.shape;
-    }
-
-    HasSeed-push : (slot page serial : ℕ) → HasSeed steps slot page serial → HasSeed done slot page serial
-    HasSeed-push slot page serial has = record {
-      shaped = HasShape-push slot page serial has.shaped;
-      seeded = stored-push steps step g slot SeedWord (table_seed seed serial) has.seeded;
-    }
-
-    HasFuture-push : (slot page serial : ℕ) → HasFuture steps slot page serial → HasFuture done slot page serial
-    HasFuture-push slot page serial has = record {
-      seeds = HasSeed-push slot page serial has.seeds;
-      future = stored-push steps step g slot FutureWord 0 has.future;
-    }
-
-    -- with a slot taken, no page is taken yet
-    starts-made : (slot : ℕ) → HasSlot g slot done → MadeSoFar done (run_started slot (take_run_new g pages))
-    starts-made slot has =
-        let some = made_pages-some exponent in
-        let same : run_length pages ≡ pages = omega (arith, some) in
-        cond_both (nat_le (run_length pages) g.pages) (starts.Running (first_run g (run_length pages)))
-        (starts.Done None)
-        (λ start. MadeSoFar done (run_started slot start))
-        (λ t.
-        let fits : run_length pages ≤ g.pages = leb-true (run_length pages) g.pages t in
+    -- what the last operations have stored, behind those that took the slot and the pages
+    stored-made : (nested : Bool) (page : ℕ) (steps front last : List Performed) → steps ≡ front ++ last
+        → IsKindMade g size allowed nested page steps
+        → Any (TakesSlot g slot) steps
+        → RunWasTaken g (pages_taken exponent nested) page steps
+        → Stored g exponent seed allowed slot nested page (Some (slot, shape)) last
+        → TableWasMade g size seed allowed slot shape steps
+    stored-made nested page steps front last are kind took_slot took_run stored =
+        let serial = stored.serial in
+        let made = (same_answer (slot, shape) (slot, made_shape exponent nested page) stored.answer_is).1 in
+        let all = stores g exponent seed allowed slot nested page serial stored.a stored.b stored.c stored.d in
+        let behind : (P : Performed → Type 0) → Any P all → Any P steps =
+        λ P some. subst (Any P) (sym are) (Any-later P front last (subst (Any P) (sym stored.are) some)) in
         record {
-          has_slot = has;
-          so_far = subst (λ p. TookSoFar g p done (first_run g (run_length pages))) same
-              (took_so_far-begins g (run_length pages) done (record { some = omega arith; within = omega (arith, fits) }));
-        })
-        (λ f. tt)
-
-    -- the table is made
-    made : (slot page serial : ℕ) → HasFuture done slot page serial
-        → Any (StoresInSlot g slot SerialWord serial) done
-        → TableWasMade g size seed slot (made_shape exponent page) done
-    made slot page serial has last =
-        let seeds = has.seeds in
-        let shaped = seeds.shaped in
-        let numbered = shaped.numbered in
-        let run = numbered.run.run in
-        let fits = size_of-fits (flat_shape exponent page) in
-        let within = run.run.within in
-        record {
+          nested = nested;
           page = page;
           serial = serial;
-          slot_in = numbered.run.has_slot.slot_in;
-          flat = record { flat = refl; within = omega (arith, fits, within) };
-          shape_is = refl;
-          took_slot = numbered.run.has_slot.took_slot;
-          took_run = run;
-          took_serial = numbered.took_serial;
-          stored_shape = shaped.shape;
-          stored_seed = seeds.seeded;
-          stored_future = has.future;
-          stored_serial = last;
+          slot_in = slot_in;
+          kind = kind;
+          shape_is = made;
+          took_slot = took_slot;
+          took_run = took_run;
+          took_serial =
+              behind (TakesSerial g serial)
+              (0, step (at.NextSerial slot nested page) serial, omega arith, refl, record { raises = refl; found = refl });
+          stored_shape =
+              subst (λ s. Any (StoresInSlot g slot ShapeWord s) steps) (sym made)
+              (behind (StoresInSlot g slot ShapeWord (made_shape exponent nested page))
+              (1, step (at.Shape slot nested page serial) stored.a, omega arith, refl, refl));
+          stored_seed =
+              behind (StoresInSlot g slot SeedWord (table_seed seed serial))
+              (2, step (at.Seed slot nested page serial) stored.b, omega arith, refl, refl);
+          stored_future =
+              behind (StoresInSlot g slot FutureWord 0)
+              (3, step (at.Future slot nested page serial) stored.c, omega arith, refl, refl);
+          stored_serial =
+              behind (StoresInSlot g slot SerialWord serial)
+              (4, step (at.Serial slot nested page serial) stored.d, omega arith, refl, refl);
         }
 
-  -- after an operation of the taking of pages
-  taken-made : (steps : List Performed) (slot : ℕ) (take : TakeRunModel) (old : ℕ) (next : Next (Option ℕ))
-      → (take_run_after take old).1 ≡ next → IsTaking steps slot take
-      → MadeSoFar (steps ++ record { op = make_plan_at g exponent seed (at.Taking slot take); old = old } ∷ [])
-      (run_taken slot (take_run_after take old).0 next)
-  taken-made steps slot take old Go is here =
-      let step : Performed = record { op = make_plan_at g exponent seed (at.Taking slot take); old = old } in
-      record {
-        has_slot = HasSlot-push steps step g slot here.has_slot;
-        so_far = took_goes_on g pages steps take old here.so_far is;
-      }
-  taken-made steps slot take old (Done None) is here = tt
-  taken-made steps slot take old (Done (Some page)) is here =
-      let step : Performed = record { op = make_plan_at g exponent seed (at.Taking slot take); old = old } in
-      record {
-        has_slot = HasSlot-push steps step g slot here.has_slot;
-        run = took_after g pages steps take old here.so_far page is;
-      }
+    module _ (first : Performed) (taking : TakesSlot g slot first) where
+      -- behind a run
+      run-made : (page : ℕ) (looking rest : List Performed) → LookedThrough g pages (Some page) looking
+          → Stored g exponent seed allowed slot false page (Some (slot, shape)) rest
+          → TableWasMade g size seed allowed slot shape (first ∷ (looking ++ rest))
+      run-made page looking rest looked stored =
+          let was = looked.taken page refl in
+          let fits = size_of-fits (flat_shape exponent page) refl in
+          let within = was.run.within in
+          stored-made false page (first ∷ (looking ++ rest)) (first ∷ looking) rest refl
+          (record { flat = refl; within = omega (arith, fits, within) })
+          (Any-first (TakesSlot g slot) first (looking ++ rest) taking)
+          (RunWasTaken-within g pages page (first ∷ []) looking rest was) stored
 
-  -- By cases on the state.
-  made_after : (steps : List Performed) (state : MakeAt) (old : ℕ) → MadeSoFar steps state
-      → KeepsMade (steps ++ record { op = make_plan_at g exponent seed state; old = old } ∷ [])
-      (make_after_at g exponent state old)
-  made_after steps (at.Slot slot) old here =
-      let step : Performed = record { op = make_plan_at g exponent seed (at.Slot slot); old = old } in
-      let done = steps ++ step ∷ [] in
-      cond_both (old == 0) (run_started slot (take_run_new g pages), Go)
+      -- behind a top page, where there was no run
+      top-made : nests ≡ true → (page : ℕ) (looking tops last : List Performed) → LookedThrough g pages None looking
+          → LookedThrough g 1 (Some page) tops
+          → Stored g exponent seed allowed slot true page (Some (slot, shape)) last
+          → TableWasMade g size seed allowed slot shape (first ∷ (looking ++ (tops ++ last)))
+      top-made may page looking tops last looked found stored =
+          stored-made true page (first ∷ (looking ++ (tops ++ last))) ((first ∷ looking) ++ tops) last
+          (sym (append_assoc (first ∷ looking) tops last))
+          (record { may = may; no_run = inl (turn-then g pages 0 looking (tops ++ last) (looked.seen.0 refl)) })
+          (Any-first (TakesSlot g slot) first (looking ++ (tops ++ last)) taking)
+          (RunWasTaken-within g 1 page (first ∷ looking) tops last (found.taken page refl)) stored
+
+  -- ---- from the taking of a slot on
+
+  -- what was stored is what is answered
+  stored-slot : (slot other shape : ℕ) (nested : Bool) (page : ℕ) (steps : List Performed)
+      → Stored g exponent seed allowed slot nested page (Some (other, shape)) steps → slot ≡ other
+  stored-slot slot other shape nested page steps stored =
+      sym (same_answer (other, shape) (slot, made_shape exponent nested page) stored.answer_is).0
+
+  module _ (slot : ℕ) (slot_in : slot < 8) (other shape : ℕ) (first : Performed) (taking : TakesSlot g slot first) where
+    abbrev Made : List Performed → Type 0
+    Made steps = TableWasMade g size seed allowed other shape (first ∷ steps)
+
+    topped-made : nests ≡ true → (looking : List Performed) → LookedThrough g pages None looking
+        → (page : Option ℕ) (tops last : List Performed) → LookedThrough g 1 page tops
+        → TopEnds g exponent seed allowed slot (Some (other, shape)) last page → Made (looking ++ (tops ++ last))
+    topped-made may looking looked None tops last found ends = absurd (let none = ends.answer_is in cc)
+    topped-made may looking looked (Some page) tops last found ends =
+        let same = stored-slot slot other shape true page last ends in
+        subst
+        (λ s. s < 8 → TakesSlot g s first → Stored g exponent seed allowed s true page (Some (other, shape)) last
+        → Made (looking ++ (tops ++ last)))
+        (sym same)
+        (λ o_in takes stored. top-made other o_in shape first takes may page looking tops last looked found stored)
+        slot_in taking ends
+
+    no_run-made : (nested : Bool) → nests ≡ nested → (looking rest : List Performed)
+        → LookedThrough g pages None looking
+        → NoRunEnds g exponent seed allowed nested slot (Some (other, shape)) rest → Made (looking ++ rest)
+    no_run-made true may looking rest looked ends =
+        subst (λ s. Made (looking ++ s)) (sym ends.are)
+        (topped-made may looking looked ends.page ends.looking ends.rest ends.looked ends.ends)
+    no_run-made false may looking rest looked ends = absurd (let none = ends.answer_is in cc)
+
+    ended-made : (page : Option ℕ) (looking rest : List Performed) → LookedThrough g pages page looking
+        → RunEnds g exponent seed allowed slot (Some (other, shape)) rest page → Made (looking ++ rest)
+    ended-made None looking rest looked ends = no_run-made nests refl looking rest looked ends
+    ended-made (Some page) looking rest looked ends =
+        let same = stored-slot slot other shape false page rest ends in
+        subst
+        (λ s. s < 8 → TakesSlot g s first → Stored g exponent seed allowed s false page (Some (other, shape)) rest
+        → Made (looking ++ rest))
+        (sym same)
+        (λ o_in takes stored. run-made other o_in shape first takes page looking rest looked stored)
+        slot_in taking ends
+
+    started-made : (olds : List ℕ)
+        → (from (run_started g nests slot (take_run_new g pages)) olds).next ≡ Done (Some (other, shape))
+        → Made (from (run_started g nests slot (take_run_new g pages)) olds).steps
+    started-made olds done =
+        let ended = started_ends g exponent seed allowed slot olds (Some (other, shape)) done in
+        subst Made (sym ended.are) (ended-made ended.page ended.looking ended.rest ended.looked ended.ends)
+
+  -- what is to be shown of the making from a slot on
+  abbrev MadeFrom : Ran (Option (ℕ × ℕ)) → Type 0
+  MadeFrom run =
+      (slot shape : ℕ) → run.next ≡ Done (Some (slot, shape)) → TableWasMade g size seed allowed slot shape run.steps
+
+  -- By induction over the words that the operations find.
+  from_slot : (olds : List ℕ) (slot : ℕ) → slot < 8 → MadeFrom (from (at.Slot slot) olds)
+  from_slot [] slot slot_in = λ other shape done. absurd (cc)
+  from_slot (old ∷ olds) slot slot_in =
+      let first = step_at g exponent seed allowed (at.Slot slot) old in
+      let start = run_started g nests slot (take_run_new g pages) in
+      cond_both (old == 0) (start, Go)
       (if nat_lt (slot + 1) 8 then (at.Slot (slot + 1), Go) else (at.Slot slot, Done None))
-      (λ (next : MakeAt × Next (Option (ℕ × ℕ))). KeepsMade done next)
-      (λ t.
-      let free : old ≡ 0 = eqb-true old 0 t in
-      starts-made steps step slot (record {
-        slot_in = here;
-        took_slot = Any-push (TakesSlot g slot) steps step (record { taking = refl; free = free });
-      }))
+      (λ (next : MakeAt × Next (Option (ℕ × ℕ))). MadeFrom (went_on first next.1 (from next.0 olds)))
+      (λ t other shape done.
+      started-made slot slot_in other shape first (record { taking = refl; free = eqb-true old 0 t }) olds done)
       (λ f.
       cond_both (nat_lt (slot + 1) 8) (at.Slot (slot + 1), Go) (at.Slot slot, Done None)
-      (λ (next : MakeAt × Next (Option (ℕ × ℕ))). KeepsMade done next)
-      (λ t. ltb-true (slot + 1) 8 t) (λ f. tt))
-  made_after steps (at.Taking slot take) old here = taken-made steps slot take old (take_run_after take old).1 refl here
-  made_after steps (at.SlotBack slot) old here = tt
-  made_after steps (at.NextSerial slot page) old here =
-      let step : Performed = record { op = make_plan_at g exponent seed (at.NextSerial slot page); old = old } in
-      record {
-        run = HasRun-push steps step g pages slot page here;
-        took_serial = Any-push (TakesSerial g old) steps step (record { raises = refl; found = refl });
-      }
-  made_after steps (at.Shape slot page serial) old here =
-      let step : Performed = record { op = make_plan_at g exponent seed (at.Shape slot page serial); old = old } in
-      record {
-        numbered = HasSerial-push steps step g pages slot page serial here;
-        shape = Any-push (StoresInSlot g slot ShapeWord (made_shape exponent page)) steps step refl;
-      }
-  made_after steps (at.Seed slot page serial) old here =
-      let step : Performed = record { op = make_plan_at g exponent seed (at.Seed slot page serial); old = old } in
-      record {
-        shaped = HasShape-push steps step slot page serial here;
-        seeded = Any-push (StoresInSlot g slot SeedWord (table_seed seed serial)) steps step refl;
-      }
-  made_after steps (at.Future slot page serial) old here =
-      let step : Performed = record { op = make_plan_at g exponent seed (at.Future slot page serial); old = old } in
-      record {
-        seeds = HasSeed-push steps step slot page serial here;
-        future = Any-push (StoresInSlot g slot FutureWord 0) steps step refl;
-      }
-  made_after steps (at.Serial slot page serial) old here =
-      let step : Performed = record { op = make_plan_at g exponent seed (at.Serial slot page serial); old = old } in
-      made steps step slot page serial (HasFuture-push steps step slot page serial here)
-      (Any-push (StoresInSlot g slot SerialWord serial) steps step refl)
-
-  -- The invariant, of this making.
-  record IsMaking (steps : List Performed) (m : MakeModel) : Type 0 where
-    is : making m.at ≡ m
-    so_far : MadeSoFar steps m.at
-
-  made_on : (steps : List Performed) (m : MakeModel) (old : ℕ) → IsMaking steps m
-      → KeepsMade (steps ++ performed make_plan make_after m old ∷ [])
-      ((make_after m old).0.at, (make_after m old).1)
-  made_on steps m old here =
-      subst
-      (λ (n : MakeModel). KeepsMade (steps ++ performed make_plan make_after n old ∷ [])
-      ((make_after n old).0.at, (make_after n old).1)) here.is
-      (made_after steps m.at old here.so_far)
-
-  same_after : (m : MakeModel) (old : ℕ) → making m.at ≡ m
-      → making (make_after m old).0.at ≡ (make_after m old).0
-  same_after m old is = subst (λ (n : MakeModel). making (make_after n old).0.at ≡ (make_after n old).0) is refl
+      (λ (next : MakeAt × Next (Option (ℕ × ℕ))). MadeFrom (went_on first next.1 (from next.0 olds)))
+      (λ t other shape done.
+      made-first other shape first (from (at.Slot (slot + 1)) olds).steps
+      (from_slot olds (slot + 1) (ltb-true (slot + 1) 8 t) other shape done))
+      (λ last other shape done. absurd (cc)))
 
 pub made_of_what_was_free : MadeOfWhatWasFree
-made_of_what_was_free g size seed nested olds slot shape ends =
-    kept_to_end make_plan make_after (λ old. Unit {0}) (IsMaking g size seed nested) (IsMade g size seed nested)
-    (λ steps m old known here is. record {
-      is = same_after g size seed nested m old here.is;
-      so_far =
-          subst
-          (λ n. KeepsMade g size seed nested (steps ++ performed make_plan make_after m old ∷ []) ((make_after m old).0.at, n))
-          is (made_on g size seed nested steps m old here);
-    })
-    (λ steps m old answer known here is.
-    subst
-    (λ n. KeepsMade g size seed nested (steps ++ performed make_plan make_after m old ∷ []) ((make_after m old).0.at, n))
-    is (made_on g size seed nested steps m old here))
-    [] (make_new g size seed nested) olds (Some (slot, shape))
-    (All-from_recursion (λ (old : ℕ). Unit {0}) olds (anything olds))
-    (record { is = refl; so_far = omega arith })
-    ends
+made_of_what_was_free g size seed allowed olds slot shape done =
+    from_slot g size seed allowed olds 0 (omega arith) slot shape done

@@ -1,6 +1,6 @@
 -- The pages of a table are those of its run, from its first page on; and those that its giving back has still to give, as it
 -- begins, are the same.
-use Rattle.std.proofs.Common.{◌≡◌, ℕ, zero, suc, ◌+◌, ◌-◌, ◌*◌, ◌/◌, ◌<◌, ◌≤◌, max, min, Bool, true, false, cond, ◌∷◌, refl, ap, ◌∙◌, inl, inr, arith}
+use Rattle.std.proofs.Common.{◌≡◌, ℕ, zero, suc, ◌+◌, ◌-◌, ◌*◌, ◌/◌, ◌%◌, ◌<◌, ◌≤◌, max, min, Bool, true, false, cond, ◌∷◌, refl, ap, ◌∙◌, inl, inr, arith}
 use Rattle.std.specs.Prelude.{◌&&◌, nat_le, nat_lt}
 use Rattle.std.specs.List.{filter, range_with_len}
 use Rattle.std.proofs.lemmas.Bool.{cases_lt}
@@ -10,6 +10,8 @@ use Rattle.rht_words.specs.Members.{In}
 use Rattle.rht_words.proofs.Members.{range_with_len-In}
 use Rattle.rht_words.specs.Shapes.{unpacked}
 use Rattle.rht_nest.specs.Tables.{table_pages, pages_of_shape, run_first, run_pages, pages_of_table}
+use Rattle.rht_nest.proofs.MakesStay.{table_pages-some}
+use Rattle.rht_nest.specs.Make.{shape_made, pages_taken}
 use Rattle.rht_nest.specs.Unmake.{unmake_new, pages_of_unmake}
 
 -- a row of as many numbers from the same one on
@@ -67,6 +69,14 @@ row_from a zero x i = absurd i
 row_from a (suc n) x (inl same) = omega (arith, same)
 row_from a (suc n) x (inr later) = let from = row_from (a + 1) n x later in omega (arith, from)
 
+-- a table that is made takes as many pages as its shape says
+pub pages_taken-shape : (exponent : ℕ) (nested : Bool) (page : ℕ)
+    → table_pages (shape_made exponent nested page) ≡ pages_taken exponent nested
+pages_taken-shape exponent true page =
+    let entries : nat_lt 0 ((exponent - 1) % 6 + 1) ≡ true = grind (arith, nat_tests) in
+    rw entries refl
+pages_taken-shape exponent false page = refl
+
 -- where a page of a table is
 pub record IsOfTable (shape p : ℕ) : Type 0 where
   pub from : (unpacked shape).page ≤ p
@@ -83,8 +93,9 @@ module _ (g : Geometry) (shape : ℕ) where
   pub pages_of_table-shape : (unpacked shape).page + table_pages (unpacked shape) ≤ g.pages
       → pages_of_table g shape ≡ pages_of_shape shape
   pages_of_table-shape fits =
+      let takes = table_pages-some (unpacked shape) in
       row_same (run_first g shape) (unpacked shape).page (run_pages g shape) (table_pages (unpacked shape))
-      (omega (arith, fits)) (omega (arith, fits))
+      (omega (arith, fits, takes)) (omega (arith, fits, takes))
 
   pub pages_of_unmake-table : (slot : ℕ) → pages_of_unmake (unmake_new g slot shape).at ≡ pages_of_table g shape
   pages_of_unmake-table slot =

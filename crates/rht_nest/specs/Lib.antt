@@ -4,7 +4,7 @@ pub mod Place
 pub mod Locate
 -- entering a page that is missing on the way to one
 pub mod Grow
--- the shapes, runs of pages and seeds of flat tables
+-- the shapes, pages and seeds of tables
 pub mod Tables
 -- making a table
 pub mod Make

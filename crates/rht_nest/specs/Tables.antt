@@ -1,5 +1,5 @@
--- What a flat table is made of: its shape and its run of pages.
-use Rattle.std.specs.Prelude.{ℕ, Bool, nat_lt, ◌+◌, ◌-◌, ◌/◌, ◌%◌, ◌^◌, min, max, List}
+-- What a table is made of: its shape and its pages.
+use Rattle.std.specs.Prelude.{ℕ, Bool, nat_lt, ◌+◌, ◌-◌, ◌/◌, ◌%◌, ◌^◌, min, max, List, if◌then◌else◌}
 use Rattle.std.specs.List.{range_with_len}
 use Rattle.rht_words.specs.declared.geometry.Geometry.{Geometry}
 use Rattle.rht_words.specs.declared.shape.Shape.{Shape}
@@ -17,15 +17,20 @@ is_nested shape = nat_lt 0 (unpacked shape).nest
 abbrev pub flat_shape : ℕ → ℕ → Shape
 flat_shape exponent page = record { exponent = exponent; nest = 0; page = page }
 
--- the pages that the buckets of a flat table take, from its first page on
-abbrev pub table_pages : Shape → ℕ
-table_pages shape = max 1 (size_of shape / 64)
+-- and of a nested one with this top page. It has so many entries there that each further level takes six bits of a bucket's
+-- number.
+abbrev pub nested_shape : ℕ → ℕ → Shape
+nested_shape exponent page = record { exponent = exponent; nest = (exponent - 1) % 6 + 1; page = page }
 
--- the pages of a flat table whose shape is packed into this word
+-- the pages that a table takes when it is made: those of its buckets from its first page on, or the top page of a nested one
+abbrev pub table_pages : Shape → ℕ
+table_pages shape = if nat_lt 0 shape.nest then 1 else max 1 (size_of shape / 64)
+
+-- those of a table whose shape is packed into this word
 abbrev pub pages_of_shape : ℕ → List ℕ
 pages_of_shape shape = range_with_len (unpacked shape).page (table_pages (unpacked shape))
 
--- the run of a table whose shape is packed into this word, cut to the pages that there are
+-- the run of them, cut to the pages that there are
 abbrev pub run_first : Geometry → ℕ → ℕ
 run_first g shape = min (unpacked shape).page (g.pages - 1)
 

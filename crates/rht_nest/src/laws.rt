@@ -50,21 +50,24 @@ pub fn none_where_pages_taken()
     ensures { NoneWherePagesTaken }
 {}
 
-/// A table that is answered is flat and lies within the pages. Its slot was free until the exchange
-/// that took it, and so was each of its pages; its serial is the one that the machine found; and the
-/// shape, the seed with the serial, no future and the serial were stored in the slot.
+/// The slot of a table that is answered was free until the exchange that took it, and so was each of its
+/// pages, or the top page where it is nested; its serial is the one that the machine found; and the
+/// shape, the seed with the serial, no future and the serial were stored in the slot. A flat table lies
+/// within the pages. A nested one is answered only where it is allowed, the size is at least 128, and
+/// each run of as many pages as a flat one takes was seen taken in its turn.
 pub fn made_of_what_was_free()
     ensures { MadeOfWhatWasFree }
 {}
 
 /// A making that has ended answers none exactly where each slot was found not to be free, or each run
-/// of as many pages as the table takes was seen taken in its turn.
+/// of as many pages as a flat table takes was seen taken in its turn and, where a nested one is allowed
+/// and the size is at least 128, each page in its turn after that.
 pub fn none_where_slots_or_runs_taken()
     ensures { NoneWhereSlotsOrRunsTaken }
 {}
 
-/// A giving back that has ended set the bit of each page of the table, and stored last that the slot is
-/// free.
+/// A giving back that has ended set the bit of each page of the table, or of the top page of a nested
+/// one, and stored last that the slot is free.
 pub fn gives_table_back()
     ensures { GivesTableBack }
 {}

@@ -1,11 +1,12 @@
-//! Making a flat table: a slot is taken, then the pages of its buckets, then its words are stored.
+//! Making a table: a slot is taken, then the pages of its buckets or, where there is no such run, the
+//! top page of a nested one, and then its words are stored.
 
 ghost use Rattle.std.specs.Prelude.{◌≡◌, ℕ, ◌<◌};
 ghost use Rattle.rht_words.specs.Operations.{op_place};
 ghost use Rattle.rht_words.specs.Places.{words_in};
 ghost use Rattle.rht_arena.specs.TakeRun.{take_run_new, take_run_after};
-ghost use Rattle.rht_nest.specs.Tables.{exponent_made, flat_shape, table_seed};
-ghost use Rattle.rht_nest.specs.Make.{make_new, make_plan, make_after, make_after_at, made_pages, made_shape, run_taken, run_started, slot_seen, IsMakeAtIn, IsMakeEndIn};
+ghost use Rattle.rht_nest.specs.Tables.{table_seed};
+ghost use Rattle.rht_nest.specs.Make.{make_new, make_plan, make_after, make_after_at, may_nest, made_pages, shape_made, made_shape, run_found, no_run, run_taken, run_started, top_taken, slot_seen, IsMakeAtIn, IsMakeEndIn};
 
 use crate::tables::table_pages;
 use rht_arena::TakeRun;
@@ -15,30 +16,67 @@ use std::marker::Model;
 /// How many slots there are.
 const SLOTS: u32 = 8;
 
-/// Where the making of a table stands. Each state but the one that holds a piece has one operation.
+/// Where the making of a table stands. Each state but those that hold a piece has one operation.
 /// From the exchange that takes the slot on nobody else knows it, until it is attached.
 #[derive(Clone, Copy, Debug, PartialEq, Eq)]
 pub enum MakeAt {
     /// Exchanges 1 for 0 in the state of a slot. It takes effect here where the slot was free.
-    Slot { slot: u32 },
+    Slot {
+        slot: u32,
+    },
     /// Takes a run of free pages for the buckets.
-    Taking { slot: u32, take: TakeRun },
-    /// Stores in the slot's state that it is free again, since no run of pages was to be had.
-    SlotBack { slot: u32 },
+    Taking {
+        slot: u32,
+        take: TakeRun,
+    },
+    /// Takes a free page for the top of a nested table, since no run of pages was to be had.
+    TakingTop {
+        slot: u32,
+        take: TakeRun,
+    },
+    /// Stores in the slot's state that it is free again, since no pages were to be had.
+    SlotBack {
+        slot: u32,
+    },
     /// Adds 1 to the next serial. The number before it is this table's.
-    NextSerial { slot: u32, page: u32 },
+    NextSerial {
+        slot: u32,
+        nested: bool,
+        page: u32,
+    },
     /// Stores the shape in the slot.
-    Shape { slot: u32, page: u32, serial: u64 },
+    Shape {
+        slot: u32,
+        nested: bool,
+        page: u32,
+        serial: u64,
+    },
     /// Stores the seed, which the serial makes another one for each table.
-    Seed { slot: u32, page: u32, serial: u64 },
+    Seed {
+        slot: u32,
+        nested: bool,
+        page: u32,
+        serial: u64,
+    },
     /// Stores that there is no future table.
-    Future { slot: u32, page: u32, serial: u64 },
+    Future {
+        slot: u32,
+        nested: bool,
+        page: u32,
+        serial: u64,
+    },
     /// Stores the serial, after which the table is made.
-    Serial { slot: u32, page: u32, serial: u64 },
+    Serial {
+        slot: u32,
+        nested: bool,
+        page: u32,
+        serial: u64,
+    },
 }
 
 /// Makes an empty table that no future leads to yet. The answer is its slot and the word of its shape;
-/// none where no slot or no run of pages was free. The kernel's counterpart is `bucket_table_alloc`.
+/// none where no slot was free, or no run of pages and, where the table may be nested, no page. The
+/// kernel's counterparts are `bucket_table_alloc` and `nested_bucket_table_alloc`.
 #[derive(Clone, Copy, Debug, PartialEq, Eq)]
 pub struct Make {
     geometry: Geometry,
@@ -49,7 +87,7 @@ pub struct Make {
 }
 
 impl Model for Make {
-    ghost use Rattle.rht_nest.specs.Make.{MakeModel, made_pages, IsMakeAtIn};
+    ghost use Rattle.rht_nest.specs.Make.{MakeModel, IsMakeAtIn};
 
     ghost Value = { MakeModel };
 
@@ -57,14 +95,14 @@ impl Model for Make {
 
     ghost inverse = { λ m. record { geometry = m.geometry; exponent = m.exponent; seed = m.seed; nested = m.nested; at = m.at } };
 
-    ghost invariant = { λ m. IsMakeAtIn m.geometry (made_pages m.exponent) m.at };
+    ghost invariant = { λ m. IsMakeAtIn m.geometry m.exponent m.nested m.at };
 }
 
 impl Make {
     /// Before the first slot. The size is a power of two from 4 to 131,072; another number is read as
     /// the greatest power of two that divides it, and that as the nearest of these. The seed is the
     /// config's. `nested` says whether a nested table may be made where there is no run of pages for a
-    /// flat one; none is made yet.
+    /// flat one; of less than 128 buckets none is.
     #[inline(always)]
     pub fn new(geometry: Geometry, size: u32, seed: u32, nested: bool) -> Make
         ensures { result ≡ make_new geometry size seed nested }
@@ -81,7 +119,7 @@ impl Make {
     /// The machine in another state.
     #[inline(always)]
     pub fn with(&self, at: MakeAt) -> Make
-        requires { IsMakeAtIn self.now.geometry (made_pages self.now.exponent) at }
+        requires { IsMakeAtIn self.now.geometry self.now.exponent self.now.nested at }
         ensures { result ≡ record self.now { at = at } }
     {
         Make {
@@ -102,11 +140,15 @@ impl Make {
         match self.at {
             MakeAt::Slot { slot } => Op::exchange(places::state(slot), 0, 1),
             MakeAt::Taking { take, .. } => take.plan(),
+            MakeAt::TakingTop { take, .. } => take.plan(),
             MakeAt::SlotBack { slot } => Op::store(places::state(slot), 0),
             MakeAt::NextSerial { .. } => Op::add(places::next_serial(), 1),
-            MakeAt::Shape { slot, page, .. } => {
-                Op::store(places::shape(slot), made_shape(self.exponent, page))
-            }
+            MakeAt::Shape {
+                slot,
+                nested,
+                page,
+                ..
+            } => Op::store(places::shape(slot), made_shape(self.exponent, nested, page)),
             MakeAt::Seed { slot, serial, .. } => {
                 Op::store(places::seed(slot), table_seed(self.seed, serial))
             }
@@ -119,7 +161,7 @@ impl Make {
     #[inline(always)]
     pub fn take(&mut self, old: u64) -> Next<Option<(u32, u64)>>
         ensures taken { (self.new, result) ≡ make_after self.old old }
-        ensures made { IsMakeEndIn self.old.geometry self.old.exponent result }
+        ensures made { IsMakeEndIn self.old.geometry self.old.exponent self.old.nested result }
     {
         let (machine, next) = self.after(old);
         *self = machine;
@@ -130,10 +172,10 @@ impl Make {
     #[inline(always)]
     pub fn after(self, old: u64) -> (Make, Next<Option<(u32, u64)>>)
         ensures after { result ≡ make_after self old }
-        ensures at { IsMakeAtIn self.geometry (made_pages self.exponent) result.0.at }
-        ensures made { IsMakeEndIn self.geometry self.exponent result.1 }
+        ensures at { IsMakeAtIn self.geometry self.exponent self.nested result.0.at }
+        ensures made { IsMakeEndIn self.geometry self.exponent self.nested result.1 }
     {
-        let (at, next) = after_at(self.geometry, self.exponent, &self.at, old);
+        let (at, next) = after_at(self.geometry, self.exponent, self.nested, &self.at, old);
         (self.with(at), next)
     }
 }
@@ -144,29 +186,92 @@ impl Make {
 fn after_at(
     geometry: Geometry,
     exponent: u32,
+    allowed: bool,
     at: &MakeAt,
     old: u64,
 ) -> (MakeAt, Next<Option<(u32, u64)>>)
-    requires { IsMakeAtIn geometry (made_pages exponent) at.now }
-    ensures after { result ≡ make_after_at geometry exponent at.now old }
-    ensures at { IsMakeAtIn geometry (made_pages exponent) result.0 }
-    ensures made { IsMakeEndIn geometry exponent result.1 }
+    requires { IsMakeAtIn geometry exponent allowed at.now }
+    ensures after { result ≡ make_after_at geometry exponent allowed at.now old }
+    ensures at { IsMakeAtIn geometry exponent allowed result.0 }
+    ensures made { IsMakeEndIn geometry exponent allowed result.1 }
 {
+    let nests = may_nest(exponent, allowed);
     match *at {
-        MakeAt::Slot { slot } => slot_seen(geometry, exponent, slot, old),
-        MakeAt::Taking { slot, take } => (run_taken(slot, take, old), Next::Go),
+        MakeAt::Slot { slot } => slot_seen(geometry, exponent, nests, slot, old),
+        MakeAt::Taking { slot, take } => (run_taken(geometry, nests, slot, take, old), Next::Go),
+        MakeAt::TakingTop { slot, take } => (top_taken(slot, take, old), Next::Go),
         MakeAt::SlotBack { .. } => (*at, Next::Done(None)),
-        MakeAt::NextSerial { slot, page } => {
+        MakeAt::NextSerial { slot, nested, page } => {
             let serial = old;
-            (MakeAt::Shape { slot, page, serial }, Next::Go)
+            let next = MakeAt::Shape {
+                slot,
+                nested,
+                page,
+                serial,
+            };
+            (next, Next::Go)
         }
-        MakeAt::Shape { slot, page, serial } => (MakeAt::Seed { slot, page, serial }, Next::Go),
-        MakeAt::Seed { slot, page, serial } => (MakeAt::Future { slot, page, serial }, Next::Go),
-        MakeAt::Future { slot, page, serial } => (MakeAt::Serial { slot, page, serial }, Next::Go),
-        MakeAt::Serial { slot, page, .. } => {
-            (*at, Next::Done(Some((slot, made_shape(exponent, page)))))
+        MakeAt::Shape {
+            slot,
+            nested,
+            page,
+            serial,
+        } => {
+            let next = MakeAt::Seed {
+                slot,
+                nested,
+                page,
+                serial,
+            };
+            (next, Next::Go)
+        }
+        MakeAt::Seed {
+            slot,
+            nested,
+            page,
+            serial,
+        } => {
+            let next = MakeAt::Future {
+                slot,
+                nested,
+                page,
+                serial,
+            };
+            (next, Next::Go)
+        }
+        MakeAt::Future {
+            slot,
+            nested,
+            page,
+            serial,
+        } => {
+            let next = MakeAt::Serial {
+                slot,
+                nested,
+                page,
+                serial,
+            };
+            (next, Next::Go)
+        }
+        MakeAt::Serial {
+            slot,
+            nested,
+            page,
+            ..
+        } => {
+            let made = (slot, made_shape(exponent, nested, page));
+            (*at, Next::Done(Some(made)))
         }
     }
+}
+
+/// Whether a nested table may be made of so many buckets: one of less than 128 would have but one page
+/// of them.
+#[inline(always)]
+fn may_nest(exponent: u32, allowed: bool) -> bool
+    ensures { result ≡ may_nest exponent allowed }
+{
+    allowed && 7 <= exponent
 }
 
 /// After the exchange of a slot's state, which was this: 0 where the slot was free.
@@ -174,14 +279,15 @@ fn after_at(
 fn slot_seen(
     geometry: Geometry,
     exponent: u32,
+    nests: bool,
     slot: u32,
     state: u64,
 ) -> (MakeAt, Next<Option<(u32, u64)>>)
     requires { slot < 8 }
-    ensures { result ≡ slot_seen geometry exponent slot state }
+    ensures { result ≡ slot_seen geometry exponent nests slot state }
 {
     if state == 0 {
-        (run_started(geometry, exponent, slot), Next::Go)
+        (run_started(geometry, exponent, nests, slot), Next::Go)
     } else if slot + 1 < SLOTS {
         (MakeAt::Slot { slot: slot + 1 }, Next::Go)
     } else {
@@ -189,50 +295,99 @@ fn slot_seen(
     }
 }
 
-/// With a slot taken, before its pages are. Where the table of words has fewer pages than that, the
-/// slot is given back at once.
+/// With a slot taken, before its pages are. Where the table of words has fewer pages than a flat table
+/// takes, there is no run without an operation.
 #[inline(always)]
-fn run_started(geometry: Geometry, exponent: u32, slot: u32) -> MakeAt
-    ensures { result ≡ run_started slot (take_run_new geometry (made_pages exponent)) }
+fn run_started(geometry: Geometry, exponent: u32, nests: bool, slot: u32) -> MakeAt
+    ensures { result ≡ run_started geometry nests slot (take_run_new geometry (made_pages exponent)) }
 {
     match TakeRun::new(geometry, made_pages(exponent)) {
         Start::Running(take) => MakeAt::Taking { slot, take },
-        Start::Done(Some(page)) => MakeAt::NextSerial { slot, page },
-        Start::Done(None) => MakeAt::SlotBack { slot },
+        Start::Done(Some(page)) => run_found(slot, page),
+        Start::Done(None) => no_run(geometry, nests, slot),
     }
 }
 
-/// After an operation of the taking of pages. Where there is no run the slot is given back.
+/// After an operation of the taking of pages.
 #[inline(always)]
-fn run_taken(slot: u32, take: TakeRun, old: u64) -> MakeAt
-    ensures { result ≡ run_taken slot (take_run_after take old).0 (take_run_after take old).1 }
+fn run_taken(geometry: Geometry, nests: bool, slot: u32, take: TakeRun, old: u64) -> MakeAt
+    ensures { result ≡ run_taken geometry nests slot (take_run_after take old).0 (take_run_after take old).1 }
 {
     let (take, next) = take.after(old);
     match next {
         Next::Go => MakeAt::Taking { slot, take },
-        Next::Done(Some(page)) => MakeAt::NextSerial { slot, page },
-        Next::Done(None) => MakeAt::SlotBack { slot },
+        Next::Done(Some(page)) => run_found(slot, page),
+        Next::Done(None) => no_run(geometry, nests, slot),
     }
 }
 
-/// The shape of a flat table.
+/// With a run of pages taken, from this one on.
 #[inline(always)]
-fn flat_shape(exponent: u32, page: u32) -> Shape
-    ensures { result ≡ flat_shape exponent page }
+fn run_found(slot: u32, page: u32) -> MakeAt
+    ensures { result ≡ run_found slot page }
 {
-    Shape {
-        exponent,
-        nest: 0,
+    MakeAt::NextSerial {
+        slot,
+        nested: false,
         page,
     }
 }
 
-/// The word of the shape of a flat table.
+/// Where there is no run of pages a nested table is made, if it may be, and else the slot is given
+/// back.
 #[inline(always)]
-fn made_shape(exponent: u32, page: u32) -> u64
-    ensures { result ≡ made_shape exponent page }
+fn no_run(geometry: Geometry, nests: bool, slot: u32) -> MakeAt
+    ensures { result ≡ no_run geometry nests slot }
 {
-    flat_shape(exponent, page).into()
+    if nests {
+        let take = TakeRun::of_one_page(geometry);
+        MakeAt::TakingTop { slot, take }
+    } else {
+        MakeAt::SlotBack { slot }
+    }
+}
+
+/// After an operation of the taking of a top page. Where there is none the slot is given back.
+#[inline(always)]
+fn top_taken(slot: u32, take: TakeRun, old: u64) -> MakeAt
+    ensures { result ≡ top_taken slot (take_run_after take old).0 (take_run_after take old).1 }
+{
+    let (take, next) = take.after(old);
+    match next {
+        Next::Go => MakeAt::TakingTop { slot, take },
+        Next::Done(Some(page)) => MakeAt::NextSerial {
+            slot,
+            nested: true,
+            page,
+        },
+        Next::Done(None) => MakeAt::SlotBack { slot },
+    }
+}
+
+/// The shape of a flat table from its first page on, or of a nested one with this top page. The entries
+/// of that are so many that each further level is of six bits.
+#[inline(always)]
+fn shape_made(exponent: u32, nested: bool, page: u32) -> Shape
+    ensures { result ≡ shape_made exponent nested page }
+{
+    let nest = if nested {
+        exponent.saturating_sub(1) % 6 + 1
+    } else {
+        0
+    };
+    Shape {
+        exponent,
+        nest,
+        page,
+    }
+}
+
+/// The word of the shape of a table.
+#[inline(always)]
+fn made_shape(exponent: u32, nested: bool, page: u32) -> u64
+    ensures { result ≡ made_shape exponent nested page }
+{
+    shape_made(exponent, nested, page).into()
 }
 
 /// How many pages a flat table takes.
@@ -240,7 +395,7 @@ fn made_shape(exponent: u32, page: u32) -> u64
 fn made_pages(exponent: u32) -> u32
     ensures { result ≡ made_pages exponent }
 {
-    table_pages(flat_shape(exponent, 0))
+    table_pages(shape_made(exponent, false, 0))
 }
 
 /// The seed of the table with this serial.

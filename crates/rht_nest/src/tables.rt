@@ -1,4 +1,4 @@
-//! The shapes of tables, and the runs of pages of flat ones.
+//! The shapes of tables, and the pages that they take when they are made.
 
 ghost use Rattle.std.specs.Prelude.{◌≡◌};
 ghost use Rattle.rht_arena.specs.Runs.{IsRunIn};
@@ -14,16 +14,22 @@ pub fn is_nested(shape: u64) -> bool
     0 < Shape::from(shape).nest
 }
 
-/// How many pages the buckets of a flat table take.
+/// How many pages a table takes when it is made: a flat one those of its buckets, a nested one its top
+/// page.
 #[inline(always)]
 pub(crate) fn table_pages(shape: Shape) -> u32
     ensures { result ≡ table_pages shape }
 {
-    (shape.size() / 64).max(1)
+    if 0 < shape.nest {
+        1
+    } else {
+        (shape.size() / 64).max(1)
+    }
 }
 
-/// The first page of the table whose shape is packed into this word, and how many pages it takes. A
-/// page past the last one is read as the last, and a run that goes past it as ending there.
+/// The first page of the table whose shape is packed into this word, and how many pages it took when it
+/// was made: those of its buckets, or the top page of a nested one. A page past the last one is read as
+/// the last, and a run that goes past it as ending there.
 #[inline(always)]
 pub fn run_of(geometry: Geometry, shape: u64) -> (u32, u32)
     ensures run { result ≡ (run_first geometry shape, run_pages geometry shape) }

@@ -15,7 +15,7 @@ use std::marker::Model;
 /// operation.
 #[derive(Clone, Copy, Debug, PartialEq, Eq)]
 pub enum UnmakeAt {
-    /// Gives the pages of the buckets back.
+    /// Gives the pages of the buckets back, or the top page of a nested table.
     Giving { give: GiveRun },
     /// Stores in the slot's state that it is free.
     SlotBack,
@@ -44,8 +44,8 @@ impl Model for Unmake {
 }
 
 impl Unmake {
-    /// Before the first word of the page map that has bits of the table's pages. The table is flat, and
-    /// this is the word of its shape.
+    /// Before the first word of the page map that has bits of the table's pages. This is the word of its
+    /// shape. A nested table has its top page alone, since it was made and not attached.
     #[inline(always)]
     pub fn new(geometry: Geometry, slot: u32, shape: u64) -> Unmake
         requires { slot < 8 }

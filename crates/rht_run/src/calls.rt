@@ -86,8 +86,10 @@ impl<M: Mix> Table<M> {
     /// that this call attached behind that one, or found there as its future; for the other two it found
     /// none there. `Busy` comes where another table is the current one, and by the count the full one
     /// isn't due to grow. `NoTable` comes where it found each slot taken, or each run of pages in its
-    /// turn, for the size that was wanted: twice that of the full table where this is due to grow by the
-    /// count, and otherwise its own.
+    /// turn and then, from 128 buckets on, each page, for the size that was wanted: twice that of the
+    /// full table where this is due to grow by the count, and otherwise its own. It also comes, with
+    /// the last table's own size, where that table is nested, it found the page of the port's bucket
+    /// missing there, and found each page taken.
     pub fn bind_once<R: Wait>(&self, rt: &R, pass: &mut Pass<M>, port: Port, owner: u32) -> Reply
         requires pass { IsPassOf M.mix_of self.now pass.old }
         requires idle { is_idle pass.old.local ≡ true }
@@ -175,7 +177,8 @@ impl<M: Mix> Table<M> {
     /// comes where nothing was, and the current table had no future; `NoTable` where a table of this size
     /// was due that couldn't be had, while the last one was the current one or nested; `Moved` where it
     /// made another table the current one. There is more to do exactly where that one had a future, or no
-    /// table of the size that was due had been attached.
+    /// table of the size that was due had been attached. `Moved`, with more to do, comes also where it
+    /// looked anew for the last table, which wasn't the current one and was nested, and so it stopped.
     pub fn work<R: Wait>(&self, rt: &R, pass: &mut Pass<M>) -> Reply
         requires pass { IsPassOf M.mix_of self.now pass.old }
         requires idle { is_idle pass.old.local ≡ true }

@@ -41,7 +41,8 @@ pub struct Growing {
 pub enum Refusal {
     /// The last table that it has walked isn't the current one, which is in slot `root`.
     Busy { root: u32 },
-    /// No slot was free, or no run of pages, for a table of this size.
+    /// No slot was free for a table of this size, or no pages, neither for a flat one nor for a nested
+    /// one where that might be made.
     NoTable { size: u32 },
 }
 

@@ -1,31 +1,25 @@
 -- The nodes that calls took are no more than the calls: a list of no more nodes than calls has each of them.
 --
 -- A call takes one node at most, and none where it needs none or was answered that there is none.
-use Rattle.std.proofs.Common.{◌≡◌, ◌≢◌, ℕ, zero, suc, ◌+◌, ◌/◌, ◌%◌, ◌<◌, ◌≤◌, ◌&&◌, not, Bool, true, false, cond, List, [], ◌∷◌, ◌++◌, length, map, take, ◌⊎◌, inl, inr, refl, sym, ap, ◌∙◌, subst, arith}
-use Rattle.std.specs.Prelude.{Option, Some, None, IfSome, sum_by, count_by}
-use Rattle.std.specs.List.{AllByRecursion, Any, Contains, slice_get, range_with_len}
-use Rattle.std.specs.Int.{bit_at}
+use Rattle.std.proofs.Common.{◌≡◌, ◌≢◌, ℕ, zero, suc, ◌+◌, ◌<◌, ◌≤◌, ◌&&◌, not, false, cond, List, [], ◌∷◌, ◌++◌, length, map, ◌⊎◌, inl, inr, refl, sym, ap, ◌∙◌, subst, arith}
+use Rattle.std.specs.Prelude.{Some, sum_by, count_by}
+use Rattle.std.specs.List.{AllByRecursion, Contains, slice_get}
 use Rattle.std.proofs.lemmas.Bool.{cases_eq}
 use Rattle.std.proofs.lemmas.List.{length-append}
 use Rattle.std.proofs.lemmas.List.Elements.{All-from_recursion, All-contains}
 use Rattle.std.proofs.lemmas.List.Sums.{sum_by-cons}
-use Rattle.rht_words.specs.declared.op.Op.{Op}
-use Rattle.rht_words.specs.declared.env.Env.{Env}
 use Rattle.rht_words.specs.declared.geometry.Geometry.{Geometry}
-use Rattle.rht_words.specs.Operations.{op_place, old_of, word_after, applied}
-use Rattle.rht_words.specs.Places.{NodeMap, word_at, place_of}
 use Rattle.rht_words.specs.Members.{In}
-use Rattle.rht_words.proofs.Members.{In-append_left, In-append_right, In-append_cases, In-range_with_len}
-use Rattle.rht_model.specs.declared.finished.Finished.{Finished}
+use Rattle.rht_words.proofs.Members.{In-append_left, In-append_right, In-append_cases}
 use Rattle.rht_model.specs.declared.history.Call.{Call}
 use Rattle.rht_model.specs.declared.history.Call.TheVariants.{Bind, Find, All, Release, Rebind, Walk, Work, Tidy, Count}
 use Rattle.rht_model.specs.declared.history.Reply.{Reply}
 use Rattle.rht_model.specs.declared.history.Reply.TheVariants.{NoNode}
 use Rattle.rht_arena.specs.Laws.{map_place, map_bit}
 use Rattle.rht_core.specs.declared.book.Book.{Book}
-use Rattle.rht_core.specs.Traces.{Did, Past, Trace, steps_by_call}
+use Rattle.rht_core.specs.Traces.{Did, Past, Trace}
 use Rattle.rht_core.specs.Laws.{ClearsBitOf, IsNoTake, IsTakeOf, TakesNone, TakesOne, IsTakenBy, IsTakenIn}
-use Rattle.rht_core.specs.NodesUsed.{needs_node, is_no_node, took_node, may_take_node, takers_of}
+use Rattle.rht_core.specs.NodesUsed.{needs_node, is_no_node, took_node, takers_of}
 
 -- ---- as many numbers as a list has, and no more
 

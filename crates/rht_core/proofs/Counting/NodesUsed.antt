@@ -13,9 +13,8 @@ use Rattle.std.proofs.lemmas.List.Elements.{All-from_recursion, All-contains}
 use Rattle.rht_words.specs.declared.op.Op.{Op}
 use Rattle.rht_words.specs.declared.env.Env.{Env}
 use Rattle.rht_words.specs.declared.geometry.Geometry.{Geometry}
-use Rattle.rht_words.specs.Held.{Held}
 use Rattle.rht_words.specs.Operations.{op_place, old_of, word_after, applied}
-use Rattle.rht_words.specs.Places.{IsAddress, NodeMap, EnrolledCallers, word_at, place_of}
+use Rattle.rht_words.specs.Places.{IsAddress, NodeMap, word_at}
 use Rattle.rht_words.proofs.Members.{In-range_with_len}
 use Rattle.rht_words.proofs.WordChanges.{applied-other}
 use Rattle.rht_words.proofs.Memory.{is_write}
@@ -41,8 +40,8 @@ use Rattle.rht_core.specs.Jobs.{Job, finds, binds, lists, releases, rebinds, wor
 use Rattle.rht_core.specs.declared.event.Event.{Event}
 use Rattle.rht_core.specs.declared.event.Event.TheVariants.{Enroll, Begin, Step}
 use Rattle.rht_core.specs.Runs.{Core, World, local_of, run_of, planned_in, with_step, enrolling, core_step, world_step, IsAdmitted, IsAdmittedEvent}
-use Rattle.rht_core.specs.Traces.{Did, Past, Trace, Traced, traced_of, performed_of}
-use Rattle.rht_core.specs.Laws.{ClearsBitOf, IsRecorded, IsPastCall}
+use Rattle.rht_core.specs.Traces.{Did, Past, Traced, traced_of, performed_of}
+use Rattle.rht_core.specs.Laws.{IsRecorded, IsPastCall}
 use Rattle.rht_core.specs.Causes.{CauseOf, HasCause}
 use Rattle.rht_core.specs.NodesUsed.{needs_node, may_take_node, took_node, takers_of, takers, IsForWant, Nodes}
 use Rattle.rht_core.proofs.Theory.Answering.{TellsNode}
@@ -52,7 +51,7 @@ use Rattle.rht_move.specs.WorkHeld.{held_of_work}
 use Rattle.rht_move.specs.declared.work.WorkAt.{WorkAt}
 use Rattle.rht_move.specs.declared.work.WorkAt.TheVariants as working
 use Rattle.rht_core.proofs.Counting.CoveredNodes.{Covers, covers_none, covers_one, covers_both, covers_all, TookBit, TookPast, TookCaller, TookAny, no_take, one_take, pasts_took, of_call, of_caller, any_took}
-use Rattle.rht_core.proofs.Counting.NodesTaken.{HasTaken, HasKept, JobTakes, Ended, calls_take, taken_alone}
+use Rattle.rht_core.proofs.Counting.NodesTaken.{HasTaken, JobTakes, Ended, calls_take, taken_alone}
 use Rattle.rht_core.proofs.Counting.FullTables.{taken}
 use Rattle.rht_core.proofs.Events.Worlds.{planned-some, run_of-push}
 use Rattle.rht_core.proofs.Events.RangesInRuns.{AllIn, runs-all}

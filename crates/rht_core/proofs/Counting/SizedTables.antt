@@ -12,15 +12,15 @@ use Rattle.rht_words.specs.Links.{slot_of, node_of, head_of, unlocked}
 use Rattle.rht_words.specs.Machines.{GoesOrEnds}
 use Rattle.rht_words.specs.Places.{Slot, ShapeWord}
 use Rattle.rht_words.specs.Shapes.{unpacked, size_of}
-use Rattle.rht_core.proofs.Reasons.MadeSizes.{exponent_of-pow}
+use Rattle.rht_core.proofs.Reasons.MadeSizes.{exponent_of-pow, exponent_read, made_flat}
 use Rattle.rht_words.proofs.Rounding.{powers-rise, powers-fall}
 use Rattle.std.proofs.lemmas.Nat.{pow-add}
 use Rattle.rht_policy.specs.Sizes.{shrunk_size}
 use Rattle.rht_policy.specs.Thresholds.{is_above_75, is_below_30}
 use Rattle.rht_model.specs.declared.history.Reply.{Reply}
 use Rattle.rht_model.specs.declared.history.Reply.TheVariants.{Elsewhere}
-use Rattle.rht_nest.specs.Make.{MakeModel, make_after, make_after_at, made_pages, made_shape, slot_seen, run_started, IsMakeAtIn}
-use Rattle.rht_nest.specs.Tables.{exponent_made, flat_shape, is_nested}
+use Rattle.rht_nest.specs.Make.{MakeModel, IsKind, IsMakeAtIn, make_after, make_after_at, may_nest, made_pages, made_shape, slot_seen, run_started}
+use Rattle.rht_nest.specs.Tables.{exponent_made, is_nested}
 use Rattle.rht_nest.specs.Unmake.{UnmakeModel, unmake_new, unmake_after}
 use Rattle.rht_nest.specs.declared.make.MakeAt.{MakeAt}
 use Rattle.rht_nest.specs.declared.make.MakeAt.TheVariants as makes
@@ -105,50 +105,48 @@ sized-choice env count shape size alone keeps sized is =
 
 -- a table that is made has the size of its exponent
 module _ (g : Geometry) (exponent : ℕ) where
-  -- where a shape is told, it is that of a flat table
+  -- where a shape is told, it is that of a table of this size
   abbrev IsMadeSo : Next (Option (ℕ × ℕ)) → Type 0
   IsMadeSo Go = Unit {0}
   IsMadeSo (Done None) = Unit {0}
-  IsMadeSo (Done (Some (slot, shape))) = (page : ℕ) × (page < 2 ^ 32) × (shape ≡ made_shape exponent page)
+  IsMadeSo (Done (Some (slot, shape))) =
+      (nested : Bool) × (page : ℕ) × (shape ≡ made_shape exponent nested page) × IsKind exponent false nested
 
-  slot-made : (h : Geometry) (slot state : ℕ) → IsMadeSo (slot_seen h exponent slot state).1
-  slot-made h slot state =
-      by_test (λ t. IsMadeSo (cond {A = MakeAt × Next (Option (ℕ × ℕ))} t (run_started slot (take_run_new h (made_pages exponent)), Go)
+  slot-made : (h : Geometry) (nests : Bool) (slot state : ℕ) → IsMadeSo (slot_seen h exponent nests slot state).1
+  slot-made h nests slot state =
+      by_test (λ t. IsMadeSo (cond {A = MakeAt × Next (Option (ℕ × ℕ))} t (run_started h nests slot (take_run_new h (made_pages exponent)), Go)
       (cond (nat_lt (slot + 1) 8) (makes.Slot (slot + 1), Go) (makes.Slot slot, Done None))).1) (state == 0)
       (λ t. tt)
       (λ f. by_test (λ t. IsMadeSo (cond {A = MakeAt × Next (Option (ℕ × ℕ))} t (makes.Slot (slot + 1), Go) (makes.Slot slot, Done None)).1)
       (nat_lt (slot + 1) 8) (λ t. tt) (λ f. tt))
 
-  made-so : (h : Geometry) (state : MakeAt) (old : ℕ) → IsMakeAtIn g (made_pages exponent) state
-      → IsMadeSo (make_after_at h exponent state old).1
-  made-so h (makes.Slot slot) old within = slot-made h slot old
-  made-so h (makes.Taking slot take) old within = tt
-  made-so h (makes.SlotBack slot) old within = tt
-  made-so h (makes.NextSerial slot page) old within = tt
-  made-so h (makes.Shape slot page serial) old within = tt
-  made-so h (makes.Seed slot page serial) old within = tt
-  made-so h (makes.Future slot page serial) old within = tt
-  made-so h (makes.Serial slot page serial) old within =
-      let run = within.taken.run_in.within in
-      let few = g.within.pages_within.1 in
-      (page, omega (arith, run, few), refl)
+  made-so : (h : Geometry) (allowed : Bool) (state : MakeAt) (old : ℕ) → allowed ≡ false → IsMakeAtIn g exponent allowed state
+      → IsMadeSo (make_after_at h exponent allowed state old).1
+  made-so h allowed (makes.Slot slot) old none within = slot-made h (may_nest exponent allowed) slot old
+  made-so h allowed (makes.Taking slot take) old none within = tt
+  made-so h allowed (makes.TakingTop slot take) old none within = tt
+  made-so h allowed (makes.SlotBack slot) old none within = tt
+  made-so h allowed (makes.NextSerial slot nested page) old none within = tt
+  made-so h allowed (makes.Shape slot nested page serial) old none within = tt
+  made-so h allowed (makes.Seed slot nested page serial) old none within = tt
+  made-so h allowed (makes.Future slot nested page serial) old none within = tt
+  made-so h allowed (makes.Serial slot nested page serial) old none within =
+      (nested, page, refl, subst (λ a. IsKind exponent a nested) none within.taken.kind)
 
-  sized-made : (shape : ℕ) → 4 ≤ exponent → exponent ≤ 17 → (page : ℕ) → page < 2 ^ 32 → shape ≡ made_shape exponent page
-      → IsSized shape
-  sized-made shape low high page few is =
-      let back : unpacked (made_shape exponent page) ≡ flat_shape exponent page = read_back page few in
+  sized-made : (shape : ℕ) → 4 ≤ exponent → exponent ≤ 17 → (nested : Bool) (page : ℕ) → shape ≡ made_shape exponent nested page
+      → IsKind exponent false nested → IsSized shape
+  sized-made shape low high nested page is kind =
       let size : size_of (unpacked shape) ≡ 2 ^ exponent =
-      ap (λ s. size_of (unpacked s)) is ∙ ap size_of back ∙ ap (λ e. 2 ^ e) inside in
+      ap (λ s. size_of (unpacked s)) is
+      ∙ ap (λ e. 2 ^ max 2 (min e 18)) (exponent_read exponent page nested (omega (arith, high)))
+      ∙ ap (λ e. 2 ^ e) inside in
       record {
         many = omega (arith, size, powers-rise 4 exponent low);
-        flat = ap is_nested is ∙ ap (λ s. nat_lt 0 s.nest) back;
+        flat = ap is_nested is ∙ made_flat exponent page nested high kind;
       }
     where
       inside : max 2 (min exponent 18) ≡ exponent
       inside = omega (arith, low, high)
-
-      read_back : (page : ℕ) → page < 2 ^ 32 → unpacked (made_shape exponent page) ≡ flat_shape exponent page
-      read_back page l = grind (arith, low, high)
 
 -- ---- a resizing
 
@@ -185,7 +183,7 @@ module _ (env : Env) (keeps : env.config.shrink ≡ false) where
   sized-made-next wanted make Go low high so = low
   sized-made-next wanted make (Done None) low high so = sized-not_made wanted
   sized-made-next wanted make (Done (Some (slot, shape))) low high so =
-      sized-made env.geometry make.exponent shape low high so.0 so.1 so.2
+      sized-made env.geometry make.exponent shape low high so.0 so.1 so.2 so.3
 
   -- in its other states there is nothing to say
   sized-unmade : (root : ℕ) (unmake : UnmakeModel) (next : Next (Unit {0})) → SizedWork (unmade root unmake next)
@@ -260,7 +258,7 @@ module _ (env : Env) (keeps : env.config.shrink ≡ false) where
       (λ size is. sized-choice env old last.shape size (root == last.table) keeps sized is)
   sized-work mix (at.Making wanted make) old within sized shape =
       sized-made-next wanted (make_after make old).0 (make_after make old).1 sized within.make_in.greatest
-      (made-so env.geometry make.exponent make.geometry make.at old within.make_in.at_in)
+      (made-so env.geometry make.exponent make.geometry make.nested make.at old within.flat within.make_in.at_in)
   sized-work mix at.WorkLock old within sized shape =
       by_test (λ t. SizedWork (cond {A = WorkAt × Next Reply} t (at.CurrentTable, Go) (at.WorkLock, Done Elsewhere)).0) (old == 0)
       (λ t. tt) (λ f. tt)

@@ -1,6 +1,6 @@
 -- The pages of a table, as the words have them, are those that the ghost gives it: the run of a flat one, and in a nested one the top page
 -- and those to which entries lead.
-use Rattle.std.proofs.Common.{◌≡◌, ◌↔◌, ℕ, ◌+◌, ◌-◌, ◌*◌, ◌/◌, ◌%◌, ◌^◌, ◌<◌, ◌≤◌, cond, List, Bool, true, false, Option, Some, None, refl, sym, ◌∙◌, ap, subst, inl, inr, arith}
+use Rattle.std.proofs.Common.{◌≡◌, ◌↔◌, ℕ, ◌+◌, ◌-◌, ◌*◌, ◌/◌, ◌%◌, ◌^◌, ◌<◌, ◌≤◌, cond, min, List, Bool, true, false, Option, Some, None, refl, sym, ◌∙◌, ap, subst, inl, inr, arith}
 use Rattle.std.proofs.lemmas.Bool.{lt-ltb, le-ltb, both_ways}
 use Rattle.std.proofs.lemmas.Nat.{mod_below}
 use Rattle.rht_words.specs.declared.env.Env.{Env}
@@ -12,12 +12,12 @@ use Rattle.rht_words.specs.Shapes.{unpacked, size_of}
 use Rattle.rht_words.proofs.Members.{In-range_with_len, range_with_len-In}
 use Rattle.rht_words.proofs.ShapeSizes.{IsSizeUpTo-size_of}
 use Rattle.rht_nest.specs.Place.{is_deep, top_page, top_entries}
-use Rattle.rht_nest.specs.Tables.{is_nested, table_pages, run_first, run_pages, pages_of_table}
+use Rattle.rht_nest.specs.Tables.{is_nested, run_first, run_pages, pages_of_table}
 use Rattle.rht_core.specs.StandsFor.{page_word}
 use Rattle.rht_core.specs.TablePages.{LeadsOn, IsNestedPage, IsPageOfTable}
 use Rattle.rht_core.proofs.Theory.Ghosts.{Part, Row, Leaf, Middle, Top, has_entries, Table, PageOwner, PageOf, Ghost, entry_word, none-some}
 use Rattle.rht_core.proofs.Theory.Ways.{first_page, entries_in, behind_top, StandsAs}
-use Rattle.rht_core.proofs.Theory.Wholes.{IsFlat, IsNested, Whole}
+use Rattle.rht_core.proofs.Theory.Wholes.{pages_of, IsFlat, IsNested, Whole}
 use Rattle.rht_core.proofs.Theory.Entries.{few_entries, some_entries, word_leads, top_leads}
 use Rattle.rht_core.proofs.Theory.PlacesRead.{entry_read}
 use Rattle.rht_core.proofs.Pieces.RunPages.{range_with_len-from}
@@ -36,16 +36,19 @@ module _ (env : Env) (mix : ℕ → ℕ → ℕ → ℕ) (words : List ℕ) wher
         let least = (IsSizeUpTo-size_of (unpacked table.shape)).least in
         let fits = flat.fits in omega (arith, fits, least)
 
-    many_is : run_pages g table.shape ≡ table_pages (unpacked table.shape)
-    many_is =
-        let least = (IsSizeUpTo-size_of (unpacked table.shape)).least in
-        let fits = flat.fits in let first = first_is in omega (arith, fits, least, first)
-
     flat_kind : is_nested table.shape ≡ false
     flat_kind = let is = flat.flat in le-ltb 0 (unpacked table.shape).nest (omega (arith, is))
 
+    many_is : run_pages g table.shape ≡ pages_of env mix table.shape
+    many_is =
+        let least = (IsSizeUpTo-size_of (unpacked table.shape)).least in
+        let fits = flat.fits in
+        let first = first_is in
+        ap (λ t. min (cond t 1 (pages_of env mix table.shape)) (g.pages - run_first g table.shape)) flat_kind
+        ∙ omega (arith, fits, least, first)
+
     -- a page of the run has a bucket's word, so it is the table's
-    flat_of : (p : ℕ) → first_page table.shape ≤ p → p < first_page table.shape + table_pages (unpacked table.shape) → page p ≡ PageOf τ
+    flat_of : (p : ℕ) → first_page table.shape ≤ p → p < first_page table.shape + pages_of env mix table.shape → page p ≡ PageOf τ
     flat_of p from below =
         let shape = unpacked table.shape in
         let least = (IsSizeUpTo-size_of shape).least in

@@ -1,8 +1,7 @@
--- The word of a bucket that a table has stays where it is for the rest of a run, by the words before each event, and no other bucket of
--- the table has it. So it is since tables that were attached stay what they are, and only get more buckets.
+-- The word of a bucket that a table has stays where it is for the rest of a run, as the words before each event have it, and is that of
+-- no other bucket of the table.
 use Rattle.std.proofs.Common.{◌≡◌, ℕ, suc, ◌+◌, ◌-◌, ◌<◌, ◌≤◌, List, ◌++◌, length, take, drop, refl, sym, ap, ◌∙◌, subst, arith}
 use Rattle.std.specs.Prelude.{Option, Some, None}
-use Rattle.std.specs.List.{AllByRecursion}
 use Rattle.std.specs.Option.{option_map}
 use Rattle.std.proofs.Math.Seq.{take-append-add}
 use Rattle.std.proofs.lemmas.List.{take-append-drop}
@@ -11,6 +10,7 @@ use Rattle.rht_words.specs.declared.env.Env.{Env}
 use Rattle.rht_words.specs.declared.geometry.Geometry.{Geometry}
 use Rattle.rht_words.specs.Shapes.{unpacked, size_of}
 use Rattle.rht_words.proofs.EachElement.{AllByRecursion-cut}
+use Rattle.std.specs.List.{AllByRecursion}
 use Rattle.rht_core.specs.declared.event.Event.{Event}
 use Rattle.rht_core.specs.declared.event.Event.TheVariants.{Enroll, Begin, Step}
 use Rattle.rht_core.specs.Runs.{Core, World, planned_in, world_step, run_of, opening, IsAdmitted, IsAdmittedEvent}
@@ -28,15 +28,15 @@ use Rattle.rht_core.proofs.Events.Worlds.{run_from-append, run_keeps_admitted}
 use Rattle.rht_core.proofs.Events.RangesInRuns.{AllIn, event-all, runs-all}
 use Rattle.rht_core.proofs.Events.Invariants.{Inv, GhostKept, kept}
 
--- by the words before each event from this one on the bucket with this number in a table of this shape has its word at this place, and no
--- other one has
+-- By the words before each event from this one on, the bucket with this number in a table of this shape has its word at this place, and
+-- no other one has.
 pub record StaysAt (g : Geometry) (words_at : ℕ → List ℕ) (shape number place from : ℕ) : Type 0 where
   pub there : (i : ℕ) → from ≤ i → bucket_in g (words_at i) shape number ≡ Some place
   pub only : (i other : ℕ) → from ≤ i → other < size_of (unpacked shape)
       → bucket_in g (words_at i) shape other ≡ Some place → other ≡ number
 
 module _ (env : Env) (mix : ℕ → ℕ → ℕ → ℕ) where
-  -- so it is of each bucket that a table has by the ghost
+  -- so it is of each bucket that a table has
   abbrev pub BucketsStay : (ℕ → List ℕ) → Ghost → ℕ → Type 0
   BucketsStay words_at G from =
       (τ number j : ℕ) → τ < G.attached → number < size_of (unpacked (G.table τ).shape)
@@ -45,7 +45,6 @@ module _ (env : Env) (mix : ℕ → ℕ → ℕ → ℕ) where
 
   -- ---- a bucket in the words
 
-  -- it is where the ghost has it, and it alone
   module _ (M : List ℕ) (G : Ghost) (whole : Whole env mix (mem env mix M) G) (τ number j : ℕ) (l : τ < G.attached)
       (below : number < size_of (unpacked (G.table τ).shape)) (here : (G.table τ).place number ≡ Some j) where
     abbrev shape : ℕ
@@ -69,7 +68,7 @@ module _ (env : Env) (mix : ℕ → ℕ → ℕ → ℕ) where
   -- ---- a run
 
   module _ (L : Type 0) where
-    -- tables stay or grow at an event
+    -- the same tables grow, and so they do at an operation
     same-grows : (G G' : Ghost) → G' ≡ G → TablesGrow env mix G G'
     same-grows G G' same =
         subst (TablesGrow env mix G) (sym same)
@@ -114,21 +113,18 @@ module _ (env : Env) (mix : ℕ → ℕ → ℕ → ℕ) where
             here = stays.places number j has.here;
           }
 
-      -- and then the words have it so
       module _ (core : Core L) (has : HasBucket core) (below : number < size_of (unpacked shape)) where
-        below_there : number < size_of (unpacked (has.ghost.table τ).shape)
-        below_there = subst (λ s. number < size_of (unpacked s)) (sym has.shape_is) below
-
         has-there : bucket_in env.geometry core.words shape number ≡ Some (place_at env mix j)
         has-there =
             subst (λ s. bucket_in env.geometry core.words s number ≡ Some (place_at env mix j)) has.shape_is
-            (there_now core.words has.ghost has.inv.whole τ number j has.attached below_there has.here)
+            (there_now core.words has.ghost has.inv.whole τ number j has.attached
+            (subst (λ s. number < size_of (unpacked s)) (sym has.shape_is) below) has.here)
 
         has-only : (other : ℕ) → other < size_of (unpacked shape)
             → bucket_in env.geometry core.words shape other ≡ Some (place_at env mix j) → other ≡ number
         has-only other m is =
-            only_now core.words has.ghost has.inv.whole τ number j has.attached below_there has.here other
-            (subst (λ s. other < size_of (unpacked s)) (sym has.shape_is) m)
+            only_now core.words has.ghost has.inv.whole τ number j has.attached
+            (subst (λ s. number < size_of (unpacked s)) (sym has.shape_is) below) has.here other (subst (λ s. other < size_of (unpacked s)) (sym has.shape_is) m)
             (subst (λ s. bucket_in env.geometry core.words s other ≡ Some (place_at env mix j)) (sym has.shape_is) is)
 
     -- so the buckets that tables have behind the first events of a run stay where they are

@@ -1,8 +1,7 @@
 -- A caller in a call: it plans an operation, one that begins with a call is in it, and it leaves the call exactly where its
 -- operation has given the call a reply.
-use Rattle.std.proofs.Common.{◌≡◌, ℕ, true, false, refl, sym, ap, ◌∙◌, subst}
+use Rattle.std.proofs.Common.{◌≡◌, ℕ, true, false, refl, subst}
 use Rattle.std.specs.Prelude.{Option, Some, None, MatchOption}
-use Rattle.rht_words.specs.declared.op.Op.{Op}
 use Rattle.rht_words.specs.declared.env.Env.{Env}
 use Rattle.rht_words.specs.declared.machine.Next.{Next}
 use Rattle.rht_words.specs.declared.machine.Next.TheVariants.{Go, Done}

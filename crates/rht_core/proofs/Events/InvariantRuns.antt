@@ -175,7 +175,6 @@ module _ (env : Env) (mix : ℕ → ℕ → ℕ → ℕ) where
             rw (put-same (λ s. SlotFree) 0 (Live 0)) (omega arith);
         slot = refl;
       });
-      flat = λ τ l. let opens = opens_flat env in subst (λ (s : Shape). s.nest ≡ 0) (sym opens.shape) opens.flat;
     };
     buckets = λ j l plain. record {
       locked = record { word_is = opened (PageWord j) l; even = refl };

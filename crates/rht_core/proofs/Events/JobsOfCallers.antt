@@ -15,11 +15,9 @@ use Rattle.rht_model.specs.Answers.{Answer}
 use Rattle.rht_model.specs.Endings.{Ending, plain_ending}
 use Rattle.rht_find.specs.Find as find
 use Rattle.rht_find.specs.Find.{FindModel}
-use Rattle.rht_find.specs.declared.find.FindAt.{FindAt}
 use Rattle.rht_find.specs.declared.find.FindAt.TheVariants.{CurrentTable}
 use Rattle.rht_bind.specs.Bind as bind
 use Rattle.rht_bind.specs.Bind.{BindModel}
-use Rattle.rht_bind.specs.declared.bind.BindAt.{BindAt}
 use Rattle.rht_model.specs.declared.history.Reply.TheVariants.{Counted}
 use Rattle.rht_model.specs.Rooms.{Kept}
 use Rattle.rht_release.specs.Seek.{seek_new}
@@ -38,14 +36,11 @@ use Rattle.rht_words.specs.declared.config.Kind.{Kind}
 use Rattle.rht_words.specs.declared.config.Kind.TheVariants.{Single, Listed}
 use Rattle.rht_release.specs.Release as release
 use Rattle.rht_release.specs.Release.{ReleaseModel}
-use Rattle.rht_release.specs.declared.release.ReleaseAt.{ReleaseAt}
 use Rattle.rht_release.specs.declared.release.ReleaseAt.TheVariants.{Seeking}
 use Rattle.rht_release.specs.Rebind as rebind
 use Rattle.rht_release.specs.Rebind.{RebindModel}
-use Rattle.rht_release.specs.declared.rebind.RebindAt.{RebindAt}
 use Rattle.rht_move.specs.Work as work
 use Rattle.rht_move.specs.Work.{WorkModel}
-use Rattle.rht_move.specs.declared.work.WorkAt.{WorkAt}
 use Rattle.rht_move.specs.declared.work.WorkAt.TheVariants as works_at
 use Rattle.rht_core.proofs.Events.CallBeginnings.{begins_so}
 

@@ -12,8 +12,6 @@ use Rattle.std.proofs.lemmas.Nat.{trailing_le}
 use Rattle.rht_words.specs.declared.op.Op.{Op}
 use Rattle.rht_words.specs.declared.env.Env.{Env}
 use Rattle.rht_words.specs.declared.geometry.Geometry.{Geometry}
-use Rattle.rht_words.specs.declared.machine.Next.{Next}
-use Rattle.rht_words.specs.declared.machine.Next.TheVariants.{Go, Done}
 use Rattle.rht_words.specs.Operations.{old_of}
 use Rattle.rht_words.specs.Maps.{map_bits}
 use Rattle.rht_words.specs.Opening.{first_slot, opening_word}
@@ -24,24 +22,23 @@ use Rattle.rht_words.proofs.WordChanges.{applied-other}
 use Rattle.rht_words.proofs.PlannedWords.{applied-fit, old_of-fits}
 use Rattle.rht_words.proofs.EachElement.{AllByRecursion-map, each_set, each_replicate}
 use Rattle.rht_model.specs.declared.history.Call.{Call}
-use Rattle.rht_model.specs.declared.history.Reply.{Reply}
-use Rattle.rht_find.specs.Find.{FindModel, find_after, plan_at as find_plan_at, IsFindAtIn, IsFindIn}
+use Rattle.rht_find.specs.Find.{find_after, plan_at as find_plan_at, IsFindAtIn}
 use Rattle.rht_find.proofs.FindStays.{find_stays}
 use Rattle.rht_find.proofs.FindPlanned.{planned_find}
-use Rattle.rht_bind.specs.Bind.{BindModel, bind_after, plan_at as bind_plan_at, IsBindAtIn, IsBindIn}
+use Rattle.rht_bind.specs.Bind.{bind_after, plan_at as bind_plan_at, IsBindAtIn}
 use Rattle.rht_bind.proofs.BindStays.{bind_stays}
 use Rattle.rht_bind.proofs.BindPlanned.{planned_bind}
-use Rattle.rht_release.specs.All.{AllModel, all_after, plan_at as all_plan_at, IsAllAtIn, IsAllIn}
+use Rattle.rht_release.specs.All.{all_after, plan_at as all_plan_at, IsAllAtIn}
 use Rattle.rht_release.proofs.AllStays.{all_stays, room_stays}
 use Rattle.rht_release.proofs.AllPlanned.{planned_all}
 use Rattle.rht_release.specs.Seek.{seek_new, IsSeekIn}
-use Rattle.rht_release.specs.Release.{ReleaseModel, release_after, plan_at as release_plan_at, IsReleaseAtIn, IsReleaseIn}
+use Rattle.rht_release.specs.Release.{release_after, plan_at as release_plan_at, IsReleaseAtIn}
 use Rattle.rht_release.proofs.ReleaseStays.{release_stays}
 use Rattle.rht_release.proofs.ReleasePlanned.{planned_release}
-use Rattle.rht_release.specs.Rebind.{RebindModel, rebind_after, plan_at as rebind_plan_at, IsRebindAtIn, IsRebindIn}
+use Rattle.rht_release.specs.Rebind.{rebind_after, plan_at as rebind_plan_at, IsRebindAtIn}
 use Rattle.rht_release.proofs.RebindStays.{rebind_stays}
 use Rattle.rht_release.proofs.RebindPlanned.{planned_rebind}
-use Rattle.rht_move.specs.Work.{WorkModel, work_after, plan_at as work_plan_at, IsWorkAtIn, IsWorkIn}
+use Rattle.rht_move.specs.Work.{work_after, plan_at as work_plan_at, IsWorkAtIn}
 use Rattle.rht_move.proofs.WorkStays.{work_stays}
 use Rattle.rht_move.proofs.WorkPlanned.{planned_work}
 use Rattle.rht_core.specs.declared.event.Event.{Event}
@@ -50,7 +47,7 @@ use Rattle.rht_core.specs.PortCounts.{count_plan_in}
 use Rattle.rht_core.specs.declared.local.Local.{Local}
 use Rattle.rht_core.specs.declared.local.Doing.{Doing}
 use Rattle.rht_core.specs.declared.local.Doing.TheVariants.{Idle, Finding, Binding, Releasing, Rebinding, Listing, Working, Counting}
-use Rattle.rht_core.specs.Locals.{fresh, machine_of, begin_with, doing_plan, plan_of, doing_after, local_after, doing_next, without_node}
+use Rattle.rht_core.specs.Locals.{fresh, machine_of, begin_with, doing_plan, plan_of, doing_after, local_after, without_node}
 use Rattle.rht_core.specs.Runs.{Core, World, local_of, beginning_in, with_machine, planned_in, with_step, enrolling, world_step, run_of, opening, IsAdmitted, IsAdmittedCall, IsAdmittedEvent}
 use Rattle.rht_core.specs.Laws.{IsDoingIn, IsLocalIn, InRange, WordsFit, IsOfCaller, IsEnrolledKept, Enrolled}
 use Rattle.rht_core.proofs.Events.CallBeginnings.{begins_so}

@@ -9,13 +9,12 @@ use Rattle.rht_words.specs.declared.machine.Next.{Next}
 use Rattle.rht_words.specs.declared.machine.Next.TheVariants.{Go, Done}
 use Rattle.rht_words.specs.Ports.{owner_of}
 use Rattle.rht_model.specs.declared.history.Call.{Call}
-use Rattle.rht_model.specs.declared.history.Reply.{Reply}
 use Rattle.rht_model.specs.Rooms.{Kept}
-use Rattle.rht_find.specs.Find.{FindModel, find_after}
-use Rattle.rht_bind.specs.Bind.{BindModel, bind_after}
-use Rattle.rht_release.specs.Release.{ReleaseModel, release_after}
-use Rattle.rht_release.specs.Rebind.{RebindModel, rebind_after}
-use Rattle.rht_move.specs.Work.{WorkModel, work_after}
+use Rattle.rht_find.specs.Find.{find_after}
+use Rattle.rht_bind.specs.Bind.{bind_after}
+use Rattle.rht_release.specs.Release.{release_after}
+use Rattle.rht_release.specs.Rebind.{rebind_after}
+use Rattle.rht_move.specs.Work.{work_after}
 use Rattle.rht_release.specs.All.{AllModel, after_at, room_after, moved}
 use Rattle.rht_release.specs.declared.all.AllAt.{AllAt}
 use Rattle.rht_release.specs.declared.all.AllAt.TheVariants as alls

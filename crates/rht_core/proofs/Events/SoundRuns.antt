@@ -8,27 +8,24 @@ use Rattle.std.proofs.lemmas.Bool.{cond_both, ltb-true}
 use Rattle.std.proofs.lemmas.List.{length-set, length-replicate}
 use Rattle.rht_words.specs.declared.op.Op.{Op}
 use Rattle.rht_words.specs.declared.env.Env.{Env}
-use Rattle.rht_words.specs.declared.machine.Next.{Next}
-use Rattle.rht_words.specs.declared.machine.Next.TheVariants.{Go, Done}
 use Rattle.rht_words.specs.Operations.{old_of, applied}
 use Rattle.rht_words.specs.Places.{words_in}
 use Rattle.rht_words.proofs.WordChanges.{length-applied}
 use Rattle.rht_words.proofs.OpeningLaws.{stand_in_place}
 use Rattle.rht_words.proofs.EachElement.{AllByRecursion-set, AllByRecursion-replicate, each_set, each_replicate}
 use Rattle.rht_model.specs.declared.history.Call.{Call}
-use Rattle.rht_model.specs.declared.history.Reply.{Reply}
-use Rattle.rht_find.specs.Find.{FindModel, find_after}
-use Rattle.rht_bind.specs.Bind.{BindModel, bind_after}
-use Rattle.rht_release.specs.All.{AllModel, all_after}
-use Rattle.rht_release.specs.Release.{ReleaseModel, release_after}
-use Rattle.rht_release.specs.Rebind.{RebindModel, rebind_after}
-use Rattle.rht_move.specs.Work.{WorkModel, work_after}
+use Rattle.rht_find.specs.Find.{find_after}
+use Rattle.rht_bind.specs.Bind.{bind_after}
+use Rattle.rht_release.specs.All.{all_after}
+use Rattle.rht_release.specs.Release.{release_after}
+use Rattle.rht_release.specs.Rebind.{rebind_after}
+use Rattle.rht_move.specs.Work.{work_after}
 use Rattle.rht_core.specs.declared.event.Event.{Event}
 use Rattle.rht_core.specs.declared.event.Event.TheVariants.{Enroll, Begin, Step}
 use Rattle.rht_core.specs.declared.local.Local.{Local}
 use Rattle.rht_core.specs.declared.local.Doing.{Doing}
 use Rattle.rht_core.specs.declared.local.Doing.TheVariants.{Idle, Finding, Binding, Releasing, Rebinding, Listing, Working, Counting}
-use Rattle.rht_core.specs.Locals.{fresh, machine_of, begin_with, doing_after, local_after, doing_next, without_node, IsDoingOf, IsLocalOf}
+use Rattle.rht_core.specs.Locals.{fresh, machine_of, begin_with, doing_after, local_after, without_node, IsDoingOf, IsLocalOf}
 use Rattle.rht_core.specs.Runs.{Core, World, local_of, beginning_in, with_machine, planned_in, with_step, enrolling, enrolled_after, world_step, run_of, opening, opening_core, IsSound}
 use Rattle.rht_core.proofs.Events.CallBeginnings.{begins_so}
 use Rattle.rht_core.proofs.Events.NextDoings.{next_so}

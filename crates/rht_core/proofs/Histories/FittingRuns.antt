@@ -38,7 +38,7 @@ use Rattle.rht_core.proofs.Tracing.RepliesInRuns.{Holds, Answered, runs-right}
 use Rattle.rht_core.proofs.Theory.Answering.{KnowsEarly, Says}
 use Rattle.rht_core.proofs.Theory.Steps.{mem, owners, ghost_after}
 use Rattle.rht_core.proofs.Machines.EarlyPages.{IsThereNext}
-use Rattle.rht_core.proofs.Events.Invariants.{StepOf, step_of, enrolled}
+use Rattle.rht_core.proofs.Events.Invariants.{StepOf, step_of}
 use Rattle.rht_core.proofs.Events.PagesThere.{stepped-there}
 use Rattle.rht_core.proofs.Events.InvariantRuns.{HasInv, opening_ghost, opening_whole}
 use Rattle.rht_core.proofs.Meaning.BoundPorts.{stands_for_bound}

@@ -1514,10 +1514,10 @@ module _ (env : Env) (mix : ℕ → ℕ → ℕ → ℕ) (c : ℕ) (port owner :
     bind_step (at.GrowthCount growing root) is known = want_next growing root known
     bind_step (at.Making growing size make) is known =
         let old = old_of words (make_plan make) in
-        subst (λ (g : Geometry). let r = make_after_at g make.exponent make.at old in
+        subst (λ (g : Geometry). let r = make_after_at g make.exponent make.nested make.at old in
         BindMoved (at.Making growing size make) (made growing size (record make { at = r.0 }) r.1, Go))
         (sym is.make_in.geometry_same)
-        (made_next growing size make (make_after_at env.geometry make.exponent make.at old)
+        (made_next growing size make (make_after_at env.geometry make.exponent make.nested make.at old)
         (make_step env mix c (holds_node (Some growing.attempt.node) None) (wants_table port owner growing) words G all whole
         make is.make_in known.knowing))
     bind_step (at.FutureAgain growing refusal) is known =

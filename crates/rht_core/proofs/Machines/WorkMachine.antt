@@ -1,5 +1,5 @@
 -- What a resizing knows in each state, and that each of its operations leads from what it knows to what it knows next.
-use Rattle.std.proofs.Common.{◌≡◌, ℕ, ◌+◌, ◌*◌, ◌/◌, ◌<◌, ◌≤◌, ◌==◌, ◌||◌, Bool, true, false, List, [], ◌∷◌, length, nat_lt, slice_index, cond, Option, Some, None, refl, sym, ◌∙◌, ap, subst, inl, inr, arith}
+use Rattle.std.proofs.Common.{◌≡◌, ℕ, ◌+◌, ◌<◌, ◌==◌, ◌||◌, Bool, true, false, List, [], length, nat_lt, slice_index, cond, Option, Some, None, refl, sym, ◌∙◌, ap, subst, inl, inr, arith}
 use Rattle.std.proofs.lemmas.Bool.{cond_both, or_parts, eqb-true, eqb-false, ltb-true, ltb-false}
 use Rattle.rht_words.specs.declared.env.Env.{Env}
 use Rattle.rht_words.specs.declared.op.Op.{Op}
@@ -11,13 +11,11 @@ use Rattle.rht_words.specs.declared.machine.Start.{Start}
 use Rattle.rht_words.specs.declared.machine.Start.TheVariants as starts
 use Rattle.rht_words.specs.Held as held
 use Rattle.rht_words.specs.Links.{table_of, slot_of, future_of, node_of, page_of, head_of, unlocked}
-use Rattle.rht_words.specs.Ports.{port_of}
 use Rattle.rht_words.specs.Shapes.{unpacked, size_of}
 use Rattle.rht_words.specs.Operations.{old_of, word_after, applied}
-use Rattle.rht_words.specs.Places.{CurrentTable, Slot, ShapeWord, SeedWord, FutureWord, Node, ChainLink, KeyWord, PageWord, place_of, words_in}
+use Rattle.rht_words.specs.Places.{CurrentTable, Slot, ShapeWord, SeedWord, FutureWord, Node, ChainLink, PageWord, place_of, words_in}
 use Rattle.rht_words.proofs.Memory.{Memory, is_write}
 use Rattle.rht_words.proofs.ShapeSizes.{IsSizeUpTo-size_of}
-use Rattle.rht_policy.specs.Mix.{bucket_of}
 use Rattle.rht_chain.specs.Lock.{LockModel, lock_new, lock_plan, lock_after}
 use Rattle.rht_nest.specs.Place.{PlaceModel, flat_place, nested_place, place_plan, entered, went_behind, entry_seen}
 use Rattle.rht_nest.proofs.TablePages.{pages_of_table-shape}
@@ -30,7 +28,7 @@ use Rattle.rht_model.specs.declared.history.Call.TheVariants as calls
 use Rattle.rht_model.specs.declared.history.Reply.{Reply}
 use Rattle.rht_model.specs.declared.history.Reply.TheVariants as replies
 use Rattle.rht_model.specs.Multimap.{Multimap}
-use Rattle.rht_model.specs.Answers.{Answer, plain}
+use Rattle.rht_model.specs.Answers.{plain}
 use Rattle.rht_move.specs.declared.last_table.Last.{Last}
 use Rattle.rht_move.specs.declared.last_table.LastTableAt.{LastTableAt}
 use Rattle.rht_move.specs.declared.last_table.LastTableAt.TheVariants as seeks
@@ -50,18 +48,18 @@ use Rattle.rht_move.specs.declared.work.WorkAt.{WorkAt}
 use Rattle.rht_move.specs.declared.work.WorkAt.TheVariants as at
 use Rattle.rht_nest.specs.Tables.{is_nested}
 use Rattle.rht_move.specs.Choice.{chosen, choice_of}
-use Rattle.rht_move.specs.LastTable.{LastTableModel, last_table_new, next_or_shape}
+use Rattle.rht_move.specs.LastTable.{last_table_new, next_or_shape}
 use Rattle.rht_move.specs.LastEntry.{LastEntryModel, followed}
-use Rattle.rht_move.specs.Work.{plan_at, after_at, begun, made, not_made, unmade, future_or_idle, is_later, unlocking, entry_or_empty, with_word, walked, retiring, entry_passed, locked, second_locked, cut_off, next_bucket, bucket_of_root, reply_of, IsWorkAtIn}
+use Rattle.rht_move.specs.Work.{plan_at, after_at, begun, made, not_made, unmade, future_or_idle, is_later, unlocking, entry_or_empty, with_word, walked, retiring, entry_passed, locked, second_locked, next_bucket, bucket_of_root, reply_of, IsWorkAtIn}
 use Rattle.rht_move.specs.WorkHeld.{holds_work, holds_table, holds_moving, has_moved, held_of_work}
 use Rattle.rht_core.specs.Counts.{takes_out}
 use Rattle.rht_core.specs.Replies.{IsWorkReply, AreOwnersWith, ArePairsWith}
 use Rattle.rht_core.proofs.Theory.Ghosts.{Ghost}
-use Rattle.rht_core.proofs.Theory.Wholes.{word_index, place_at-index, pages_of, Whole}
+use Rattle.rht_core.proofs.Theory.Wholes.{place_at-index, Whole}
 use Rattle.rht_core.proofs.Theory.Knowns.{Known, KnownMaking, MakesNothing, HasTaken, HasMade, KnownAim, NoAim, Onward, From, Beyond, KnownRehash, KnownPlace, KnownEntry, KnownWork, NoWork, Works, Rooted, Follows, Empties, LeavesBehind, Nears, Faces, InBucket, Bare, AtEntry, AtTail, Aims, Brings, TakesOut, HasBrought}
-use Rattle.rht_core.proofs.Theory.Knowledge.{IsMade, WorkMeans, Means, Only, Knowing}
+use Rattle.rht_core.proofs.Theory.Knowledge.{WorkMeans, Means, Only, Knowing}
 use Rattle.rht_core.proofs.Theory.Answering.{Tells, keeps}
-use Rattle.rht_core.proofs.Theory.Steps.{Holding, mem, owners, Moved, moved-map, with_knowledge, with_answer, Step, answered, still_has, loads}
+use Rattle.rht_core.proofs.Theory.Steps.{Holding, mem, owners, Moved, moved-map, with_knowledge, with_answer, Step, answered, still_has}
 use Rattle.rht_core.proofs.Pieces.Holdings.{bare_slot}
 use Rattle.rht_core.proofs.Pieces.Makes.{known_of_make, slot_made, made_with, known_made, make_step, slot_given, pages_given, known_given, unmake_step}
 use Rattle.rht_core.proofs.Pieces.Attaches.{attach_step, lose_attach_step}
@@ -403,10 +401,10 @@ module _ (env : Env) (mix : ℕ → ℕ → ℕ → ℕ) (c : ℕ) where
         → WorkKnows (at.Making wanted make) M G → WorkStep (at.Making wanted make)
     make_due wanted make is known =
         let word = old_of words (make_plan make) in
-        subst (λ (g : Geometry). let r = make_after_at g make.exponent make.at word in
+        subst (λ (g : Geometry). let r = make_after_at g make.exponent make.nested make.at word in
         WorkMoved (at.Making wanted make) (made wanted (record make { at = r.0 }) r.1, Go))
         (sym is.make_in.geometry_same)
-        (made_leads wanted make (make_after_at env.geometry make.exponent make.at word)
+        (made_leads wanted make (make_after_at env.geometry make.exponent make.nested make.at word)
         (make_step env mix c holds_work (knows_work MakesNothing (Rooted wanted.root (From wanted.last.table))) words G all
         whole make is.make_in known))
 

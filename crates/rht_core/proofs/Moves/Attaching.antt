@@ -161,7 +161,7 @@ module _ (env : Env) (mix : ℕ → ℕ → ℕ → ℕ) where
 
     flat_placed : IsFlatMade env mix shape → IsFlat env mix new page G.attached
     flat_placed made =
-        let size = size_of-fits (unpacked shape) in
+        let size = size_of-fits (unpacked shape) made.flat in
         let flat : is_nested shape ≡ false = ap (nat_lt 0) made.flat in
         record {
           flat = made.flat;
@@ -245,13 +245,6 @@ module _ (env : Env) (mix : ℕ → ℕ → ℕ → ℕ) where
         | inr ne ↦ old_table σ (omega (arith, k, ne))
       ];
       slots = slot_is;
-      flat = λ σ k. elim (cases_eq σ G.attached) [
-        | inl e ↦ subst (λ τ. (unpacked (tables τ).shape).nest ≡ 0) (sym e)
-            (subst (λ (t : Table). (unpacked t.shape).nest ≡ 0) (sym same_new) ready.made.flat)
-        | inr ne ↦
-            let before : σ < G.attached = omega (arith, k, ne) in
-            subst (λ (t : Table). (unpacked t.shape).nest ≡ 0) (sym (table_same σ before)) (whole.tables.flat σ before)
-      ];
     }
 
     -- ---- slots and pages

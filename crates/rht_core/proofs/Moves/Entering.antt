@@ -5,7 +5,6 @@ use Rattle.std.specs.Int.{bit_at}
 use Rattle.std.proofs.lemmas.Bool.{cases_eq, both_ways}
 use Rattle.rht_words.specs.declared.env.Env.{Env}
 use Rattle.rht_words.specs.Links.{entry_of, future_of}
-use Rattle.rht_words.specs.Shapes.{unpacked}
 use Rattle.rht_words.specs.Places.{CurrentTable, WorkLock, Slot, SlotWord, ShapeWord, SeedWord, FutureWord, StateWord, PageMap, PageWord, IsSlotWord}
 use Rattle.rht_words.proofs.Memory.{Memory, IsWrite}
 use Rattle.rht_core.proofs.Theory.Ghosts.{Table, blank_bucket, put, put-same, put-other, put-all, PageOwner, PageFree, PageHeld, PageOf, Ghost, has_entries, lock_bit, index_at, is_entry, is_entry_of, entry_word, table_at, table_of_page}
@@ -223,8 +222,6 @@ module _ (env : Env) (mix : ℕ → ℕ → ℕ → ℕ) where
       slots = λ s has.
           let is = whole.tables.slots s has in
           record { attached = is.attached; slot = slot_same (index_at G s) ∙ is.slot };
-      flat = λ σ l. put-all (λ i (t : Table). i < G.attached → (unpacked t.shape).nest ≡ 0) G.table τ new
-          (λ k. whole.tables.flat τ k) (λ i ne k. whole.tables.flat i k) σ l;
     }
 
     slots_right : SlotsRight env mix M' G'

@@ -98,7 +98,6 @@ module _ (env : Env) (mix : ℕ → ℕ → ℕ → ℕ) where
             let of = whole.tables.slots s had in
             let same = is.slots.index s had in
             record { attached = omega (arith, same, of.attached); slot = ap (λ τ. (G.table τ).slot) same ∙ of.slot };
-        flat = whole.tables.flat;
       }
 
       restated_pages : PagesRight env mix M' after

@@ -14,6 +14,7 @@ use Rattle.rht_words.proofs.Memory.{Memory, IsWrite, is_write}
 use Rattle.rht_words.proofs.Members.{range_with_len-In}
 use Rattle.rht_arena.specs.GiveRun.{give_run_new, pages_of_give_run}
 use Rattle.rht_nest.specs.Tables.{table_pages, run_first, run_pages, pages_of_table}
+use Rattle.rht_nest.proofs.MakesStay.{table_pages-some}
 use Rattle.rht_core.proofs.Theory.Ghosts.{put, put-all, put_in, put_in-all, PageHeld, PageOf, SlotHeld, Live, Ghost, has_table, index_at, made_table, is_page_for}
 use Rattle.rht_core.proofs.Theory.Wholes.{Whole}
 use Rattle.rht_core.proofs.Theory.Knowns.{Known, MakesNothing, HasTaken, HasMade}
@@ -30,10 +31,10 @@ module _ (env : Env) (mix : ℕ → ℕ → ℕ → ℕ) (c : ℕ) where
   -- the pages of a table that is made are those of its run
   module _ (M : Memory) (G : Ghost) (slot shape : ℕ) (made : IsMade env mix c M G slot shape) where
     first_is : run_first env.geometry shape ≡ (unpacked shape).page
-    first_is = let fits = made.fits in omega arith
+    first_is = let fits = made.fits in omega (arith, table_pages-some (unpacked shape))
 
     many_is : run_pages env.geometry shape ≡ table_pages (unpacked shape)
-    many_is = let fits = made.fits in let first = first_is in omega arith
+    many_is = let fits = made.fits in let first = first_is in omega (arith, table_pages-some (unpacked shape))
 
     pages-in : (p : ℕ) → In p (pages_of_table env.geometry shape)
         → ((unpacked shape).page ≤ p) × (p < (unpacked shape).page + table_pages (unpacked shape))

@@ -1,9 +1,9 @@
 -- The operations of the making of a table and of its giving back, for a caller that holds such a machine: what it knows in each state of
 -- the slot and the pages that it has, and that each operation leads from this to what it knows next.
-use Rattle.std.proofs.Common.{◌≡◌, ℕ, ◌+◌, ◌-◌, ◌/◌, ◌^◌, ◌<◌, ◌≤◌, ◌==◌, min, max, List, [], length, Option, Some, None, nat_lt, sym, ◌∙◌, ap, subst, arith, inl, refl}
-use Rattle.std.specs.Prelude.{nat_le}
+use Rattle.std.proofs.Common.{◌≡◌, ℕ, ◌+◌, ◌-◌, ◌/◌, ◌^◌, ◌<◌, ◌≤◌, ◌==◌, min, max, List, [], length, Option, Some, None, nat_lt, sym, ◌∙◌, ap, subst, arith, inl, inr, refl}
+use Rattle.std.specs.Prelude.{Bool, true, false, cond, nat_le, ◌%◌, ◌⊎◌}
 use Rattle.std.specs.List.{range_with_len}
-use Rattle.std.proofs.lemmas.Bool.{cond_both, eqb-true, eqb-false}
+use Rattle.std.proofs.lemmas.Bool.{cond_both, and_parts, eqb-true, eqb-false, leb-true, lt-ltb}
 use Rattle.rht_words.specs.declared.env.Env.{Env}
 use Rattle.rht_words.specs.declared.op.Op.{Op}
 use Rattle.rht_words.specs.declared.machine.Next.{Next}
@@ -11,6 +11,7 @@ use Rattle.rht_words.specs.declared.machine.Next.TheVariants.{Go, Done}
 use Rattle.rht_words.specs.declared.machine.Start.TheVariants as starts
 use Rattle.rht_words.specs.Operations.{old_of}
 use Rattle.rht_words.specs.Places.{ShapeWord, SeedWord, FutureWord, SerialWord, words_in}
+use Rattle.rht_words.specs.declared.shape.Shape.{Shape}
 use Rattle.rht_words.specs.Shapes.{unpacked, size_of}
 use Rattle.rht_words.proofs.Memory.{Memory}
 use Rattle.rht_words.proofs.Members.{In-range_with_len}
@@ -18,8 +19,8 @@ use Rattle.rht_arena.specs.Runs.{IsRunIn}
 use Rattle.rht_arena.specs.TakeRun.{TakeRunModel, take_run_new, take_run_plan, take_run_after, first_run, run_length, pages_of_take_run}
 use Rattle.rht_arena.specs.GiveRun.{GiveRunModel, give_run_plan, give_run_after, pages_of_give_run}
 use Rattle.rht_arena.proofs.RunsStay.{take_run_stays}
-use Rattle.rht_nest.specs.Tables.{flat_shape, table_pages, table_seed, run_first, run_pages, pages_of_table}
-use Rattle.rht_nest.specs.Make.{MakeModel, make_plan, make_plan_at, make_after_at, made_pages, made_shape, run_taken, run_started, slot_of_make, pages_of_make, IsMakeAtIn, IsMakeIn}
+use Rattle.rht_nest.specs.Tables.{nested_shape, table_pages, table_seed, run_first, run_pages, pages_of_table}
+use Rattle.rht_nest.specs.Make.{MakeModel, make_plan, make_plan_at, make_after_at, may_nest, made_pages, made_shape, shape_made, pages_taken, no_run, run_taken, run_started, top_taken, slot_of_make, pages_of_make, IsKind, IsMakeAtIn, IsMakeIn}
 use Rattle.rht_nest.specs.declared.make.MakeAt.{MakeAt}
 use Rattle.rht_nest.specs.declared.make.MakeAt.TheVariants as at
 use Rattle.rht_nest.specs.Unmake.{UnmakeModel, unmake_plan, unmake_plan_at, unmake_after_at, run_given, pages_of_unmake, IsUnmakeAtIn, IsUnmakeIn}
@@ -28,7 +29,7 @@ use Rattle.rht_nest.specs.declared.unmake.UnmakeAt.TheVariants as gives
 use Rattle.rht_core.proofs.Theory.Ghosts.{Ghost}
 use Rattle.rht_core.proofs.Theory.Wholes.{Whole}
 use Rattle.rht_core.proofs.Theory.Knowns.{Known, KnownSlot, KnownMaking, MakesNothing, HasTaken, HasMade}
-use Rattle.rht_core.proofs.Theory.Knowledge.{MakingMeans}
+use Rattle.rht_core.proofs.Theory.Knowledge.{IsFlatMade, IsNestedMade, MakingMeans}
 use Rattle.rht_core.proofs.Theory.Steps.{Holding, mem, Moved, moved-map}
 use Rattle.rht_core.proofs.Pieces.RunPages.{first_run-none}
 use Rattle.rht_core.proofs.Pieces.Holdings.{bare_slot, with_slot_word, holding, knowing, take_slot_step, lose_slot_step, give_slot_step, fill_slot_step, serial_step}
@@ -37,30 +38,31 @@ use Rattle.rht_core.proofs.Pieces.Runs.{RunMoved, run_step, GiveMoved, give_run_
 -- ---- what is known
 
 -- the slot with its shape stored, then with its seed, and then with no future
-abbrev pub shaped_slot : ℕ → ℕ → ℕ → KnownSlot
-shaped_slot exponent slot page = with_slot_word (bare_slot slot) ShapeWord (made_shape exponent page)
+abbrev pub shaped_slot : ℕ → ℕ → Bool → ℕ → KnownSlot
+shaped_slot exponent slot nested page = with_slot_word (bare_slot slot) ShapeWord (made_shape exponent nested page)
 
-abbrev pub seeded_slot : ℕ → ℕ → ℕ → ℕ → KnownSlot
-seeded_slot exponent slot page seed = with_slot_word (shaped_slot exponent slot page) SeedWord seed
+abbrev pub seeded_slot : ℕ → ℕ → Bool → ℕ → ℕ → KnownSlot
+seeded_slot exponent slot nested page seed = with_slot_word (shaped_slot exponent slot nested page) SeedWord seed
 
-abbrev pub closed_slot : ℕ → ℕ → ℕ → ℕ → KnownSlot
-closed_slot exponent slot page seed = with_slot_word (seeded_slot exponent slot page seed) FutureWord 0
+abbrev pub closed_slot : ℕ → ℕ → Bool → ℕ → ℕ → KnownSlot
+closed_slot exponent slot nested page seed = with_slot_word (seeded_slot exponent slot nested page seed) FutureWord 0
 
 -- what is known at a state of a making
 abbrev pub known_of_make : ℕ → ℕ → MakeAt → KnownMaking
 known_of_make exponent seed (at.Slot slot) = MakesNothing
 known_of_make exponent seed (at.Taking slot take) = HasTaken (bare_slot slot) (pages_of_take_run take)
+known_of_make exponent seed (at.TakingTop slot take) = HasTaken (bare_slot slot) (pages_of_take_run take)
 known_of_make exponent seed (at.SlotBack slot) = HasTaken (bare_slot slot) []
-known_of_make exponent seed (at.NextSerial slot page) =
-    HasTaken (bare_slot slot) (range_with_len page (made_pages exponent))
-known_of_make exponent seed (at.Shape slot page serial) =
-    HasTaken (bare_slot slot) (range_with_len page (made_pages exponent))
-known_of_make exponent seed (at.Seed slot page serial) =
-    HasTaken (shaped_slot exponent slot page) (range_with_len page (made_pages exponent))
-known_of_make exponent seed (at.Future slot page serial) =
-    HasTaken (seeded_slot exponent slot page (table_seed seed serial)) (range_with_len page (made_pages exponent))
-known_of_make exponent seed (at.Serial slot page serial) =
-    HasTaken (closed_slot exponent slot page (table_seed seed serial)) (range_with_len page (made_pages exponent))
+known_of_make exponent seed (at.NextSerial slot nested page) =
+    HasTaken (bare_slot slot) (range_with_len page (pages_taken exponent nested))
+known_of_make exponent seed (at.Shape slot nested page serial) =
+    HasTaken (bare_slot slot) (range_with_len page (pages_taken exponent nested))
+known_of_make exponent seed (at.Seed slot nested page serial) =
+    HasTaken (shaped_slot exponent slot nested page) (range_with_len page (pages_taken exponent nested))
+known_of_make exponent seed (at.Future slot nested page serial) =
+    HasTaken (seeded_slot exponent slot nested page (table_seed seed serial)) (range_with_len page (pages_taken exponent nested))
+known_of_make exponent seed (at.Serial slot nested page serial) =
+    HasTaken (closed_slot exponent slot nested page (table_seed seed serial)) (range_with_len page (pages_taken exponent nested))
 
 -- and behind an operation of it: once it has ended, a table that can be attached, or nothing
 abbrev pub known_made : ℕ → ℕ → MakeAt × Next (Option (ℕ × ℕ)) → KnownMaking
@@ -92,7 +94,7 @@ module _ (env : Env) (mix : ℕ → ℕ → ℕ → ℕ) (c : ℕ) (h : Holding)
   abbrev pub knows_that : Option ℕ → List ℕ → KnownMaking → Memory → Ghost → Type 0
   knows_that slot pages making = knowing env mix c h known slot pages making
 
-  module _ (exponent seed : ℕ) (least : 2 ≤ exponent) (greatest : exponent ≤ 17) where
+  module _ (exponent seed : ℕ) (allowed : Bool) (least : 2 ≤ exponent) (greatest : exponent ≤ 17) where
     abbrev n : ℕ
     n = made_pages exponent
 
@@ -106,123 +108,194 @@ module _ (env : Env) (mix : ℕ → ℕ → ℕ → ℕ) (c : ℕ) (h : Holding)
     MakeStep state =
         let op = make_plan_at env.geometry exponent seed state in
         MakeMoved (slot_of_make state) (pages_of_make exponent state) op
-        (make_after_at env.geometry exponent state (old_of words op))
+        (make_after_at env.geometry exponent allowed state (old_of words op))
 
     -- ---- the table that is made
 
-    read_back : (page : ℕ) → page < 2 ^ 32 → unpacked (made_shape exponent page) ≡ flat_shape exponent page
-    read_back page l = grind arith
+    read_back : (nested : Bool) (page : ℕ) → page < 2 ^ 32
+        → unpacked (made_shape exponent nested page) ≡ shape_made exponent nested page
+    read_back false page l = grind arith
+    read_back true page l = grind arith
 
-    made_run : (page : ℕ) → IsRunIn env.geometry page n
-        → pages_of_table env.geometry (made_shape exponent page) ≡ range_with_len page n
-    made_run page run =
-        let within = env.geometry.within in
-        let shape = read_back page (omega (arith, run.some, run.within, within.pages_within.1)) in
-        let first : run_first env.geometry (made_shape exponent page) ≡ page =
-        ap (λ s. min s.page (env.geometry.pages - 1)) shape ∙ omega (arith, run.some, run.within) in
-        let many : run_pages env.geometry (made_shape exponent page) ≡ n =
-        ap (λ s. min (table_pages s) (env.geometry.pages - run_first env.geometry (made_shape exponent page))) shape
+    pages_made : (nested : Bool) (page : ℕ) → table_pages (shape_made exponent nested page) ≡ pages_taken exponent nested
+    pages_made false page = refl
+    pages_made true page =
+        ap (λ t. cond t 1 (max 1 (size_of (nested_shape exponent page) / 64)))
+        (lt-ltb 0 ((exponent - 1) % 6 + 1) (omega arith))
+
+    page-few : (page pages : ℕ) → IsRunIn env.geometry page pages → page < 2 ^ 32
+    page-few page pages run =
+        let within = env.geometry.within in omega (arith, run.some, run.within, within.pages_within.1)
+
+    first_made : (nested : Bool) (page : ℕ) → unpacked (made_shape exponent nested page) ≡ shape_made exponent nested page
+        → (unpacked (made_shape exponent nested page)).page ≡ page
+    first_made false page shape = ap (λ (s : Shape). s.page) shape
+    first_made true page shape = ap (λ (s : Shape). s.page) shape
+
+    made_run : (nested : Bool) (page : ℕ) → IsRunIn env.geometry page (pages_taken exponent nested)
+        → pages_of_table env.geometry (made_shape exponent nested page) ≡ range_with_len page (pages_taken exponent nested)
+    made_run nested page run =
+        let n = pages_taken exponent nested in
+        let shape = read_back nested page (page-few page n run) in
+        let first : run_first env.geometry (made_shape exponent nested page) ≡ page =
+        ap (λ p. min p (env.geometry.pages - 1)) (first_made nested page shape) ∙ omega (arith, run.some, run.within) in
+        let many : run_pages env.geometry (made_shape exponent nested page) ≡ n =
+        ap (λ s. min (table_pages s) (env.geometry.pages - run_first env.geometry (made_shape exponent nested page))) shape
+        ∙ ap (λ m. min m (env.geometry.pages - run_first env.geometry (made_shape exponent nested page))) (pages_made nested page)
         ∙ ap (λ f. min n (env.geometry.pages - f)) first ∙ omega (arith, run.some, run.within) in
-        ap (λ f. range_with_len f (run_pages env.geometry (made_shape exponent page))) first
+        ap (λ f. range_with_len f (run_pages env.geometry (made_shape exponent nested page))) first
         ∙ ap (range_with_len page) many
 
+    -- it is a flat table with the pages of its buckets, or a nested one with its top page
+    kind_made : (nested : Bool) (page : ℕ) → page < 2 ^ 32 → IsKind exponent allowed nested
+        → IsFlatMade env mix (made_shape exponent nested page) ⊎ IsNestedMade env mix (made_shape exponent nested page)
+    kind_made false page few kind =
+        let shape = read_back false page few in
+        inl (record {
+          flat = ap (λ (s : Shape). s.nest) shape;
+          many = subst (λ (s : Shape). table_pages s ≡ max 1 (size_of s / 64)) (sym shape) refl;
+        })
+    kind_made true page few kind =
+        let shape = read_back true page few in
+        let large : 7 ≤ exponent = leb-true 7 exponent (and_parts allowed (nat_le 7 exponent) kind).1 in
+        inr (record {
+          shaped = record {
+            least = subst (λ (s : Shape). 7 ≤ s.exponent) (sym shape) large;
+            most = subst (λ (s : Shape). s.exponent ≤ 17) (sym shape) greatest;
+            nest_is = subst (λ (s : Shape). s.nest ≡ (s.exponent - 1) % 6 + 1) (sym shape) refl;
+          };
+          one = ap table_pages shape ∙ pages_made true page;
+        })
+
     -- a slot whose words are stored, with a run of pages, is a table that can be attached
-    is_made : (slot page serial : ℕ) (M' : Memory) (G' : Ghost) → IsRunIn env.geometry page n
-        → MakingMeans env mix c M' G' (HasTaken (with_slot_word (closed_slot exponent slot page (table_seed seed serial)) SerialWord serial) (range_with_len page n))
-        → MakingMeans env mix c M' G' (HasMade slot (made_shape exponent page))
-    is_made slot page serial M' G' run means =
-        let within = env.geometry.within in
-        let shape = read_back page (omega (arith, run.some, run.within, within.pages_within.1)) in
+    is_made : (slot : ℕ) (nested : Bool) (page serial : ℕ) (M' : Memory) (G' : Ghost) → IsKind exponent allowed nested
+        → IsRunIn env.geometry page (pages_taken exponent nested)
+        → MakingMeans env mix c M' G' (HasTaken (with_slot_word (closed_slot exponent slot nested page (table_seed seed serial)) SerialWord serial) (range_with_len page (pages_taken exponent nested)))
+        → MakingMeans env mix c M' G' (HasMade slot (made_shape exponent nested page))
+    is_made slot nested page serial M' G' kind run means =
+        let n = pages_taken exponent nested in
+        let shape = read_back nested page (page-few page n run) in
+        let many : table_pages (unpacked (made_shape exponent nested page)) ≡ n =
+        ap table_pages shape ∙ pages_made nested page in
         record {
           has = means.slot.has;
           shape_is = means.slot.shape;
           future_is = means.slot.future;
-          kind = inl (record {
-            flat = ap (λ s. s.nest) shape;
-            many = subst (λ s. table_pages s ≡ max 1 (size_of s / 64)) (sym shape) refl;
-          });
-          flat = ap (λ s. s.nest) shape;
-          fits = subst (λ s. s.page + table_pages s ≤ env.geometry.pages) (sym shape) run.within;
+          kind = kind_made nested page (page-few page n run) kind;
+          fits =
+              subst (λ m. (unpacked (made_shape exponent nested page)).page + m ≤ env.geometry.pages) (sym many)
+              (subst (λ p. p + n ≤ env.geometry.pages) (sym (first_made nested page shape)) run.within);
           run = λ p from below. means.mine p (In-range_with_len page n p
-              (subst (λ s. s.page ≤ p) shape from)
-              (subst (λ s. p < s.page + table_pages s) shape below));
+              (subst (λ f. f ≤ p) (first_made nested page shape) from)
+              (subst (λ f. p < f + n) (first_made nested page shape)
+              (subst (λ m. p < (unpacked (made_shape exponent nested page)).page + m) many below)));
         }
 
     -- ---- state by state
 
     -- with a slot taken, the taking of pages begins with none
-    started : (slot : ℕ) (op : Op) → Moved env mix c words G op (holds None []) (holds (Some slot) [])
+    -- where there is no run, the taking of a top page begins with none, or the slot is to be given back
+    none_found : (before : Option ℕ) (slot : ℕ) (pages : List ℕ) (op : Op) (nests : Bool)
+        → Moved env mix c words G op (holds before pages) (holds (Some slot) [])
         (knows_that (Some slot) [] (HasTaken (bare_slot slot) []))
-        → MakeMoved None [] op (run_started slot (take_run_new env.geometry n), Go)
-    started slot op step =
+        → MakeMoved before pages op (no_run env.geometry nests slot, Go)
+    none_found before slot pages op true step =
+        subst (λ ps. Moved env mix c words G op (holds before pages) (holds (Some slot) ps)
+        (knows_that (Some slot) ps (HasTaken (bare_slot slot) ps))) (sym (first_run-none env.geometry 1)) step
+    none_found before slot pages op false step = step
+
+    -- with a slot taken, the taking of pages begins with none
+    started : (slot : ℕ) (op : Op) (nests : Bool) → Moved env mix c words G op (holds None []) (holds (Some slot) [])
+        (knows_that (Some slot) [] (HasTaken (bare_slot slot) []))
+        → MakeMoved None [] op (run_started env.geometry nests slot (take_run_new env.geometry n), Go)
+    started slot op nests step =
         cond_both (nat_le (run_length n) env.geometry.pages) (starts.Running (first_run env.geometry (run_length n)))
-        (starts.Done None) (λ start. MakeMoved None [] op (run_started slot start, Go))
+        (starts.Done None) (λ start. MakeMoved None [] op (run_started env.geometry nests slot start, Go))
         (λ t. subst (λ ps. Moved env mix c words G op (holds None []) (holds (Some slot) ps)
         (knows_that (Some slot) ps (HasTaken (bare_slot slot) ps))) (sym (first_run-none env.geometry (run_length n))) step)
-        (λ f. step)
+        (λ f. none_found None slot [] op nests step)
 
     slot_step : (slot : ℕ) → slot < 8 → knows_that None [] MakesNothing M G → MakeStep (at.Slot slot)
     slot_step slot l knows =
         let op = make_plan_at env.geometry exponent seed (at.Slot slot) in
         let word = old_of words op in
         cond_both (word == 0) _ _ (λ r. MakeMoved None [] op r)
-        (λ t. started slot op (take_slot_step env mix c h known words G all whole slot l (eqb-true word 0 t) knows))
+        (λ t.
+        started slot op (may_nest exponent allowed)
+        (take_slot_step env mix c h known words G all whole slot l (eqb-true word 0 t) knows))
         (λ f.
         let step = lose_slot_step env mix c h known words G all whole slot None [] MakesNothing (eqb-false word 0 f) knows in
         cond_both (nat_lt (slot + 1) 8) _ _ (λ r. MakeMoved None [] op r) (λ t. step) (λ f. step))
 
     -- the run was taken, or is taken still, or there was none
-    taken : (slot : ℕ) (pages : List ℕ) (op : Op) (r : TakeRunModel × Next (Option ℕ)) → r.0.pages ≡ n
+    taken : (slot : ℕ) (pages : List ℕ) (op : Op) (nests : Bool) (r : TakeRunModel × Next (Option ℕ)) → r.0.pages ≡ n
         → RunMoved env mix c h known words G all whole (Some (bare_slot slot)) pages op r
-        → MakeMoved (Some slot) pages op (run_taken slot r.0 r.1, Go)
-    taken slot pages op (take, Go) many step = step
-    taken slot pages op (take, Done None) many step = step
-    taken slot pages op (take, Done (Some page)) many step =
+        → MakeMoved (Some slot) pages op (run_taken env.geometry nests slot r.0 r.1, Go)
+    taken slot pages op nests (take, Go) many step = step
+    taken slot pages op nests (take, Done None) many step = none_found (Some slot) slot pages op nests step
+    taken slot pages op nests (take, Done (Some page)) many step =
         subst (λ m. Moved env mix c words G op (holds (Some slot) pages) (holds (Some slot) (range_with_len page m))
         (knows_that (Some slot) (range_with_len page m) (HasTaken (bare_slot slot) (range_with_len page m)))) many step
 
-    make_step_at : (state : MakeAt) → IsMakeAtIn env.geometry n state
+    -- and so for a top page
+    top : (slot : ℕ) (pages : List ℕ) (op : Op) (r : TakeRunModel × Next (Option ℕ)) → r.0.pages ≡ 1
+        → RunMoved env mix c h known words G all whole (Some (bare_slot slot)) pages op r
+        → MakeMoved (Some slot) pages op (top_taken slot r.0 r.1, Go)
+    top slot pages op (take, Go) many step = step
+    top slot pages op (take, Done None) many step = step
+    top slot pages op (take, Done (Some page)) many step =
+        subst (λ m. Moved env mix c words G op (holds (Some slot) pages) (holds (Some slot) (range_with_len page m))
+        (knows_that (Some slot) (range_with_len page m) (HasTaken (bare_slot slot) (range_with_len page m)))) many step
+
+    make_step_at : (state : MakeAt) → IsMakeAtIn env.geometry exponent allowed state
         → knows_that (slot_of_make state) (pages_of_make exponent state) (known_of_make exponent seed state) M G
         → MakeStep state
     make_step_at (at.Slot slot) is knows = slot_step slot is knows
     make_step_at (at.Taking slot take) is knows =
         let op = take_run_plan take in
         let word = old_of words op in
-        taken slot (pages_of_take_run take) op (take_run_after take word)
+        taken slot (pages_of_take_run take) op (may_nest exponent allowed) (take_run_after take word)
         ((take_run_stays env.geometry take word is.take_in).pages_same ∙ is.pages_same)
         (run_step env mix c h known words G all whole (Some (bare_slot slot)) take is.take_in knows)
+    make_step_at (at.TakingTop slot take) is knows =
+        let op = take_run_plan take in
+        let word = old_of words op in
+        let taking = is.taking in
+        top slot (pages_of_take_run take) op (take_run_after take word)
+        ((take_run_stays env.geometry take word taking.take_in).pages_same ∙ taking.pages_same)
+        (run_step env mix c h known words G all whole (Some (bare_slot slot)) take taking.take_in knows)
     make_step_at (at.SlotBack slot) is knows = give_slot_step env mix c h known words G all whole (bare_slot slot) knows
-    make_step_at (at.NextSerial slot page) is knows =
-        serial_step env mix c h known words G all whole (bare_slot slot) (range_with_len page n) knows
-    make_step_at (at.Shape slot page serial) is knows =
-        fill_slot_step env mix c h known words G all whole (bare_slot slot) ShapeWord (made_shape exponent page)
-        (range_with_len page n) tt knows
-    make_step_at (at.Seed slot page serial) is knows =
-        fill_slot_step env mix c h known words G all whole (shaped_slot exponent slot page) SeedWord
-        (table_seed seed serial) (range_with_len page n) tt knows
-    make_step_at (at.Future slot page serial) is knows =
-        fill_slot_step env mix c h known words G all whole (seeded_slot exponent slot page (table_seed seed serial))
-        FutureWord 0 (range_with_len page n) tt knows
-    make_step_at (at.Serial slot page serial) is knows =
-        let op = make_plan_at env.geometry exponent seed (at.Serial slot page serial) in
+    make_step_at (at.NextSerial slot nested page) is knows =
+        serial_step env mix c h known words G all whole (bare_slot slot) (range_with_len page (pages_taken exponent nested)) knows
+    make_step_at (at.Shape slot nested page serial) is knows =
+        fill_slot_step env mix c h known words G all whole (bare_slot slot) ShapeWord (made_shape exponent nested page)
+        (range_with_len page (pages_taken exponent nested)) tt knows
+    make_step_at (at.Seed slot nested page serial) is knows =
+        fill_slot_step env mix c h known words G all whole (shaped_slot exponent slot nested page) SeedWord
+        (table_seed seed serial) (range_with_len page (pages_taken exponent nested)) tt knows
+    make_step_at (at.Future slot nested page serial) is knows =
+        fill_slot_step env mix c h known words G all whole (seeded_slot exponent slot nested page (table_seed seed serial))
+        FutureWord 0 (range_with_len page (pages_taken exponent nested)) tt knows
+    make_step_at (at.Serial slot nested page serial) is knows =
+        let op = make_plan_at env.geometry exponent seed (at.Serial slot nested page serial) in
         let run = is.taken.run_in in
-        let slot_now = closed_slot exponent slot page (table_seed seed serial) in
-        let step = fill_slot_step env mix c h known words G all whole slot_now SerialWord serial (range_with_len page n)
+        let slot_now = closed_slot exponent slot nested page (table_seed seed serial) in
+        let step = fill_slot_step env mix c h known words G all whole slot_now SerialWord serial (range_with_len page (pages_taken exponent nested))
         tt knows in
-        subst (λ ps. Moved env mix c words G op (holds (Some slot) (range_with_len page n)) (holds (Some slot) ps)
-        (knows_that (Some slot) ps (HasMade slot (made_shape exponent page)))) (sym (made_run page run))
-        (moved-map env mix c words G op (holds (Some slot) (range_with_len page n))
-        (holds (Some slot) (range_with_len page n))
-        (knows_that (Some slot) (range_with_len page n)
-        (HasTaken (with_slot_word slot_now SerialWord serial) (range_with_len page n)))
-        (knows_that (Some slot) (range_with_len page n) (HasMade slot (made_shape exponent page)))
+        subst (λ ps. Moved env mix c words G op (holds (Some slot) (range_with_len page (pages_taken exponent nested))) (holds (Some slot) ps)
+        (knows_that (Some slot) ps (HasMade slot (made_shape exponent nested page)))) (sym (made_run nested page run))
+        (moved-map env mix c words G op (holds (Some slot) (range_with_len page (pages_taken exponent nested)))
+        (holds (Some slot) (range_with_len page (pages_taken exponent nested)))
+        (knows_that (Some slot) (range_with_len page (pages_taken exponent nested))
+        (HasTaken (with_slot_word slot_now SerialWord serial) (range_with_len page (pages_taken exponent nested))))
+        (knows_that (Some slot) (range_with_len page (pages_taken exponent nested)) (HasMade slot (made_shape exponent nested page)))
         (λ M' G' now k. record {
           only = k.only;
           means = record {
             node = k.means.node;
             table = k.means.table;
             bucket = k.means.bucket;
-            making = is_made slot page serial M' G' run k.means.making;
+            making = is_made slot nested page serial M' G' is.taken.kind run k.means.making;
             work = k.means.work;
           };
         }) step)
@@ -230,18 +303,18 @@ module _ (env : Env) (mix : ℕ → ℕ → ℕ → ℕ) (c : ℕ) (h : Holding)
   -- an operation of the making of a table: what the caller knows at its state leads to what it knows behind it
   pub make_step : (m : MakeModel) → IsMakeIn env.geometry m
       → knows_that (slot_of_make m.at) (pages_of_make m.exponent m.at) (known_of_make m.exponent m.seed m.at) M G
-      → let r = make_after_at env.geometry m.exponent m.at (old_of words (make_plan m)) in
+      → let r = make_after_at env.geometry m.exponent m.nested m.at (old_of words (make_plan m)) in
       Moved env mix c words G (make_plan m) (holds (slot_of_make m.at) (pages_of_make m.exponent m.at))
       (holds (slot_made r) (made_with m.exponent r))
       (knows_that (slot_made r) (made_with m.exponent r) (known_made m.exponent m.seed r))
   make_step m is knows =
       subst (λ g.
       let op = make_plan_at g m.exponent m.seed m.at in
-      let r = make_after_at env.geometry m.exponent m.at (old_of words op) in
+      let r = make_after_at env.geometry m.exponent m.nested m.at (old_of words op) in
       Moved env mix c words G op (holds (slot_of_make m.at) (pages_of_make m.exponent m.at))
       (holds (slot_made r) (made_with m.exponent r))
       (knows_that (slot_made r) (made_with m.exponent r) (known_made m.exponent m.seed r))) (sym is.geometry_same)
-      (make_step_at m.exponent m.seed is.least is.greatest m.at is.at_in knows)
+      (make_step_at m.exponent m.seed m.nested is.least is.greatest m.at is.at_in knows)
 
   -- ---- the giving back of a table
 

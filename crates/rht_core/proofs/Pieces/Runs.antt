@@ -16,7 +16,7 @@ use Rattle.rht_words.specs.Operations.{old_of}
 use Rattle.rht_words.specs.Places.{PageMap, place_of, words_in}
 use Rattle.rht_words.proofs.Memory.{Memory}
 use Rattle.rht_arena.specs.Runs.{run_bits, IsRunIn, IsRunWord}
-use Rattle.rht_arena.specs.TakeRun.{TakeRunModel, take_run_plan, take_run_after, looked, cleared, has_run, pages_of_take_run, IsRunAt, IsTakeRunAtIn, IsTakeRunIn}
+use Rattle.rht_arena.specs.TakeRun.{TakeRunModel, take_run_plan, take_run_after, looked, has_run, pages_of_take_run, IsRunAt, IsTakeRunAtIn, IsTakeRunIn}
 use Rattle.rht_arena.specs.declared.take_run.TakeRunAt.{TakeRunAt}
 use Rattle.rht_arena.specs.declared.take_run.TakeRunAt.TheVariants as takes
 use Rattle.rht_arena.specs.GiveRun.{GiveRunModel, give_run_plan, give_run_after, has_yet, pages_of_give_run, IsGiveRunIn}

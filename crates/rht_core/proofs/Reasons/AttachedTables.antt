@@ -2,8 +2,8 @@
 --
 -- An attempt begins with a new node, and none attached; only the exchange that found no future makes it
 -- attached, and no other operation of a bind is an exchange of a future.
-use Rattle.std.proofs.Common.{◌≡◌, ◌≢◌, ◌⊎◌, ℕ, ◌<◌, ◌≤◌, ◌==◌, Bool, true, false, cond, List, [], ◌∷◌, ◌++◌, min, nat_le, nat_eq, refl, sym, ap, ◌∙◌, subst, inl, inr, arith}
-use Rattle.std.specs.Prelude.{Option, Some, None, IfSome, ◌*◌, ◌-◌}
+use Rattle.std.proofs.Common.{◌≡◌, ◌≢◌, ℕ, ◌<◌, ◌==◌, Bool, true, false, cond, List, [], ◌∷◌, ◌++◌, min, nat_le, nat_eq, refl, sym, ◌∙◌, subst, arith}
+use Rattle.std.specs.Prelude.{Option, Some, None, IfSome, ◌-◌}
 use Rattle.std.specs.List.{AllByRecursion, Any}
 use Rattle.std.proofs.lemmas.Bool.{cond_both, eqb-true, eqb-false}
 use Rattle.std.proofs.lemmas.List.Quantifiers.{Any-push}
@@ -30,7 +30,7 @@ use Rattle.rht_arena.specs.declared.take_node.TakeNodeAt.TheVariants as takes
 use Rattle.rht_arena.specs.NewNode.{NewNodeModel, new_node_plan_at, new_node_after}
 use Rattle.rht_arena.specs.declared.new_node.NewNodeAt.{NewNodeAt}
 use Rattle.rht_arena.specs.declared.new_node.NewNodeAt.TheVariants as news
-use Rattle.rht_arena.specs.TakeRun.{TakeRunModel, take_run_plan_at}
+use Rattle.rht_arena.specs.TakeRun.{take_run_plan_at}
 use Rattle.rht_arena.specs.declared.take_run.TakeRunAt.{TakeRunAt}
 use Rattle.rht_arena.specs.declared.take_run.TakeRunAt.TheVariants as runs
 use Rattle.rht_nest.specs.Locate.{LocateModel, locate_plan_at, locate_after}
@@ -64,15 +64,13 @@ use Rattle.rht_chain.specs.declared.relink.RelinkAt.{RelinkAt}
 use Rattle.rht_chain.specs.declared.relink.RelinkAt.TheVariants as relinks
 use Rattle.rht_chain.specs.declared.locked.Then.{Then}
 use Rattle.rht_chain.specs.declared.locked.Then.TheVariants.{Table, Answer}
-use Rattle.rht_bind.specs.Bind.{plan_at, after_at, filled, locating, at_bucket, behind_page, grown, located, bound_already, found_or_future, probed, replaced, future_or_count, checked_count, published, unlocked, unlocking, IsBindAtIn}
-use Rattle.rht_bind.specs.Growing.{unlocking_full, making, size_grown, want_or_busy, made, ended_attempt, behind_attempt, refused_or_found, has_attached, checked_attach, unmade}
+use Rattle.rht_bind.specs.Bind.{plan_at, after_at, filled, locating, at_bucket, behind_page, grown, located, bound_already, found_or_future, probed, replaced, future_or_count, checked_count, published, unlocked, IsBindAtIn}
+use Rattle.rht_bind.specs.Growing.{size_grown, want_or_busy, made, ended_attempt, behind_attempt, refused_or_found, has_attached, checked_attach, unmade}
 use Rattle.rht_bind.specs.declared.bind.Attempt.{Attempt}
 use Rattle.rht_bind.specs.declared.bind.Claimed.{Claimed}
 use Rattle.rht_bind.specs.declared.bind.FoundList.{FoundList}
-use Rattle.rht_bind.specs.declared.bind.growth.Full.TheVariants as full
 use Rattle.rht_bind.specs.declared.bind.growth.Growing.{Growing}
 use Rattle.rht_bind.specs.declared.bind.growth.Refusal.{Refusal}
-use Rattle.rht_bind.specs.declared.bind.growth.Refusal.TheVariants as refusals
 use Rattle.rht_bind.specs.declared.bind.BindAt.{BindAt}
 use Rattle.rht_bind.specs.declared.bind.BindAt.TheVariants as at
 use Rattle.rht_core.specs.Traces.{Did}
@@ -299,12 +297,14 @@ module _ (g : Geometry) where
       absurd (omega (arith, same))
   make-none h exponent seed (makes.Taking slot take) table old new l e =
       run-none take.geometry take.pages take.at table old new l e
+  make-none h exponent seed (makes.TakingTop slot take) table old new l e =
+      run-none take.geometry take.pages take.at table old new l e
   make-none h exponent seed (makes.SlotBack slot) table old new l e = cc
-  make-none h exponent seed (makes.NextSerial slot page) table old new l e = cc
-  make-none h exponent seed (makes.Shape slot page serial) table old new l e = cc
-  make-none h exponent seed (makes.Seed slot page serial) table old new l e = cc
-  make-none h exponent seed (makes.Future slot page serial) table old new l e = cc
-  make-none h exponent seed (makes.Serial slot page serial) table old new l e = cc
+  make-none h exponent seed (makes.NextSerial slot nested page) table old new l e = cc
+  make-none h exponent seed (makes.Shape slot nested page serial) table old new l e = cc
+  make-none h exponent seed (makes.Seed slot nested page serial) table old new l e = cc
+  make-none h exponent seed (makes.Future slot nested page serial) table old new l e = cc
+  make-none h exponent seed (makes.Serial slot nested page serial) table old new l e = cc
 
   pub unmake-none : (h : Geometry) (slot : ℕ) (state : UnmakeAt) → IsNoFutureExchange g (unmake_plan_at h slot state)
   unmake-none h slot (unmakes.Giving give) table old new l e = cc

@@ -75,7 +75,6 @@ use Rattle.rht_chain.specs.declared.relink.RelinkAt.{RelinkAt}
 use Rattle.rht_chain.specs.declared.relink.RelinkAt.TheVariants as relinks
 use Rattle.rht_arena.proofs.NodesSeen.{first_unseen, SawAllBelow, SawAllBelow-push, SawSoFar, take_after-saw}
 use Rattle.rht_find.specs.Find.{after_at as find_after_at}
-use Rattle.rht_find.specs.declared.find.FindAt.{FindAt}
 use Rattle.rht_find.specs.declared.find.FindAt.TheVariants.{CurrentTable}
 use Rattle.rht_bind.specs.Growing.{unlocking_full, making, size_grown, want_or_busy, made, ended_attempt, behind_attempt, refused_or_found, has_attached, checked_attach, unmade}
 use Rattle.rht_bind.specs.declared.bind.Attempt.{Attempt}
@@ -89,10 +88,8 @@ use Rattle.rht_bind.specs.declared.bind.Claimed.{Claimed}
 use Rattle.rht_bind.specs.declared.bind.FoundList.{FoundList}
 use Rattle.rht_bind.specs.declared.bind.BindAt.{BindAt}
 use Rattle.rht_bind.specs.declared.bind.BindAt.TheVariants as at
-use Rattle.rht_model.specs.Rooms.{Kept}
 use Rattle.rht_release.specs.Seek.{SeekModel, seek_new, seek_after}
 use Rattle.rht_release.specs.All as all
-use Rattle.rht_release.specs.declared.all.AllAt.{AllAt}
 use Rattle.rht_release.specs.declared.all.AllAt.TheVariants as alls
 use Rattle.rht_core.specs.declared.event.Event.{Event}
 use Rattle.rht_core.specs.Locals.{room_for_nodes}
@@ -106,7 +103,6 @@ use Rattle.rht_core.specs.ResizeCauses.{Loaded, AttachesSome, IsNoKeyLoad, wante
 use Rattle.rht_core.specs.Causes.{FindCause, AllCause, IsRaise, IsDueBy, KicksRightly, SawFull, ReleaseCause, RebindCause, WorkCause, BindCause, CountCause, CauseOf, HasCause, Causes}
 use Rattle.rht_release.specs.declared.found_port.FoundPort.{FoundPort}
 use Rattle.rht_release.specs.Release as release
-use Rattle.rht_release.specs.declared.release.ReleaseAt.{ReleaseAt}
 use Rattle.rht_release.specs.declared.release.ReleaseAt.TheVariants.{Seeking}
 use Rattle.rht_release.specs.Rebind as rebind
 use Rattle.rht_release.specs.declared.rebind.RebindAt.{RebindAt}
@@ -251,7 +247,7 @@ module _ (env : Env) (words_at : ℕ → List ℕ) where
   SawAt (at.GrowthCount growing root) steps =
       Behind env words_at growing.table growing.shape (SawRoot env words_at growing root) steps
   SawAt (at.Making growing size make) steps =
-      Behind env words_at growing.table growing.shape (SawToMake env words_at growing size make.exponent (make.at, Go)) steps
+      Behind env words_at growing.table growing.shape (SawToMake env words_at growing size make.exponent make.nested (make.at, Go)) steps
   SawAt (at.FutureAgain growing refusal) steps =
       Behind env words_at growing.table growing.shape (SawRefusal env words_at growing refusal) steps
   SawAt (at.Attaching growing slot shape) steps =
@@ -582,12 +578,13 @@ module _ (env : Env) (words_at : ℕ → List ℕ) where
       → did.op ≡ make_plan_at h exponent seed state → IsNoShapeLoad env.geometry did
   make_loads h exponent seed (makes.Slot slot) did is = no_load env.geometry did _ is (λ place load. cc)
   make_loads h exponent seed (makes.Taking slot take) did is = run_loads take.geometry take.pages take.at did is
+  make_loads h exponent seed (makes.TakingTop slot take) did is = run_loads take.geometry take.pages take.at did is
   make_loads h exponent seed (makes.SlotBack slot) did is = no_load env.geometry did _ is (λ place load. cc)
-  make_loads h exponent seed (makes.NextSerial slot page) did is = no_load env.geometry did _ is (λ place load. cc)
-  make_loads h exponent seed (makes.Shape slot page serial) did is = no_load env.geometry did _ is (λ place load. cc)
-  make_loads h exponent seed (makes.Seed slot page serial) did is = no_load env.geometry did _ is (λ place load. cc)
-  make_loads h exponent seed (makes.Future slot page serial) did is = no_load env.geometry did _ is (λ place load. cc)
-  make_loads h exponent seed (makes.Serial slot page serial) did is = no_load env.geometry did _ is (λ place load. cc)
+  make_loads h exponent seed (makes.NextSerial slot nested page) did is = no_load env.geometry did _ is (λ place load. cc)
+  make_loads h exponent seed (makes.Shape slot nested page serial) did is = no_load env.geometry did _ is (λ place load. cc)
+  make_loads h exponent seed (makes.Seed slot nested page serial) did is = no_load env.geometry did _ is (λ place load. cc)
+  make_loads h exponent seed (makes.Future slot nested page serial) did is = no_load env.geometry did _ is (λ place load. cc)
+  make_loads h exponent seed (makes.Serial slot nested page serial) did is = no_load env.geometry did _ is (λ place load. cc)
 
   -- a store of a link loads nothing and adds nothing
   relink-no_load : (m : RelinkModel) (state : RelinkAt) (place : ℕ) → relink_plan_at m state ≢ Load place
@@ -804,7 +801,7 @@ module _ (env : Env) (words_at : ℕ → List ℕ) where
         (is_above_75 (min did.old 65536) size env.config.max)
         (λ above.
         Behind-push env words_at growing.table growing.shape Saw
-        (SawToMake env words_at growing (2 * size) (exponent_made (2 * size)) (makes.Slot 0, Go)) steps did none
+        (SawToMake env words_at growing (2 * size) (exponent_made (2 * size)) true (makes.Slot 0, Go)) steps did none
         (λ behind so.
         begins-making env words_at growing root (2 * size) behind did is (sym (ap (λ b. cond b (2 * size) size) above)) (inl above) so)
         saw)
@@ -812,7 +809,7 @@ module _ (env : Env) (words_at : ℕ → List ℕ) where
         by_test (λ t. SawAt (cond t (making env growing size) busy) all) same
         (λ t.
         Behind-push env words_at growing.table growing.shape Saw
-        (SawToMake env words_at growing size (exponent_made size) (makes.Slot 0, Go)) steps did none
+        (SawToMake env words_at growing size (exponent_made size) true (makes.Slot 0, Go)) steps did none
         (λ behind so.
         begins-making env words_at growing root size behind did is (sym (ap (λ b. cond b (2 * size) size) below))
         (inr (eqb-true root growing.table t)) so)
@@ -823,12 +820,12 @@ module _ (env : Env) (words_at : ℕ → List ℕ) where
         (λ behind so. other-saw env words_at growing root behind did is (eqb-false root growing.table other) below so) saw))
 
     made-saw : (growing : Growing) (size : ℕ) (make : MakeModel) (r : MakeAt × Next (Option (ℕ × ℕ))) (all : List Did)
-        → Behind env words_at growing.table growing.shape (SawToMake env words_at growing size make.exponent r) all
+        → Behind env words_at growing.table growing.shape (SawToMake env words_at growing size make.exponent make.nested r) all
         → SawAt (made growing size (record make { at = r.0 }) r.1) all
     made-saw growing size make (state, Go) all saw = saw
     made-saw growing size make (state, Done None) all saw = record {
       walked = saw.walked;
-      saw = no_room-saw env words_at growing size make.exponent state saw.walked.behind saw.saw;
+      saw = no_room-saw env words_at growing size make.exponent make.nested state saw.walked.behind saw.saw;
     }
     made-saw growing size make (state, Done (Some table)) all saw = record { walked = saw.walked; saw = saw.saw.why }
 
@@ -929,8 +926,7 @@ module _ (env : Env) (words_at : ℕ → List ℕ) where
         bind_made-saw new (new_node_after_at new.at did.old) (steps ++ did ∷ [])
         (new-saw new new.at steps did refl does.within.at_in does.planned saw)
     bind-saw (at.CurrentTable attempt) steps did does now saw so unraised = came-current env.geometry steps did does.planned
-    bind-saw (at.Locating attempt locate) steps did does now saw so unraised =
-        locating-saw attempt locate steps did does now.now saw
+    bind-saw (at.Locating attempt locate) steps did does now saw so unraised = locating-saw attempt locate steps did does now.now saw
     bind-saw (at.Entering attempt table shape place grow) steps did does now saw so unraised =
         let within = does.within.at_in.grow_in in
         let after = grow_after_at env.geometry grow.at did.old in
@@ -1016,10 +1012,10 @@ module _ (env : Env) (words_at : ℕ → List ℕ) where
         want-saw growing root steps did does.planned
         (elsewhere env.geometry did _ does.planned (λ table below same. absurd (omega (arith, same)))).no_shape saw
     bind-saw (at.Making growing size make) steps did does now saw so unraised =
-        let after = make_after_at make.geometry make.exponent make.at did.old in
+        let after = make_after_at make.geometry make.exponent make.nested make.at did.old in
         made-saw growing size make after (steps ++ did ∷ [])
-        (Behind-push env words_at growing.table growing.shape (SawToMake env words_at growing size make.exponent (make.at, Go))
-        (SawToMake env words_at growing size make.exponent after) steps did
+        (Behind-push env words_at growing.table growing.shape (SawToMake env words_at growing size make.exponent make.nested (make.at, Go))
+        (SawToMake env words_at growing size make.exponent make.nested after) steps did
         (make_loads make.geometry make.exponent make.seed make.at did does.planned)
         (λ behind so_far. making-saw env words_at growing size make behind did does.within.at_in.make_in does.planned so_far) saw)
     bind-saw (at.FutureAgain growing refusal) steps did does now saw so unraised =

@@ -5,8 +5,8 @@
 -- counted, by what the bind knows; and each of them is what a port is bound to. So the operation counted its node. Any other
 -- operation leaves what was counted.
 --
--- At the event of such a load the port's bucket is at the place at which the bind walks, by the words. From then on it stays there, and no
--- other bucket of the table is ever there. So all these loads found one bucket.
+-- At the event of such a load the bucket's word is at its place, by the words. That stays so, and no other bucket of the table ever has the
+-- word. So the loads of keys all found one bucket there.
 use Rattle.std.proofs.Common.{◌≡◌, ◌⊎◌, ℕ, ◌+◌, ◌<◌, ◌≤◌, ◌%◌, ◌==◌, List, [], ◌∷◌, ◌++◌, length, cond, refl, sym, ap, ◌∙◌, subst, inl, inr, arith}
 use Rattle.std.specs.Prelude.{Option, Some, None}
 use Rattle.std.specs.List.{AllByRecursion}
@@ -130,7 +130,7 @@ module _ (g : Geometry) (words_at : ℕ → List ℕ) where
         (λ node loads. absurd (no_key node loads));
   })
 
-  -- where a bucket has its word at this place from the operation's event on, it is the one that those before found
+  -- one that is at this place at its event found the one that those before it found
   found-more : (shape place : ℕ) (steps : List Did) (did : Did) → HasPlace shape place did.index → FoundSoFar shape place steps
       → FoundSoFar shape place (steps ++ did ∷ [])
   found-more shape place steps did has (inl none) = inr (record {

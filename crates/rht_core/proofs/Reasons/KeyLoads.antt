@@ -1,5 +1,5 @@
 -- Which operations load the key of no node: those that are no loads, and the loads of other places.
-use Rattle.std.proofs.Common.{◌≡◌, ◌≢◌, ℕ, ◌<◌, sym, ap, ◌∙◌, arith, ◌≤◌}
+use Rattle.std.proofs.Common.{◌≡◌, ◌≢◌, ℕ, Bool, ◌<◌, sym, ap, ◌∙◌, arith, ◌≤◌}
 use Rattle.rht_words.specs.declared.op.Op.{Op}
 use Rattle.rht_words.specs.declared.op.Op.TheVariants.{Load}
 use Rattle.rht_words.specs.declared.geometry.Geometry.{Geometry}
@@ -60,15 +60,18 @@ module _ (g : Geometry) where
   no_key-run pages (runs.Claim first index) did within is = no_key did _ is (λ place load. cc)
   no_key-run pages (runs.GiveBack first index bits) did within is = no_key did _ is (λ place load. cc)
 
-  pub no_key-make : (h : Geometry) (pages exponent seed : ℕ) (state : MakeAt) (did : Did) → IsMakeAtIn g pages state
+  pub no_key-make : (h : Geometry) (exponent seed : ℕ) (allowed : Bool) (state : MakeAt) (did : Did) → IsMakeAtIn g exponent allowed state
       → did.op ≡ make_plan_at h exponent seed state → IsNoKeyLoad g did
-  no_key-make h pages exponent seed (makes.Slot slot) did within is = no_key did _ is (λ place load. cc)
-  no_key-make h pages exponent seed (makes.Taking slot take) did within is =
+  no_key-make h exponent seed allowed (makes.Slot slot) did within is = no_key did _ is (λ place load. cc)
+  no_key-make h exponent seed allowed (makes.Taking slot take) did within is =
       no_key-run take.pages take.at did within.take_in.at_in
       (is ∙ ap (λ (of : Geometry). take_run_plan_at of take.pages take.at) within.take_in.geometry_same)
-  no_key-make h pages exponent seed (makes.SlotBack slot) did within is = no_key did _ is (λ place load. cc)
-  no_key-make h pages exponent seed (makes.NextSerial slot page) did within is = no_key did _ is (λ place load. cc)
-  no_key-make h pages exponent seed (makes.Shape slot page serial) did within is = no_key did _ is (λ place load. cc)
-  no_key-make h pages exponent seed (makes.Seed slot page serial) did within is = no_key did _ is (λ place load. cc)
-  no_key-make h pages exponent seed (makes.Future slot page serial) did within is = no_key did _ is (λ place load. cc)
-  no_key-make h pages exponent seed (makes.Serial slot page serial) did within is = no_key did _ is (λ place load. cc)
+  no_key-make h exponent seed allowed (makes.TakingTop slot take) did within is =
+      no_key-run take.pages take.at did within.taking.take_in.at_in
+      (is ∙ ap (λ (of : Geometry). take_run_plan_at of take.pages take.at) within.taking.take_in.geometry_same)
+  no_key-make h exponent seed allowed (makes.SlotBack slot) did within is = no_key did _ is (λ place load. cc)
+  no_key-make h exponent seed allowed (makes.NextSerial slot nested page) did within is = no_key did _ is (λ place load. cc)
+  no_key-make h exponent seed allowed (makes.Shape slot nested page serial) did within is = no_key did _ is (λ place load. cc)
+  no_key-make h exponent seed allowed (makes.Seed slot nested page serial) did within is = no_key did _ is (λ place load. cc)
+  no_key-make h exponent seed allowed (makes.Future slot nested page serial) did within is = no_key did _ is (λ place load. cc)
+  no_key-make h exponent seed allowed (makes.Serial slot nested page serial) did within is = no_key did _ is (λ place load. cc)

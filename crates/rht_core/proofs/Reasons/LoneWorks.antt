@@ -5,7 +5,7 @@
 -- before has left them, so that the last table stays the last one until it attaches one behind it, which is flat. Where it attaches
 -- none it goes on only before a flat one: none is due or one has to wait, and so the last one is flat, or one is due that can't be
 -- made, and it gives up before a nested one. A table that was made is always attached, since nobody else attaches one.
-use Rattle.std.proofs.Common.{◌≡◌, ℕ, ◌+◌, ◌*◌, ◌≤◌, Bool, true, false, cond, nat_lt, List, [], ◌∷◌, ◌++◌, refl, sym, ap, ◌∙◌, subst, arith}
+use Rattle.std.proofs.Common.{◌≡◌, ℕ, ◌+◌, ◌*◌, Bool, true, false, cond, nat_lt, List, [], ◌∷◌, ◌++◌, refl, sym, ap, ◌∙◌, subst}
 use Rattle.std.specs.Prelude.{Option, Some, None, ◌==◌, ◌||◌, min}
 use Rattle.std.proofs.lemmas.Bool.{eqb-false}
 use Rattle.rht_words.specs.declared.env.Env.{Env}
@@ -17,7 +17,7 @@ use Rattle.rht_words.specs.Links.{slot_of, node_of, head_of, unlocked}
 use Rattle.rht_words.specs.Machines.{GoesOrEnds}
 use Rattle.rht_words.specs.Operations.{old_of, applied}
 use Rattle.rht_words.specs.Places.{WorkLock, Slot, FutureWord, StateWord}
-use Rattle.rht_words.specs.Shapes.{unpacked, size_of, packed}
+use Rattle.rht_words.specs.Shapes.{unpacked, size_of}
 use Rattle.rht_policy.specs.Sizes.{shrunk_size}
 use Rattle.rht_policy.specs.Thresholds.{is_above_75}
 use Rattle.rht_chain.specs.Lock.{LockModel, lock_new, lock_after}
@@ -25,7 +25,7 @@ use Rattle.rht_nest.specs.Place.{PlaceModel, flat_place, nested_place, place_aft
 use Rattle.rht_nest.specs.declared.place.Bucket.{Bucket}
 use Rattle.rht_nest.specs.declared.place.Bucket.TheVariants.{At, Absent}
 use Rattle.rht_nest.specs.Make.{MakeModel, make_after}
-use Rattle.rht_nest.specs.Tables.{is_nested, flat_shape}
+use Rattle.rht_nest.specs.Tables.{is_nested}
 use Rattle.rht_nest.specs.Unmake.{unmake_new}
 use Rattle.rht_model.specs.declared.history.Reply.{Reply}
 use Rattle.rht_model.specs.declared.history.Reply.TheVariants as replies
@@ -55,6 +55,7 @@ use Rattle.rht_core.proofs.Theory.Ghosts.{has_table, index_at}
 use Rattle.rht_core.proofs.Theory.Steps.{mem, by_test}
 use Rattle.rht_core.proofs.Tracing.TracedJobs.{Performs}
 use Rattle.rht_core.proofs.Reasons.AttachedTables.{IsNoFutureExchange, lock-none, make-none}
+use Rattle.rht_core.proofs.Reasons.MadeSizes.{made_flat}
 use Rattle.rht_core.proofs.Reasons.LastTables.{AreSame, one_shape, IsLastIn, none_last, last_shape, last_in, last_stays, finds_none, attached_last}
 use Rattle.rht_core.proofs.Reasons.WorkChoices.{SawReplaced, SawAtWork, stored-saw, cut-none}
 
@@ -67,12 +68,6 @@ chosen-flat size smaller false true false true choice is none = absurd (none siz
 chosen-flat size smaller false true false false choice is none = refl
 chosen-flat size smaller false false alone true choice is none = absurd (none size (sym is))
 chosen-flat size smaller false false alone false choice is none = refl
-
--- a flat shape as it is stored
-made-flat : (exponent page : ℕ) → exponent ≤ 17 → is_nested (packed (flat_shape exponent page)) ≡ false
-made-flat exponent page few =
-    let none : (unpacked (packed (flat_shape exponent page))).nest ≡ 0 = omega (arith, few) in
-    ap (nat_lt 0) none
 
 or-none : (a b : Bool) → (a || b) ≡ false → b ≡ false
 or-none true b is = absurd (cc)
@@ -361,7 +356,7 @@ module _ (env : Env) (mix : ℕ → ℕ → ℕ → ℕ) where
         slot = slot;
         shape = shape;
         last = attached_last env mix root last slot shape did does now still old was;
-        flat = ap is_nested made.shape_is ∙ made-flat does.within.exponent made.page does.within.greatest;
+        flat = ap is_nested made.shape_is ∙ made_flat does.within.exponent made.page made.nested does.within.greatest made.kind;
       })
       (λ f. eqb-false did.old 0 f (finds_none env mix root last slot shape did does now still old was))
 

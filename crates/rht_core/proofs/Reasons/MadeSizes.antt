@@ -1,20 +1,21 @@
 -- The table that a resizing makes has the size that is due: this is one of the sizes of tables, where a nested last table has one.
-use Rattle.std.proofs.Common.{◌≡◌, ℕ, ◌*◌, ◌/◌, ◌%◌, ◌^◌, ◌<◌, ◌≤◌, inl, inr, sym, ap, ◌∙◌, arith, w32}
-use Rattle.std.specs.Prelude.{true, ◌&&◌, Bool, nat_lt, min, max}
+use Rattle.std.proofs.Common.{◌≡◌, ℕ, ◌+◌, ◌*◌, ◌/◌, ◌%◌, ◌^◌, ◌<◌, ◌≤◌, inl, inr, sym, ap, subst, ◌∙◌, arith, w32}
+use Rattle.std.specs.Prelude.{true, false, ◌&&◌, Bool, nat_le, nat_lt, min, max}
 use Rattle.std.specs.Int.{trailing_zeros}
 use Rattle.std.proofs.Math.Pow.{pow-lt}
-use Rattle.std.proofs.lemmas.Nat.{pow_pos}
-use Rattle.std.proofs.lemmas.Bool.{cases_eq, cases_lt, cond_both, and_parts, ltb-true}
+use Rattle.std.proofs.lemmas.Nat.{pow_pos, pow-add}
+use Rattle.std.proofs.lemmas.Bool.{cases_eq, cases_lt, cond_both, and_parts, ltb-true, le-leb, lt-leb}
 use Rattle.std.proofs.lemmas.Nat.Bits.{bit_at-trailing_zeros, bit_at-pow_other}
 use Rattle.rht_words.specs.declared.env.Env.{Env}
 use Rattle.rht_words.specs.Shapes.{unpacked, size_of, exponent_of}
 use Rattle.rht_words.specs.Sizes.{IsSizeUpTo}
-use Rattle.rht_words.proofs.Rounding.{powers-fall}
+use Rattle.rht_words.proofs.Rounding.{powers-rise, powers-fall}
 use Rattle.rht_policy.specs.Sizes.{shrunk_size}
 use Rattle.rht_policy.specs.Thresholds.{is_above_75, may_grow}
 use Rattle.rht_policy.proofs.TableSizes.{IsSizeUpTo-shrunk_size}
 use Rattle.rht_nest.specs.Tables.{exponent_made, is_nested}
-use Rattle.rht_nest.specs.Make.{made_shape}
+use Rattle.rht_nest.specs.Make.{IsKind, made_shape}
+use Rattle.rht_core.specs.ResizeCauses.{wanted_size}
 use Rattle.rht_move.specs.Choice.{choice_of, is_sparse}
 use Rattle.rht_move.specs.Laws.{IsOfASize}
 use Rattle.rht_move.specs.declared.work.choice.Choice.TheVariants.{Attach, Later, Nothing}
@@ -52,12 +53,53 @@ exponent_of-pow e l =
       | inr differ ↦ absurd (omega (arith, lowest.1, bit_at-pow_other e (trailing_zeros w32 (2 ^ e)) differ))
     ]
 
+-- the tables that may be nested are those of 128 buckets or more
+pub nests-pow : (e : ℕ) → e < 32 → nat_le 7 (exponent_made (2 ^ e)) ≡ nat_le 128 (2 ^ e)
+nests-pow e l =
+    let exponent = exponent_of-pow e l in
+    elim (cases_lt e 7) [
+      | inl small ↦
+          lt-leb 7 (exponent_made (2 ^ e)) (omega (arith, exponent, small))
+          ∙ sym (lt-leb 128 (2 ^ e) (omega (arith, powers-rise e 6 (omega (arith, small)))))
+      | inr large ↦
+          le-leb 7 (exponent_made (2 ^ e)) (omega (arith, exponent, large))
+          ∙ sym (le-leb 128 (2 ^ e) (omega (arith, powers-rise 7 e large)))
+    ]
+
+-- so it is for the size that a table of some shape is to have behind it
+pub nests-wanted : (env : Env) (shape count : ℕ)
+    → nat_le 7 (exponent_made (wanted_size env shape count)) ≡ nat_le 128 (wanted_size env shape count)
+nests-wanted env shape count =
+    let e = max 2 (min (unpacked shape).exponent 18) in
+    cond_both (is_above_75 count (size_of (unpacked shape)) env.config.max) (2 * size_of (unpacked shape))
+    (size_of (unpacked shape)) (λ size. nat_le 7 (exponent_made size) ≡ nat_le 128 size)
+    (λ t. subst (λ size. nat_le 7 (exponent_made size) ≡ nat_le 128 size) (pow-add 2 1 e) (nests-pow (1 + e) (omega arith)))
+    (λ f. nests-pow e (omega arith))
+
+-- the word of a shape tells its exponent, whether the table is nested or not
+pub exponent_read : (exponent page : ℕ) (nested : Bool) → exponent < 32 → made_shape exponent nested page % 32 ≡ exponent
+exponent_read exponent page false few = omega (arith, few)
+exponent_read exponent page true few = omega (arith, few)
+
+-- one that may not be nested is flat
+pub made_flat : (exponent page : ℕ) (nested : Bool) → exponent ≤ 17 → IsKind exponent false nested
+    → is_nested (made_shape exponent nested page) ≡ false
+made_flat exponent page true few kind = absurd (cc)
+made_flat exponent page false few kind =
+    let none : (unpacked (made_shape exponent false page)).nest ≡ 0 = omega (arith, few) in
+    ap (nat_lt 0) none
+
 -- the table that is made for a size has it
-pub size_of-made : (size page : ℕ) → IsSizeUpTo (2 ^ 17) size → size_of (unpacked (made_shape (exponent_made size) page)) ≡ size
-size_of-made size page is =
+pub size_of-made : (size page : ℕ) (nested : Bool) → IsSizeUpTo (2 ^ 17) size
+    → size_of (unpacked (made_shape (exponent_made size) nested page)) ≡ size
+size_of-made size page nested is =
     let e = is.power.0 in
     let low : 1 < e = powers-fall 1 e (omega (arith, is.power.1, is.least)) in
     let high : e < 18 = powers-fall e 18 (omega (arith, is.power.1, is.greatest)) in
     let exponent : exponent_of size ≡ e = ap exponent_of is.power.1 ∙ exponent_of-pow e (omega arith) in
-    let same : max 2 (min (made_shape (exponent_made size) page % 32) 18) ≡ e = omega (arith, exponent) in
+    let made : exponent_made size ≡ e = omega (arith, exponent, low, high) in
+    let read : made_shape (exponent_made size) nested page % 32 ≡ exponent_made size =
+    exponent_read (exponent_made size) page nested (omega (arith, made, high)) in
+    let same : max 2 (min (made_shape (exponent_made size) nested page % 32) 18) ≡ e =
+    ap (λ n. max 2 (min n 18)) read ∙ omega (arith, made, low, high) in
     ap (λ n. 2 ^ n) same ∙ sym is.power.1

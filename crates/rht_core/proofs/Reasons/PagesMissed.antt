@@ -1,6 +1,6 @@
 -- What a bind sees that misses a page on the way to its bucket: the entry that it loaded leads to none, and while it takes a page to enter
 -- there, that each page before the one at which it stands was seen taken. So where no page is free, each was.
-use Rattle.std.proofs.Common.{◌≡◌, ℕ, ◌<◌, ◌/◌, ◌==◌, true, List, [], ◌∷◌, ◌++◌, append_assoc, map, Option, Some, None, refl, sym, ap, ◌∙◌, subst, arith}
+use Rattle.std.proofs.Common.{◌≡◌, ℕ, ◌<◌, ◌/◌, ◌==◌, true, List, [], ◌∷◌, ◌++◌, append_assoc, map, Option, Some, None, refl, sym, ap, ◌∙◌, subst}
 use Rattle.std.specs.List.{AllByRecursion}
 use Rattle.std.proofs.lemmas.Bool.{cond_both}
 use Rattle.std.proofs.lemmas.List.{map-append}
@@ -15,15 +15,14 @@ use Rattle.rht_words.specs.Machines.{Performed}
 use Rattle.rht_words.specs.Places.{PageWord, place_of}
 use Rattle.rht_words.specs.Shapes.{unpacked, size_of}
 use Rattle.rht_words.proofs.EachElement.{AllByRecursion-push}
-use Rattle.rht_arena.specs.TakeRun.{TakeRunModel, first_run, take_run_plan, take_run_after}
+use Rattle.rht_arena.specs.TakeRun.{TakeRunModel, first_run, take_run_plan, take_run_after, IsTakeRunAtIn}
 use Rattle.rht_arena.specs.GiveRun.{GiveRunModel, give_run_after}
+use Rattle.rht_arena.proofs.RunsSeen.{goes_on_in}
 use Rattle.rht_nest.specs.Place.{PlaceModel, missing_at, nested_place}
 use Rattle.rht_nest.specs.Tables.{is_nested}
 use Rattle.rht_nest.specs.Grow.{grow_plan_at, grow_after_at, page_taken, page_entered, page_given, IsGrowAtIn}
 use Rattle.rht_nest.specs.declared.grow.GrowAt.{GrowAt}
 use Rattle.rht_nest.specs.declared.grow.GrowAt.TheVariants as grows
-use Rattle.rht_nest.specs.Make.{made_pages, run_taken}
-use Rattle.rht_nest.specs.declared.make.MakeAt.TheVariants as makes
 use Rattle.rht_core.specs.ResizeCauses.{IsNoKeyLoad, AreRunsTaken, MissesPage, SawNoPage}
 use Rattle.rht_core.specs.StandsFor.{page_word}
 use Rattle.rht_core.specs.Seen.{IsNoShapeLoad}
@@ -38,17 +37,14 @@ use Rattle.rht_core.proofs.Theory.Steps.{mem}
 use Rattle.rht_core.proofs.Pieces.Grows.{IsOpenEntry}
 use Rattle.rht_core.proofs.Pieces.OpenEntries.{led, open_in_table}
 use Rattle.rht_core.proofs.Reasons.TablesWalked.{LastWalked-push}
-use Rattle.rht_core.proofs.Reasons.MakesSeen.{SawMaking, make-saw, runs_taken-stay}
+use Rattle.rht_core.proofs.Reasons.MakesSeen.{SawRun, SawTaking, taken-saw, runs_taken-stay}
+use Rattle.rht_core.proofs.Reasons.PagesTaken.{passes_in}
 
 -- ---- while a page is taken
 
--- a table of 64 buckets has one page, so what is seen of a run of one page is what is seen for such a table
-one_page : made_pages 6 ≡ 1
-one_page = refl
-
 module _ (g : Geometry) where
   abbrev pub SawGrowing : GrowAt → List Performed → Type 0
-  SawGrowing (grows.Taking take) steps = SawMaking g 6 (makes.Taking 0 take) steps
+  SawGrowing (grows.Taking take) steps = SawRun g 1 take.at steps
   SawGrowing (grows.Entering page) steps = Unit {0}
   SawGrowing (grows.Giving there give) steps = Unit {0}
 
@@ -58,11 +54,11 @@ module _ (g : Geometry) where
   SawGrown (state, Done None) steps = AreRunsTaken g 1 0 [] steps
   SawGrown (state, Done (Some page)) steps = Unit {0}
 
-  taken-saw : (r : TakeRunModel × Next (Option ℕ)) (steps : List Performed) → SawMaking g 6 (run_taken 0 r.0 r.1) steps
+  page_taken-saw : (r : TakeRunModel × Next (Option ℕ)) (steps : List Performed) → SawTaking g 1 r steps
       → SawGrown (page_taken r.0 r.1) steps
-  taken-saw (take, Go) steps saw = saw
-  taken-saw (take, Done None) steps saw = subst (λ pages. AreRunsTaken g pages 0 [] steps) one_page saw
-  taken-saw (take, Done (Some page)) steps saw = tt
+  page_taken-saw (take, Go) steps saw = saw
+  page_taken-saw (take, Done None) steps saw = saw
+  page_taken-saw (take, Done (Some page)) steps saw = tt
 
   entered-saw : (page word : ℕ) (steps : List Performed) → SawGrown (page_entered g page word) steps
   entered-saw page word steps = cond_both (word == 0) _ _ (λ r. SawGrown r steps) (λ t. tt) (λ f. tt)
@@ -79,10 +75,12 @@ module _ (g : Geometry) where
   grow-saw entry (grows.Taking take) steps step within is saw =
       let by_op : Op → Performed = λ o. record { op = o; old = step.old } in
       let same : step ≡ by_op (take_run_plan take) = ap by_op is in
+      let range = subst (λ p. IsTakeRunAtIn g p take.at) within.one within.take_in.at_in in
+      let passes = passes_in g 1 take step.old within.take_in.geometry_same within.one range in
       subst (λ s. SawGrown (grow_after_at g (grows.Taking take) step.old) (steps ++ s ∷ [])) (sym same)
-      (taken-saw (take_run_after take step.old) (steps ++ by_op (take_run_plan take) ∷ [])
-      (make-saw g 6 0 (makes.Taking 0 take) steps step.old
-      (record { slot_in = omega arith; pages_same = within.one ∙ sym one_page; take_in = within.take_in }) saw))
+      (page_taken-saw (take_run_after take step.old) (steps ++ by_op (take_run_plan take) ∷ [])
+      (taken-saw g 1 take step.old steps (take_run_after take step.old)
+      (goes_on_in g 1 take step.old within.take_in.geometry_same within.one range) passes passes.stands saw))
   grow-saw entry (grows.Entering page) steps step within is saw = entered-saw page step.old (steps ++ step ∷ [])
   grow-saw entry (grows.Giving there give) steps step within is saw =
       given-saw there (give_run_after give step.old) (steps ++ step ∷ [])
@@ -156,7 +154,7 @@ module _ (env : Env) (words_at : ℕ → List ℕ) where
     entry = saw.entry;
     missing = saw.missing;
     taken = subst (AreRunsTaken g 1 0 []) (sym (map-append performed_of saw.taking (did ∷ [])))
-        (runs_taken-stay g 6 0 [] (map performed_of saw.taking) (performed_of did) saw.taken);
+        (runs_taken-stay g 1 0 [] (map performed_of saw.taking) (performed_of did) saw.taken);
   }
 
   -- ---- the entry that was loaded

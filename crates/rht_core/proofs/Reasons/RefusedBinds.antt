@@ -4,10 +4,10 @@
 -- All of it lies behind the load of that table's shape: that the table is full, the load of the current table, that of the
 -- count of ports, what the making of a table has seen, and the operation that comes last, the load of the future or the exchange
 -- that attaches a table.
-use Rattle.std.proofs.Common.{◌≡◌, ◌≢◌, ◌⊎◌, ℕ, ◌≤◌, ◌<◌, ◌*◌, ◌-◌, Bool, true, false, cond, nat_le, List, [], ◌∷◌, ◌++◌, map, min, refl, sym, ap, ◌∙◌, subst, inl, inr, append_assoc, arith}
+use Rattle.std.proofs.Common.{◌≡◌, ◌≢◌, ◌⊎◌, ℕ, ◌≤◌, ◌<◌, ◌-◌, Bool, true, false, cond, nat_le, List, [], ◌∷◌, ◌++◌, map, min, refl, sym, ap, ◌∙◌, subst, inl, inr, append_assoc, arith}
 use Rattle.std.specs.Prelude.{Option, Some, None, ◌&&◌}
-use Rattle.std.specs.List.{AllByRecursion, Any}
-use Rattle.std.proofs.lemmas.Bool.{eqb-false, leb-false}
+use Rattle.std.specs.List.{Any}
+use Rattle.std.proofs.lemmas.Bool.{leb-false}
 use Rattle.std.proofs.lemmas.List.{map-append}
 use Rattle.std.proofs.lemmas.List.Quantifiers.{Any-push}
 use Rattle.rht_words.specs.Machines.{Performed}
@@ -20,9 +20,10 @@ use Rattle.rht_words.specs.declared.machine.Next.TheVariants.{Go, Done}
 use Rattle.rht_words.specs.Places.{CurrentTable, PortCount, Slot, FutureWord, place_of}
 use Rattle.rht_words.specs.Links.{slot_of, table_of}
 use Rattle.rht_words.specs.Shapes.{unpacked, size_of}
-use Rattle.rht_words.proofs.EachElement.{Any-append_left, AllByRecursion-push}
+use Rattle.rht_words.proofs.EachElement.{Any-append_left}
 use Rattle.rht_policy.specs.Thresholds.{is_above_75, is_above_100}
-use Rattle.rht_nest.specs.Make.{MakeModel, made_pages, make_plan_at, make_after_at, IsMakeIn}
+use Rattle.rht_nest.specs.Make.{MakeModel, may_nest, made_pages, make_plan_at, make_after_at, IsMakeIn}
+use Rattle.rht_nest.specs.MakeLaws.{pages_for}
 use Rattle.rht_nest.specs.Tables.{exponent_made}
 use Rattle.rht_nest.specs.declared.make.MakeAt.{MakeAt}
 use Rattle.rht_nest.specs.declared.make.MakeAt.TheVariants as makes
@@ -33,11 +34,12 @@ use Rattle.rht_bind.specs.declared.bind.growth.Refusal.{Refusal}
 use Rattle.rht_bind.specs.declared.bind.growth.Refusal.TheVariants as refusals
 use Rattle.rht_core.specs.Traces.{Did, performed_of}
 use Rattle.rht_core.specs.Seen.{LoadsCurrent, IsNoShapeLoad, LastWalked}
-use Rattle.rht_core.specs.ResizeCauses.{Loaded, Attaches, FindsFuture, wanted_size, SawNoRoom, IsNoKeyLoad, SawLongChain}
+use Rattle.rht_core.specs.ResizeCauses.{Loaded, Attaches, FindsFuture, wanted_size, AreNoPages, SawNoRoom, IsNoKeyLoad, SawLongChain}
 use Rattle.rht_core.proofs.Reasons.TablesWalked.{nodes_behind, LastWalked-push}
 use Rattle.rht_core.proofs.Reasons.KeyLoads.{no_key-before, no_key-make}
 use Rattle.rht_core.proofs.Reasons.ChainsCounted.{SawLongChain-push}
-use Rattle.rht_core.proofs.Reasons.MakesSeen.{SawMade, SawEachRun, saw_nothing, make-saw}
+use Rattle.rht_core.proofs.Reasons.MakesSeen.{SawMade, saw_nothing, make-saw}
+use Rattle.rht_core.proofs.Reasons.MadeSizes.{nests-wanted}
 use Rattle.rht_core.proofs.Theory.Steps.{by_test}
 
 -- a word of a future that names no slot is 0
@@ -118,7 +120,7 @@ module _ (env : Env) (words_at : ℕ → List ℕ) where
   pub record SawFullUp (table size : ℕ) (why : Full) (shape : ℕ) (behind : List Did) : Type 0 where
     pub is_full : SawWhy why shape behind
     pub wanted : SawWanted shape table size behind
-    pub room : SawNoRoom g size wanted.making
+    pub room : SawNoRoom g size (nat_le 128 size) wanted.making
 
   abbrev pub SawRefusal : Growing → Refusal → List Did → Type 0
   SawRefusal growing (refusals.Busy root) behind = SawOther growing.table root growing.why growing.shape behind
@@ -131,12 +133,13 @@ module _ (env : Env) (words_at : ℕ → List ℕ) where
   refusal-why growing (refusals.NoTable size) behind saw = saw.is_full
 
   -- while a table is made
-  pub record SawToMake (growing : Growing) (size exponent : ℕ) (next : MakeAt × Next (Option (ℕ × ℕ))) (behind : List Did) :
-      Type 0 where
+  pub record SawToMake (growing : Growing) (size exponent : ℕ) (allowed : Bool) (next : MakeAt × Next (Option (ℕ × ℕ)))
+      (behind : List Did) : Type 0 where
     pub why : SawWhy growing.why growing.shape behind
     pub wanted : SawWanted growing.shape growing.table size behind
     pub exponent_is : exponent ≡ exponent_made size
-    pub made : SawMade g exponent next (map performed_of wanted.making)
+    pub allowed_is : allowed ≡ true
+    pub made : SawMade g exponent (may_nest exponent allowed) next (map performed_of wanted.making)
 
   -- The operations behind the load of the last table's shape saw this first, and that the table is full; and one comes behind
   -- these of which the rest is so. This settles the reply.
@@ -285,13 +288,14 @@ module _ (env : Env) (words_at : ℕ → List ℕ) where
   pub begins-making : (growing : Growing) (root size : ℕ) (behind : List Did) (did : Did)
       → did.op ≡ Load (place_of g PortCount) → size ≡ wanted_size env growing.shape (min did.old 65536)
       → (is_due growing.shape did.old ≡ true) ⊎ (root ≡ growing.table) → SawRoot growing root behind
-      → SawToMake growing size (exponent_made size) (makes.Slot 0, Go) (behind ++ did ∷ [])
+      → SawToMake growing size (exponent_made size) true (makes.Slot 0, Go) (behind ++ did ∷ [])
   unfolding wanted-saw
   begins-making growing root size behind did is wanted grows saw = record {
     why = SawWhy-push growing.why growing.shape behind did (no_key-count did is) saw.why;
     wanted = wanted-saw growing.shape growing.table root size behind did is wanted grows saw.current;
     exponent_is = refl;
-    made = saw_nothing g (exponent_made size) [] tt tt;
+    allowed_is = refl;
+    made = saw_nothing g (exponent_made size) (may_nest (exponent_made size) true) [] tt tt;
   }
 
   pub other-saw : (growing : Growing) (root : ℕ) (behind : List Did) (did : Did)
@@ -310,8 +314,9 @@ module _ (env : Env) (words_at : ℕ → List ℕ) where
   -- an operation of the making of a table
   pub making-saw : (growing : Growing) (size : ℕ) (make : MakeModel) (behind : List Did) (did : Did) → IsMakeIn g make
       → did.op ≡ make_plan_at make.geometry make.exponent make.seed make.at
-      → SawToMake growing size make.exponent (make.at, Go) behind
-      → SawToMake growing size make.exponent (make_after_at make.geometry make.exponent make.at did.old) (behind ++ did ∷ [])
+      → SawToMake growing size make.exponent make.nested (make.at, Go) behind
+      → SawToMake growing size make.exponent make.nested
+      (make_after_at make.geometry make.exponent make.nested make.at did.old) (behind ++ did ∷ [])
   unfolding SawWanted-push
   making-saw growing size make behind did within is saw =
       let making = saw.wanted.making in
@@ -323,28 +328,36 @@ module _ (env : Env) (words_at : ℕ → List ℕ) where
       let same : performed_of did ≡ step = ap by_op op in
       let all : map performed_of (making ++ did ∷ []) ≡ before ++ step ∷ [] =
       map-append performed_of making (did ∷ []) ∙ ap (λ (s : Performed). before ++ s ∷ []) same in
-      let after = make-saw g make.exponent make.seed make.at before did.old within.at_in saw.made in
-      let no_key = no_key-make g make.geometry (made_pages make.exponent) make.exponent make.seed make.at did within.at_in is in
+      let after = make-saw g make.exponent make.seed make.nested make.at before did.old within.at_in saw.made in
+      let no_key = no_key-make g make.geometry make.exponent make.seed make.nested make.at did within.at_in is in
       record {
         why = SawWhy-push growing.why growing.shape behind did no_key saw.why;
         wanted = SawWanted-push growing.shape growing.table size behind did saw.wanted;
         exponent_is = saw.exponent_is;
+        allowed_is = saw.allowed_is;
         made =
-            subst (λ (h : Geometry). SawMade g make.exponent (make_after_at h make.exponent make.at did.old)
+            subst (λ (h : Geometry). SawMade g make.exponent (may_nest make.exponent make.nested) (make_after_at h make.exponent make.nested make.at did.old)
             (map performed_of (making ++ did ∷ []))) (sym within.geometry_same)
-            (subst (SawMade g make.exponent (make_after_at g make.exponent make.at did.old)) (sym all) after);
+            (subst (SawMade g make.exponent (may_nest make.exponent make.nested) (make_after_at g make.exponent make.nested make.at did.old)) (sym all) after);
       }
 
   -- no table was made
-  pub no_room-saw : (growing : Growing) (size exponent : ℕ) (state : MakeAt) (behind : List Did)
-      → SawToMake growing size exponent (state, Done None) behind
+  pub no_room-saw : (growing : Growing) (size exponent : ℕ) (allowed : Bool) (state : MakeAt) (behind : List Did)
+      → SawToMake growing size exponent allowed (state, Done None) behind
       → SawFullUp growing.table size growing.why growing.shape behind
-  no_room-saw growing size exponent state behind saw = record {
+  no_room-saw growing size exponent allowed state behind saw = record {
     is_full = saw.why;
     wanted = saw.wanted;
     room = elim saw.made [
       | inl slots ↦ inl slots
-      | inr runs ↦ inr (subst (λ e. SawEachRun g e (map performed_of saw.wanted.making)) saw.exponent_is runs)
+      | inr none ↦
+          let steps = map performed_of saw.wanted.making in
+          let nests : may_nest (exponent_made size) true ≡ nat_le 128 size =
+          subst (λ s. nat_le 7 (exponent_made s) ≡ nat_le 128 s) (sym saw.wanted.wanted)
+          (nests-wanted env growing.shape (min saw.wanted.count 65536)) in
+          inr (subst (λ n. AreNoPages g (pages_for size) n steps) nests
+          (subst (λ e. AreNoPages g (made_pages e) (may_nest e true) steps) saw.exponent_is
+          (subst (λ a. AreNoPages g (made_pages exponent) (may_nest exponent a) steps) saw.allowed_is none)))
     ];
   }
 

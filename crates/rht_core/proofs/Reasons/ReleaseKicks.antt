@@ -18,7 +18,7 @@ use Rattle.rht_words.specs.Ports.{owner_of}
 use Rattle.rht_words.specs.Shapes.{unpacked, size_of}
 use Rattle.rht_words.proofs.EachElement.{AllByRecursion-push, AllByRecursion-cut}
 use Rattle.rht_model.specs.declared.history.Reply.{Reply}
-use Rattle.rht_model.specs.declared.history.Reply.TheVariants.{Released, Absent}
+use Rattle.rht_model.specs.declared.history.Reply.TheVariants.{Released}
 use Rattle.rht_nest.specs.Locate.{LocateModel, locate_plan_at, locate_after}
 use Rattle.rht_nest.specs.declared.locate.LocateAt.{LocateAt}
 use Rattle.rht_nest.specs.declared.locate.LocateAt.TheVariants as locates
@@ -42,7 +42,7 @@ use Rattle.rht_chain.specs.declared.unlock.Unlock.{Unlock}
 use Rattle.rht_release.specs.declared.found_port.FoundPort.{FoundPort}
 use Rattle.rht_release.specs.declared.seek.SeekAt.{SeekAt}
 use Rattle.rht_release.specs.declared.seek.SeekAt.TheVariants as seeks
-use Rattle.rht_release.specs.Seek.{SeekModel, seek_plan_at, seek_after, bucket_or_early, early_or_none, located, found_or_future, probed, left, IsSeekAtIn}
+use Rattle.rht_release.specs.Seek.{seek_plan_at, seek_after, bucket_or_early, early_or_none, located, found_or_future, probed, left, IsSeekAtIn}
 use Rattle.rht_release.specs.declared.release.ReleaseAt.{ReleaseAt}
 use Rattle.rht_release.specs.declared.release.ReleaseAt.TheVariants as at
 use Rattle.rht_release.specs.Release.{plan_at, after_at, sought, owner_compared, list_followed, cut_or_chain, unlink_or_promote, promoted, unlinked, removed_reply, kicks, IsReleaseAtIn}

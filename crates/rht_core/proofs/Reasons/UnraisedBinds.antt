@@ -1,6 +1,6 @@
 -- A bind raises the count of ports with one operation, and behind that it publishes its node and ends: until then it has
 -- raised none, in none of its attempts.
-use Rattle.std.proofs.Common.{◌≡◌, ◌≢◌, ℕ, Bool, List, [], ◌∷◌, ◌++◌, refl, sym, ◌∙◌}
+use Rattle.std.proofs.Common.{◌≡◌, ◌≢◌, ℕ, Bool, List, [], ◌∷◌, ◌++◌, sym, ◌∙◌}
 use Rattle.std.specs.Prelude.{Option, Some, None, IfSome}
 use Rattle.std.specs.List.{AllByRecursion}
 use Rattle.rht_words.specs.declared.op.Op.{Op}
@@ -45,7 +45,6 @@ use Rattle.rht_chain.specs.Relink.{RelinkModel, relink_plan_at, relink_after}
 use Rattle.rht_chain.specs.declared.relink.RelinkAt.{RelinkAt}
 use Rattle.rht_chain.specs.declared.relink.RelinkAt.TheVariants as relinks
 use Rattle.rht_bind.specs.Bind.{plan_at, after_at, published}
-use Rattle.rht_bind.specs.declared.bind.Claimed.{Claimed}
 use Rattle.rht_bind.specs.declared.bind.BindAt.{BindAt}
 use Rattle.rht_bind.specs.declared.bind.BindAt.TheVariants as at
 use Rattle.rht_core.specs.Traces.{Did}
@@ -106,12 +105,13 @@ module _ (g : Geometry) where
   make-none : (h : Geometry) (exponent seed : ℕ) (state : MakeAt) → IsNoCountAdd (make_plan_at h exponent seed state)
   make-none h exponent seed (makes.Slot slot) is = cc
   make-none h exponent seed (makes.Taking slot take) is = run-none take.geometry take.pages take.at is
+  make-none h exponent seed (makes.TakingTop slot take) is = run-none take.geometry take.pages take.at is
   make-none h exponent seed (makes.SlotBack slot) is = cc
-  make-none h exponent seed (makes.NextSerial slot page) is = cc
-  make-none h exponent seed (makes.Shape slot page serial) is = cc
-  make-none h exponent seed (makes.Seed slot page serial) is = cc
-  make-none h exponent seed (makes.Future slot page serial) is = cc
-  make-none h exponent seed (makes.Serial slot page serial) is = cc
+  make-none h exponent seed (makes.NextSerial slot nested page) is = cc
+  make-none h exponent seed (makes.Shape slot nested page serial) is = cc
+  make-none h exponent seed (makes.Seed slot nested page serial) is = cc
+  make-none h exponent seed (makes.Future slot nested page serial) is = cc
+  make-none h exponent seed (makes.Serial slot nested page serial) is = cc
 
   unmake-none : (h : Geometry) (slot : ℕ) (state : UnmakeAt) → IsNoCountAdd (unmake_plan_at h slot state)
   unmake-none h slot (unmakes.Giving give) is = cc

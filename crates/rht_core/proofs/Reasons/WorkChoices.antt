@@ -20,24 +20,22 @@ use Rattle.rht_words.specs.declared.machine.Next.TheVariants.{Go, Done}
 use Rattle.rht_words.specs.Links.{table_of, slot_of, node_of, head_of, unlocked}
 use Rattle.rht_words.specs.Machines.{GoesOrEnds, Performed}
 use Rattle.rht_words.specs.Operations.{op_place, old_of, word_after}
-use Rattle.rht_words.specs.Places.{Address, CurrentTable, WorkLock, PortCount, Slot, ShapeWord, FutureWord, StateWord, Node, KeyWord, IsAddress, place_of}
-use Rattle.rht_words.specs.Ports.{port_of}
+use Rattle.rht_words.specs.Places.{Address, CurrentTable, WorkLock, PortCount, Slot, ShapeWord, FutureWord, StateWord, IsAddress, place_of}
 use Rattle.rht_words.specs.Shapes.{unpacked, size_of}
 use Rattle.rht_words.specs.Sizes.{IsSizeUpTo}
 use Rattle.rht_words.proofs.EachElement.{Any-append_left, AllByRecursion-cut, AllByRecursion-push}
 use Rattle.rht_words.proofs.PlacesApart.{place_of-apart}
-use Rattle.rht_policy.specs.Mix.{bucket_of}
 use Rattle.rht_model.specs.declared.history.Reply.{Reply}
 use Rattle.rht_model.specs.declared.history.Reply.TheVariants.{NoTable, Elsewhere, Idle, Moved}
 use Rattle.rht_chain.specs.Lock.{lock_new, LockModel, lock_after}
 use Rattle.rht_nest.specs.Place.{PlaceModel, flat_place, nested_place, place_after}
 use Rattle.rht_nest.specs.declared.place.Bucket.{Bucket}
 use Rattle.rht_nest.specs.declared.place.Bucket.TheVariants.{At, Absent}
-use Rattle.rht_nest.specs.Make.{MakeModel, make_plan, make_plan_at, make_after, make_after_at, made_shape}
+use Rattle.rht_nest.specs.Make.{MakeModel, may_nest, made_pages, make_plan, make_plan_at, make_after, make_after_at, made_shape}
 use Rattle.rht_nest.specs.Tables.{exponent_made, is_nested}
 use Rattle.rht_nest.specs.declared.make.MakeAt.{MakeAt}
 use Rattle.rht_nest.specs.Unmake.{UnmakeModel, unmake_new, unmake_after}
-use Rattle.rht_nest.specs.MakeLaws.{SeesSlotTaken}
+use Rattle.rht_nest.specs.MakeLaws.{pages_for, SeesSlotTaken}
 use Rattle.rht_move.specs.declared.last_table.Last.{Last}
 use Rattle.rht_move.specs.declared.last_table.LastTableAt.{LastTableAt}
 use Rattle.rht_move.specs.declared.last_table.LastTableAt.TheVariants as seeks
@@ -62,18 +60,17 @@ use Rattle.rht_move.specs.Work.{plan_at, cut_plan, after_at, lock_seen, seeking,
 use Rattle.rht_core.specs.Jobs.{works}
 use Rattle.rht_core.specs.Traces.{Did, performed_of}
 use Rattle.rht_core.specs.Seen.{LoadsWord}
-use Rattle.rht_core.specs.ResizeCauses.{Loaded, Attaches, FindsSlotsTaken, AreSlotsTaken, SawNoRoom}
+use Rattle.rht_core.specs.ResizeCauses.{Loaded, Attaches, FindsSlotsTaken, AreSlotsTaken, AreRunsTaken, SawNoRoom}
 use Rattle.rht_core.specs.WorkCauses.{TakesWorkLock, SawElsewhere, ReadsFuture, AreFuturesRead, HasChosen, HasPublished, IsSized, HasAttached, IsUnattached, SawNoTableDue, SawNothingDue, IsStore, SawPublished, SawStopped}
 use Rattle.rht_core.proofs.Theory.Ghosts.{index_at}
 use Rattle.rht_core.proofs.Theory.Steps.{mem, by_test}
 use Rattle.rht_core.proofs.Theory.Knowns.{Onward, Rooted}
 use Rattle.rht_core.proofs.Theory.Knowledge.{WorkMeans}
 use Rattle.rht_core.proofs.Pieces.WorkLoads.{has_future, future_seen, nested_size}
-use Rattle.rht_core.proofs.Machines.WorkMachine.{known_rehash, known_place, known_entry}
 use Rattle.rht_core.proofs.Tracing.TracedJobs.{Performs}
 use Rattle.rht_core.proofs.Tracing.LoneCalls.{Spares}
 use Rattle.rht_core.proofs.Reasons.AttachedTables.{IsNoFutureExchange, IsNoAttach, no_attach, lock-none, make-none, unmake-none}
-use Rattle.rht_core.proofs.Reasons.MakesSeen.{SawMaking, SawMade, SawEachRun, IsShaped, saw_nothing, runs_taken-stay, make-saw}
+use Rattle.rht_core.proofs.Reasons.MakesSeen.{SawMaking, SawMade, IsShaped, saw_nothing, runs_taken-stay, make-saw}
 use Rattle.rht_core.proofs.Reasons.MadeSizes.{due_size, size_of-made}
 
 module _ (g : Geometry) where
@@ -171,7 +168,7 @@ module _ (env : Env) where
 
   pub record Makes (wanted : Wanted) (make : MakeModel) (steps : List Did) : Type 0 where
     pub wants : Wants wanted steps
-    pub seen : SawMaking env.geometry make.exponent make.at (map performed_of wants.chose.behind)
+    pub seen : SawMaking env.geometry make.exponent false make.at (map performed_of wants.chose.behind)
 
   -- none was due, or a table of the size that was is attached
   abbrev pub IsSupplied : ℕ → Choice → List Did → Type 0
@@ -451,7 +448,7 @@ module _ (env : Env) where
       size_in = subst IsOfASize chosen (due_size env did.old last.shape (root == last.table) saw.small);
       none = tt;
     };
-    seen = saw_nothing env.geometry (exponent_made size) [] tt tt;
+    seen = saw_nothing env.geometry (exponent_made size) false [] tt tt;
   }
   begun-saw root last Later steps did is chosen saw = record {
     choice = Later;
@@ -585,7 +582,7 @@ module _ (env : Env) where
   }
 
   refused-saw : (wanted : Wanted) (all : List Did) → (wants : Wants wanted all)
-      → SawNoRoom env.geometry wanted.size wants.chose.behind → SawAtWork (not_made wanted) all
+      → SawNoRoom env.geometry wanted.size false wants.chose.behind → SawAtWork (not_made wanted) all
   refused-saw wanted all wants room =
       let one = wanted.root == wanted.last.table in
       let nested = is_nested wanted.last.shape in
@@ -606,16 +603,16 @@ module _ (env : Env) where
       or_cases false b is = inr is
 
   -- a table that was made has the size that was wanted
-  shaped-size : (size exponent slot page : ℕ) (steps : List Performed) → IsSizeUpTo (2 ^ 17) size → exponent ≡ exponent_made size
-      → IsShaped env.geometry exponent slot (made_shape exponent page) steps → IsSized env.geometry slot size steps
-  shaped-size size exponent slot page steps size_in exponent_is shaped = record {
+  shaped-size : (size exponent slot : ℕ) (nested : Bool) (page : ℕ) (steps : List Performed) → IsSizeUpTo (2 ^ 17) size → exponent ≡ exponent_made size
+      → IsShaped env.geometry exponent slot (made_shape exponent nested page) steps → IsSized env.geometry slot size steps
+  shaped-size size exponent slot nested page steps size_in exponent_is shaped = record {
     before = shaped.before;
     at = shaped.at;
     behind = shaped.behind;
     split = shaped.split;
-    shape = made_shape exponent page;
+    shape = made_shape exponent nested page;
     stored = shaped.stored;
-    sized = ap (λ e. size_of (unpacked (made_shape e page))) exponent_is ∙ size_of-made size page size_in;
+    sized = ap (λ e. size_of (unpacked (made_shape e nested page))) exponent_is ∙ size_of-made size page nested size_in;
     left = shaped.left;
   }
 
@@ -624,7 +621,10 @@ module _ (env : Env) where
       → SawAtWork (made wanted (make_after make did.old).0 (make_after make did.old).1) (steps ++ did ∷ [])
   unfolding HasChosen-push Wants-push wanted-due
   made-saw wanted make steps did within is saw =
-      go (make_after_at make.geometry make.exponent make.at did.old) after
+      go (make_after_at make.geometry make.exponent make.nested make.at did.old)
+      (subst (λ n. SawMade env.geometry make.exponent (may_nest make.exponent n)
+      (make_after_at make.geometry make.exponent make.nested make.at did.old)
+      (map performed_of (behind ++ did ∷ []))) within.flat after)
     where
       quiet : IsNoAttach env.geometry did
       quiet = no_attach env.geometry did (make_plan make) is
@@ -636,22 +636,23 @@ module _ (env : Env) where
       behind : List Did
       behind = saw.wants.chose.behind
 
-      after : SawMade env.geometry make.exponent (make_after_at make.geometry make.exponent make.at did.old)
+      after : SawMade env.geometry make.exponent (may_nest make.exponent make.nested) (make_after_at make.geometry make.exponent make.nested make.at did.old)
           (map performed_of (behind ++ did ∷ []))
       after =
-          subst (SawMade env.geometry make.exponent (make_after_at make.geometry make.exponent make.at did.old))
+          subst (SawMade env.geometry make.exponent (may_nest make.exponent make.nested) (make_after_at make.geometry make.exponent make.nested make.at did.old))
           (sym (performed-push make behind did within.make_in.geometry_same is))
-          (subst (λ (h : Geometry). SawMade env.geometry make.exponent (make_after_at h make.exponent make.at did.old)
+          (subst (λ (h : Geometry). SawMade env.geometry make.exponent (may_nest make.exponent make.nested) (make_after_at h make.exponent make.nested make.at did.old)
           (map performed_of behind ++ made_step env.geometry make did.old ∷ [])) (sym within.make_in.geometry_same)
-          (make-saw env.geometry make.exponent make.seed make.at (map performed_of behind) did.old within.make_in.at_in saw.seen))
+          (make-saw env.geometry make.exponent make.seed make.nested make.at (map performed_of behind) did.old within.make_in.at_in
+          (subst (λ n. SawMaking env.geometry make.exponent (may_nest make.exponent n) make.at (map performed_of behind)) (sym within.flat) saw.seen)))
 
-      go : (r : MakeAt × Next (Option (ℕ × ℕ))) → SawMade env.geometry make.exponent r (map performed_of (behind ++ did ∷ []))
+      go : (r : MakeAt × Next (Option (ℕ × ℕ))) → SawMade env.geometry make.exponent false r (map performed_of (behind ++ did ∷ []))
           → SawAtWork (made wanted (record make { at = r.0 }) r.1) (steps ++ did ∷ [])
       go (state, Go) seen = record { wants = wants; seen = seen }
       go (state, Done None) seen =
           refused-saw wanted (steps ++ did ∷ []) wants
           (subst (λ e. AreSlotsTaken env.geometry (map performed_of (behind ++ did ∷ []))
-          ⊎ SawEachRun env.geometry e (map performed_of (behind ++ did ∷ []))) within.size_same seen)
+          ⊎ AreRunsTaken env.geometry (made_pages e) 0 [] (map performed_of (behind ++ did ∷ []))) within.size_same seen)
       go (state, Done (Some table)) seen = record {
         size = wanted.size;
         chose = wants.chose;
@@ -659,8 +660,8 @@ module _ (env : Env) where
         last_same = wants.last_same;
         none = wants.none;
         sized =
-            shaped-size wanted.size make.exponent table.0 seen.0 (map performed_of (behind ++ did ∷ [])) wants.size_in within.size_same
-            seen.1;
+            shaped-size wanted.size make.exponent table.0 seen.0 seen.1 (map performed_of (behind ++ did ∷ [])) wants.size_in within.size_same
+            seen.2;
       }
 
   -- ---- the table is attached, or another one was
@@ -1154,8 +1155,8 @@ module _ (env : Env) where
         room = elim saw.room [
           | inl slots ↦ inl (subst (AreSlotsTaken env.geometry) (sym more)
               (slots_taken-stay (map performed_of behind) (performed_of did) (ap op_place is) slots))
-          | inr runs ↦ inr (subst (SawEachRun env.geometry (exponent_made size)) (sym more)
-              (runs_taken-stay env.geometry (exponent_made size) 0 [] (map performed_of behind) (performed_of did) runs))
+          | inr runs ↦ inr (subst (AreRunsTaken env.geometry (pages_for size) 0 []) (sym more)
+              (runs_taken-stay env.geometry (pages_for size) 0 [] (map performed_of behind) (performed_of did) runs))
         ];
       }
 

@@ -288,8 +288,6 @@ module _ (env : Env) (mix : ℕ → ℕ → ℕ → ℕ) where
     pub shape_is : M (Slot slot ShapeWord) ≡ shape
     pub future_is : M (Slot slot FutureWord) ≡ 0
     pub kind : IsFlatMade shape ⊎ IsNestedMade shape
-    -- so far each table is flat
-    pub flat : (unpacked shape).nest ≡ 0
     pub fits : first_page shape + table_pages (unpacked shape) ≤ env.geometry.pages
     pub run : (p : ℕ) → first_page shape ≤ p → p < first_page shape + table_pages (unpacked shape)
         → G.page p ≡ PageHeld c

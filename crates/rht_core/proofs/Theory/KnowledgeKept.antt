@@ -50,7 +50,6 @@ module _ (env : Env) (mix : ℕ → ℕ → ℕ → ℕ) where
       shape_is = stay.slot_words slot ShapeWord means.has tt ∙ means.shape_is;
       future_is = stay.slot_words slot FutureWord means.has tt ∙ means.future_is;
       kind = means.kind;
-      flat = means.flat;
       fits = means.fits;
       run = λ p from below. stay.pages p (means.run p from below);
     }

@@ -422,7 +422,6 @@ module _ (env : Env) (mix : ℕ → ℕ → ℕ → ℕ) where
               attached = omega (arith, is.attached, index);
               slot = ap (λ τ. (G.table τ).slot) index ∙ is.slot;
             };
-        flat = right.flat;
       }
 
   -- and pages are, where only slots change

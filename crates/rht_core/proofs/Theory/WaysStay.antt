@@ -3,7 +3,7 @@ use Rattle.std.proofs.Common.{◌≡◌, ℕ, ◌+◌, ◌<◌, Option, Some, No
 use Rattle.std.specs.Prelude.{IfSome}
 use Rattle.rht_words.specs.declared.env.Env.{Env}
 use Rattle.rht_nest.specs.Place.{PlaceModel}
-use Rattle.rht_core.proofs.Theory.Ghosts.{Ghost, has_table, index_at}
+use Rattle.rht_core.proofs.Theory.Ghosts.{Ghost, has_table}
 use Rattle.rht_core.proofs.Theory.Passed.{TablesGrow}
 use Rattle.rht_core.proofs.Theory.Knowledge.{IsWay, IsRightBehind}
 

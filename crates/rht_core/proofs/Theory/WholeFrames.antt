@@ -65,7 +65,6 @@ module _ (env : Env) (mix : ℕ → ℕ → ℕ → ℕ) where
           placed = r.placed;
         };
         slots = λ s has. let is = right.slots s has in record { attached = is.attached; slot = is.slot };
-        flat = right.flat;
       } in
       subst (λ t. TablesRight env mix M (with_tables G' t G'.attached G'.current G'.slot G'.page))
       (sym same.table)
@@ -85,7 +84,6 @@ module _ (env : Env) (mix : ℕ → ℕ → ℕ → ℕ) where
     current_is = write.others CurrentTable tt apart.current ∙ right.current_is;
     each = λ τ l. TableRight-write M M' G a v τ write apart (right.each τ l);
     slots = right.slots;
-    flat = right.flat;
   })
 
   -- slots and the work lock

@@ -136,8 +136,6 @@ module _ (env : Env) (mix : ℕ → ℕ → ℕ → ℕ) where
     pub current_is : M CurrentTable ≡ (G.table G.current).slot
     pub each : (τ : ℕ) → τ < G.attached → TableRight M G τ
     pub slots : (s : ℕ) → has_table (G.slot s) ≡ true → SlotIsOf G s
-    -- so far each table is flat
-    pub flat : (τ : ℕ) → τ < G.attached → (unpacked (G.table τ).shape).nest ≡ 0
 
   -- The state word of each slot says who has it, and the work lock is set exactly while a caller has it. While none has it each table
   -- before the current one is retired.

@@ -1,7 +1,7 @@
 -- In every run each call that has ended has a reply of its kind, with the lists that come with that; what a caller works at
 -- is the call of its book; and its rooms have the lists of its last finished call. Jobs keep it: an operation that tells the
 -- answer of its call tells one of its kind, which is known from then on.
-use Rattle.std.proofs.Common.{◌≡◌, ℕ, Bool, List, [], ◌∷◌, ◌++◌, map, Option, refl, sym, subst}
+use Rattle.std.proofs.Common.{◌≡◌, ℕ, List, [], ◌∷◌, ◌++◌, map, Option, refl, sym, subst}
 use Rattle.std.specs.Prelude.{IfSome}
 use Rattle.std.specs.List.{AllByRecursion}
 use Rattle.rht_words.specs.Machines.{GoesOrEnds}
@@ -9,26 +9,19 @@ use Rattle.rht_words.specs.declared.env.Env.{Env}
 use Rattle.rht_words.specs.declared.machine.Next.{Next}
 use Rattle.rht_words.specs.declared.machine.Next.TheVariants.{Go, Done}
 use Rattle.rht_model.specs.declared.history.Call.{Call}
-use Rattle.rht_model.specs.declared.history.Reply.{Reply}
 use Rattle.rht_model.specs.Answers.{Answer}
 use Rattle.rht_model.specs.Endings.{Ending, plain_ending, ended_with}
 use Rattle.rht_find.specs.Find as find
-use Rattle.rht_find.specs.declared.find.FindAt.{FindAt}
 use Rattle.rht_bind.specs.Bind as bind
-use Rattle.rht_bind.specs.declared.bind.BindAt.{BindAt}
-use Rattle.rht_model.specs.Rooms.{Kept}
 use Rattle.rht_release.specs.All as all
-use Rattle.rht_release.specs.declared.all.AllAt.{AllAt}
 use Rattle.rht_core.specs.declared.event.Event.{Event}
 use Rattle.rht_core.specs.declared.book.Book.{Book}
 use Rattle.rht_core.specs.declared.local.Doing.{Doing}
 use Rattle.rht_core.specs.declared.local.Doing.TheVariants.{Idle, Finding, Binding, Releasing, Rebinding, Listing, Working, Counting}
 use Rattle.rht_core.specs.Jobs.{listing_ending, node_ending, Job, finds, binds, releases, rebinds, lists, works, counts, call_of, job_next, job_after, job_of, held_of, held_next}
 use Rattle.rht_release.specs.Release as release
-use Rattle.rht_release.specs.declared.release.ReleaseAt.{ReleaseAt}
 use Rattle.rht_release.specs.Rebind as rebind
 use Rattle.rht_move.specs.Work as work
-use Rattle.rht_release.specs.declared.rebind.RebindAt.{RebindAt}
 use Rattle.rht_core.specs.Runs.{World, IsAdmitted, view_of, local_of}
 use Rattle.rht_core.specs.Traces.{Did, Past, Traced, traced_of}
 use Rattle.rht_core.specs.Replies.{ArePairsWith, IsRightlyAnswered, IsBookOf, AnswersIn}

@@ -3,8 +3,8 @@
 --
 -- It is enough to look at jobs, one operation at a time. A call begins as its first job with no operations; an operation
 -- leads to one more of them, and where it ends the call, to what is kept of an ended one. What callers keep besides is
--- shown here once for all: that the call of a book is that of the job, and what the rooms have. So is how an operation
--- stands in its run: it is performed in the words before its event, and the buckets that tables have then stay where they are.
+-- shown here once for all: that the call of a book is that of the job, and what the rooms have. So is how an operation stands in its run:
+-- the words in which it is performed are those before its event, and the buckets that there are then stay where they are.
 use Rattle.std.proofs.Common.{◌≡◌, ℕ, Bool, true, false, cond, List, [], ◌∷◌, ◌++◌, length, take, refl, sym, ap, ◌∙◌, subst, append_assoc}
 use Rattle.std.specs.Prelude.{Option, Some, None}
 use Rattle.std.specs.List.{AllByRecursion, last_or}
@@ -117,8 +117,8 @@ module _ (mix : ℕ → ℕ → ℕ → ℕ) (env : Env) where
         let r = job_after mix env job did.old in
         JobStepOf env mix caller words ghost did.op job r
 
-  -- where these are the words before the event with each number: the operation was performed in those before its event, and
-  -- the buckets that tables had then stay where they were
+  -- where these are the words before the event with each number, the operation was performed in those before its event, and the buckets
+  -- that tables had then stay where they were
   pub record StandsIn (words_at : ℕ → List ℕ) (job : Job) (did : Did) (performs : Performs job did) : Type 0 where
     pub now : performs.words ≡ words_at did.index
     pub stay : BucketsStay env mix words_at performs.ghost did.index
@@ -182,7 +182,7 @@ module _ (M : Type 0) (mix : ℕ → ℕ → ℕ → ℕ) (env : Env) (Now : Job
           → performs.words ≡ words_before M mix env events did.index → Now job steps
           → LeadsOn job (steps ++ did ∷ []) (job_after mix env job did.old)
 
-    -- and the buckets that tables have then stay where they are
+    -- and in which the buckets that there are then stay where they are
     pub record JobsKeepStanding (events : List Event) : Type 0 where
       pub begins : (call : Call) (job : Job) → first_job env call ≡ Some job → Now job []
       pub goes : (job : Job) (steps : List Did) (did : Did) (performs : Performs mix env job did)

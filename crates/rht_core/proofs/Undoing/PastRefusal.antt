@@ -8,9 +8,7 @@ use Rattle.rht_words.specs.declared.geometry.Geometry.{Geometry}
 use Rattle.rht_words.specs.declared.machine.Next.{Next}
 use Rattle.rht_words.specs.declared.machine.Next.TheVariants.{Go, Done}
 use Rattle.rht_words.specs.Links.{slot_of, node_of, head_of, unlocked}
-use Rattle.rht_words.specs.Ports.{port_of}
 use Rattle.rht_words.specs.Shapes.{size_of, unpacked}
-use Rattle.rht_policy.specs.Mix.{bucket_of}
 use Rattle.rht_model.specs.declared.history.Call.{Call}
 use Rattle.rht_model.specs.declared.history.Call.TheVariants.{Bind, Rebind, Work}
 use Rattle.rht_model.specs.declared.history.Reply.{Reply}

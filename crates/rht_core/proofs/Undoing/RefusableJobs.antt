@@ -11,7 +11,7 @@ use Rattle.rht_words.specs.Shapes.{unpacked}
 use Rattle.rht_words.proofs.Members.{range_with_len-In}
 use Rattle.rht_words.proofs.Memory.{Memory}
 use Rattle.rht_nest.specs.Tables.{table_pages, pages_of_shape}
-use Rattle.rht_arena.specs.TakeRun.{take_run_plan_at}
+use Rattle.rht_arena.specs.TakeRun.{TakeRunModel, take_run_plan_at}
 use Rattle.rht_arena.specs.declared.take_run.TakeRunAt.{TakeRunAt}
 use Rattle.rht_arena.specs.declared.take_run.TakeRunAt.TheVariants as takes
 use Rattle.rht_nest.specs.Make.{MakeModel, make_plan_at, pages_of_make}
@@ -176,12 +176,13 @@ module _ (env : Env) (mix : ℕ → ℕ → ℕ → ℕ) (c : ℕ) (M : Memory) 
       → AreMine (pages_of_make exponent state)
   make-mine exponent seed (makes.Slot slot) means page i = absurd i
   make-mine exponent seed (makes.Taking slot take) means page i = means.mine page i
+  make-mine exponent seed (makes.TakingTop slot take) means page i = means.mine page i
   make-mine exponent seed (makes.SlotBack slot) means page i = absurd i
-  make-mine exponent seed (makes.NextSerial slot page_first) means page i = means.mine page i
-  make-mine exponent seed (makes.Shape slot page_first serial) means page i = means.mine page i
-  make-mine exponent seed (makes.Seed slot page_first serial) means page i = means.mine page i
-  make-mine exponent seed (makes.Future slot page_first serial) means page i = means.mine page i
-  make-mine exponent seed (makes.Serial slot page_first serial) means page i = means.mine page i
+  make-mine exponent seed (makes.NextSerial slot nested page_first) means page i = means.mine page i
+  make-mine exponent seed (makes.Shape slot nested page_first serial) means page i = means.mine page i
+  make-mine exponent seed (makes.Seed slot nested page_first serial) means page i = means.mine page i
+  make-mine exponent seed (makes.Future slot nested page_first serial) means page i = means.mine page i
+  make-mine exponent seed (makes.Serial slot nested page_first serial) means page i = means.mine page i
 
   -- those of a table that was made lie from its first page on, and are there
   below_end : (shape page : ℕ) → In page (pages_of_shape shape) → page < (unpacked shape).page + table_pages (unpacked shape)
@@ -336,23 +337,25 @@ module _ (env : Env) (mix : ℕ → ℕ → ℕ → ℕ) (c : ℕ) (M : Memory) 
   -- ---- which page it enters
 
   module _ (did : Did) (entry page : ℕ) (exchanges : did.op ≡ Exchange (place_of g (PageWord entry)) 0 (entry_of page)) where
+    -- the taking of a run enters no page
+    take-none : (take : TakeRunModel) (at : TakeRunAt)
+        → take_run_plan_at take.geometry take.pages at ≡ Exchange (place_of g (PageWord entry)) 0 (entry_of page) → ⊥
+    take-none take (takes.MapWord first index) same = cc
+    take-none take (takes.Claim first index) same = cc
+    take-none take (takes.GiveBack first index bits) same = cc
+
     -- a making that exchanges has no page
     make-enters : (exponent seed : ℕ) (h : Geometry) (state : MakeAt) → did.op ≡ make_plan_at h exponent seed state
         → In page (pages_of_make exponent state) → ⊥
     make-enters exponent seed h (makes.Slot slot) is i = i
-    make-enters exponent seed h (makes.Taking slot take) is i = take-none take.at (sym is ∙ exchanges)
-      where
-        take-none : (at : TakeRunAt)
-            → take_run_plan_at take.geometry take.pages at ≡ Exchange (place_of g (PageWord entry)) 0 (entry_of page) → ⊥
-        take-none (takes.MapWord first index) same = cc
-        take-none (takes.Claim first index) same = cc
-        take-none (takes.GiveBack first index bits) same = cc
+    make-enters exponent seed h (makes.Taking slot take) is i = take-none take take.at (sym is ∙ exchanges)
+    make-enters exponent seed h (makes.TakingTop slot take) is i = take-none take take.at (sym is ∙ exchanges)
     make-enters exponent seed h (makes.SlotBack slot) is i = i
-    make-enters exponent seed h (makes.NextSerial slot first) is i = let same = sym is ∙ exchanges in cc
-    make-enters exponent seed h (makes.Shape slot first serial) is i = let same = sym is ∙ exchanges in cc
-    make-enters exponent seed h (makes.Seed slot first serial) is i = let same = sym is ∙ exchanges in cc
-    make-enters exponent seed h (makes.Future slot first serial) is i = let same = sym is ∙ exchanges in cc
-    make-enters exponent seed h (makes.Serial slot first serial) is i = let same = sym is ∙ exchanges in cc
+    make-enters exponent seed h (makes.NextSerial slot nested first) is i = let same = sym is ∙ exchanges in cc
+    make-enters exponent seed h (makes.Shape slot nested first serial) is i = let same = sym is ∙ exchanges in cc
+    make-enters exponent seed h (makes.Seed slot nested first serial) is i = let same = sym is ∙ exchanges in cc
+    make-enters exponent seed h (makes.Future slot nested first serial) is i = let same = sym is ∙ exchanges in cc
+    make-enters exponent seed h (makes.Serial slot nested first serial) is i = let same = sym is ∙ exchanges in cc
 
     rebind-enters : (state : RebindAt) → rebind_is_past state ≡ false → In page (held_of_rebind state).pages → ⊥
     rebind-enters (rebinding.Replacing node found relink) may i = absurd (cc)

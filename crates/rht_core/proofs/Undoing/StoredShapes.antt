@@ -1,6 +1,6 @@
 -- A bind that attaches a table has stored the shape of that table last, of all shapes that it has stored in its slot: from the store of
 -- the shape on the making stores other words alone, and behind it comes the exchange that attaches the table.
-use Rattle.std.proofs.Common.{◌≡◌, ◌≢◌, ℕ, ◌+◌, ◌==◌, Bool, List, [], ◌∷◌, ◌++◌, Option, Some, None, min, nat_le, nat_lt, nat_eq, refl, sym, ap, ◌∙◌, arith}
+use Rattle.std.proofs.Common.{◌≡◌, ◌≢◌, ℕ, ◌+◌, ◌==◌, Bool, true, false, List, [], ◌∷◌, ◌++◌, Option, Some, None, min, nat_le, nat_lt, nat_eq, refl, sym, ap, ◌∙◌, arith}
 use Rattle.std.proofs.lemmas.Bool.{cond_both}
 use Rattle.std.proofs.lemmas.List.{append_assoc}
 use Rattle.rht_words.specs.declared.op.Op.TheVariants.{Store}
@@ -28,7 +28,7 @@ use Rattle.rht_nest.specs.declared.locate.LocatedBucket.{LocatedBucket}
 use Rattle.rht_nest.specs.declared.locate.LocatedBucket.TheVariants as buckets
 use Rattle.rht_nest.specs.Place.{PlaceModel, entered}
 use Rattle.rht_nest.specs.Grow.{GrowModel, grow_after}
-use Rattle.rht_nest.specs.Make.{MakeModel, make_plan_at, make_after_at, made_pages, made_shape, run_taken, run_started, slot_seen}
+use Rattle.rht_nest.specs.Make.{MakeModel, make_plan_at, make_after_at, may_nest, made_pages, made_shape, no_run, run_taken, run_started, top_taken, slot_seen}
 use Rattle.rht_nest.specs.declared.make.MakeAt.{MakeAt}
 use Rattle.rht_nest.specs.declared.make.MakeAt.TheVariants as makes
 use Rattle.rht_nest.specs.Unmake.{UnmakeModel, unmake_after}
@@ -75,12 +75,13 @@ module _ (env : Env) where
   abbrev StoredIn : ℕ → MakeAt → List Did → Type 0
   StoredIn exponent (makes.Slot slot) steps = Unit {0}
   StoredIn exponent (makes.Taking slot take) steps = Unit {0}
+  StoredIn exponent (makes.TakingTop slot take) steps = Unit {0}
   StoredIn exponent (makes.SlotBack slot) steps = Unit {0}
-  StoredIn exponent (makes.NextSerial slot page) steps = Unit {0}
-  StoredIn exponent (makes.Shape slot page serial) steps = Unit {0}
-  StoredIn exponent (makes.Seed slot page serial) steps = StoresLast g slot (made_shape exponent page) steps
-  StoredIn exponent (makes.Future slot page serial) steps = StoresLast g slot (made_shape exponent page) steps
-  StoredIn exponent (makes.Serial slot page serial) steps = StoresLast g slot (made_shape exponent page) steps
+  StoredIn exponent (makes.NextSerial slot nested page) steps = Unit {0}
+  StoredIn exponent (makes.Shape slot nested page serial) steps = Unit {0}
+  StoredIn exponent (makes.Seed slot nested page serial) steps = StoresLast g slot (made_shape exponent nested page) steps
+  StoredIn exponent (makes.Future slot nested page serial) steps = StoresLast g slot (made_shape exponent nested page) steps
+  StoredIn exponent (makes.Serial slot nested page serial) steps = StoresLast g slot (made_shape exponent nested page) steps
 
   -- and a bind
   abbrev pub HasStored : BindAt → List Did → Type 0
@@ -210,25 +211,39 @@ module _ (env : Env) where
         (λ t. behind-stored (has_attached growing.attempt) (ended_attempt once slot)) (λ f. tt)
 
     -- of the making, up to the store of the shape
-    started-stored : (exponent slot : ℕ) (start : Start TakeRunModel (Option ℕ)) → StoredIn exponent (run_started slot start) all
-    started-stored exponent slot (starts.Running take) = tt
-    started-stored exponent slot (starts.Done None) = tt
-    started-stored exponent slot (starts.Done (Some page)) = tt
+    no_run-stored : (h : Geometry) (exponent slot : ℕ) (nests : Bool) → StoredIn exponent (no_run h nests slot) all
+    no_run-stored h exponent slot true = tt
+    no_run-stored h exponent slot false = tt
 
-    taken-stored : (exponent slot : ℕ) (take : TakeRunModel) (next : Next (Option ℕ))
-        → StoredIn exponent (run_taken slot take next) all
-    taken-stored exponent slot take Go = tt
-    taken-stored exponent slot take (Done None) = tt
-    taken-stored exponent slot take (Done (Some page)) = tt
+    started-stored : (h : Geometry) (exponent slot : ℕ) (nests : Bool) (start : Start TakeRunModel (Option ℕ))
+        → StoredIn exponent (run_started h nests slot start) all
+    started-stored h exponent slot nests (starts.Running take) = tt
+    started-stored h exponent slot nests (starts.Done None) = no_run-stored h exponent slot nests
+    started-stored h exponent slot nests (starts.Done (Some page)) = tt
+
+    taken-stored : (h : Geometry) (exponent slot : ℕ) (nests : Bool) (take : TakeRunModel) (next : Next (Option ℕ))
+        → StoredIn exponent (run_taken h nests slot take next) all
+    taken-stored h exponent slot nests take Go = tt
+    taken-stored h exponent slot nests take (Done None) = no_run-stored h exponent slot nests
+    taken-stored h exponent slot nests take (Done (Some page)) = tt
+
+    top-stored : (exponent slot : ℕ) (take : TakeRunModel) (next : Next (Option ℕ))
+        → StoredIn exponent (top_taken slot take next) all
+    top-stored exponent slot take Go = tt
+    top-stored exponent slot take (Done None) = tt
+    top-stored exponent slot take (Done (Some page)) = tt
 
     abbrev MadeStored : Growing → ℕ → MakeModel → MakeAt × Next (Option (ℕ × ℕ)) → Type 0
     MadeStored growing size make r = HasStored (made growing size (record make { at = r.0 }) r.1) all
 
     slot-stored : (growing : Growing) (size : ℕ) (make : MakeModel) (slot found : ℕ)
-        → MadeStored growing size make (slot_seen make.geometry make.exponent slot found)
+        → MadeStored growing size make
+        (slot_seen make.geometry make.exponent (may_nest make.exponent make.nested) slot found)
     slot-stored growing size make slot found =
         cond_both (found == 0) _ _ (MadeStored growing size make)
-        (λ t. started-stored make.exponent slot (take_run_new make.geometry (made_pages make.exponent)))
+        (λ t.
+        started-stored make.geometry make.exponent slot (may_nest make.exponent make.nested)
+        (take_run_new make.geometry (made_pages make.exponent)))
         (λ f. cond_both (nat_lt (slot + 1) 8) _ _ (MadeStored growing size make) (λ t. tt) (λ f. tt))
 
   -- ---- an operation of the making
@@ -241,23 +256,26 @@ module _ (env : Env) where
 
   make-stored : (growing : Growing) (size : ℕ) (make : MakeModel) (state : MakeAt) (steps : List Did) (did : Did)
       → did.op ≡ make_plan_at make.geometry make.exponent make.seed state → StoredIn make.exponent state steps
-      → MadeStored (steps ++ did ∷ []) growing size make (make_after_at make.geometry make.exponent state did.old)
+      → MadeStored (steps ++ did ∷ []) growing size make (make_after_at make.geometry make.exponent make.nested state did.old)
   make-stored growing size make (makes.Slot slot) steps did is stored =
       slot-stored (steps ++ did ∷ []) growing size make slot did.old
   make-stored growing size make (makes.Taking slot take) steps did is stored =
-      taken-stored (steps ++ did ∷ []) make.exponent slot (take_run_after take did.old).0 (take_run_after take did.old).1
+      taken-stored (steps ++ did ∷ []) make.geometry make.exponent slot (may_nest make.exponent make.nested)
+      (take_run_after take did.old).0 (take_run_after take did.old).1
+  make-stored growing size make (makes.TakingTop slot take) steps did is stored =
+      top-stored (steps ++ did ∷ []) make.exponent slot (take_run_after take did.old).0 (take_run_after take did.old).1
   make-stored growing size make (makes.SlotBack slot) steps did is stored = tt
-  make-stored growing size make (makes.NextSerial slot page) steps did is stored = tt
-  make-stored growing size make (makes.Shape slot page serial) steps did is stored =
-      stores-now slot (made_shape make.exponent page) steps did is
-  make-stored growing size make (makes.Seed slot page serial) steps did is stored =
-      stores-more slot (made_shape make.exponent page) steps did
+  make-stored growing size make (makes.NextSerial slot nested page) steps did is stored = tt
+  make-stored growing size make (makes.Shape slot nested page serial) steps did is stored =
+      stores-now slot (made_shape make.exponent nested page) steps did is
+  make-stored growing size make (makes.Seed slot nested page serial) steps did is stored =
+      stores-more slot (made_shape make.exponent nested page) steps did
       (other_word slot _ _ did is (λ same. absurd (omega (arith, same)))) stored
-  make-stored growing size make (makes.Future slot page serial) steps did is stored =
-      stores-more slot (made_shape make.exponent page) steps did
+  make-stored growing size make (makes.Future slot nested page serial) steps did is stored =
+      stores-more slot (made_shape make.exponent nested page) steps did
       (other_word slot _ _ did is (λ same. absurd (omega (arith, same)))) stored
-  make-stored growing size make (makes.Serial slot page serial) steps did is stored =
-      stores-more slot (made_shape make.exponent page) steps did
+  make-stored growing size make (makes.Serial slot nested page serial) steps did is stored =
+      stores-more slot (made_shape make.exponent nested page) steps did
       (other_word slot _ _ did is (λ same. absurd (omega (arith, same)))) stored
 
   -- ---- an operation of a bind

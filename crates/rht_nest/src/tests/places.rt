@@ -1,0 +1,235 @@
+//! Where buckets are, and pages that are entered on the way to them.
+
+use super::ALL;
+use crate::{Bucket, Grow, GrowAt, Locate, LocateAt, Located, LocatedBucket, Place};
+use rht_policy::Low;
+use rht_words::{Geometry, Next, Op, Start, assert_performs};
+use std::test::Fail;
+
+#[test]
+fn buckets_stand_from_their_first_page_on(rt: HostRuntime) -> Result<(), Fail> {
+    let geometry = Geometry::new(8, 4, 1).ok_or("within limits")?;
+    // the shape's word, the bucket, and the place
+    let cases = [
+        // four buckets from page 0 on
+        (2, 0, Bucket::At(314)),
+        (2, 3, Bucket::At(317)),
+        // eight buckets from page 1 on
+        (1_027, 0, Bucket::At(378)),
+        (1_027, 7, Bucket::At(385)),
+        // 128 buckets from page 2 on, in two pages
+        (2_055, 64, Bucket::At(506)),
+        (2_055, 127, Bucket::At(569)),
+        // no table: what is past the last page is read as its last word
+        (5_122, 0, Bucket::At(569)),
+        (3_079, 64, Bucket::At(569)),
+    ];
+    for (shape, bucket, want) in cases {
+        let Start::Done(found) = Place::new(geometry, shape, bucket) else {
+            return Err("a flat table's bucket is found without an operation".into());
+        };
+        assert_eq!(rt; found, want, "of {bucket} in {shape}");
+    }
+    Ok(())
+}
+
+#[test]
+fn a_ports_bucket_is_found_in_its_table(rt: HostRuntime) -> Result<(), Fail> {
+    let geometry = Geometry::new(8, 4, 1).ok_or("within limits")?;
+    // port 70 in the table of slot 2: the shape's word, and the place. Slot 2 is from 24 + 64 on
+    let cases = [
+        // 64 buckets from page 0 on: bucket 6
+        (6, 320),
+        // 128 buckets from page 2 on: bucket 70
+        (2_055, 512),
+        // past the last page
+        (5_122, 569),
+    ];
+    for (shape, place) in cases {
+        let locate = Locate::new(geometry, 2);
+        assert_eq!(rt; (locate.table(), locate.plan()), (2, Op::load(88)));
+        let (locate, next) = locate.after::<Low>(70, shape);
+        assert_eq!(rt; (locate.plan(), next), (Op::load(89), Next::Go));
+        assert_eq!(rt;
+            locate,
+            Locate::new(geometry, 2).with(LocateAt::Seed { shape })
+        );
+        let (_, next) = locate.after::<Low>(70, 1);
+        let bucket = LocatedBucket::At(place);
+        assert_eq!(rt; next, Next::Done(Located { shape, bucket }), "in {shape}");
+    }
+    Ok(())
+}
+
+#[test]
+fn a_nested_tables_bucket_stands_behind_entries(rt: HostRuntime) -> Result<(), Fail> {
+    // with eight pages, too, their words stand from place 314 on
+    let geometry = Geometry::new(8, 8, 1).ok_or("within limits")?;
+    // the shape's word, the bucket, the entries with what each has, and where the bucket is
+    let cases: [(u64, u32, &[(Op, u64)], Bucket); 13] = [
+        // 128 buckets, two entries in page 2: the last bit of 77 is 1, the six before are 38; page 3
+        (2_087, 77, &[(Op::load(443), 4)], Bucket::At(544)),
+        (2_087, 0, &[(Op::load(442), 1)], Bucket::At(314)),
+        // 256 buckets, four entries in page 0: 255 is 63 times 4 and 3; page 7
+        (72, 255, &[(Op::load(317), 8)], Bucket::At(825)),
+        // 4,096 buckets, 64 entries in page 1: 4,000 is 62 times 64 and 32; page 0
+        (1_228, 4_000, &[(Op::load(410), 1)], Bucket::At(376)),
+        // 8,192 buckets, two entries in page 0: 5,000 is 39 times 128 and 8, which is 4 times 2; page 5,
+        // then page 7
+        (
+            45,
+            5_000,
+            &[(Op::load(314), 6), (Op::load(638), 8)],
+            Bucket::At(801),
+        ),
+        // 131,072 buckets, 32 entries in page 3: 131,071 is 63 times 2,048 and 2,047, which is 63 times 32
+        // and 31; page 1, then page 2
+        (
+            3_249,
+            131_071,
+            &[(Op::load(537), 2), (Op::load(441), 3)],
+            Bucket::At(505),
+        ),
+        // 262,144 buckets, 64 entries in page 7: 70,000 is 17 times 4,096 and 368, which is 5 times 64 and
+        // 48; page 6, then page 0
+        (
+            7_378,
+            70_000,
+            &[(Op::load(810), 7), (Op::load(703), 1)],
+            Bucket::At(331),
+        ),
+        // a page is missing on the only level, on the first and on the second of two
+        (2_087, 77, &[(Op::load(443), 0)], Bucket::Absent(443)),
+        (45, 5_000, &[(Op::load(314), 0)], Bucket::Absent(314)),
+        (
+            45,
+            5_000,
+            &[(Op::load(314), 6), (Op::load(638), 0)],
+            Bucket::Absent(638),
+        ),
+        // an entry past the last page leads to none
+        (2_087, 77, &[(Op::load(443), 9)], Bucket::Absent(443)),
+        // a top page past the last one is read as the last, and more than 64 entries as 64
+        (9_255, 77, &[(Op::load(763), 4)], Bucket::At(544)),
+        (263, 77, &[(Op::load(327), 4)], Bucket::At(507)),
+    ];
+    for (shape, bucket, steps, want) in cases {
+        let Start::Running(place) = Place::new(geometry, shape, bucket) else {
+            return Err("the table is nested".into());
+        };
+        assert_performs!(rt; place, steps => want);
+    }
+    // the way on, once the entry leads to page 5
+    let only = Place::nested(geometry, 2_087, 77);
+    let first = Place::nested(geometry, 45, 5_000);
+    assert_eq!(rt; only.entered(5), Start::Done(672));
+    let Start::Running(second) = first.entered(5) else {
+        return Err("there is a second level".into());
+    };
+    assert_eq!(rt; (first.entry(), second.entry()), (314, 638));
+    Ok(())
+}
+
+#[test]
+fn a_ports_bucket_may_be_missing(rt: HostRuntime) -> Result<(), Fail> {
+    let geometry = Geometry::new(8, 8, 1).ok_or("within limits")?;
+    // port 5,000 in the nested table of slot 2: the shape's word, its future, the entries with what each
+    // has, and where the bucket is; none where it is missing. No entry counts against the future, which
+    // is loaded before
+    type Case<'a> = (u64, (u64, Option<u32>), &'a [(usize, u64)], Option<usize>);
+    let cases: [Case; 5] = [
+        // bucket 8 of 128 in page 2; page 3
+        (2_087, (0, None), &[(442, 4)], Some(510)),
+        (2_087, (0, None), &[(442, 0)], None),
+        (2_087, (8, Some(7)), &[(442, 0)], None),
+        // bucket 5,000 of 8,192 in page 0
+        (45, (1, Some(0)), &[(314, 6), (638, 8)], Some(801)),
+        (45, (9, None), &[(314, 6), (638, 0)], None),
+    ];
+    for (shape, (future, early), entries, want) in cases {
+        let seed = Locate::new(geometry, 2).with(LocateAt::Seed { shape });
+        let (mut locate, mut next) = seed.after::<Low>(5_000, 1);
+        let mut place = Place::nested(geometry, shape, 5_000 % (1 << (shape % 32)));
+        assert_eq!(rt; locate, seed.with(LocateAt::Early { shape, place }));
+        assert_eq!(rt; (locate.plan(), next), (Op::load(90), Next::Go));
+        (locate, next) = locate.after::<Low>(5_000, future);
+        for (entry, page) in entries {
+            assert_eq!(rt; next, Next::Go, "in {shape}");
+            assert_eq!(rt; locate.plan(), Op::load(*entry), "in {shape}");
+            (locate, next) = locate.after::<Low>(5_000, *page);
+            place = place.after(*page).0;
+        }
+        let bucket = match want {
+            Some(place) => LocatedBucket::At(place),
+            None => LocatedBucket::Missing { place, early },
+        };
+        assert_eq!(rt; next, Next::Done(Located { shape, bucket }), "in {shape}");
+    }
+    Ok(())
+}
+
+#[test]
+fn a_missing_page_is_entered_once(rt: HostRuntime) -> Result<(), Fail> {
+    // for the entry at 443: how many pages there are, the operations with what each finds, and the answer
+    let cases: [(u32, &[(Op, u64)], Option<u32>); 4] = [
+        // page 0 is taken, and page 1 is entered
+        (
+            8,
+            &[
+                (Op::load(281), 254),
+                (Op::load(281), 254),
+                (Op::and(281, ALL - 2), 254),
+                (Op::exchange(443, 0, 2), 0),
+            ],
+            Some(1),
+        ),
+        // page 3 was entered before, so page 0 is given back
+        (
+            8,
+            &[
+                (Op::load(281), 1),
+                (Op::and(281, ALL - 1), 1),
+                (Op::exchange(443, 0, 1), 4),
+                (Op::or(281, 1), 0),
+            ],
+            Some(3),
+        ),
+        // an entry past the last page is read as it
+        (
+            8,
+            &[
+                (Op::load(281), 1),
+                (Op::and(281, ALL - 1), 1),
+                (Op::exchange(443, 0, 1), 9),
+                (Op::or(281, 1), 0),
+            ],
+            Some(7),
+        ),
+        // no page is free when it is come to: page 1 is lost, and page 0 is given back behind the machine
+        (
+            4,
+            &[
+                (Op::load(281), 2),
+                (Op::load(281), 2),
+                (Op::and(281, ALL - 2), 1),
+                (Op::load(281), 1),
+                (Op::load(281), 1),
+            ],
+            None,
+        ),
+    ];
+    for (pages, steps, want) in cases {
+        let geometry = Geometry::new(8, pages, 1).ok_or("within limits")?;
+        let entry = Place::nested(geometry, 2_087, 77).entry();
+        assert_performs!(rt; Grow::new(geometry, entry), steps => want);
+    }
+    let geometry = Geometry::new(8, 4, 1).ok_or("within limits")?;
+    let growing = Grow::new(geometry, Place::nested(geometry, 2_087, 77).entry());
+    let entering = growing.with(GrowAt::Entering { page: 3 });
+    let (_, next) = entering.after(0);
+    assert_eq!(rt;
+        (entering.plan(), next),
+        (Op::exchange(443, 0, 4), Next::Done(Some(3)))
+    );
+    Ok(())
+}
