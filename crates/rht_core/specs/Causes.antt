@@ -99,28 +99,28 @@ RebindCause env past (Clear returned) = ⊥
 RebindCause env past (Counted count) = ⊥
 
 -- why a resizing ended with this reply: another caller was at work, a table was due that couldn't be had, nothing was due, or another
--- table became the current one
-abbrev pub WorkCause : Env → Past → Reply → Type 0
-WorkCause env past Elsewhere = SawElsewhere env.geometry past.steps
-WorkCause env past (Moved again) = SawMoved env again past.steps
-WorkCause env past Idle = SawNothingDue env past.steps
-WorkCause env past (NoTable size) = SawNoTableDue env size past.steps
-WorkCause env past (Found owner) = ⊥
-WorkCause env past Missing = ⊥
-WorkCause env past (Bound kick) = ⊥
-WorkCause env past (Exists owner) = ⊥
-WorkCause env past (Listed len) = ⊥
-WorkCause env past (Released kick) = ⊥
-WorkCause env past Absent = ⊥
-WorkCause env past Rebound = ⊥
-WorkCause env past (TooBig count) = ⊥
-WorkCause env past (Again table) = ⊥
-WorkCause env past (Busy root last) = ⊥
-WorkCause env past NoNode = ⊥
-WorkCause env past (Pending caller section) = ⊥
-WorkCause env past (Walked len next) = ⊥
-WorkCause env past (Clear returned) = ⊥
-WorkCause env past (Counted count) = ⊥
+-- table became the current one, or the move stopped before a nested one. `words_at` gives the words before the event with each number
+abbrev pub WorkCause : Env → (ℕ → List ℕ) → Past → Reply → Type 0
+WorkCause env words_at past Elsewhere = SawElsewhere env.geometry past.steps
+WorkCause env words_at past (Moved again) = SawMoved env words_at again past.steps
+WorkCause env words_at past Idle = SawNothingDue env past.steps
+WorkCause env words_at past (NoTable size) = SawNoTableDue env size past.steps
+WorkCause env words_at past (Found owner) = ⊥
+WorkCause env words_at past Missing = ⊥
+WorkCause env words_at past (Bound kick) = ⊥
+WorkCause env words_at past (Exists owner) = ⊥
+WorkCause env words_at past (Listed len) = ⊥
+WorkCause env words_at past (Released kick) = ⊥
+WorkCause env words_at past Absent = ⊥
+WorkCause env words_at past Rebound = ⊥
+WorkCause env words_at past (TooBig count) = ⊥
+WorkCause env words_at past (Again table) = ⊥
+WorkCause env words_at past (Busy root last) = ⊥
+WorkCause env words_at past NoNode = ⊥
+WorkCause env words_at past (Pending caller section) = ⊥
+WorkCause env words_at past (Walked len next) = ⊥
+WorkCause env words_at past (Clear returned) = ⊥
+WorkCause env words_at past (Counted count) = ⊥
 
 -- the operation raised the count of ports
 abbrev pub IsRaise : Geometry → Did → Type 0
@@ -214,39 +214,40 @@ module _ (M : Type 0) (mix : ℕ → ℕ → ℕ → ℕ) where
   CountCause env events c past Idle = ⊥
   CountCause env events c past (Clear returned) = ⊥
 
-  -- why a bind ended with this reply; in a table of lists none ends with `Exists`
-  abbrev pub BindCause : Env → List Event → ℕ → Past → Reply → Type 0
-  BindCause env events c past (Bound kick) = KicksRightly env kick past.steps
-  BindCause env events c past (Exists owner) = env.config.kind ≡ Single
-  BindCause env events c past NoNode = SawNoNode env past
-  BindCause env events c past (TooBig count) = Any (SawFull env events c count) past.steps
-  BindCause env events c past (Again table) = HasFollowed M mix env events c table past.steps
-  BindCause env events c past (Busy root last) = SawBusy M mix env events c root last past.steps
-  BindCause env events c past (NoTable size) =
-      SawNoTable M mix env events c size past.steps ⊎ SawNoPage env.geometry (words_before M mix env events) size past.steps
-  BindCause env events c past (Found owner) = ⊥
-  BindCause env events c past Missing = ⊥
-  BindCause env events c past (Listed len) = ⊥
-  BindCause env events c past (Released kick) = ⊥
-  BindCause env events c past Absent = ⊥
-  BindCause env events c past Rebound = ⊥
-  BindCause env events c past (Pending caller section) = ⊥
-  BindCause env events c past Elsewhere = ⊥
-  BindCause env events c past (Walked len next) = ⊥
-  BindCause env events c past (Moved again) = ⊥
-  BindCause env events c past Idle = ⊥
-  BindCause env events c past (Clear returned) = ⊥
-  BindCause env events c past (Counted count) = ⊥
+  -- why a bind of this port ended with this reply; in a table of lists none ends with `Exists`
+  abbrev pub BindCause : Env → List Event → ℕ → ℕ → Past → Reply → Type 0
+  BindCause env events c port past (Bound kick) = KicksRightly env kick past.steps
+  BindCause env events c port past (Exists owner) = env.config.kind ≡ Single
+  BindCause env events c port past NoNode = SawNoNode env past
+  BindCause env events c port past (TooBig count) = Any (SawFull env events c count) past.steps
+  BindCause env events c port past (Again table) = HasFollowed M mix env events c table past.steps
+  BindCause env events c port past (Busy root last) = SawBusy M mix env events c root last past.steps
+  BindCause env events c port past (NoTable size) =
+      SawNoTable M mix env events c size past.steps
+      ⊎ SawNoPage env.geometry (words_before M mix env events) mix port size past.steps
+  BindCause env events c port past (Found owner) = ⊥
+  BindCause env events c port past Missing = ⊥
+  BindCause env events c port past (Listed len) = ⊥
+  BindCause env events c port past (Released kick) = ⊥
+  BindCause env events c port past Absent = ⊥
+  BindCause env events c port past Rebound = ⊥
+  BindCause env events c port past (Pending caller section) = ⊥
+  BindCause env events c port past Elsewhere = ⊥
+  BindCause env events c port past (Walked len next) = ⊥
+  BindCause env events c port past (Moved again) = ⊥
+  BindCause env events c port past Idle = ⊥
+  BindCause env events c port past (Clear returned) = ⊥
+  BindCause env events c port past (Counted count) = ⊥
 
   -- why a call ended with this reply; a call of which there is no machine yet never ends
   abbrev pub CauseOf : Env → List Event → ℕ → Past → Call → Reply → Type 0
-  CauseOf env events c past (Bind port owner once) reply = BindCause env events c past reply
+  CauseOf env events c past (Bind port owner once) reply = BindCause env events c port past reply
   CauseOf env events c past (Find port) reply = FindCause reply
   CauseOf env events c past (All port) reply = AllCause reply
   CauseOf env events c past (Release port owner) reply = ReleaseCause env past reply
   CauseOf env events c past (Rebind port owner new) reply = RebindCause env past reply
   CauseOf env events c past (Walk from limit) reply = ⊥
-  CauseOf env events c past Work reply = WorkCause env past reply
+  CauseOf env events c past Work reply = WorkCause env (words_before M mix env events) past reply
   CauseOf env events c past Tidy reply = ⊥
   CauseOf env events c past Count reply = CountCause env events c past reply
 

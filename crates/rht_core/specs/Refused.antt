@@ -18,12 +18,13 @@ use Rattle.rht_model.specs.declared.history.Reply.{Reply}
 use Rattle.rht_model.specs.declared.history.Reply.TheVariants.{Exists, Absent}
 use Rattle.rht_model.specs.Answers.{is_refusal}
 use Rattle.rht_arena.specs.Laws.{map_place, map_bit}
+use Rattle.rht_arena.specs.RunLaws.{TakesPage, GivesPage}
 use Rattle.rht_nest.specs.Place.{nested_place, missing_at}
 use Rattle.rht_nest.specs.Tables.{is_nested, pages_of_shape}
 use Rattle.rht_core.specs.declared.event.Event.{Event}
 use Rattle.rht_core.specs.Runs.{IsAdmitted}
 use Rattle.rht_core.specs.StandsFor.{tables_from, in_force, page_word, shape_of}
-use Rattle.rht_core.specs.Traces.{Did, Past, traced_of}
+use Rattle.rht_core.specs.Traces.{Did, Past, performed_of, traced_of}
 use Rattle.rht_core.specs.Seen.{words_before}
 use Rattle.rht_core.specs.ResizeCauses.{Attaches}
 use Rattle.rht_core.specs.RunHistories.{ChangesBindings}
@@ -154,11 +155,30 @@ module _ (g : Geometry) (words : List ℕ) where
     pub exchanges : did.op ≡ Exchange (place_of g (PageWord entry)) 0 (entry_of page)
     pub found : did.old ≡ 0
 
--- what is left of a page that these operations entered: its entry, and its bit
+-- one of these operations took this page, and none behind it gave it back or entered it
+pub record HasTaken (g : Geometry) (words_at : ℕ → List ℕ) (page : ℕ) (steps : List Did) : Type 0 where
+  pub before : List Did
+  pub at : Did
+  pub behind : List Did
+  pub split : steps ≡ before ++ at ∷ behind
+  pub takes : TakesPage g page (performed_of at)
+  pub kept : AllByRecursion (λ did. ¬ GivesPage g page (performed_of did)) behind
+  pub unentered : AllByRecursion (λ did. (entry : ℕ) → ¬ EntersPage g (words_at did.index) entry page did) behind
+
+-- one of these operations entered the page there, when those before it had taken the page, and neither given it back nor entered it
+pub record EnteredWhenTaken (g : Geometry) (words_at : ℕ → List ℕ) (entry page : ℕ) (steps : List Did) : Type 0 where
+  pub before : List Did
+  pub at : Did
+  pub behind : List Did
+  pub split : steps ≡ before ++ at ∷ behind
+  pub enters : EntersPage g (words_at at.index) entry page at
+  pub took : HasTaken g words_at page before
+
+-- what is left of a page that these operations took and then entered: its entry, and its bit
 pub record IsOfEntered (g : Geometry) (words_at : ℕ → List ℕ) (steps : List Did) (place bit : ℕ) : Type 0 where
   pub entry : ℕ
   pub page : ℕ
-  pub entered : Any (λ did. EntersPage g (words_at did.index) entry page did) steps
+  pub entered : EnteredWhenTaken g words_at entry page steps
   pub of_it :
       (place ≡ place_of g (PageWord entry)) ⊎ ((place ≡ place_of g (PageMap (page / 64))) × (bit ≡ page % 64))
 
@@ -168,8 +188,8 @@ MayAttach (Bind port owner once) = Unit {0}
 MayAttach _ = ⊥
 
 -- What these operations of a call may leave turned: the next serial, words of nodes and of slots that they gave back, and what is of the
--- tables that a bind attached or of the pages that it entered. Each address is one of the table's, since places alone don't tell it from
--- a word that isn't there. `words_at` gives the words before the event with each number.
+-- tables that a bind attached or of the pages that it took and entered. Each address is one of the table's, since places alone don't
+-- tell it from a word that isn't there. `words_at` gives the words before the event with each number.
 abbrev pub IsExcepted : Geometry → (ℕ → List ℕ) → Call → List Did → ℕ → ℕ → Type 0
 IsExcepted g words_at call steps place bit =
     (place ≡ place_of g NextSerial)

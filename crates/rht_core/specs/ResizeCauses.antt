@@ -10,8 +10,9 @@ use Rattle.rht_words.specs.declared.geometry.Geometry.{Geometry}
 use Rattle.rht_words.specs.Links.{future_of}
 use Rattle.rht_words.specs.Machines.{Performed}
 use Rattle.rht_words.specs.Operations.{op_place}
-use Rattle.rht_words.specs.Places.{Address, PortCount, Slot, FutureWord, StateWord, PageWord, Node, KeyWord, place_of}
+use Rattle.rht_words.specs.Places.{Address, PortCount, Slot, SeedWord, FutureWord, StateWord, PageWord, Node, KeyWord, place_of, word_at}
 use Rattle.rht_words.specs.Shapes.{unpacked, size_of}
+use Rattle.rht_policy.specs.Mix.{bucket_of}
 use Rattle.rht_policy.specs.Thresholds.{is_above_75, is_above_100}
 use Rattle.rht_arena.specs.RunLaws.{TakesPage, SeesRunTaken}
 use Rattle.rht_nest.specs.Place.{nested_place, missing_at}
@@ -101,12 +102,13 @@ module _ (g : Geometry) (words_at : ℕ → List ℕ) where
     pub counted : AreCounted place 0 behind nodes
     pub many : 16 ≤ length nodes
 
-  -- The operation loaded this entry of a nested table of this shape, and it leads to no page: by the words before the event the way to one
-  -- of the table's buckets ends there.
-  pub record MissesPage (shape entry : ℕ) (did : Did) : Type 0 where
+  -- The operation loaded this entry of the nested table of this shape in this slot, and it leads to no page: by the words before the
+  -- event the way to the port's bucket ends there. The bucket's number is by the table's seed as it then is.
+  pub record MissesPage (mix : ℕ → ℕ → ℕ → ℕ) (port table shape entry : ℕ) (did : Did) : Type 0 where
     pub entry_in : entry < 64 * g.pages
     pub loads : did.op ≡ Load (place_of g (PageWord entry))
     pub bucket : ℕ
+    pub bucket_is : bucket ≡ bucket_of mix port shape (word_at g (words_at did.index) (Slot table SeedWord))
     pub within : bucket < size_of (unpacked shape)
     pub ends : missing_at (page_word g (words_at did.index)) (nested_place g shape bucket) ≡ Some entry
 
@@ -143,10 +145,11 @@ AreRunsTaken g pages next before (step ∷ steps) =
 
 -- where these are the words before the event with each number
 module _ (g : Geometry) (words_at : ℕ → List ℕ) where
-  -- A bind is refused for want of a page on the way to its bucket: the last table that it walked is nested and of this size, an entry
-  -- of it that the bind loaded leads to no page, and behind that load each page was seen taken in its turn, and not by an operation of
-  -- the bind behind the load.
-  pub record SawNoPage (size : ℕ) (steps : List Did) : Type 0 where
+  -- A bind of this port is refused for want of a page on the way to the port's bucket: the last table that it walked is nested and of
+  -- this size. Behind the load of its shape the bind loaded its future as none, and then an entry of it that leads to no page, at which
+  -- the way to the port's bucket ends. Behind that load each page was seen taken in its turn, and not by an operation of the bind
+  -- behind the load.
+  pub record SawNoPage (mix : ℕ → ℕ → ℕ → ℕ) (port size : ℕ) (steps : List Did) : Type 0 where
     pub table : ℕ
     pub shape : ℕ
     pub walked : LastWalked g table shape steps
@@ -156,8 +159,9 @@ module _ (g : Geometry) (words_at : ℕ → List ℕ) where
     pub at : Did
     pub taking : List Did
     pub split : walked.behind ≡ before ++ at ∷ taking
+    pub none : Any (Loaded g (Slot table FutureWord) 0) before
     pub entry : ℕ
-    pub missing : MissesPage g words_at shape entry at
+    pub missing : MissesPage g words_at mix port table shape entry at
     pub taken : AreRunsTaken g 1 0 [] (map performed_of taking)
 
 -- each run of so many pages was found taken in its turn, and by the operations behind that each page in its
@@ -174,7 +178,8 @@ AreNoPages g pages false steps = AreRunsTaken g pages 0 [] steps
 AreNoPages g pages true steps = AreRunsThenPagesTaken g pages steps
 
 -- no slot was to be had for a table of this size, or no pages, neither for a flat one nor, where it may be nested, for a nested
--- one: each was found taken, and not by these operations
+-- one: each was found taken, and not by these operations. Of the pages for a nested one it isn't said that none was taken by the
+-- operations before, those on runs
 abbrev pub SawNoRoom : Geometry → ℕ → Bool → List Did → Type 0
 SawNoRoom g size nests steps =
     AreSlotsTaken g (map performed_of steps) ⊎ AreNoPages g (pages_for size) nests (map performed_of steps)

@@ -5,10 +5,10 @@ use Rattle.std.specs.List.{AllByRecursion, Any}
 use Rattle.rht_words.specs.declared.op.Op.TheVariants.{Store, Exchange}
 use Rattle.rht_words.specs.declared.env.Env.{Env}
 use Rattle.rht_words.specs.declared.geometry.Geometry.{Geometry}
-use Rattle.rht_words.specs.Links.{table_of, slot_of}
+use Rattle.rht_words.specs.Links.{table_of, slot_of, future_of}
 use Rattle.rht_words.specs.Machines.{Performed}
 use Rattle.rht_words.specs.Operations.{op_place}
-use Rattle.rht_words.specs.Places.{CurrentTable, WorkLock, PortCount, Slot, ShapeWord, FutureWord, place_of}
+use Rattle.rht_words.specs.Places.{CurrentTable, WorkLock, PortCount, Slot, ShapeWord, FutureWord, place_of, word_at}
 use Rattle.rht_words.specs.Shapes.{unpacked, size_of}
 use Rattle.rht_nest.specs.MakeLaws.{StoresInSlot}
 use Rattle.rht_nest.specs.Tables.{is_nested}
@@ -102,7 +102,7 @@ pub record HasPublished (g : Geometry) (table : ℕ) (behind steps : List Did) :
   pub split : steps ≡ before ++ at ∷ behind
   pub stored : StoresCurrent g table at
 
--- the last of the operations on the shape of this slot stored that of a table of this size
+-- the last of the operations on the shape of this slot stored that of a flat table of this size
 pub record IsSized (g : Geometry) (slot size : ℕ) (steps : List Performed) : Type 0 where
   pub before : List Performed
   pub at : Performed
@@ -111,9 +111,10 @@ pub record IsSized (g : Geometry) (slot size : ℕ) (steps : List Performed) : T
   pub shape : ℕ
   pub stored : StoresInSlot g slot ShapeWord shape at
   pub sized : size_of (unpacked shape) ≡ size
+  pub flat : is_nested shape ≡ false
   pub left : AllByRecursion (λ step. op_place step.op ≢ place_of g (Slot slot ShapeWord)) behind
 
--- the operations attached a table of this size behind the last one
+-- the operations attached a flat table of this size behind the last one
 pub record HasAttached (g : Geometry) (last size : ℕ) (steps : List Did) : Type 0 where
   pub slot : ℕ
   pub before : List Did
@@ -123,7 +124,7 @@ pub record HasAttached (g : Geometry) (last size : ℕ) (steps : List Did) : Typ
   pub attached : Attaches g last slot at
   pub sized : IsSized g slot size (map performed_of before)
 
--- a table was due, and none of its size was attached behind the last one; one that has to wait isn't attached
+-- a table was due, and no flat one of its size was attached behind the last one; one that has to wait isn't attached
 abbrev pub IsUnattached : Geometry → ℕ → Choice → List Did → Type 0
 IsUnattached g last (choices.Attach size) steps = HasAttached g last size steps → ⊥
 IsUnattached g last choices.Later steps = Unit {0}
@@ -144,16 +145,44 @@ pub record SawPublished (env : Env) (again : Bool) (steps : List Did) : Type 0 w
       ↔ (Any (λ did. (next : ℕ) × ReadsFuture env.geometry table (Some next) did) behind
       ⊎ IsUnattached env.geometry chose.last choice chose.behind)
 
--- the operation stored a word
-abbrev pub IsStore : Did → Type 0
-IsStore did = (place : ℕ) × (value : ℕ) × (did.op ≡ Store place value)
+-- the operation stored a word, and not that of the current table
+pub record StoresOther (g : Geometry) (did : Did) : Type 0 where
+  pub place : ℕ
+  pub value : ℕ
+  pub stores : did.op ≡ Store place value
+  pub other : place ≢ place_of g CurrentTable
+
+-- the operation tried to attach the table of this slot behind that of another, which may have had a future by then
+pub record TriesToAttach (g : Geometry) (table slot : ℕ) (did : Did) : Type 0 where
+  pub table_in : table < 8
+  pub slot_in : slot < 8
+  pub exchanges : did.op ≡ Exchange (place_of g (Slot table FutureWord)) 0 (future_of slot)
+
+-- the operations tried to attach a flat table of this size behind the last one
+pub record HasTried (g : Geometry) (last size : ℕ) (steps : List Did) : Type 0 where
+  pub slot : ℕ
+  pub before : List Did
+  pub at : Did
+  pub behind : List Did
+  pub split : steps ≡ before ++ at ∷ behind
+  pub tries : TriesToAttach g last slot at
+  pub sized : IsSized g slot size (map performed_of before)
+
+-- Where a table was due, and the current one couldn't be moved without it, since it was the last one or the last one had this shape of
+-- a nested one, the operations tried to attach one of its size behind the last one.
+abbrev pub HasTriedIfNeeded : Geometry → ℕ → ℕ → ℕ → Choice → List Did → Type 0
+HasTriedIfNeeded g root last shape choice steps =
+    (size : ℕ) → choice ≡ choices.Attach size → (root ≡ last) ⊎ (is_nested shape ≡ true) → HasTried g last size steps
 
 -- Behind its choice a resizing looked anew for the last table behind the current one, which was another one, and loaded that it was
--- nested; nothing is moved to such a table. Behind that it stored words alone, and it says that there is more to do.
-pub record SawStopped (env : Env) (again : Bool) (steps : List Did) : Type 0 where
+-- nested; nothing is moved to such a table. There the current table was still the one that it had chosen from, and where it couldn't do
+-- without the table that was due it had tried to attach that. Behind that it stored words alone, and left which table is the current
+-- one; and it says that there is more to do. `words_at` gives the words before the event with each number.
+pub record SawStopped (env : Env) (words_at : ℕ → List ℕ) (again : Bool) (steps : List Did) : Type 0 where
   pub more : again ≡ true
   pub choice : Choice
   pub chose : HasChosen env choice steps
+  pub tried : HasTriedIfNeeded env.geometry chose.root chose.last chose.shape.old choice chose.behind
   pub last : ℕ
   pub before : List Did
   pub futures : List Did
@@ -164,8 +193,9 @@ pub record SawStopped (env : Env) (again : Bool) (steps : List Did) : Type 0 whe
   pub apart : chose.root ≢ last
   pub shape_read : Loaded env.geometry (Slot last ShapeWord) shape.old shape
   pub nested : is_nested shape.old ≡ true
-  pub stores : AllByRecursion IsStore behind
+  pub current : table_of (word_at env.geometry (words_at shape.index) CurrentTable) ≡ chose.root
+  pub stores : AllByRecursion (StoresOther env.geometry) behind
 
 -- A resizing that moved made another table the current one, or stopped before a nested one.
-abbrev pub SawMoved : Env → Bool → List Did → Type 0
-SawMoved env again steps = SawPublished env again steps ⊎ SawStopped env again steps
+abbrev pub SawMoved : Env → (ℕ → List ℕ) → Bool → List Did → Type 0
+SawMoved env words_at again steps = SawPublished env again steps ⊎ SawStopped env words_at again steps

@@ -108,19 +108,24 @@ pub fn taken_alone<M: Mix>()
 /// as its future. For `Busy` and `NoTable` it then loaded that future as none. Before, for `Busy`, it had
 /// found that another table is the current one, and that by the count the full one isn't due to grow; for
 /// `NoTable`, that each slot is taken, by each of its operations on the state of one, or each run of pages
-/// in its turn and then, where a table of 128 buckets or more is wanted, each page, by a page that it hadn't
-/// taken itself, for the size that is wanted: twice the full table's where that is due to grow by the count,
-/// and else its own, where it is the current one. Or `NoTable` has another cause: the last table that the
-/// bind walked is nested and has the size that is named, an entry of it that the bind loaded led to no page,
-/// and behind that each page was seen taken in its turn.
+/// in its turn, by a page that it hadn't taken itself, and then, where a table of 128 buckets or more is
+/// wanted, each page, which it hadn't taken since it looked for pages one by one; for the size that is wanted:
+/// twice the full table's where that is due to grow by the count, and else its own, where it is the current
+/// one. Or `NoTable` has another cause: the last table that the
+/// bind walked is nested and has the size that is named, the bind loaded its future as none, then an entry
+/// of it that led to no page, at which the way to the port's bucket ends, and behind that each page was seen
+/// taken in its turn.
 ///
 /// A `Work` that was answered `Elsewhere` found the work lock taken. Any other one took it, looked for
 /// the last table from the current one on and chose by its shape and by the count what is due:
 /// for `NoTable` a table that wasn't to be had, while the last one is the current one or nested; for
 /// `Idle` nothing, and the current table had no future. `Moved` stored another current table and then
-/// loaded its future; there is more to do exactly where it found one, or attached no table of the size
-/// that was due. Or `Moved` stopped, and there is more to do: it looked for the last table anew, found
-/// another one than the current one, loaded that this is nested, and behind that stored words alone.
+/// loaded its future; there is more to do exactly where it found one, or attached no flat table of the
+/// size that was due. Or `Moved` stopped, and there is more to do: it looked for the last table anew, found
+/// another one than the current one, loaded that this is nested, and behind that stored words alone, none
+/// of them that of the current table. At that load the current table was still the one that it had chosen
+/// from; and where a table was due while the last one was the current one or nested, it had tried to attach
+/// a flat one of the size that was due behind that.
 ///
 /// `Found` and `Missing` of a look-up, `Listed` of a listing, `Absent` of a release, `Rebound` and
 /// `Absent` of a rebind have nothing to show here. No other reply of these calls comes, and a call of
@@ -214,9 +219,10 @@ pub fn at_rest<M: Mix>()
 /// but not the one that says whether the slot is free; and where it is a bind, what belongs to the tables
 /// that it attached: the futures that lead to them, the words of their slots, and the bits of their pages, by
 /// the last shape that it stored for each before attaching it; and the entries of nested tables behind which
-/// it entered pages, with the bits of these pages. By the words before, the table of such an entry was in
-/// force or had been, and the way to one of its buckets ended there. It doesn't say what stands in these
-/// words, nor that a refused bind attached or entered none.
+/// it entered pages that it had taken, and neither given back nor entered before, with the bits of these
+/// pages. By the words before, the table of such an entry was in force or had been, and the way to one of its
+/// buckets ended there. It doesn't say what stands in these words, nor that a refused bind attached or
+/// entered none.
 pub fn refused<M: Mix>()
     ensures { Refused M M.mix_of }
 {}

@@ -204,7 +204,7 @@ module _ (M : Type 0) (mix : ℕ → ℕ → ℕ → ℕ) (env : Env) (roomy : I
 
     -- with what a call has seen, it is calm
     abbrev Now : Job → List Did → Type 0
-    Now job steps = JobSaw env words_at job steps × CalmJob env job
+    Now job steps = JobSaw env words_at mix job steps × CalmJob env job
 
     abbrev Ended : Call → Ending → List Did → Type 0
     Ended call ending steps = EndsSeen M mix env events call ending steps × CalmEnd env call ending
@@ -213,7 +213,7 @@ module _ (M : Type 0) (mix : ℕ → ℕ → ℕ → ℕ) (env : Env) (roomy : I
     CalmOn job next = GoesOn (CalmJob env) (CalmEnd env) job next
 
     both-lead : (job : Job) (all : List Did) (next : Job × Next Ending)
-        → LeadsOn M mix env (JobSaw env words_at) (EndsSeen M mix env events) job all next → CalmOn job next
+        → LeadsOn M mix env (JobSaw env words_at mix) (EndsSeen M mix env events) job all next → CalmOn job next
         → LeadsOn M mix env Now Ended job all next
     both-lead job all (after, Go) saw calm = (saw, calm)
     both-lead job all (after, Done ending) saw calm = (saw, calm)

@@ -267,7 +267,7 @@ module _ (env : Env) where
 
       -- so each call goes on so, or ends so
       one-leads : (job : Job) (steps : List Did) → (does : Performs mix env job did) → AreSized does.ghost
-          → word_at env.geometry does.words PortCount ≤ 16 → JobSaw env words_at job steps → OneJob job
+          → word_at env.geometry does.words PortCount ≤ 16 → JobSaw env words_at mix job steps → OneJob job
           → OneOn job (job_after mix env job did.old)
       one-leads (finds port state) steps does sized low saw one =
           let next = find_after_at mix env port state did.old in
@@ -392,10 +392,10 @@ module _ (L : Type 0) (mix : ℕ → ℕ → ℕ → ℕ) (env : Env) (keeps : e
       one = subst (λ (j : Option Job). IfSome j (OneJob env keeps)) of.is (has.ones c).0
 
       -- what the call has seen so far
-      saw : JobSaw env (words_before L mix env events) of.job ((traced_of {M = L} mix env events).traces c).steps
+      saw : JobSaw env (words_before L mix env events) mix of.job ((traced_of {M = L} mix env events).traces c).steps
       saw =
           let r : Traced L = traced_of mix env events in
-          let Now = JobSaw env (words_before L mix env events) in
+          let Now = JobSaw env (words_before L mix env events) mix in
           let Ended = EndsSeen L mix env events in
           let now = (jobs_keep_standing L mix env Now Ended events
           record { begins = first_job-saw L mix env events; goes = job-leads L mix env events } c admitted).now in

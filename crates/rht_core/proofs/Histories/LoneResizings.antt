@@ -41,7 +41,7 @@ use Rattle.rht_core.proofs.Reasons.WorkChoices.{SawReplaced, SawAtWork, SawNextW
 
 module _ (M : Type 0) (mix : ℕ → ℕ → ℕ → ℕ) (env : Env) (events : List Event) where
   abbrev words_at : ℕ → List ℕ
-  words_at n = words_before M mix env events n
+  words_at = words_before M mix env events
 
   -- from each of these operations to the next the words of tables stayed as it left them, and from the last one up to now
   abbrev IsStill : List Did → List ℕ → Type 0
@@ -65,11 +65,11 @@ module _ (M : Type 0) (mix : ℕ → ℕ → ℕ → ℕ) (env : Env) (events : 
   -- ---- what is kept
 
   abbrev Now : Job → List Did → Type 0
-  Now (works state) steps = SawAtWork env state steps × ((now : List ℕ) → IsStill steps now → CalmAt env mix state steps now)
+  Now (works state) steps = SawAtWork env words_at state steps × ((now : List ℕ) → IsStill steps now → CalmAt env words_at mix state steps now)
   Now _ steps = Unit {0}
 
   abbrev Ended : Call → Ending → List Did → Type 0
-  Ended Work ending steps = (now : List ℕ) → IsStill steps now → CalmReply env mix ending.answer.reply steps
+  Ended Work ending steps = (now : List ℕ) → IsStill steps now → CalmReply env words_at mix ending.answer.reply steps
   Ended _ ending steps = Unit {0}
 
   -- a resizing begins with the work lock
@@ -110,8 +110,8 @@ module _ (M : Type 0) (mix : ℕ → ℕ → ℕ → ℕ) (env : Env) (events : 
   nothing-kept (state, Go) = tt
   nothing-kept (state, Done end) = tt
 
-  work-kept : (all : List Did) (next : WorkAt × Next Reply) → SawNextWork env all next
-      → ((now : List ℕ) → IsStill all now → CalmNext env mix all now next)
+  work-kept : (all : List Did) (next : WorkAt × Next Reply) → SawNextWork env words_at all next
+      → ((now : List ℕ) → IsStill all now → CalmNext env words_at mix all now next)
       → GoesOrEnds (λ state. Now (works state) all) (λ reply. Ended Work (plain_ending reply) all) next
   work-kept all (state, Go) saw calm = (saw, calm)
   work-kept all (state, Done reply) saw calm = calm
@@ -138,10 +138,10 @@ module _ (M : Type 0) (mix : ℕ → ℕ → ℕ → ℕ) (env : Env) (events : 
   goes (works state) steps did performs here kept =
       let next = work.after_at mix env state did.old in
       next-leads (works state) works plain_ending (steps ++ did ∷ []) next
-      (work-kept (steps ++ did ∷ []) next (work-saw env mix state steps did performs kept.0)
-      (λ now still. calm-work env mix state steps did performs now
+      (work-kept (steps ++ did ∷ []) next (work-saw env words_at mix state steps did performs here kept.0)
+      (λ now still. calm-work env words_at mix state steps did performs now
       (subst (λ words. AreSame env (applied words did.op) now) (sym here) (still steps [] did refl)) kept.0
-      (subst (CalmAt env mix state steps) (sym here) (kept.1 (words_at did.index) (still-before steps did now still)))))
+      (subst (CalmAt env words_at mix state steps) (sym here) (kept.1 (words_at did.index) (still-before steps did now still)))))
   goes counts steps did performs here kept = tt
 
   -- ---- a call that is alone
@@ -160,7 +160,7 @@ module _ (M : Type 0) (mix : ℕ → ℕ → ℕ → ℕ) (env : Env) (events : 
 
     -- where it answers that it moved, it has made another table the current one
     pub moved_alone : past.done.call ≡ Work → (again : Bool) → past.done.reply ≡ Moved again
-        → SawReplaced env again past.steps
+        → SawReplaced env words_at again past.steps
     moved_alone is again =
         let calls = ((traced_of {M = M} mix env events).traces c).past in
         let P = IsEndedSo M mix env Now Ended in

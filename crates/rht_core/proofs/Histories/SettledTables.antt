@@ -77,7 +77,7 @@ module _ (env : Env) where
   futures-load root last (did ∷ next ∷ dids) (slot, read, rest) =
       ((_, read.0.word.loads), futures-load slot last (next ∷ dids) rest)
 
-  module _ (steps : List Did) (saw : SawIdle env steps) where
+  module _ (words_at : ℕ → List ℕ) (steps : List Did) (saw : SawIdle env words_at steps) where
     abbrev chose : HasChosen env choices.Nothing steps
     chose = saw.chose
 
@@ -130,6 +130,10 @@ module _ (M : Type 0) (mix : ℕ → ℕ → ℕ → ℕ) (env : Env) (events : 
     (admitted : IsAdmitted env.config.kind events)
     (ended : Contains ((traced_of {M = M} mix env events).traces c).past past)
     (alone : IsAloneDuring M mix env events c past) where
+  -- the words before the event with each number
+  abbrev words_at : ℕ → List ℕ
+  words_at = words_before M mix env events
+
   -- the words at the end of the call
   abbrev after : List ℕ
   after = (run_of {M = M} mix env (take (behind_call past) events)).core.words
@@ -143,7 +147,7 @@ module _ (M : Type 0) (mix : ℕ → ℕ → ℕ → ℕ) (env : Env) (events : 
     | inr other ↦ alone (behind_call past) d (begins_before M mix env events c past admitted ended alone) (omega arith) other
   ]
 
-  module _ (saw : SawIdle env past.steps) where
+  module _ (saw : SawIdle env words_at past.steps) where
     -- what it loaded of a word that isn't one of the work lock or the enrolled callers stands there at its end
     stands : (address : Address) (value : ℕ) (did : Did) → Contains past.steps did
         → Loaded env.geometry address value did → address ≢ WorkLock → address ≢ EnrolledCallers
@@ -152,7 +156,7 @@ module _ (M : Type 0) (mix : ℕ → ℕ → ℕ → ℕ) (env : Env) (events : 
         loaded_at_end M mix env events c past admitted ended alone address value did there loaded other
         (AllByRecursion-weaker (Spares (place_of env.geometry address))
         (λ d. did.index ≤ d.index → d.index < behind_call past → Spares (place_of env.geometry address) d)
-        (λ d spares first last. spares) past.steps (all_spare env past.steps saw address loaded.word.there unlocked))
+        (λ d spares first last. spares) past.steps (all_spare env words_at past.steps saw address loaded.word.there unlocked))
 
     abbrev root : ℕ
     root = saw.chose.root
@@ -162,7 +166,7 @@ module _ (M : Type 0) (mix : ℕ → ℕ → ℕ → ℕ) (env : Env) (events : 
     no_future =
         ap slot_of
         (stands (Slot root FutureWord) saw.future.old saw.future
-        (behind_there env past.steps saw saw.future (2, omega arith, refl)) saw.future_read (λ e. cc) (λ e. cc))
+        (behind_there env words_at past.steps saw saw.future (2, omega arith, refl)) saw.future_read (λ e. cc) (λ e. cc))
         ∙ saw.none
 
     -- so the search for the last table ended at the current one
@@ -176,7 +180,7 @@ module _ (M : Type 0) (mix : ℕ → ℕ → ℕ → ℕ) (env : Env) (events : 
         absurd (cc)
 
     last_is : root ≡ saw.chose.last
-    last_is = ends_there saw.chose.last saw.chose.futures saw.chose.futures_read (future_there env past.steps saw)
+    last_is = ends_there saw.chose.last saw.chose.futures saw.chose.futures_read (future_there env words_at past.steps saw)
 
     -- what is due where so many ports are bound, in a table of this shape that is the only one
     abbrev choice_with : ℕ → ℕ → Choice
@@ -195,16 +199,16 @@ module _ (M : Type 0) (mix : ℕ → ℕ → ℕ → ℕ) (env : Env) (events : 
         let most = env.geometry.within.nodes_within.1 in
         let ports = word_at g after PortCount in
         let counts : ports ≡ chose.count.old =
-        stands PortCount chose.count.old chose.count (behind_there env past.steps saw chose.count (1, omega arith, refl))
+        stands PortCount chose.count.old chose.count (behind_there env words_at past.steps saw chose.count (1, omega arith, refl))
         chose.count_read (λ e. cc) (λ e. cc) in
         let clamp : min chose.count.old 65536 ≡ ports = omega (arith, few, most, counts) in
         let current : table_of (word_at g after CurrentTable) ≡ root =
-        ap table_of (stands CurrentTable chose.current.old chose.current (current_there env past.steps saw) chose.current_read
+        ap table_of (stands CurrentTable chose.current.old chose.current (current_there env words_at past.steps saw) chose.current_read
         (λ e. cc) (λ e. cc)) ∙ chose.root_is in
         let shape : shape_of g after root ≡ chose.shape.old =
         ap (λ s. word_at g after (Slot s ShapeWord)) last_is
         ∙ stands (Slot chose.last ShapeWord) chose.shape.old chose.shape
-        (behind_there env past.steps saw chose.shape (0, omega arith, refl)) chose.shape_read (λ e. cc) (λ e. cc) in
+        (behind_there env words_at past.steps saw chose.shape (0, omega arith, refl)) chose.shape_read (λ e. cc) (λ e. cc) in
         let size = size_of (unpacked (shape_of g after root)) in
         let none : IsNoneDue (is_above_75 ports size env.config.max) (is_sparse env ports size) (is_nested (shape_of g after root)) =
         chosen-none size (shrunk_size ports env.config.min) (is_above_75 ports size env.config.max) (is_sparse env ports size)
@@ -226,8 +230,8 @@ module _ (M : Type 0) (mix : ℕ → ℕ → ℕ → ℕ) (env : Env) (events : 
 
   -- ---- another table
 
-  module _ (again : Bool) (saw : SawReplaced env again past.steps) where
-    abbrev published : Published env past.steps
+  module _ (again : Bool) (saw : SawReplaced env words_at again past.steps) where
+    abbrev published : Published env words_at past.steps
     published = saw.published
 
     abbrev lock : Did
@@ -315,11 +319,11 @@ module _ (M : Type 0) (mix : ℕ → ℕ → ℕ → ℕ) (env : Env) (events : 
         }
 
   -- what the operations of the call show
-  saw_work : past.done.call ≡ Work → SawForWork env past.done.reply past.steps
+  saw_work : past.done.call ≡ Work → SawForWork env words_at past.done.reply past.steps
   saw_work is =
       let calls = ((traced_of {M = M} mix env events).traces c).past in
-      let P = λ (p : Past). SawOf env (words_before M mix env events) p.done.call p.done.reply p.steps in
-      subst (λ call. SawOf env (words_before M mix env events) call past.done.reply past.steps) is
+      let P = λ (p : Past). SawOf env words_at mix p.done.call p.done.reply p.steps in
+      subst (λ call. SawOf env words_at mix call past.done.reply past.steps) is
       (All-contains P calls past (All-from_recursion P calls (past-saw M mix env events c admitted)) ended)
 
 pub worked : (M : Type 0) (mix : ℕ → ℕ → ℕ → ℕ) → Worked M mix
@@ -327,7 +331,7 @@ worked M mix env events c past admitted ended work alone =
     let saw = saw_work M mix env events c past admitted ended alone work in
     record {
       idle = λ is. settled M mix env events c past admitted ended alone
-          (subst (λ reply. SawForWork env reply past.steps) is saw);
+          (subst (λ reply. SawForWork env (words_before M mix env events) reply past.steps) is saw);
       moved = λ again is. replaced M mix env events c past admitted ended alone again
           (moved_alone M mix env events c past admitted ended alone work again is);
     }

@@ -176,11 +176,11 @@ module _ (env : Env) (Good Come : ℕ → Type 0) where
           none-counted place (number + 1) steps nodes (omega (arith, low, other)) (omega (arith, many)) counts.1
     ]
 
-    calm-future : (claimed : Claimed) (length : ℕ) (future : Option ℕ) (steps : List Did)
-        → SawAt env words_at (at.Future claimed length) steps → Good claimed.shape
+    calm-future : (mix : ℕ → ℕ → ℕ → ℕ) (port : ℕ) (claimed : Claimed) (length : ℕ) (future : Option ℕ) (steps : List Did)
+        → SawAt env words_at mix port (at.Future claimed length) steps → Good claimed.shape
         → ((next : ℕ) → future ≡ Some next → Come next) → CalmBind (future_or_count claimed length future)
-    calm-future claimed length (Some next) steps saw good come = come next refl
-    calm-future claimed length None steps saw good come =
+    calm-future mix port claimed length (Some next) steps saw good come = come next refl
+    calm-future mix port claimed length None steps saw good come =
         by_test (λ t. CalmBind (cond t (unlocking_full claimed full.Chain) (at.Count claimed))) (nat_le 16 length)
         (λ t.
         let counted = saw.saw in
@@ -192,7 +192,7 @@ module _ (env : Env) (Good Come : ℕ → Type 0) where
 
     -- a calm bind stays calm, or ends so
     pub calm-bind : (mix : ℕ → ℕ → ℕ → ℕ) (port owner : ℕ) (once : Bool) (state : BindAt) (steps : List Did) (did : Did)
-        → Performs mix env (binds port owner once state) did → SawAt env words_at state steps → CalmBind state
+        → Performs mix env (binds port owner once state) did → SawAt env words_at mix port state steps → CalmBind state
         → IsCalmAt state did.old → CalmNext (after_at mix env port once state did.old)
     calm-bind mix port owner once (at.Filling new) steps did does saw calm is =
         calm-filled (new_node_after new did.old).0 (new_node_after new did.old).1
@@ -210,7 +210,7 @@ module _ (env : Env) (Good Come : ℕ → Type 0) where
     calm-bind mix port owner once (at.Replacing list relink) steps did does saw calm is =
         calm-replaced list (relink_after relink).0 (relink_after relink).1
     calm-bind mix port owner once (at.Future claimed length) steps did does saw calm is =
-        calm-future claimed length (slot_of did.old) steps saw calm (λ next further. is.further claimed length next refl further)
+        calm-future mix port claimed length (slot_of did.old) steps saw calm (λ next further. is.further claimed length next refl further)
     calm-bind mix port owner once (at.Count claimed) steps did does saw calm is =
         rw (is.few claimed refl, is.below claimed refl calm) tt
     calm-bind mix port owner once (at.Link claimed) steps did does saw calm is = tt

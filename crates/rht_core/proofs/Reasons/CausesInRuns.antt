@@ -3,10 +3,10 @@
 -- A bind keeps of itself what its operations so far saw: while it takes a node, that each node below
 -- the one at which it stands was taken; before the load of a table's shape, that it has come to that table,
 -- and from there on that this is the last table that it walked, while it wants a further table too; while
--- it enters a page, that the entry which it loaded leads to none, and which pages were seen taken; behind the
--- raise of the count, that too; while its state holds a refusal, what the refusal says; and all the way,
--- whether it has attached a table, and that it has raised no count. So when it answers all of that was
--- seen. A rebind keeps the first of these alone, a release and a look-up nothing; and a reading of the count
+-- it enters a page, that it loaded the table's future as none, and then the entry at which the way to its
+-- port's bucket ends, and which pages were seen taken; behind the raise of the count, that too; while its
+-- state holds a refusal, what the refusal says; and all the way, whether it has attached a table, and that
+-- it has raised no count. So when it answers all of that was seen. A rebind keeps the first of these alone, a release and a look-up nothing; and a reading of the count
 -- loads what it answers by its one operation. How the run stood at the event of the operation that loaded or raised the count of ports
 -- follows from the law that each recorded operation stands in the run at its event; and since the count
 -- is at most the nodes there, the clamp under which a bind looks at it has changed nothing.
@@ -115,14 +115,14 @@ use Rattle.rht_core.proofs.Theory.Wholes.{future_in, Whole}
 use Rattle.rht_core.proofs.Theory.Knowledge.{TableMeans}
 use Rattle.rht_core.proofs.Theory.Knowns.{OnWay}
 use Rattle.rht_core.proofs.Pieces.Locates.{known_locate}
-use Rattle.rht_core.proofs.Reasons.PagesMissed.{SawGrowing, SawGrown, grow-saw, SeesMissing, begins-missing, SeesMissing-push, SawNoPage-push, misses-page}
+use Rattle.rht_core.proofs.Reasons.PagesMissed.{SawGrowing, SawGrown, grow-saw, SeesNoFuture, SeesMissing, begins-missing, missing-early, SeesMissing-push, SawNoPage-push, misses-page}
 use Rattle.rht_core.proofs.Tracing.TracesAtEvents.{at_events}
 use Rattle.rht_core.proofs.Tracing.TracedJobs.{Performs, StandsIn, LeadsOn, IsEndedSo, jobs_keep_standing}
 use Rattle.rht_move.specs.Work as work
 use Rattle.rht_move.specs.declared.work.WorkAt.TheVariants as works_at
 use Rattle.rht_core.proofs.Reasons.WorkChoices.{SawIdle-nothing, SawReplaced-published, SawForWork, SawAtWork, work-saw}
 use Rattle.rht_core.proofs.Counting.FullTables.{counted_at}
-use Rattle.rht_core.proofs.Reasons.TablesWalked.{IsNoRaise, IsAside, no_load, aside, elsewhere, node_loads, probe_loads, relink_stores, CameTo-append, came-current, came-future, walked-came, LastWalked-push, Walked, Walked-push, WalkedSeeing, WalkedSeeing-push, LoadedNoKey, WalkedAt, CameBeyond, WalkedNext, same_table, locate-walked}
+use Rattle.rht_core.proofs.Reasons.TablesWalked.{IsNoRaise, IsAside, no_load, aside, elsewhere, node_loads, probe_loads, relink_stores, CameTo-append, came-current, came-future, walked-came, LastWalked-push, Walked, Walked-push, WalkedSeeing, WalkedSeeing-push, LoadedNoKey, LoadedEarly, WalkedAt, CameBeyond, WalkedNext, TellsNone, same_table, locate-walked}
 use Rattle.rht_core.proofs.Reasons.KeyLoads.{no_key, no_key-behind, no_key-run}
 use Rattle.rht_core.proofs.Reasons.ChainsCounted.{HasCounted, HasCounted-none, HasCounted-push, CountedAt, CountedNext, probe-counted, long-counted}
 use Rattle.rht_core.proofs.Reasons.AttachedTables.{IsNoFutureExchange, IsNoAttach, no_attach, AttachedSo, AttachedSo-push, SawAttached, attached-saw, relink-none, unmake-none}
@@ -168,17 +168,6 @@ module _ (env : Env) (words_at : ℕ → List ℕ) where
     pub each : AllByRecursion (SaysOfRaise attached shape kick) walked.behind
     pub some : Any (IsRaise env.geometry) walked.behind ⊎ ((kick ≡ attached) × (env.config.kind ≡ Listed))
 
-  -- what the operations of a bind saw for it to have this reply; nothing can be seen for a reply that it never has
-  abbrev pub SawFor : Reply → List Did → Type 0
-  SawFor NoNode steps = SawAllBelow env.geometry env.geometry.nodes (map performed_of steps)
-  SawFor (TooBig count) steps = Any (LoadedFull count) steps
-  SawFor (Bound kick) steps = Raised kick steps
-  SawFor (Exists owner) steps = env.config.kind ≡ Single
-  SawFor (Again table) steps = FollowedSeen env words_at table steps
-  SawFor (Busy root last) steps = BusySeen env words_at root last steps
-  SawFor (NoTable size) steps = NoTableSeen env words_at size steps ⊎ SawNoPage env.geometry words_at size steps
-  SawFor _ steps = ⊥
-
   -- the operation loaded this count of ports
   pub record LoadedCount (count : ℕ) (did : Did) : Type 0 where
     pub loaded : did.op ≡ Load (place_of env.geometry PortCount)
@@ -188,17 +177,18 @@ module _ (env : Env) (words_at : ℕ → List ℕ) where
   SawForCount (Counted count) steps = Any (LoadedCount count) steps
   SawForCount _ steps = ⊥
 
-  -- and for any call to have it; a look-up and a listing have nothing to show, and of the others there is no machine yet
-  abbrev pub SawOf : Call → Reply → List Did → Type 0
-  SawOf (Bind port owner once) reply steps = SawFor reply steps
-  SawOf (Find port) reply steps = Unit {0}
-  SawOf (All port) reply steps = Unit {0}
-  SawOf (Release port owner) reply steps = SawForRelease env reply steps
-  SawOf (Rebind port owner new) reply steps = SawForRebind env reply steps
-  SawOf (Walk from limit) reply steps = ⊥
-  SawOf Work reply steps = SawForWork env reply steps
-  SawOf Tidy reply steps = ⊥
-  SawOf Count reply steps = SawForCount reply steps
+-- of a bind of this port, and where a rebind is of it
+module _ (env : Env) (words_at : ℕ → List ℕ) (mix : ℕ → ℕ → ℕ → ℕ) (port : ℕ) where
+  -- what the operations of a bind saw for it to have this reply; nothing can be seen for a reply that it never has
+  abbrev pub SawFor : Reply → List Did → Type 0
+  SawFor NoNode steps = SawAllBelow env.geometry env.geometry.nodes (map performed_of steps)
+  SawFor (TooBig count) steps = Any (LoadedFull env words_at count) steps
+  SawFor (Bound kick) steps = Raised env words_at kick steps
+  SawFor (Exists owner) steps = env.config.kind ≡ Single
+  SawFor (Again table) steps = FollowedSeen env words_at table steps
+  SawFor (Busy root last) steps = BusySeen env words_at root last steps
+  SawFor (NoTable size) steps = NoTableSeen env words_at size steps ⊎ SawNoPage env.geometry words_at mix port size steps
+  SawFor _ steps = ⊥
 
   abbrev SawForReply : Option Reply → List Did → Type 0
   SawForReply reply steps = IfSome reply (λ r. SawFor r steps)
@@ -224,9 +214,9 @@ module _ (env : Env) (words_at : ℕ → List ℕ) where
   abbrev pub SawAt : BindAt → List Did → Type 0
   SawAt (at.Filling new) steps = SawNew new.at steps
   SawAt (at.CurrentTable attempt) steps = Unit {0}
-  SawAt (at.Locating attempt locate) steps = WalkedAt env.geometry locate.table locate.at steps
+  SawAt (at.Locating attempt locate) steps = WalkedAt env.geometry (SeesNoFuture env.geometry) locate.table locate.at steps
   SawAt (at.Entering attempt table shape place grow) steps =
-      WalkedSeeing env.geometry table shape (SeesMissing env words_at shape (SawGrowing env.geometry grow.at)) steps
+      WalkedSeeing env.geometry table shape (SeesMissing env words_at mix port table shape (SawGrowing env.geometry grow.at)) steps
   SawAt (at.Probing attempt table shape probe) steps =
       WalkedSeeing env.geometry table shape (CountedAt env.geometry words_at shape probe.at) steps
   SawAt (at.FoundOwner claimed found) steps = Unit {0}
@@ -238,7 +228,7 @@ module _ (env : Env) (words_at : ℕ → List ℕ) where
   SawAt (at.Count claimed) steps = Walked env.geometry claimed.table claimed.shape steps
   SawAt (at.Link claimed) steps = Walked env.geometry claimed.table claimed.shape steps
   SawAt (at.Raise claimed) steps = Walked env.geometry claimed.table claimed.shape steps
-  SawAt (at.Publish node table relink kick) steps = Raised kick steps
+  SawAt (at.Publish node table relink kick) steps = Raised env words_at kick steps
   SawAt (at.Unlocking attempt table unlock next) steps = SawThen next steps
   SawAt (at.UnlockingFull growing unlock) steps =
       Behind env words_at growing.table growing.shape (SawWhy env words_at growing.why growing.shape) steps
@@ -266,17 +256,6 @@ module _ (env : Env) (words_at : ℕ → List ℕ) where
   SawAtRebind (rebinds_at.Unlocking node table unlock) steps = Unit {0}
   SawAtRebind (rebinds_at.Giving give) steps = Unit {0}
 
-  -- of a look-up and a listing nothing is kept, nor of a reading of the count before it ends
-  abbrev pub JobSaw : Job → List Did → Type 0
-  JobSaw (finds port state) steps = Unit {0}
-  JobSaw (binds port owner once state) steps =
-      SawAt state steps × (SawAttached env state steps × SawUnraised env state steps)
-  JobSaw (lists port room state) steps = Unit {0}
-  JobSaw (releases port owner state) steps = SawRelease env state steps
-  JobSaw (rebinds port owner new state) steps = SawAtRebind state steps
-  JobSaw (works state) steps = SawAtWork env state steps
-  JobSaw counts steps = Unit {0}
-
   -- what it has seen once it goes on, and once it has answered
   abbrev SawNext : List Did → BindAt × Next Reply → Type 0
   SawNext steps next = GoesOrEnds (λ state. SawAt state steps) (λ reply. SawFor reply steps) next
@@ -294,8 +273,8 @@ module _ (env : Env) (words_at : ℕ → List ℕ) where
     no_attach = no_attach env.geometry did op is apart;
   }
 
-  Raised-push : (kick : Bool) (steps : List Did) (did : Did) → IsStill did → Raised kick steps
-      → Raised kick (steps ++ did ∷ [])
+  Raised-push : (kick : Bool) (steps : List Did) (did : Did) → IsStill did → Raised env words_at kick steps
+      → Raised env words_at kick (steps ++ did ∷ [])
   unfolding LastWalked-push
   Raised-push kick steps did none raised = record {
     attached = raised.attached;
@@ -304,7 +283,7 @@ module _ (env : Env) (words_at : ℕ → List ℕ) where
     shape = raised.shape;
     walked = LastWalked-push env.geometry raised.table raised.shape steps did none.aside.no_shape raised.walked;
     unraised = raised.unraised;
-    each = AllByRecursion-push (SaysOfRaise raised.attached raised.shape kick) raised.walked.behind did raised.each
+    each = AllByRecursion-push (SaysOfRaise env words_at raised.attached raised.shape kick) raised.walked.behind did raised.each
         (λ adds. absurd (none.aside.no_raise adds));
     some = elim raised.some [
       | inl any ↦ inl (Any-append_left (IsRaise env.geometry) raised.walked.behind (did ∷ []) any)
@@ -314,7 +293,7 @@ module _ (env : Env) (words_at : ℕ → List ℕ) where
 
   -- while no count was raised, there is nothing to say of that
   unraised-says : (attached : Bool) (shape : ℕ) (kick : Bool) (steps : List Did)
-      → AllByRecursion (IsNoRaise env.geometry) steps → AllByRecursion (SaysOfRaise attached shape kick) steps
+      → AllByRecursion (IsNoRaise env.geometry) steps → AllByRecursion (SaysOfRaise env words_at attached shape kick) steps
   unraised-says attached shape kick [] none = tt
   unraised-says attached shape kick (did ∷ steps) none =
       ((λ adds. absurd (none.0 adds)), unraised-says attached shape kick steps none.1)
@@ -333,14 +312,14 @@ module _ (env : Env) (words_at : ℕ → List ℕ) where
       let before = map performed_of steps in
       subst (SawAllBelow env.geometry env.geometry.nodes) (sym (map-append performed_of steps (did ∷ [])))
       (SawAllBelow-push env.geometry env.geometry.nodes before (performed_of did) saw)
-  SawFor-push (TooBig count) steps did none saw = Any-append_left (LoadedFull count) steps (did ∷ []) saw
+  SawFor-push (TooBig count) steps did none saw = Any-append_left (LoadedFull env words_at count) steps (did ∷ []) saw
   SawFor-push (Bound kick) steps did none saw = Raised-push kick steps did none saw
   SawFor-push (Exists owner) steps did none saw = saw
   SawFor-push (Again table) steps did none saw = FollowedSeen-push env words_at table steps did none.aside.no_shape saw
   SawFor-push (Busy root last) steps did none saw = BusySeen-push env words_at root last steps did none.aside.no_shape saw
   SawFor-push (NoTable size) steps did none saw = elim saw [
     | inl full ↦ inl (NoTableSeen-push env words_at size steps did none.aside.no_shape full)
-    | inr missed ↦ inr (SawNoPage-push env words_at size steps did none.aside.no_shape missed)
+    | inr missed ↦ inr (SawNoPage-push env words_at mix port size steps did none.aside.no_shape missed)
   ]
   SawFor-push _ steps did none saw = absurd saw
 
@@ -410,22 +389,22 @@ module _ (env : Env) (words_at : ℕ → List ℕ) where
   rebind_replaced-saw node found relink Go all = tt
   rebind_replaced-saw node found relink (Done done) all = tt
 
-  rebind-saw : (mix : ℕ → ℕ → ℕ → ℕ) (port owner new : ℕ) (state : RebindAt) (steps : List Did) (did : Did)
+  rebind-saw : (owner new : ℕ) (state : RebindAt) (steps : List Did) (did : Did)
       → Performs mix env (rebinds port owner new state) did → SawAtRebind state steps
       → SawNextRebind (steps ++ did ∷ []) (rebind.after_at mix env port owner state did.old)
-  rebind-saw mix port owner new (rebinds_at.Filling made) steps did does saw =
+  rebind-saw owner new (rebinds_at.Filling made) steps did does saw =
       rebind_made-saw made (new_node_after_at made.at did.old) (steps ++ did ∷ [])
       (new-saw made made.at steps did refl does.within.at_in does.planned saw)
-  rebind-saw mix port owner new (rebinds_at.Seeking node seek) steps did does saw =
+  rebind-saw owner new (rebinds_at.Seeking node seek) steps did does saw =
       rebind_sought-saw node (seek_after mix port seek did.old).0 (seek_after mix port seek did.old).1 (steps ++ did ∷ [])
-  rebind-saw mix port owner new (rebinds_at.Owner node found) steps did does saw =
+  rebind-saw owner new (rebinds_at.Owner node found) steps did does saw =
       rebind_compared-saw node found (owner_of did.old == owner) (steps ++ did ∷ [])
-  rebind-saw mix port owner new (rebinds_at.ChainLink node found) steps did does saw = tt
-  rebind-saw mix port owner new (rebinds_at.Link node found link) steps did does saw = tt
-  rebind-saw mix port owner new (rebinds_at.Replacing node found relink) steps did does saw =
+  rebind-saw owner new (rebinds_at.ChainLink node found) steps did does saw = tt
+  rebind-saw owner new (rebinds_at.Link node found link) steps did does saw = tt
+  rebind-saw owner new (rebinds_at.Replacing node found relink) steps did does saw =
       rebind_replaced-saw node found (relink_after relink).0 (relink_after relink).1 (steps ++ did ∷ [])
-  rebind-saw mix port owner new (rebinds_at.Unlocking node table unlock) steps did does saw = tt
-  rebind-saw mix port owner new (rebinds_at.Giving give) steps did does saw = tt
+  rebind-saw owner new (rebinds_at.Unlocking node table unlock) steps did does saw = tt
+  rebind-saw owner new (rebinds_at.Giving give) steps did does saw = tt
 
   SawForReply-push : (reply : Option Reply) (steps : List Did) (did : Did) → IsStill did
       → SawForReply reply steps → SawForReply reply (steps ++ did ∷ [])
@@ -491,7 +470,7 @@ module _ (env : Env) (words_at : ℕ → List ℕ) where
       (λ t.
       let full : most_ports env.config.max ≤ min count 65536 =
       leb-true (most_ports env.config.max) (min count 65536) t in
-      Any-push (LoadedFull count) steps did record { loaded = is; found = refl; full = omega arith })
+      Any-push (LoadedFull env words_at count) steps did record { loaded = is; found = refl; full = omega arith })
       (λ f.
       by_test (λ t. SawAt (cond t (unlocking_full claimed full.Table) (at.Link claimed)) all) above
       (λ t. record {
@@ -504,7 +483,7 @@ module _ (env : Env) (words_at : ℕ → List ℕ) where
   raise-saw : (claimed : Claimed) (steps : List Did) (did : Did) → did.op ≡ Add (place_of env.geometry PortCount) 1
       → Walked env.geometry claimed.table claimed.shape steps
       → AttachedSo env.geometry claimed.attempt.attached steps → AllByRecursion (IsNoRaise env.geometry) steps
-      → Raised (kicks env claimed did.old) (steps ++ did ∷ [])
+      → Raised env words_at (kicks env claimed did.old) (steps ++ did ∷ [])
   unfolding LastWalked-push
   raise-saw claimed steps did is walked so none =
       let behind = walked.last.behind in
@@ -522,7 +501,7 @@ module _ (env : Env) (words_at : ℕ → List ℕ) where
             (no_load env.geometry did _ is (λ place load. cc)) walked.last;
         unraised = parts.0;
         each =
-            AllByRecursion-push (SaysOfRaise attached claimed.shape kick) behind did
+            AllByRecursion-push (SaysOfRaise env words_at attached claimed.shape kick) behind did
             (unraised-says attached claimed.shape kick behind parts.1)
             (λ adds. refl);
         some = inl (Any-push (IsRaise env.geometry) behind did is);
@@ -549,7 +528,7 @@ module _ (env : Env) (words_at : ℕ → List ℕ) where
   }
 
   published-saw : (node table : ℕ) (kick : Bool) (relink : RelinkModel) (next : Next (Unit {0})) (steps : List Did)
-      → Raised kick steps → SawNext steps (published node table kick relink next)
+      → Raised env words_at kick steps → SawNext steps (published node table kick relink next)
   published-saw node table kick relink Go steps raised = raised
   published-saw node table kick relink (Done done) steps raised = raised
 
@@ -622,14 +601,58 @@ module _ (env : Env) (words_at : ℕ → List ℕ) where
   nonzero_named word few some =
       elim (cases_lt 0 word) [ inl low ↦ omega (arith, few, low) | inr none ↦ absurd (some (omega (arith, none))) ]
 
-  module _ (mix : ℕ → ℕ → ℕ → ℕ) (port owner : ℕ) (once : Bool) where
+  module _ (owner : ℕ) (once : Bool) where
+    -- a table's future is none, or one of the slots
+    future_few : (words : List ℕ) (G : Ghost) (slot : ℕ) → Whole env mix (mem env mix words) G
+        → has_table (G.slot slot) ≡ true → mem env mix words (Slot slot FutureWord) ≤ 8
+    future_few words G slot whole table =
+        let τ = index_at G slot in
+        let is = whole.tables.slots slot table in
+        let word = (whole.tables.each τ is.attached).future_is in
+        let here : mem env mix words (Slot slot FutureWord) ≡ future_in env mix G τ =
+        ap (λ s. mem env mix words (Slot s FutureWord)) (sym is.slot) ∙ word in
+        elim (cases_lt (τ + 1) G.attached) [
+          | inl more ↦
+              let low = (whole.tables.each (τ + 1) more).slot_in in
+              let next = ap (λ t. cond t (future_of (G.table (τ + 1)).slot) 0) (lt-ltb (τ + 1) G.attached more) in
+              omega (arith, here, next, low)
+          | inr last ↦
+              let none = ap (λ t. cond t (future_of (G.table (τ + 1)).slot) 0) (le-ltb (τ + 1) G.attached last) in
+              omega (arith, here, none)
+        ]
+
+    -- so where the future of the table is loaded and names none, it is 0
+    early-told : (words : List ℕ) (G : Ghost) → Whole env mix (mem env mix words) G → (m : LocateModel) (did : Did) → m.table < 8
+        → m.geometry ≡ env.geometry → did.old ≡ old_of words did.op → (state : LocateAt)
+        → did.op ≡ locate_plan_at m.geometry m.table state → TableMeans env mix G (known_locate port m.table state)
+        → TellsNone env.geometry (SeesNoFuture env.geometry) m.table state did
+    early-told words G whole m did within same found locates.Shape plan means = tt
+    early-told words G whole m did within same found (locates.Seed shape) plan means = tt
+    early-told words G whole m did within same found (locates.Early shape place) plan means = λ none.
+        let loads : did.op ≡ Load (place_of env.geometry (Slot m.table FutureWord)) =
+        plan ∙ ap (λ (h : Geometry). Load (place_of h (Slot m.table FutureWord))) same in
+        let word : did.old ≡ mem env mix words (Slot m.table FutureWord) = found ∙ ap (old_of words) loads in
+        let few = future_few words G m.table whole means.shaped.passing.table in
+        record {
+          word = record { there = (within, tt); loads = loads };
+          found = no_slot did.old (omega (arith, word, few)) none;
+        }
+    early-told words G whole m did within same found (locates.Entry shape early place) plan means = tt
+
+    -- what the operations behind the load of a table's shape see before that of an entry, where the future was this
+    abbrev SeesEntry : ℕ → Option ℕ → List Did → Type 0
+    SeesEntry table early behind = LoadedEarly env.geometry (SeesNoFuture env.geometry table) early behind
+
+    -- and with the load of an entry that leads to no page
+    abbrev SeesMissed : ℕ → ℕ → List Did → Type 0
+    SeesMissed table shape behind =
+        SeesMissing env words_at mix port table shape (SawGrowing env.geometry (grows.Taking (first_run env.geometry 1))) behind
+
     -- where the bucket is missing and no table was behind, the entry that was loaded leads to no page
     abbrev MissedAt : ℕ → ℕ → LocatedBucket → List Did → Type 0
     MissedAt table shape (buckets.At place) steps = Unit {0}
     MissedAt table shape (buckets.Missing place (Some next)) steps = Unit {0}
-    MissedAt table shape (buckets.Missing place None) steps =
-        WalkedSeeing env.geometry table shape
-        (SeesMissing env words_at shape (SawGrowing env.geometry (grows.Taking (first_run env.geometry 1)))) steps
+    MissedAt table shape (buckets.Missing place None) steps = WalkedSeeing env.geometry table shape (SeesMissed table shape) steps
 
     abbrev MissedNext : ℕ → LocateModel × Next Located → List Did → Type 0
     MissedNext table (m, Go) steps = Unit {0}
@@ -641,7 +664,7 @@ module _ (env : Env) (words_at : ℕ → List ℕ) where
       load_missed : (shape : ℕ) (place : PlaceModel) → place.geometry ≡ env.geometry → did.op ≡ place_plan place
           → page_of place.geometry.pages did.old ≡ None
           → TableMeans env mix G (OnWay port m.table shape place None)
-          → WalkedSeeing env.geometry m.table shape (LoadedNoKey env.geometry) steps
+          → WalkedSeeing env.geometry m.table shape (SeesEntry m.table None) steps
           → MissedAt m.table shape (buckets.Missing place None) (steps ++ did ∷ [])
       load_missed shape place same plan none on walked =
           let there = place_of env.geometry (PageWord place.entry) in
@@ -651,17 +674,16 @@ module _ (env : Env) (words_at : ℕ → List ℕ) where
           let leads : page_of env.geometry.pages (mem env mix words (PageWord place.entry)) ≡ None =
           sym (ap (page_of env.geometry.pages) word) ∙ ap (λ (h : Geometry). page_of h.pages did.old) (sym same) ∙ none in
           let order = parts_in_order env.geometry in
-          let missing = misses-page env words_at mix words G whole port m.table shape place did on now loads leads in
-          WalkedSeeing-push env.geometry m.table shape (LoadedNoKey env.geometry)
-          (SeesMissing env words_at shape (SawGrowing env.geometry (grows.Taking (first_run env.geometry 1)))) steps did
+          let missing = misses-page env words_at mix words G whole port m.table shape place did on now same loads leads in
+          WalkedSeeing-push env.geometry m.table shape (SeesEntry m.table None) (SeesMissed m.table shape) steps did
           (elsewhere env.geometry did there loads
           (λ table below same. absurd (omega (arith, below, same, order.page_map, order.nodes, order.pages))))
-          (λ behind no_keys. begins-missing env words_at shape place.entry behind did on.nested missing
-          (no_key-behind env.geometry did there loads (omega arith)) no_keys) walked
+          (λ behind seen. begins-missing env words_at mix port m.table shape place.entry behind did on.nested missing
+          (no_key-behind env.geometry did there loads (omega arith)) seen) walked
 
       entry-missed : (shape : ℕ) (early : Option ℕ) (place : PlaceModel) → place.geometry ≡ env.geometry
           → did.op ≡ place_plan place → TableMeans env mix G (OnWay port m.table shape place early)
-          → WalkedSeeing env.geometry m.table shape (LoadedNoKey env.geometry) steps
+          → WalkedSeeing env.geometry m.table shape (SeesEntry m.table early) steps
           → (page : Option ℕ) → page_of place.geometry.pages did.old ≡ page
           → let next = entry_seen place page in
           MissedNext m.table (entry_followed m shape early next.0 next.1) (steps ++ did ∷ [])
@@ -676,7 +698,7 @@ module _ (env : Env) (words_at : ℕ → List ℕ) where
 
       located-missed : (state : LocateAt) → IsLocateAtIn env.geometry state
           → did.op ≡ locate_plan_at m.geometry m.table state → TableMeans env mix G (known_locate port m.table state)
-          → WalkedAt env.geometry m.table state steps
+          → WalkedAt env.geometry (SeesNoFuture env.geometry) m.table state steps
           → MissedNext m.table (locate_after_at mix port m state did.old) (steps ++ did ∷ [])
       located-missed locates.Shape within plan means walked = tt
       located-missed (locates.Seed shape) within plan means walked =
@@ -698,10 +720,10 @@ module _ (env : Env) (words_at : ℕ → List ℕ) where
     bucket-saw attempt table shape (buckets.Missing place None) steps walked came missed = missed
 
     found-saw : (attempt : Attempt) (table : ℕ) (next : LocateModel × Next Located) (steps : List Did)
-        → next.0.table ≡ table → WalkedNext env.geometry table next steps → MissedNext table next steps
+        → next.0.table ≡ table → WalkedNext env.geometry (SeesNoFuture env.geometry) table next steps → MissedNext table next steps
         → SawAt (located env port attempt next.0 next.1) steps
     found-saw attempt table (after, Go) steps same walked missed =
-        subst (λ t. WalkedAt env.geometry t after.at steps) (sym same) walked
+        subst (λ t. WalkedAt env.geometry (SeesNoFuture env.geometry) t after.at steps) (sym same) walked
     found-saw attempt table (after, Done there) steps same walked missed =
         subst (λ t. SawAt (at_bucket env port attempt t there.shape there.bucket) steps) (sym same)
         (bucket-saw attempt table there.shape there.bucket steps walked.0 walked.1 missed)
@@ -716,7 +738,11 @@ module _ (env : Env) (words_at : ℕ → List ℕ) where
         let within = does.within.at_in.locate_in in
         found-saw attempt locate.table (locate_after mix port locate did.old) all
         (same_table env.geometry mix port locate locate.at did.old)
-        (locate-walked env.geometry mix port locate locate.at steps did within.at_in within.table_in does.planned saw)
+        (locate-walked env.geometry (SeesNoFuture env.geometry) mix port locate locate.at steps did within.at_in within.table_in
+        does.planned
+        (early-told does.words does.ghost does.whole locate did within.table_in within.geometry_same does.found locate.at does.planned
+        does.knows.knowing.means.table)
+        saw)
         (located-missed does.words does.ghost does.whole locate steps did now does.found locate.at within.at_in does.planned
         does.knows.knowing.means.table saw)
 
@@ -739,16 +765,16 @@ module _ (env : Env) (words_at : ℕ → List ℕ) where
 
     -- behind the page it looks at the next entry, or in the bucket
     entered-saw : (attempt : Attempt) (table shape : ℕ) (start : Start PlaceModel ℕ) (all : List Did)
-        → WalkedSeeing env.geometry table shape (LoadedNoKey env.geometry) all
+        → WalkedSeeing env.geometry table shape (SeesEntry table None) all
         → SawAt (behind_page env port attempt table shape start) all
     entered-saw attempt table shape (starts.Running next) all seeing = (seeing, tt)
     entered-saw attempt table shape (starts.Done place) all seeing =
-        bucket-saw attempt table shape (buckets.At place) all seeing tt tt
+        bucket-saw attempt table shape (buckets.At place) all (record { walked = seeing.walked; saw = seeing.saw.0 }) tt tt
 
     -- where no page was free each was seen taken
     grown-saw : (attempt : Attempt) (table shape : ℕ) (place : PlaceModel) (grow : GrowModel)
         (r : GrowAt × Next (Option ℕ)) (all : List Did)
-        → WalkedSeeing env.geometry table shape (SeesMissing env words_at shape (SawGrown env.geometry r)) all
+        → WalkedSeeing env.geometry table shape (SeesMissing env words_at mix port table shape (SawGrown env.geometry r)) all
         → SawAt (grown env port attempt table shape place (record grow { at = r.0 }) r.1) all
     grown-saw attempt table shape place grow (state, Go) all seeing = seeing
     grown-saw attempt table shape place grow (state, Done None) all seeing =
@@ -763,13 +789,17 @@ module _ (env : Env) (words_at : ℕ → List ℕ) where
           at = saw.at;
           taking = saw.taking;
           split = saw.split;
+          none = saw.none;
           entry = saw.entry;
           missing = saw.missing;
           taken = saw.taken;
         })
     grown-saw attempt table shape place grow (state, Done (Some page)) all seeing =
         entered-saw attempt table shape (entered place page) all
-        (record { walked = seeing.walked; saw = seeing.saw.no_key })
+        (record {
+          walked = seeing.walked;
+          saw = missing-early env words_at mix port table shape (SawGrown env.geometry (state, Done (Some page))) seeing.walked.last.behind seeing.saw;
+        })
 
     -- an attempt has ended for a table that was seen behind the last one
     ended-saw : (table : ℕ) (all : List Did) → FollowedSeen env words_at table all → SawForReply (ended_attempt once table) all
@@ -852,25 +882,6 @@ module _ (env : Env) (words_at : ℕ → List ℕ) where
         (inr (record { table_in = within; slot_in = named.0; tells = inl is; found = named.1 }))
         (record { walked = saw.walked; saw = refusal-why env words_at growing refusal saw.walked.behind saw.saw })))
 
-    -- a table's future is none, or one of the slots
-    future_few : (words : List ℕ) (G : Ghost) (slot : ℕ) → Whole env mix (mem env mix words) G
-        → has_table (G.slot slot) ≡ true → mem env mix words (Slot slot FutureWord) ≤ 8
-    future_few words G slot whole table =
-        let τ = index_at G slot in
-        let is = whole.tables.slots slot table in
-        let word = (whole.tables.each τ is.attached).future_is in
-        let here : mem env mix words (Slot slot FutureWord) ≡ future_in env mix G τ =
-        ap (λ s. mem env mix words (Slot s FutureWord)) (sym is.slot) ∙ word in
-        elim (cases_lt (τ + 1) G.attached) [
-          | inl more ↦
-              let low = (whole.tables.each (τ + 1) more).slot_in in
-              let next = ap (λ t. cond t (future_of (G.table (τ + 1)).slot) 0) (lt-ltb (τ + 1) G.attached more) in
-              omega (arith, here, next, low)
-          | inr last ↦
-              let none = ap (λ t. cond t (future_of (G.table (τ + 1)).slot) 0) (le-ltb (τ + 1) G.attached last) in
-              omega (arith, here, none)
-        ]
-
     -- and so it is found where the table is full
     attaching_few : (growing : Growing) (slot shape : ℕ) (did : Did)
         → Performs mix env (binds port owner once (at.Attaching growing slot shape)) did → did.old ≤ 8
@@ -932,10 +943,10 @@ module _ (env : Env) (words_at : ℕ → List ℕ) where
         let after = grow_after_at env.geometry grow.at did.old in
         let Before = SawGrowing env.geometry grow.at in
         let After = SawGrown env.geometry after in
-        let seeing : WalkedSeeing env.geometry table shape (SeesMissing env words_at shape After) (steps ++ did ∷ []) =
-        WalkedSeeing-push env.geometry table shape (SeesMissing env words_at shape Before)
-        (SeesMissing env words_at shape After) steps did (grow_aside grow.entry grow.at did does.planned)
-        (λ behind so_far. SeesMissing-push env words_at shape Before After behind did
+        let seeing : WalkedSeeing env.geometry table shape (SeesMissing env words_at mix port table shape After) (steps ++ did ∷ []) =
+        WalkedSeeing-push env.geometry table shape (SeesMissing env words_at mix port table shape Before)
+        (SeesMissing env words_at mix port table shape After) steps did (grow_aside grow.entry grow.at did does.planned)
+        (λ behind so_far. SeesMissing-push env words_at mix port table shape Before After behind did
         (grow_no_key grow.entry grow.at did within.at_in does.planned)
         (λ before here. grow-saw env.geometry grow.entry grow.at before (performed_of did) within.at_in does.planned here)
         so_far) saw in
@@ -1046,18 +1057,45 @@ module _ (env : Env) (words_at : ℕ → List ℕ) where
     all-saw (state, Go) all saw so none = (saw, (so, none))
     all-saw (state, Done reply) all saw so none = saw
 
+-- ---- what any call has seen
+
+module _ (env : Env) (words_at : ℕ → List ℕ) (mix : ℕ → ℕ → ℕ → ℕ) where
+  -- what the operations of any call saw for it to have this reply; a look-up and a listing have nothing to show, and of the others there is no machine yet
+  abbrev pub SawOf : Call → Reply → List Did → Type 0
+  SawOf (Bind port owner once) reply steps = SawFor env words_at mix port reply steps
+  SawOf (Find port) reply steps = Unit {0}
+  SawOf (All port) reply steps = Unit {0}
+  SawOf (Release port owner) reply steps = SawForRelease env reply steps
+  SawOf (Rebind port owner new) reply steps = SawForRebind env reply steps
+  SawOf (Walk from limit) reply steps = ⊥
+  SawOf Work reply steps = SawForWork env words_at reply steps
+  SawOf Tidy reply steps = ⊥
+  SawOf Count reply steps = SawForCount env words_at reply steps
+
+  -- of a look-up and a listing nothing is kept, nor of a reading of the count before it ends
+  abbrev pub JobSaw : Job → List Did → Type 0
+  JobSaw (finds port state) steps = Unit {0}
+  JobSaw (binds port owner once state) steps =
+      SawAt env words_at mix port state steps × (SawAttached env state steps × SawUnraised env state steps)
+  JobSaw (lists port room state) steps = Unit {0}
+  JobSaw (releases port owner state) steps = SawRelease env state steps
+  JobSaw (rebinds port owner new state) steps = SawAtRebind env words_at mix port state steps
+  JobSaw (works state) steps = SawAtWork env words_at state steps
+  JobSaw counts steps = Unit {0}
+
 -- ---- the other calls
 
 module _ (env : Env) where
-  work-cause : (past : Past) (reply : Reply) → SawForWork env reply past.steps → IsWorkReply reply → WorkCause env past reply
-  work-cause past (Moved again) saw is = elim saw [
-    | inl has ↦ inl (SawReplaced-published env again past.steps has)
+  work-cause : (words_at : ℕ → List ℕ) (past : Past) (reply : Reply) → SawForWork env words_at reply past.steps → IsWorkReply reply
+      → WorkCause env words_at past reply
+  work-cause words_at past (Moved again) saw is = elim saw [
+    | inl has ↦ inl (SawReplaced-published env words_at again past.steps has)
     | inr stops ↦ inr stops
   ]
-  work-cause past Idle saw is = SawIdle-nothing env past.steps saw
-  work-cause past (NoTable size) saw is = saw
-  work-cause past Elsewhere saw is = saw
-  work-cause past _ saw is = absurd is
+  work-cause words_at past Idle saw is = SawIdle-nothing env words_at past.steps saw
+  work-cause words_at past (NoTable size) saw is = saw
+  work-cause words_at past Elsewhere saw is = saw
+  work-cause words_at past _ saw is = absurd is
 
   -- a look-up has nothing to show for its answers
   find-cause : (reply : Reply) → IsFindReply reply → FindCause reply
@@ -1085,13 +1123,13 @@ module _ (M : Type 0) (mix : ℕ → ℕ → ℕ → ℕ) (env : Env) (events : 
   words_at = words_before M mix env events
 
   abbrev pub EndsSeen : Call → Ending → List Did → Type 0
-  EndsSeen call ending steps = SawOf env words_at call ending.answer.reply steps
+  EndsSeen call ending steps = SawOf env words_at mix call ending.answer.reply steps
 
   -- an operation leads on where what is seen behind it is enough for the next state, or for the end
   next-leads : {S A : Type 0} (start : Job) (job : S → Job) (ending : A → Ending) (all : List Did) (next : S × Next A)
-      → GoesOrEnds (λ state. JobSaw env words_at (job state) all)
-      (λ end. SawOf env words_at (call_of start) (ending end).answer.reply all) next
-      → LeadsOn M mix env (JobSaw env words_at) EndsSeen start all (job_next job ending next)
+      → GoesOrEnds (λ state. JobSaw env words_at mix (job state) all)
+      (λ end. SawOf env words_at mix (call_of start) (ending end).answer.reply all) next
+      → LeadsOn M mix env (JobSaw env words_at mix) EndsSeen start all (job_next job ending next)
   next-leads start job ending all (state, Go) saw = saw
   next-leads start job ending all (state, Done end) saw = saw
 
@@ -1101,8 +1139,8 @@ module _ (M : Type 0) (mix : ℕ → ℕ → ℕ → ℕ) (env : Env) (events : 
   nothing-saw (state, Done end) = tt
 
   pub job-leads : (job : Job) (steps : List Did) (did : Did)
-      → (performs : Performs mix env job did) → StandsIn mix env words_at job did performs → JobSaw env words_at job steps
-      → LeadsOn M mix env (JobSaw env words_at) EndsSeen job (steps ++ did ∷ []) (job_after mix env job did.old)
+      → (performs : Performs mix env job did) → StandsIn mix env words_at job did performs → JobSaw env words_at mix job steps
+      → LeadsOn M mix env (JobSaw env words_at mix) EndsSeen job (steps ++ did ∷ []) (job_after mix env job did.old)
   job-leads (finds port state) steps did performs now saw =
       let next = find_after_at mix env port state did.old in
       next-leads (finds port state) (finds port) plain_ending (steps ++ did ∷ []) next (nothing-saw next)
@@ -1128,39 +1166,39 @@ module _ (M : Type 0) (mix : ℕ → ℕ → ℕ → ℕ) (env : Env) (events : 
       (rebind-saw env words_at mix port owner new state steps did performs saw)
   job-leads (works state) steps did performs now saw =
       next-leads (works state) works plain_ending (steps ++ did ∷ []) (work.after_at mix env state did.old)
-      (work-saw env mix state steps did performs saw)
+      (work-saw env words_at mix state steps did performs now.now saw)
   job-leads counts steps did performs now saw =
       Any-push (LoadedCount env words_at did.old) steps did (record { loaded = performs.planned; found = refl })
 
   -- below the first node there is none
   first_rebind-saw : (port owner new : ℕ) (kind : Kind) (job : Job) → first_rebind env port owner new kind ≡ Some job
-      → JobSaw env words_at job []
+      → JobSaw env words_at mix job []
   first_rebind-saw port owner new Single job is =
       let here : rebinds port owner new (rebind.first_state env port new) ≡ job = cc in
-      subst (λ j. JobSaw env words_at j []) here (λ node l. absurd (omega arith))
+      subst (λ j. JobSaw env words_at mix j []) here (λ node l. absurd (omega arith))
   first_rebind-saw port owner new Listed job is = absurd (cc)
 
-  pub first_job-saw : (call : Call) (job : Job) → first_job env call ≡ Some job → JobSaw env words_at job []
-  first_job-saw (Find port) job is = subst (λ j. JobSaw env words_at j []) (let here : finds port CurrentTable ≡ job = cc in here) tt
+  pub first_job-saw : (call : Call) (job : Job) → first_job env call ≡ Some job → JobSaw env words_at mix job []
+  first_job-saw (Find port) job is = subst (λ j. JobSaw env words_at mix j []) (let here : finds port CurrentTable ≡ job = cc in here) tt
   first_job-saw (Bind port owner once) job is =
       let here : binds port owner once (first_state env port owner) ≡ job = cc in
-      subst (λ j. JobSaw env words_at j []) here (λ node l. absurd (omega arith), (tt, tt))
+      subst (λ j. JobSaw env words_at mix j []) here (λ node l. absurd (omega arith), (tt, tt))
   first_job-saw (All port) job is =
-      subst (λ j. JobSaw env words_at j [])
+      subst (λ j. JobSaw env words_at mix j [])
       (let here : lists port (room_for_nodes env) (alls.Seeking (seek_new env.geometry)) ≡ job = cc in here) tt
   first_job-saw (Release port owner) job is =
-      subst (λ j. JobSaw env words_at j []) (let here : releases port owner (Seeking (seek_new env.geometry)) ≡ job = cc in here) (tt, tt)
+      subst (λ j. JobSaw env words_at mix j []) (let here : releases port owner (Seeking (seek_new env.geometry)) ≡ job = cc in here) (tt, tt)
   first_job-saw (Rebind port owner new) job is = first_rebind-saw port owner new env.config.kind job is
   first_job-saw Work job is =
-      subst (λ j. JobSaw env words_at j []) (let here : works works_at.WorkLock ≡ job = cc in here) refl
-  first_job-saw Count job is = subst (λ j. JobSaw env words_at j []) (let here : counts ≡ job = cc in here) tt
+      subst (λ j. JobSaw env words_at mix j []) (let here : works works_at.WorkLock ≡ job = cc in here) refl
+  first_job-saw Count job is = subst (λ j. JobSaw env words_at mix j []) (let here : counts ≡ job = cc in here) tt
   first_job-saw _ job is = absurd (cc)
 
   -- what the operations of each call that has ended have seen
   pub past-saw : (c : ℕ) → IsAdmitted env.config.kind events
-      → AllByRecursion (λ (past : Past). SawOf env words_at past.done.call past.done.reply past.steps) ((traced_of {M = M} mix env events).traces c).past
+      → AllByRecursion (λ (past : Past). SawOf env words_at mix past.done.call past.done.reply past.steps) ((traced_of {M = M} mix env events).traces c).past
   past-saw c admitted =
-      (jobs_keep_standing M mix env (JobSaw env words_at) EndsSeen events record { begins = first_job-saw; goes = job-leads } c
+      (jobs_keep_standing M mix env (JobSaw env words_at mix) EndsSeen events record { begins = first_job-saw; goes = job-leads } c
       admitted).past
 
   -- ---- the causes
@@ -1351,19 +1389,19 @@ module _ (M : Type 0) (mix : ℕ → ℕ → ℕ → ℕ) (env : Env) (events : 
       crowded = crowded settled.why settled.shape settled.before (recorded_before table Saw Last steps recorded settled) is_full;
     }
 
-    bind-cause : (past : Past) (reply : Reply) → SawFor env words_at reply past.steps → AllByRecursion IsRecordedHere past.steps
-        → BindCause M mix env events c past reply
-    bind-cause past (Bound kick) saw recorded = kicked kick past.steps recorded saw
-    bind-cause past (Exists owner) saw recorded = saw
-    bind-cause past NoNode saw recorded = saw
-    bind-cause past (TooBig count) saw recorded = full-saw count past.steps recorded saw
-    bind-cause past (Again table) saw recorded = record {
+    bind-cause : (port : ℕ) (past : Past) (reply : Reply) → SawFor env words_at mix port reply past.steps
+        → AllByRecursion IsRecordedHere past.steps → BindCause M mix env events c port past reply
+    bind-cause port past (Bound kick) saw recorded = kicked kick past.steps recorded saw
+    bind-cause port past (Exists owner) saw recorded = saw
+    bind-cause port past NoNode saw recorded = saw
+    bind-cause port past (TooBig count) saw recorded = full-saw count past.steps recorded saw
+    bind-cause port past (Again table) saw recorded = record {
       table = saw.table;
       full = walked_full saw.table (SawWhy env words_at) (IsFollowing env words_at saw.table table) past.steps recorded saw.settled
           saw.settled.saw;
       seen = saw.settled.last;
     }
-    bind-cause past (Busy root last) settled recorded =
+    bind-cause port past (Busy root last) settled recorded =
         let none = Loaded env.geometry (Slot last FutureWord) 0 in
         let saw = settled.saw in
         let same =
@@ -1377,8 +1415,8 @@ module _ (M : Type 0) (mix : ℕ → ℕ → ℕ → ℕ) (env : Env) (events : 
           not_due = subst (λ n. is_above_75 n (size_of (unpacked settled.shape)) env.config.max ≡ false) same saw.not_due;
           none = settled.last;
         }
-    bind-cause past (NoTable size) (inr missed) recorded = inr missed
-    bind-cause past (NoTable size) (inl seen) recorded =
+    bind-cause port past (NoTable size) (inr missed) recorded = inr missed
+    bind-cause port past (NoTable size) (inl seen) recorded =
         let table = seen.table in
         let none = Loaded env.geometry (Slot table FutureWord) 0 in
         let settled = seen.settled in
@@ -1407,7 +1445,7 @@ module _ (M : Type 0) (mix : ℕ → ℕ → ℕ → ℕ) (env : Env) (events : 
           room = saw.room;
           none = settled.last;
         })
-    bind-cause past _ saw recorded = absurd saw
+    bind-cause port past _ saw recorded = absurd saw
 
     -- no more ports are bound than there are nodes, so that no clamp has changed a release's kick
     release-cause : (past : Past) (reply : Reply) → SawForRelease env reply past.steps → IsReleaseReply reply
@@ -1423,19 +1461,19 @@ module _ (M : Type 0) (mix : ℕ → ℕ → ℕ → ℕ) (env : Env) (events : 
     count-cause past (Counted count) saw recorded = counted-saw count past.steps recorded saw
     count-cause past _ saw recorded = absurd saw
 
-    cause_of : (past : Past) (call : Call) (reply : Reply) → SawOf env words_at call reply past.steps → IsReplyTo call reply
+    cause_of : (past : Past) (call : Call) (reply : Reply) → SawOf env words_at mix call reply past.steps → IsReplyTo call reply
         → AllByRecursion IsRecordedHere past.steps → CauseOf M mix env events c past call reply
-    cause_of past (Bind port owner once) reply saw right recorded = bind-cause past reply saw recorded
+    cause_of past (Bind port owner once) reply saw right recorded = bind-cause port past reply saw recorded
     cause_of past (Find port) reply saw right recorded = find-cause env reply right
     cause_of past (All port) reply saw right recorded = all-cause env reply right
     cause_of past (Release port owner) reply saw right recorded = release-cause past reply saw right recorded
     cause_of past (Rebind port owner new) reply saw right recorded = rebind-cause env past reply saw right
-    cause_of past Work reply saw right recorded = work-cause env past reply saw right
+    cause_of past Work reply saw right recorded = work-cause env words_at past reply saw right
     cause_of past Count reply saw right recorded = count-cause past reply saw recorded
     cause_of past _ reply saw right recorded = absurd saw
 
     all_caused : (calls : List Past)
-        → AllByRecursion (λ (past : Past). SawOf env words_at past.done.call past.done.reply past.steps) calls
+        → AllByRecursion (λ (past : Past). SawOf env words_at mix past.done.call past.done.reply past.steps) calls
         → AllByRecursion (IsEndedSo M mix env (Holds M mix env) (Answered M mix env)) calls
         → AllByRecursion (IsPastCall M mix env events c) calls
         → AllByRecursion (HasCause M mix env events c) calls

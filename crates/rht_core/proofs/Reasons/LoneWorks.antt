@@ -73,7 +73,7 @@ or-none : (a b : Bool) → (a || b) ≡ false → b ≡ false
 or-none true b is = absurd (cc)
 or-none false b is = is
 
-module _ (env : Env) (mix : ℕ → ℕ → ℕ → ℕ) where
+module _ (env : Env) (words_at : ℕ → List ℕ) (mix : ℕ → ℕ → ℕ → ℕ) where
   -- ---- what it knows in a state
 
   -- the last table is flat
@@ -95,10 +95,10 @@ module _ (env : Env) (mix : ℕ → ℕ → ℕ → ℕ) where
 
   -- where it answers that it moved it has made another table the current one
   abbrev CalmEnd : Outcome → List Did → Type 0
-  CalmEnd outcome steps = (again : Bool) → outcome ≡ outcomes.Moved again → SawReplaced env again steps
+  CalmEnd outcome steps = (again : Bool) → outcome ≡ outcomes.Moved again → SawReplaced env words_at again steps
 
   abbrev pub CalmReply : Reply → List Did → Type 0
-  CalmReply reply steps = (again : Bool) → reply ≡ replies.Moved again → SawReplaced env again steps
+  CalmReply reply steps = (again : Bool) → reply ≡ replies.Moved again → SawReplaced env words_at again steps
 
   abbrev pub CalmAt : WorkAt → List Did → List ℕ → Type 0
   CalmAt at.WorkLock steps words = Unit {0}
@@ -362,7 +362,7 @@ module _ (env : Env) (mix : ℕ → ℕ → ℕ → ℕ) where
 
   -- an operation of a resizing that is alone, behind which it knows what its next state says
   pub calm-work : (state : WorkAt) (steps : List Did) (did : Did) (does : Performs mix env (works state) did) (now : List ℕ)
-      → AreSame env (applied does.words did.op) now → SawAtWork env state steps → CalmAt state steps does.words
+      → AreSame env (applied does.words did.op) now → SawAtWork env words_at state steps → CalmAt state steps does.words
       → CalmNext (steps ++ did ∷ []) now (after_at mix env state did.old)
   calm-work at.WorkLock steps did does now still saw calm = calm-lock (steps ++ did ∷ []) now did.old
   calm-work at.CurrentTable steps did does now still saw calm = tt
@@ -414,7 +414,7 @@ module _ (env : Env) (mix : ℕ → ℕ → ℕ → ℕ) where
       leaves-flat (at.Linking emptying entry second) did does now still (λ table old new l e. cc) calm
   calm-work (at.CuttingOff emptying entry) steps did does now still saw calm =
       calm-cut (steps ++ did ∷ []) now emptying entry.before
-      (leaves-flat (at.CuttingOff emptying entry) did does now still (cut-none env emptying.bucket.place entry.before) calm)
+      (leaves-flat (at.CuttingOff emptying entry) did does now still (cut-none env words_at emptying.bucket.place entry.before) calm)
   calm-work (at.Unlocking rehash number unlock true) steps did does now still saw calm = absurd calm
   calm-work (at.Unlocking rehash number unlock false) steps did does now still saw calm =
       calm-next (steps ++ did ∷ []) now rehash number
@@ -424,11 +424,11 @@ module _ (env : Env) (mix : ℕ → ℕ → ℕ → ℕ) where
       calm-retiring (steps ++ did ∷ []) now rehash (slot_of did.old)
   calm-work (at.Retiring root again) steps did does now still saw calm = λ answered is.
       let same : again ≡ answered = cc in
-      subst (λ a. SawReplaced env a (steps ++ did ∷ [])) same
-      (stored-saw env again (Slot root StateWord) 2 steps did (does.within, tt) (λ e. cc) does.planned saw)
+      subst (λ a. SawReplaced env words_at a (steps ++ did ∷ [])) same
+      (stored-saw env words_at again (Slot root StateWord) 2 steps did (does.within, tt) (λ e. cc) does.planned saw)
   calm-work (at.LettingGo outcome) steps did does now still saw calm = λ again is.
       let moved : outcome ≡ outcomes.Moved again = moved-outcome outcome again is in
-      stored-saw env again WorkLock 0 steps did tt (λ e. cc) does.planned (calm again moved)
+      stored-saw env words_at again WorkLock 0 steps did tt (λ e. cc) does.planned (calm again moved)
     where
       moved-outcome : (outcome : Outcome) (again : Bool) → reply_of outcome ≡ replies.Moved again → outcome ≡ outcomes.Moved again
       moved-outcome outcomes.Idle again is = absurd (cc)

@@ -1,5 +1,5 @@
 -- The table that a resizing makes has the size that is due: this is one of the sizes of tables, where a nested last table has one.
-use Rattle.std.proofs.Common.{◌≡◌, ℕ, ◌+◌, ◌*◌, ◌/◌, ◌%◌, ◌^◌, ◌<◌, ◌≤◌, inl, inr, sym, ap, subst, ◌∙◌, arith, w32}
+use Rattle.std.proofs.Common.{◌≡◌, ℕ, ◌+◌, ◌*◌, ◌/◌, ◌%◌, ◌^◌, ◌<◌, ◌≤◌, refl, inl, inr, sym, ap, subst, ◌∙◌, arith, w32}
 use Rattle.std.specs.Prelude.{true, false, ◌&&◌, Bool, nat_le, nat_lt, min, max}
 use Rattle.std.specs.Int.{trailing_zeros}
 use Rattle.std.proofs.Math.Pow.{pow-lt}
@@ -88,6 +88,12 @@ made_flat exponent page true few kind = absurd (cc)
 made_flat exponent page false few kind =
     let none : (unpacked (made_shape exponent false page)).nest ≡ 0 = omega (arith, few) in
     ap (nat_lt 0) none
+
+-- nor is one that isn't to be nested
+pub shaped_flat : (exponent page : ℕ) (nested : Bool) → exponent ≤ 17 → (nested ≡ true → false ≡ true)
+    → is_nested (made_shape exponent nested page) ≡ false
+shaped_flat exponent page true few kind = absurd (let is = kind refl in cc)
+shaped_flat exponent page false few kind = made_flat exponent page false few tt
 
 -- the table that is made for a size has it
 pub size_of-made : (size page : ℕ) (nested : Bool) → IsSizeUpTo (2 ^ 17) size

@@ -23,7 +23,7 @@ use Rattle.rht_arena.specs.RunLaws.{page_place}
 use Rattle.rht_arena.specs.TakeRun.{TakeRunModel, take_run_new, take_run_plan, take_run_after, run_length, first_run, IsTakeRunAtIn}
 use Rattle.rht_arena.specs.declared.take_run.TakeRunAt.{TakeRunAt}
 use Rattle.rht_arena.proofs.RunsSeen.{next_unseen, GoesOn, Went, goes_on_in}
-use Rattle.rht_nest.specs.Make.{make_plan_at, make_after_at, may_nest, made_pages, made_shape, no_run, run_taken, run_started, top_taken, slot_seen, IsMakeAtIn}
+use Rattle.rht_nest.specs.Make.{make_plan_at, make_after_at, may_nest, made_pages, made_shape, no_run, run_taken, run_started, top_taken, slot_seen, IsKind, IsMakeAtIn}
 use Rattle.rht_nest.specs.MakeLaws.{StoresInSlot, SeesSlotTaken}
 use Rattle.rht_nest.specs.declared.make.MakeAt.{MakeAt}
 use Rattle.rht_nest.specs.declared.make.MakeAt.TheVariants as at
@@ -196,12 +196,12 @@ module _ (g : Geometry) (exponent : ℕ) where
   SawMaking nests (at.Future slot nested page serial) steps = IsShaped slot (made_shape exponent nested page) steps
   SawMaking nests (at.Serial slot nested page serial) steps = IsShaped slot (made_shape exponent nested page) steps
 
-  -- and once it has ended
+  -- and once it has ended; what it made is nested only where it may be
   abbrev pub SawMade : Bool → MakeAt × Next (Option (ℕ × ℕ)) → List Performed → Type 0
   SawMade nests (state, Go) steps = SawMaking nests state steps
   SawMade nests (state, Done None) steps = AreSlotsTaken g steps ⊎ AreNoPages g pages_flat nests steps
   SawMade nests (state, Done (Some made)) steps =
-      (nested : Bool) × (page : ℕ) × IsShaped made.0 (made_shape exponent nested page) steps
+      (nested : Bool) × (page : ℕ) × IsShaped made.0 (made_shape exponent nested page) steps × (nested ≡ true → nests ≡ true)
 
   -- it begins with nothing seen
   pub saw_nothing : (nests : Bool) (steps : List Performed) → AllByRecursion (FindsSlotsTaken g) steps
@@ -299,6 +299,11 @@ module _ (g : Geometry) (exponent : ℕ) where
     tops = runs_taken-stay g 1 0 [] none.nested step none.tops;
   }
 
+  -- a table that is nested may be
+  kind_nests : (allowed nested : Bool) → IsKind exponent allowed nested → nested ≡ true → may_nest exponent allowed ≡ true
+  kind_nests allowed true kind is = kind
+  kind_nests allowed false kind is = absurd (cc)
+
   -- each operation sees more
   pub make-saw : (seed : ℕ) (allowed : Bool) (state : MakeAt) (steps : List Performed) (old : ℕ)
       → IsMakeAtIn g exponent allowed state → SawMaking (may_nest exponent allowed) state steps
@@ -336,5 +341,9 @@ module _ (g : Geometry) (exponent : ℕ) where
       IsShaped-push slot (made_shape exponent nested page) steps
       (record { op = make_plan_at g exponent seed (at.Future slot nested page serial); old = old }) (λ same. absurd (omega (arith, same))) saw
   make-saw seed allowed (at.Serial slot nested page serial) steps old here saw =
-      let step : Performed = record { op = make_plan_at g exponent seed (at.Serial slot nested page serial); old = old } in
-      (nested, page, IsShaped-push slot (made_shape exponent nested page) steps step (λ same. absurd (omega (arith, same))) saw)
+      let step : Performed = record { op = make_plan_at g exponent seed (at.Serial slot nested page serial); old = old } in (
+        nested,
+        page,
+        IsShaped-push slot (made_shape exponent nested page) steps step (λ same. absurd (omega (arith, same))) saw,
+        kind_nests allowed nested here.taken.kind,
+      )

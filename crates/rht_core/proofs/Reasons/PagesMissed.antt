@@ -1,7 +1,8 @@
--- What a bind sees that misses a page on the way to its bucket: the entry that it loaded leads to none, and while it takes a page to enter
--- there, that each page before the one at which it stands was seen taken. So where no page is free, each was.
-use Rattle.std.proofs.Common.{◌≡◌, ℕ, ◌<◌, ◌/◌, ◌==◌, true, List, [], ◌∷◌, ◌++◌, append_assoc, map, Option, Some, None, refl, sym, ap, ◌∙◌, subst}
-use Rattle.std.specs.List.{AllByRecursion}
+-- What a bind sees that misses a page on the way to its bucket: it loaded the table's future as none, then the entry at which the way ends,
+-- since that leads to no page, and while it takes a page to enter there, each page before the one at which it stands was seen taken. So
+-- where no page is free, each was.
+use Rattle.std.proofs.Common.{◌≡◌, ℕ, ◌<◌, ◌==◌, true, List, [], ◌∷◌, ◌++◌, append_assoc, map, Option, Some, None, refl, sym, ap, ◌∙◌, subst, inl, inr}
+use Rattle.std.specs.List.{AllByRecursion, Any}
 use Rattle.std.proofs.lemmas.Bool.{cond_both}
 use Rattle.std.proofs.lemmas.List.{map-append}
 use Rattle.rht_words.specs.declared.env.Env.{Env}
@@ -12,37 +13,42 @@ use Rattle.rht_words.specs.declared.machine.Next.{Next}
 use Rattle.rht_words.specs.declared.machine.Next.TheVariants.{Go, Done}
 use Rattle.rht_words.specs.Links.{page_of}
 use Rattle.rht_words.specs.Machines.{Performed}
-use Rattle.rht_words.specs.Places.{PageWord, place_of}
+use Rattle.rht_words.specs.Places.{Slot, SeedWord, FutureWord, PageWord, place_of, word_at}
 use Rattle.rht_words.specs.Shapes.{unpacked, size_of}
-use Rattle.rht_words.proofs.EachElement.{AllByRecursion-push}
+use Rattle.rht_words.proofs.EachElement.{Any-append_left, AllByRecursion-push}
+use Rattle.rht_words.proofs.Memory.{Memory}
+use Rattle.rht_policy.specs.Mix.{bucket_of}
 use Rattle.rht_arena.specs.TakeRun.{TakeRunModel, first_run, take_run_plan, take_run_after, IsTakeRunAtIn}
 use Rattle.rht_arena.specs.GiveRun.{GiveRunModel, give_run_after}
 use Rattle.rht_arena.proofs.RunsSeen.{goes_on_in}
-use Rattle.rht_nest.specs.Place.{PlaceModel, missing_at, nested_place}
+use Rattle.rht_nest.specs.Place.{PlaceModel, missing_behind, missing_none, missing_or_last, missing_at, nested_place}
 use Rattle.rht_nest.specs.Tables.{is_nested}
 use Rattle.rht_nest.specs.Grow.{grow_plan_at, grow_after_at, page_taken, page_entered, page_given, IsGrowAtIn}
 use Rattle.rht_nest.specs.declared.grow.GrowAt.{GrowAt}
 use Rattle.rht_nest.specs.declared.grow.GrowAt.TheVariants as grows
-use Rattle.rht_core.specs.ResizeCauses.{IsNoKeyLoad, AreRunsTaken, MissesPage, SawNoPage}
+use Rattle.rht_core.specs.ResizeCauses.{Loaded, IsNoKeyLoad, AreRunsTaken, MissesPage, SawNoPage}
 use Rattle.rht_core.specs.StandsFor.{page_word}
 use Rattle.rht_core.specs.Seen.{IsNoShapeLoad}
 use Rattle.rht_core.specs.Traces.{Did, performed_of}
-use Rattle.rht_core.proofs.Theory.Ghosts.{Ghost, table_at, entry_word}
-use Rattle.rht_core.proofs.Theory.Wholes.{IsNested, Whole}
-use Rattle.rht_core.proofs.Theory.Entries.{entry_in, entry_nested}
-use Rattle.rht_core.proofs.Theory.PlacesRead.{entries_in_words}
-use Rattle.rht_core.proofs.Theory.MissingEntries.{missed_at}
-use Rattle.rht_core.proofs.Theory.Knowledge.{IsOnWay}
+use Rattle.rht_core.proofs.Theory.Ghosts.{Ghost, index_at}
+use Rattle.rht_core.proofs.Theory.Wholes.{hash_in, Whole}
+use Rattle.rht_core.proofs.Theory.Passed.{hash-below}
+use Rattle.rht_core.proofs.Theory.PlacesRead.{middle_behind, entries_in_words}
+use Rattle.rht_core.proofs.Theory.WaysRead.{words_of_pages, nested_placed}
+use Rattle.rht_core.proofs.Theory.Knowledge.{IsWay, IsOnWay}
 use Rattle.rht_core.proofs.Theory.Steps.{mem}
-use Rattle.rht_core.proofs.Pieces.Grows.{IsOpenEntry}
-use Rattle.rht_core.proofs.Pieces.OpenEntries.{led, open_in_table}
-use Rattle.rht_core.proofs.Reasons.TablesWalked.{LastWalked-push}
+use Rattle.rht_core.proofs.Pieces.OpenEntries.{open_on_way}
+use Rattle.rht_core.proofs.Reasons.TablesWalked.{LastWalked-push, LoadedEarly}
 use Rattle.rht_core.proofs.Reasons.MakesSeen.{SawRun, SawTaking, taken-saw, runs_taken-stay}
 use Rattle.rht_core.proofs.Reasons.PagesTaken.{passes_in}
 
--- ---- while a page is taken
-
 module _ (g : Geometry) where
+  -- the operation loaded the future of the table in this slot as none
+  abbrev pub SeesNoFuture : ℕ → Did → Type 0
+  SeesNoFuture table did = Loaded g (Slot table FutureWord) 0 did
+
+  -- ---- while a page is taken
+
   abbrev pub SawGrowing : GrowAt → List Performed → Type 0
   SawGrowing (grows.Taking take) steps = SawRun g 1 take.at steps
   SawGrowing (grows.Entering page) steps = Unit {0}
@@ -91,45 +97,48 @@ module _ (env : Env) (words_at : ℕ → List ℕ) where
   abbrev g : Geometry
   g = env.geometry
 
-  -- The operations behind the load of the table's shape loaded an entry that leads to no page, and what came behind that saw this of the
-  -- pages. None of them loaded a key.
-  pub record SeesMissing (shape : ℕ) (Saw : List Performed → Type 0) (behind : List Did) : Type 0 where
+  -- The operations behind the load of the table's shape loaded its future as none, and then an entry that leads to no page, and what came
+  -- behind that saw this of the pages. None of them loaded a key.
+  pub record SeesMissing (mix : ℕ → ℕ → ℕ → ℕ) (port table shape : ℕ) (Saw : List Performed → Type 0) (behind : List Did) : Type 0 where
     pub nested : is_nested shape ≡ true
     pub before : List Did
     pub at : Did
     pub taking : List Did
     pub split : behind ≡ before ++ at ∷ taking
+    pub none : Any (SeesNoFuture g table) before
     pub entry : ℕ
-    pub missing : MissesPage g words_at shape entry at
+    pub missing : MissesPage g words_at mix port table shape entry at
     pub taken : Saw (map performed_of taking)
     pub no_key : AllByRecursion (IsNoKeyLoad g) behind
 
   -- the load of the entry
-  pub begins-missing : (shape entry : ℕ) (behind : List Did) (did : Did) → is_nested shape ≡ true
-      → MissesPage g words_at shape entry did → IsNoKeyLoad g did → AllByRecursion (IsNoKeyLoad g) behind
-      → SeesMissing shape (SawGrowing g (grows.Taking (first_run g 1))) (behind ++ did ∷ [])
-  begins-missing shape entry behind did nested missing none none_before = record {
+  pub begins-missing : (mix : ℕ → ℕ → ℕ → ℕ) (port table shape entry : ℕ) (behind : List Did) (did : Did) → is_nested shape ≡ true
+      → MissesPage g words_at mix port table shape entry did → IsNoKeyLoad g did → LoadedEarly g (SeesNoFuture g table) None behind
+      → SeesMissing mix port table shape (SawGrowing g (grows.Taking (first_run g 1))) (behind ++ did ∷ [])
+  begins-missing mix port table shape entry behind did nested missing no_key seen = record {
     nested = nested;
     before = behind;
     at = did;
     taking = [];
     split = refl;
+    none = seen.1;
     entry = entry;
     missing = missing;
     taken = (tt, refl);
-    no_key = AllByRecursion-push (IsNoKeyLoad g) behind did none_before none;
+    no_key = AllByRecursion-push (IsNoKeyLoad g) behind did seen.0 no_key;
   }
 
   -- an operation behind it
-  pub SeesMissing-push : (shape : ℕ) (Saw After : List Performed → Type 0) (behind : List Did) (did : Did)
+  pub SeesMissing-push : (mix : ℕ → ℕ → ℕ → ℕ) (port table shape : ℕ) (Saw After : List Performed → Type 0) (behind : List Did) (did : Did)
       → IsNoKeyLoad g did → ((steps : List Performed) → Saw steps → After (steps ++ performed_of did ∷ []))
-      → SeesMissing shape Saw behind → SeesMissing shape After (behind ++ did ∷ [])
-  SeesMissing-push shape Saw After behind did none further saw = record {
+      → SeesMissing mix port table shape Saw behind → SeesMissing mix port table shape After (behind ++ did ∷ [])
+  SeesMissing-push mix port table shape Saw After behind did none further saw = record {
     nested = saw.nested;
     before = saw.before;
     at = saw.at;
     taking = saw.taking ++ did ∷ [];
     split = ap (λ l. l ++ did ∷ []) saw.split ∙ append_assoc saw.before (saw.at ∷ saw.taking) (did ∷ []);
+    none = saw.none;
     entry = saw.entry;
     missing = saw.missing;
     taken = subst After (sym (map-append performed_of saw.taking (did ∷ [])))
@@ -137,11 +146,20 @@ module _ (env : Env) (words_at : ℕ → List ℕ) where
     no_key = AllByRecursion-push (IsNoKeyLoad g) behind did saw.no_key none;
   }
 
+  -- where a page was entered after all, the future was loaded as none
+  pub missing-early : (mix : ℕ → ℕ → ℕ → ℕ) (port table shape : ℕ) (Saw : List Performed → Type 0) (behind : List Did)
+      → SeesMissing mix port table shape Saw behind
+      → LoadedEarly g (SeesNoFuture g table) None behind
+  missing-early mix port table shape Saw behind saw = (
+    saw.no_key,
+    subst (Any (SeesNoFuture g table)) (sym saw.split) (Any-append_left (SeesNoFuture g table) saw.before (saw.at ∷ saw.taking) saw.none),
+  )
+
   -- what was seen for want of a page stays seen
-  pub SawNoPage-push : (size : ℕ) (steps : List Did) (did : Did) → IsNoShapeLoad g did → SawNoPage g words_at size steps
-      → SawNoPage g words_at size (steps ++ did ∷ [])
+  pub SawNoPage-push : (mix : ℕ → ℕ → ℕ → ℕ) (port size : ℕ) (steps : List Did) (did : Did) → IsNoShapeLoad g did
+      → SawNoPage g words_at mix port size steps → SawNoPage g words_at mix port size (steps ++ did ∷ [])
   unfolding LastWalked-push
-  SawNoPage-push size steps did none saw = record {
+  SawNoPage-push mix port size steps did none saw = record {
     table = saw.table;
     shape = saw.shape;
     walked = LastWalked-push g saw.table saw.shape steps did none saw.walked;
@@ -151,6 +169,7 @@ module _ (env : Env) (words_at : ℕ → List ℕ) where
     at = saw.at;
     taking = saw.taking ++ did ∷ [];
     split = ap (λ l. l ++ did ∷ []) saw.split ∙ append_assoc saw.before (saw.at ∷ saw.taking) (did ∷ []);
+    none = saw.none;
     entry = saw.entry;
     missing = saw.missing;
     taken = subst (AreRunsTaken g 1 0 []) (sym (map-append performed_of saw.taking (did ∷ [])))
@@ -160,38 +179,53 @@ module _ (env : Env) (words_at : ℕ → List ℕ) where
   -- ---- the entry that was loaded
 
   module _ (mix : ℕ → ℕ → ℕ → ℕ) (words : List ℕ) (G : Ghost) (whole : Whole env mix (mem env mix words) G) where
-    -- where an entry in use leads to no page its word is 0
-    unset : (j : ℕ) → IsOpenEntry env G j → page_of g.pages (mem env mix words (PageWord j)) ≡ None
-        → mem env mix words (PageWord j) ≡ 0
-    unset j here none = go ((G.table (table_at G j)).entry j) refl
-      where
-        go : (entry : Option ℕ) → (G.table (table_at G j)).entry j ≡ entry → mem env mix words (PageWord j) ≡ 0
-        go None e = whole.entries j here.within here.entry ∙ ap entry_word e
-        go (Some page) e = absurd (let leads = led env mix (mem env mix words) G whole j page here e in cc)
+    abbrev M : Memory
+    M = mem env mix words
 
-    -- by the words before the load the way to some bucket ends at the entry
+    -- the way to a bucket ends at an entry on it that leads to no page
+    way_ends : (τ number : ℕ) → τ < G.attached → is_nested (G.table τ).shape ≡ true → (place : PlaceModel)
+        → place.geometry ≡ g → IsWay env mix G number τ (G.table τ).shape place → page_of g.pages (M (PageWord place.entry)) ≡ None
+        → missing_at (words_of_pages M) (nested_place g (G.table τ).shape number) ≡ Some place.entry
+    way_ends τ number l nested place same way none =
+        let read = words_of_pages M in
+        let begins = nested_place g (G.table τ).shape number in
+        elim way [
+          | inl first ↦
+              ap (missing_behind (missing_or_last read) begins)
+              (ap (λ (m : PlaceModel). page_of g.pages (read m.entry)) (sym first) ∙ none)
+              ∙ ap (λ (m : PlaceModel). Some m.entry) (sym first)
+          | inr second ↦
+              let leads = middle_behind env mix (G.table τ) G.page τ (whole.tables.each τ l).placed read
+              (entries_in_words env mix M G whole τ l) (nested_placed env mix M G whole τ l nested) number second.page second.of
+              second.part_is in
+              ap (missing_behind (missing_or_last read) begins) leads
+              ∙ ap (missing_or_last read) second.place_is
+              ∙ ap (missing_behind missing_none place) (ap (λ (h : Geometry). page_of h.pages (read place.entry)) same ∙ none)
+        ]
+
+    -- by the words before the load the way to the port's bucket ends at the entry
     pub misses-page : (port slot shape : ℕ) (place : PlaceModel) (did : Did)
-        → IsOnWay env mix G port slot shape place None → words ≡ words_at did.index
-        → did.op ≡ Load (place_of g (PageWord place.entry))
-        → page_of g.pages (mem env mix words (PageWord place.entry)) ≡ None
-        → MissesPage g words_at shape place.entry did
-    misses-page port slot shape place did on now is none =
-        let M = mem env mix words in
+        → IsOnWay env mix G port slot shape place None → words ≡ words_at did.index → place.geometry ≡ g
+        → did.op ≡ Load (place_of g (PageWord place.entry)) → page_of g.pages (M (PageWord place.entry)) ≡ None
+        → MissesPage g words_at mix port slot shape place.entry did
+    misses-page port slot shape place did on now same is none =
         let j = place.entry in
-        let open_in = open_in_table env mix M G whole port slot shape place on in
-        let here = open_in.open_is in
-        let at = entry_in env mix G j here.entry in
-        let τ = table_at G j in
-        let attached : τ < G.attached = whole.pages.page_of (j / 64) τ at.of in
-        let nested : IsNested env mix (G.table τ) G.page τ = entry_nested env mix M G whole j at in
-        let missed = missed_at env mix (G.table τ) G.page τ nested (λ i. M (PageWord i))
-        (entries_in_words env mix M G whole τ attached) j (unset j here none) at.of here.used in
-        let shape_is : (G.table τ).shape ≡ shape = ap (λ t. (G.table t).shape) open_in.table ∙ on.shaped.shape_is in
+        let τ = index_at G slot in
+        let number = hash_in env mix G port τ in
+        let here = whole.tables.slots slot on.shaped.passing.table in
+        let shape_is = on.shaped.shape_is in
+        let seed : M (Slot slot SeedWord) ≡ (G.table τ).seed =
+        ap (λ s. M (Slot s SeedWord)) (sym here.slot) ∙ (whole.tables.each τ here.attached).seed_is in
+        let number_is : number ≡ bucket_of mix port shape (M (Slot slot SeedWord)) =
+        ap (λ s. bucket_of mix port s (G.table τ).seed) shape_is ∙ ap (bucket_of mix port shape) (sym seed) in
+        let ends = way_ends τ number here.attached (ap is_nested shape_is ∙ on.nested) place same
+        (subst (λ s. IsWay env mix G number τ s place) (sym shape_is) on.way) none in
         record {
-          entry_in = here.within;
+          entry_in = (open_on_way env mix M G whole port slot shape place on).within;
           loads = is;
-          bucket = missed.bucket;
-          within = subst (λ s. missed.bucket < size_of (unpacked s)) shape_is missed.within;
-          ends = subst (λ ws. missing_at (page_word g ws) (nested_place g shape missed.bucket) ≡ Some j) now
-              (subst (λ s. missing_at (λ i. M (PageWord i)) (nested_place g s missed.bucket) ≡ Some j) shape_is missed.ends);
+          bucket = number;
+          bucket_is = subst (λ ws. number ≡ bucket_of mix port shape (word_at g ws (Slot slot SeedWord))) now number_is;
+          within = subst (λ s. number < size_of (unpacked s)) shape_is (hash-below env mix M G whole port τ);
+          ends = subst (λ ws. missing_at (page_word g ws) (nested_place g shape number) ≡ Some j) now
+              (subst (λ s. missing_at (λ i. M (PageWord i)) (nested_place g s number) ≡ Some j) shape_is ends);
         }

@@ -50,7 +50,7 @@ use Rattle.rht_move.specs.Choice.{is_sparse}
 use Rattle.rht_core.specs.Traces.{Did}
 use Rattle.rht_core.specs.Seen.{CameTo, IsNoShapeLoad, LastWalked}
 use Rattle.rht_core.specs.Causes.{IsLowering, IsSparseBy, KicksOnRelease}
-use Rattle.rht_core.proofs.Reasons.TablesWalked.{IsAside, aside, node_loads, probe_loads, relink_stores, CameTo-append, came-current, came-future, walked-came, Walked, Walked-push, WalkedAt, CameBehind, CameBeyond, WalkedNext, same_table, locate-walked}
+use Rattle.rht_core.proofs.Reasons.TablesWalked.{IsAside, aside, node_loads, probe_loads, relink_stores, CameTo-append, came-current, came-future, walked-came, Walked, Walked-push, WalkedAt, CameBehind, CameBeyond, WalkedNext, TellsNone, same_table, locate-walked}
 
 -- ---- which operations lower a count
 
@@ -103,9 +103,13 @@ module _ (env : Env) where
     pub shape : ℕ
     pub walked : Walked env.geometry table shape steps
 
+  -- it keeps nothing of the load of a future that was none
+  abbrev NothingOfNone : ℕ → Did → Type 0
+  NothingOfNone table did = Unit {0}
+
   abbrev SawSeek : SeekAt → List Did → Type 0
   SawSeek seeks.CurrentTable steps = Unit {0}
-  SawSeek (seeks.Locating locate) steps = WalkedAt env.geometry locate.table locate.at steps
+  SawSeek (seeks.Locating locate) steps = WalkedAt env.geometry NothingOfNone locate.table locate.at steps
   SawSeek (seeks.Probing table shape probe) steps = Walked env.geometry table shape steps
   SawSeek (seeks.Future table bucket) steps = CameTo env.geometry table steps
   SawSeek (seeks.Leaving table unlock future) steps = IfSome future (λ next. CameTo env.geometry next steps)
@@ -177,11 +181,11 @@ module _ (env : Env) where
   bucket-saw g port locate shape (buckets.Missing place early) h all walked came = early-saw g port locate early h all came
 
   located-saw : (mix : ℕ → ℕ → ℕ → ℕ) (g : Geometry) (port : ℕ) (table : ℕ) (locate : LocateModel) (end : Next Located) (h : Geometry) (all : List Did)
-      → locate.table ≡ table → WalkedNext env.geometry table (locate, end) all
+      → locate.table ≡ table → WalkedNext env.geometry NothingOfNone table (locate, end) all
       → let next = located g port locate end in
       SawNextRelease all (sought (record { geometry = h; at = next.0 }) next.1)
   located-saw mix g port table locate Go h all same walked =
-      subst (λ t. WalkedAt env.geometry t locate.at all) (sym same) walked
+      subst (λ t. WalkedAt env.geometry NothingOfNone t locate.at all) (sym same) walked
   located-saw mix g port table locate (Done there) h all same walked =
       bucket-saw g port locate there.shape there.bucket h all
       (subst (λ t. Walked env.geometry t there.shape all) (sym same) walked.0.walked) walked.1
@@ -215,6 +219,13 @@ module _ (env : Env) where
   left-saw g table unlock None h steps did came = tt
   left-saw g table unlock (Some next) h steps did came = CameTo-append env.geometry next steps (did ∷ []) came
 
+  -- and so it has nothing to tell of one
+  nothing-told : (table : ℕ) (state : LocateAt) (did : Did) → TellsNone env.geometry NothingOfNone table state did
+  nothing-told table locates.Shape did = tt
+  nothing-told table (locates.Seed shape) did = tt
+  nothing-told table (locates.Early shape place) did = λ none. tt
+  nothing-told table (locates.Entry shape early place) did = tt
+
   seek-saw : (mix : ℕ → ℕ → ℕ → ℕ) (port : ℕ) (h : Geometry) (state : SeekAt) (steps : List Did) (did : Did)
       → IsSeekAtIn env.geometry state → did.op ≡ seek_plan_at h state → SawSeek state steps
       → let next = seek_after mix port (record { geometry = h; at = state }) did.old in
@@ -224,7 +235,8 @@ module _ (env : Env) where
       let next = locate_after mix port locate did.old in
       located-saw mix h port locate.table next.0 next.1 h (steps ++ did ∷ [])
       (same_table env.geometry mix port locate locate.at did.old)
-      (locate-walked env.geometry mix port locate locate.at steps did within.at_in within.table_in is saw)
+      (locate-walked env.geometry NothingOfNone mix port locate locate.at steps did within.at_in within.table_in is
+      (nothing-told locate.table locate.at did) saw)
   seek-saw mix port h (seeks.Probing table shape probe) steps did within is saw =
       probed-saw table shape (probe_after probe did.old).0 (probe_after probe did.old).1 h (steps ++ did ∷ [])
       (Walked-push env.geometry table shape steps did

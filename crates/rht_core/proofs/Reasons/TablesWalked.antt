@@ -4,7 +4,7 @@
 -- of that raise the count of ports.
 use Rattle.std.proofs.Common.{◌≡◌, ◌≢◌, ℕ, ◌<◌, ◌≤◌, Option, Some, None, List, [], ◌∷◌, ◌++◌, refl, sym, ap, ◌∙◌, subst, append_assoc, arith}
 use Rattle.std.specs.Prelude.{IfSome}
-use Rattle.std.specs.List.{AllByRecursion}
+use Rattle.std.specs.List.{AllByRecursion, Any}
 use Rattle.std.proofs.lemmas.Bool.{cond_both}
 use Rattle.std.proofs.lemmas.List.Quantifiers.{Any-push}
 use Rattle.rht_words.specs.declared.op.Op.{Op}
@@ -221,21 +221,26 @@ module _ (g : Geometry) where
   abbrev pub CameBehind : Option ℕ → List Did → Type 0
   CameBehind early steps = IfSome early (λ next. CameTo g next steps)
 
-  abbrev pub WalkedAt : ℕ → LocateAt → List Did → Type 0
-  WalkedAt table locates.Shape steps = CameTo g table steps
-  WalkedAt table (locates.Seed shape) steps = WalkedSeeing table shape LoadedNoKey steps
-  WalkedAt table (locates.Early shape place) steps = WalkedSeeing table shape LoadedNoKey steps
-  WalkedAt table (locates.Entry shape early place) steps =
-      WalkedSeeing table shape LoadedNoKey steps × CameBehind early steps
+  -- none loaded a key, and where no table was behind, this is known of one that loaded the future
+  abbrev pub LoadedEarly : (Did → Type 0) → Option ℕ → List Did → Type 0
+  LoadedEarly SeesNone None behind = LoadedNoKey behind × Any SeesNone behind
+  LoadedEarly SeesNone (Some next) behind = LoadedNoKey behind
+
+  abbrev pub WalkedAt : (ℕ → Did → Type 0) → ℕ → LocateAt → List Did → Type 0
+  WalkedAt SeesNone table locates.Shape steps = CameTo g table steps
+  WalkedAt SeesNone table (locates.Seed shape) steps = WalkedSeeing table shape LoadedNoKey steps
+  WalkedAt SeesNone table (locates.Early shape place) steps = WalkedSeeing table shape LoadedNoKey steps
+  WalkedAt SeesNone table (locates.Entry shape early place) steps =
+      WalkedSeeing table shape (LoadedEarly (SeesNone table) early) steps × CameBehind early steps
 
   -- where the bucket is missing, it has come to the table behind
   abbrev pub CameBeyond : LocatedBucket → List Did → Type 0
   CameBeyond (buckets.At place) steps = Unit {0}
   CameBeyond (buckets.Missing place early) steps = CameBehind early steps
 
-  abbrev pub WalkedNext : ℕ → LocateModel × Next Located → List Did → Type 0
-  WalkedNext table (m, Go) steps = WalkedAt table m.at steps
-  WalkedNext table (m, Done there) steps =
+  abbrev pub WalkedNext : (ℕ → Did → Type 0) → ℕ → LocateModel × Next Located → List Did → Type 0
+  WalkedNext SeesNone table (m, Go) steps = WalkedAt SeesNone table m.at steps
+  WalkedNext SeesNone table (m, Done there) steps =
       WalkedSeeing table there.shape LoadedNoKey steps × CameBeyond there.bucket steps
 
   -- it looks in one table
@@ -258,18 +263,47 @@ module _ (g : Geometry) where
       followed-table m shape early (place_after place word).0 (place_after place word).1
 
   -- behind the load of the seed
-  hashed-walked : (m : LocateModel) (shape bucket : ℕ) (all : List Did) → WalkedSeeing m.table shape LoadedNoKey all
-      → WalkedNext m.table (hashed m shape bucket) all
-  hashed-walked m shape bucket all walked =
-      cond_both (is_nested shape) _ _ (λ next. WalkedNext m.table next all) (λ t. walked) (λ f. (walked, tt))
+  hashed-walked : (SeesNone : ℕ → Did → Type 0) (m : LocateModel) (shape bucket : ℕ) (all : List Did)
+      → WalkedSeeing m.table shape LoadedNoKey all → WalkedNext SeesNone m.table (hashed m shape bucket) all
+  hashed-walked SeesNone m shape bucket all walked =
+      cond_both (is_nested shape) _ _ (λ next. WalkedNext SeesNone m.table next all) (λ t. walked) (λ f. (walked, tt))
+
+  -- none of them loaded a key
+  early-no_key : (SeesNone : Did → Type 0) (early : Option ℕ) (behind : List Did) → LoadedEarly SeesNone early behind
+      → LoadedNoKey behind
+  early-no_key SeesNone None behind loaded = loaded.0
+  early-no_key SeesNone (Some next) behind loaded = loaded
+
+  -- what is known of the future is known further on
+  early-push : (SeesNone : Did → Type 0) (early : Option ℕ) (behind : List Did) (did : Did) → IsNoKeyLoad g did
+      → LoadedEarly SeesNone early behind → LoadedEarly SeesNone early (behind ++ did ∷ [])
+  early-push SeesNone None behind did none loaded =
+      (AllByRecursion-push (IsNoKeyLoad g) behind did loaded.0 none, Any-append_left SeesNone behind (did ∷ []) loaded.1)
+  early-push SeesNone (Some next) behind did none loaded = AllByRecursion-push (IsNoKeyLoad g) behind did loaded none
+
+  -- and is known by the load of the future
+  early-new : (SeesNone : Did → Type 0) (early : Option ℕ) (behind : List Did) (did : Did) → IsNoKeyLoad g did
+      → (early ≡ None → SeesNone did) → LoadedNoKey behind → LoadedEarly SeesNone early (behind ++ did ∷ [])
+  early-new SeesNone None behind did none sees loaded =
+      (AllByRecursion-push (IsNoKeyLoad g) behind did loaded none, Any-push SeesNone behind did (sees refl))
+  early-new SeesNone (Some next) behind did none sees loaded = AllByRecursion-push (IsNoKeyLoad g) behind did loaded none
+
+  -- so none loaded a key behind the load of the shape
+  seeing-no_key : (SeesNone : Did → Type 0) (table shape : ℕ) (early : Option ℕ) (steps : List Did)
+      → WalkedSeeing table shape (LoadedEarly SeesNone early) steps → WalkedSeeing table shape LoadedNoKey steps
+  seeing-no_key SeesNone table shape early steps walked =
+      record { walked = walked.walked; saw = early-no_key SeesNone early walked.walked.last.behind walked.saw }
 
   -- behind an entry
-  followed-walked : (m : LocateModel) (shape : ℕ) (early : Option ℕ) (place : PlaceModel) (next : Next Bucket) (all : List Did)
-      → WalkedSeeing m.table shape LoadedNoKey all × CameBehind early all
-      → WalkedNext m.table (entry_followed m shape early place next) all
-  followed-walked m shape early place Go all walked = walked
-  followed-walked m shape early place (Done (At word)) all walked = (walked.0, tt)
-  followed-walked m shape early place (Done (Absent entry)) all walked = walked
+  followed-walked : (SeesNone : ℕ → Did → Type 0) (m : LocateModel) (shape : ℕ) (early : Option ℕ) (place : PlaceModel)
+      (next : Next Bucket) (all : List Did)
+      → WalkedSeeing m.table shape (LoadedEarly (SeesNone m.table) early) all × CameBehind early all
+      → WalkedNext SeesNone m.table (entry_followed m shape early place next) all
+  followed-walked SeesNone m shape early place Go all walked = walked
+  followed-walked SeesNone m shape early place (Done (At word)) all walked =
+      (seeing-no_key (SeesNone m.table) m.table shape early all walked.0, tt)
+  followed-walked SeesNone m shape early place (Done (Absent entry)) all walked =
+      (seeing-no_key (SeesNone m.table) m.table shape early all walked.0, walked.1)
 
   -- the table behind that was found is come to
   came-behind : (table : ℕ) (early : Option ℕ) (steps : List Did) (did : Did) → table < 8
@@ -283,7 +317,12 @@ module _ (g : Geometry) where
   came-longer None steps did came = tt
   came-longer (Some next) steps did came = CameTo-append next steps (did ∷ []) came
 
-  -- a load of a word of the slots, or of an entry, is of no key
+  -- where the operation loads the future of this table as none, this is known of it
+  abbrev pub TellsNone : (ℕ → Did → Type 0) → ℕ → LocateAt → Did → Type 0
+  TellsNone SeesNone table (locates.Early shape place) did = slot_of did.old ≡ None → SeesNone table did
+  TellsNone SeesNone table _ did = Unit {0}
+
+  -- a load of a word of the slots is of no key
   seeing-load : (table shape : ℕ) (steps : List Did) (did : Did) (place : ℕ) → did.op ≡ Load place → IsAside did
       → IsNoKeyLoad g did → WalkedSeeing table shape LoadedNoKey steps
       → WalkedSeeing table shape LoadedNoKey (steps ++ did ∷ [])
@@ -296,31 +335,38 @@ module _ (g : Geometry) where
   entry-place place within =
       subst (λ (h : Geometry). pages_at g ≤ place_of h (PageWord place.entry)) (sym within.geometry_same) (omega arith)
 
-  pub locate-walked : (mix : ℕ → ℕ → ℕ → ℕ) (port : ℕ) (m : LocateModel) (state : LocateAt)
+  pub locate-walked : (SeesNone : ℕ → Did → Type 0) (mix : ℕ → ℕ → ℕ → ℕ) (port : ℕ) (m : LocateModel) (state : LocateAt)
       (steps : List Did) (did : Did) → IsLocateAtIn g state
-      → m.table < 8 → did.op ≡ locate_plan_at m.geometry m.table state → WalkedAt m.table state steps
-      → WalkedNext m.table (locate_after_at mix port m state did.old) (steps ++ did ∷ [])
+      → m.table < 8 → did.op ≡ locate_plan_at m.geometry m.table state → TellsNone SeesNone m.table state did
+      → WalkedAt SeesNone m.table state steps
+      → WalkedNext SeesNone m.table (locate_after_at mix port m state did.old) (steps ++ did ∷ [])
   unfolding Walked-new
-  locate-walked mix port m locates.Shape steps did here below is walked =
+  locate-walked SeesNone mix port m locates.Shape steps did here below is sees walked =
       record { walked = Walked-new m.table steps did below is walked; saw = tt }
-  locate-walked mix port m (locates.Seed shape) steps did here below is walked =
+  locate-walked SeesNone mix port m (locates.Seed shape) steps did here below is sees walked =
       let place = place_of g (Slot m.table SeedWord) in
-      hashed-walked m shape (bucket_of mix port shape did.old) (steps ++ did ∷ [])
+      hashed-walked SeesNone m shape (bucket_of mix port shape did.old) (steps ++ did ∷ [])
       (seeing-load m.table shape steps did place is (elsewhere did place is (λ table in_it same. absurd (omega arith)))
       (no_key-before g did place is (omega (arith, below, nodes_behind g))) walked)
-  locate-walked mix port m (locates.Early shape way) steps did here below is walked =
-      let place = place_of g (Slot m.table FutureWord) in (
-        seeing-load m.table shape steps did place is (elsewhere did place is (λ table in_it same. absurd (omega arith)))
-            (no_key-before g did place is (omega (arith, below, nodes_behind g))) walked,
+  locate-walked SeesNone mix port m (locates.Early shape way) steps did here below is sees walked =
+      let place = place_of g (Slot m.table FutureWord) in
+      let Sees = SeesNone m.table in
+      let early = slot_of did.old in
+      let no_key = no_key-before g did place is (omega (arith, below, nodes_behind g)) in (
+        WalkedSeeing-push m.table shape LoadedNoKey (LoadedEarly Sees early) steps did
+            (elsewhere did place is (λ table in_it same. absurd (omega arith)))
+            (λ behind none. early-new Sees early behind did no_key sees none) walked,
         came-behind m.table (slot_of did.old) steps did below is refl
             (walked-came m.table shape steps walked.walked.last),
       )
-  locate-walked mix port m (locates.Entry shape early way) steps did here below is walked =
+  locate-walked SeesNone mix port m (locates.Entry shape early way) steps did here below is sees walked =
+      let Seen = LoadedEarly (SeesNone m.table) early in
       let high = entry-place way here.nested_in.place_in in
       let order = parts_in_order g in
-      followed-walked m shape early (place_after way did.old).0 (place_after way did.old).1 (steps ++ did ∷ []) (
-        seeing-load m.table shape steps did (entry_place way) is
+      followed-walked SeesNone m shape early (place_after way did.old).0 (place_after way did.old).1 (steps ++ did ∷ []) (
+        WalkedSeeing-push m.table shape Seen Seen steps did
             (behind_slots did (entry_place way) is (omega (arith, high, order.page_map, order.nodes, order.pages)))
-            (no_key-behind g did (entry_place way) is high) walked.0,
+            (λ behind seen. early-push (SeesNone m.table) early behind did (no_key-behind g did (entry_place way) is high) seen)
+            walked.0,
         came-longer early steps did walked.1,
       )

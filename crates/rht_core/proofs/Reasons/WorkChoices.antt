@@ -20,14 +20,16 @@ use Rattle.rht_words.specs.declared.machine.Next.TheVariants.{Go, Done}
 use Rattle.rht_words.specs.Links.{table_of, slot_of, node_of, head_of, unlocked}
 use Rattle.rht_words.specs.Machines.{GoesOrEnds, Performed}
 use Rattle.rht_words.specs.Operations.{op_place, old_of, word_after}
-use Rattle.rht_words.specs.Places.{Address, CurrentTable, WorkLock, PortCount, Slot, ShapeWord, FutureWord, StateWord, IsAddress, place_of}
+use Rattle.rht_words.specs.Places.{Address, CurrentTable, WorkLock, PortCount, Slot, ShapeWord, FutureWord, StateWord, IsAddress, place_of, word_at}
 use Rattle.rht_words.specs.Shapes.{unpacked, size_of}
 use Rattle.rht_words.specs.Sizes.{IsSizeUpTo}
 use Rattle.rht_words.proofs.EachElement.{Any-append_left, AllByRecursion-cut, AllByRecursion-push}
-use Rattle.rht_words.proofs.PlacesApart.{place_of-apart}
+use Rattle.rht_words.proofs.PlacesApart.{parts_in_order, place_of-apart}
 use Rattle.rht_model.specs.declared.history.Reply.{Reply}
 use Rattle.rht_model.specs.declared.history.Reply.TheVariants.{NoTable, Elsewhere, Idle, Moved}
 use Rattle.rht_chain.specs.Lock.{lock_new, LockModel, lock_after}
+use Rattle.rht_chain.specs.Unlock.{unlock_plan, IsUnlockIn}
+use Rattle.rht_chain.specs.declared.unlock.Unlock.{Unlock}
 use Rattle.rht_nest.specs.Place.{PlaceModel, flat_place, nested_place, place_after}
 use Rattle.rht_nest.specs.declared.place.Bucket.{Bucket}
 use Rattle.rht_nest.specs.declared.place.Bucket.TheVariants.{At, Absent}
@@ -61,7 +63,7 @@ use Rattle.rht_core.specs.Jobs.{works}
 use Rattle.rht_core.specs.Traces.{Did, performed_of}
 use Rattle.rht_core.specs.Seen.{LoadsWord}
 use Rattle.rht_core.specs.ResizeCauses.{Loaded, Attaches, FindsSlotsTaken, AreSlotsTaken, AreRunsTaken, SawNoRoom}
-use Rattle.rht_core.specs.WorkCauses.{TakesWorkLock, SawElsewhere, ReadsFuture, AreFuturesRead, HasChosen, HasPublished, IsSized, HasAttached, IsUnattached, SawNoTableDue, SawNothingDue, IsStore, SawPublished, SawStopped}
+use Rattle.rht_core.specs.WorkCauses.{TakesWorkLock, SawElsewhere, ReadsFuture, AreFuturesRead, HasChosen, HasPublished, IsSized, HasAttached, IsUnattached, SawNoTableDue, SawNothingDue, TriesToAttach, HasTried, HasTriedIfNeeded, StoresOther, SawPublished, SawStopped}
 use Rattle.rht_core.proofs.Theory.Ghosts.{index_at}
 use Rattle.rht_core.proofs.Theory.Steps.{mem, by_test}
 use Rattle.rht_core.proofs.Theory.Knowns.{Onward, Rooted}
@@ -71,7 +73,7 @@ use Rattle.rht_core.proofs.Tracing.TracedJobs.{Performs}
 use Rattle.rht_core.proofs.Tracing.LoneCalls.{Spares}
 use Rattle.rht_core.proofs.Reasons.AttachedTables.{IsNoFutureExchange, IsNoAttach, no_attach, lock-none, make-none, unmake-none}
 use Rattle.rht_core.proofs.Reasons.MakesSeen.{SawMaking, SawMade, IsShaped, saw_nothing, runs_taken-stay, make-saw}
-use Rattle.rht_core.proofs.Reasons.MadeSizes.{due_size, size_of-made}
+use Rattle.rht_core.proofs.Reasons.MadeSizes.{due_size, shaped_flat, size_of-made}
 
 module _ (g : Geometry) where
   -- the futures that were loaded lead from one table to another
@@ -99,7 +101,7 @@ module _ (g : Geometry) where
 abbrev made_step : Geometry → MakeModel → ℕ → Performed
 made_step g make old = record { op = make_plan_at g make.exponent make.seed make.at; old = old }
 
-module _ (env : Env) where
+module _ (env : Env) (words_at : ℕ → List ℕ) where
   -- ---- what a resizing has seen
 
   -- it took the work lock and loaded the current table, and these were its operations behind
@@ -191,6 +193,7 @@ module _ (env : Env) where
     pub chose : HasChosen env choice steps
     pub root_same : chose.root ≡ root
     pub saw : DueSaw due chose.last choice chose.behind
+    pub tried : HasTriedIfNeeded env.geometry chose.root chose.last chose.shape.old choice chose.behind
     pub at_once : due ≡ dues.Nothing → chose.behind ≡ []
 
   -- a table of the size that was due is to be attached behind this one
@@ -216,6 +219,7 @@ module _ (env : Env) where
         Any (ReadsFuture env.geometry chose.root (Some future)) chose.behind
     pub apart : chose.root ≢ future
     pub says : SaysMissing again chose.last choice chose.behind
+    pub tried : HasTriedIfNeeded env.geometry chose.root chose.last chose.shape.old choice chose.behind
 
   -- it has made a table the current one that wasn't, and has left it so since
   pub record Published (steps : List Did) : Type 0 where
@@ -295,7 +299,7 @@ module _ (env : Env) where
 
   -- it stops before a nested table
   abbrev pub UnlockingSaw : Rehash → Bool → List Did → Type 0
-  UnlockingSaw rehash true steps = SawStopped env true steps
+  UnlockingSaw rehash true steps = SawStopped env words_at true steps
   UnlockingSaw rehash false steps = RehashSaw rehash steps
 
   -- for an answer
@@ -303,7 +307,7 @@ module _ (env : Env) where
   SawForWork Elsewhere steps = SawElsewhere env.geometry steps
   SawForWork (NoTable size) steps = SawNoTableDue env size steps
   SawForWork Idle steps = SawIdle steps
-  SawForWork (Moved again) steps = SawReplaced again steps ⊎ SawStopped env again steps
+  SawForWork (Moved again) steps = SawReplaced again steps ⊎ SawStopped env words_at again steps
   SawForWork _ steps = Unit {0}
 
   abbrev pub SawAtWork : WorkAt → List Did → Type 0
@@ -455,6 +459,7 @@ module _ (env : Env) where
     chose = chosen-saw root last Later steps did is chosen saw;
     root_same = refl;
     saw = ((λ e. absurd (cc)), tt);
+    tried = λ size is. absurd (cc);
     at_once = λ e. absurd (cc);
   }
   begun-saw root last Nothing steps did is chosen saw = record {
@@ -462,6 +467,7 @@ module _ (env : Env) where
     chose = chosen-saw root last Nothing steps did is chosen saw;
     root_same = refl;
     saw = refl;
+    tried = λ size is. absurd (cc);
     at_once = λ e. refl;
   }
 
@@ -540,6 +546,24 @@ module _ (env : Env) where
   SaysMissing-push true last choice behind did quiet saw = IsMissing-push last choice behind did quiet saw
   SaysMissing-push false last choice behind did quiet saw = IsSupplied-push last choice behind did saw
 
+  -- what it has tried to attach it has tried later too
+  HasTried-push : (last size : ℕ) (steps : List Did) (did : Did) → HasTried env.geometry last size steps
+      → HasTried env.geometry last size (steps ++ did ∷ [])
+  HasTried-push last size steps did has = record {
+    slot = has.slot;
+    before = has.before;
+    at = has.at;
+    behind = has.behind ++ did ∷ [];
+    split = ap (λ s. s ++ did ∷ []) has.split ∙ append_assoc has.before (has.at ∷ has.behind) (did ∷ []);
+    tries = has.tries;
+    sized = has.sized;
+  }
+
+  tried-push : (root last shape : ℕ) (choice : Choice) (behind : List Did) (did : Did)
+      → HasTriedIfNeeded env.geometry root last shape choice behind
+      → HasTriedIfNeeded env.geometry root last shape choice (behind ++ did ∷ [])
+  tried-push root last shape choice behind did tried size is stays = HasTried-push last size behind did (tried size is stays)
+
   HasDue-push : (root : ℕ) (steps : List Did) (did : Did) → IsNoAttach env.geometry did → HasDue root dues.Later steps
       → HasDue root dues.Later (steps ++ did ∷ [])
   unfolding HasChosen-push
@@ -548,6 +572,7 @@ module _ (env : Env) where
     chose = HasChosen-push has.choice steps did has.chose;
     root_same = has.root_same;
     saw = DueSaw-push dues.Later has.chose.last has.choice has.chose.behind did quiet has.saw;
+    tried = tried-push has.chose.root has.chose.last has.chose.shape.old has.choice has.chose.behind did has.tried;
     at_once = λ e. absurd (cc);
   }
 
@@ -561,6 +586,7 @@ module _ (env : Env) where
     followed = Any-append_left _ moves.chose.behind (did ∷ []) moves.followed;
     apart = moves.apart;
     says = SaysMissing-push again moves.chose.last moves.choice moves.chose.behind did quiet moves.says;
+    tried = tried-push moves.chose.root moves.chose.last moves.chose.shape.old moves.choice moves.chose.behind did moves.tried;
   }
 
   -- an operation of the making among what it performed
@@ -571,15 +597,29 @@ module _ (env : Env) where
       ∙ ap (λ (op : Op). map performed_of behind ++ record { op = op; old = did.old } ∷ [])
       (is ∙ ap (λ (h : Geometry). make_plan_at h make.exponent make.seed make.at) geometry)
 
-  -- a table that was wanted is due, and isn't attached
-  wanted-due : (wanted : Wanted) (all : List Did) → Wants wanted all → HasDue wanted.root dues.Later all
-  wanted-due wanted all wants = record {
+  -- a table that was wanted is due, and isn't attached; the current one can be moved without it
+  wanted-due : (wanted : Wanted) (all : List Did) → ((wanted.root == wanted.last.table) || is_nested wanted.last.shape) ≡ false
+      → Wants wanted all → HasDue wanted.root dues.Later all
+  wanted-due wanted all apart wants = record {
     choice = Attach wanted.size;
     chose = wants.chose;
     root_same = wants.root_same;
     saw = ((λ e. absurd (cc)), wants.none);
+    tried = λ size is stays. absurd (elim stays [
+      | inl same ↦
+          let one : wanted.root ≡ wanted.last.table = sym wants.root_same ∙ same ∙ wants.last_same in
+          eqb-false wanted.root wanted.last.table (neither (wanted.root == wanted.last.table) (is_nested wanted.last.shape) apart).0 one
+      | inr nested ↦
+          let none = (neither (wanted.root == wanted.last.table) (is_nested wanted.last.shape) apart).1 in
+          let is = sym (ap is_nested wants.shape_same) ∙ nested in
+          cc
+    ]);
     at_once = λ e. absurd (cc);
   }
+    where
+      neither : (a b : Bool) → (a || b) ≡ false → (a ≡ false) × (b ≡ false)
+      neither true b is = absurd (cc)
+      neither false b is = (refl, is)
 
   refused-saw : (wanted : Wanted) (all : List Did) → (wants : Wants wanted all)
       → SawNoRoom env.geometry wanted.size false wants.chose.behind → SawAtWork (not_made wanted) all
@@ -596,16 +636,17 @@ module _ (env : Env) where
         ];
         room = room;
       })
-      (λ f. wanted-due wanted all wants)
+      (λ f. wanted-due wanted all f wants)
     where
       or_cases : (a b : Bool) → (a || b) ≡ true → (a ≡ true) ⊎ (b ≡ true)
       or_cases true b is = inl refl
       or_cases false b is = inr is
 
-  -- a table that was made has the size that was wanted
+  -- a table that was made has the size that was wanted, and is flat
   shaped-size : (size exponent slot : ℕ) (nested : Bool) (page : ℕ) (steps : List Performed) → IsSizeUpTo (2 ^ 17) size → exponent ≡ exponent_made size
-      → IsShaped env.geometry exponent slot (made_shape exponent nested page) steps → IsSized env.geometry slot size steps
-  shaped-size size exponent slot nested page steps size_in exponent_is shaped = record {
+      → exponent ≤ 17 → (nested ≡ true → false ≡ true) → IsShaped env.geometry exponent slot (made_shape exponent nested page) steps
+      → IsSized env.geometry slot size steps
+  shaped-size size exponent slot nested page steps size_in exponent_is greatest kind shaped = record {
     before = shaped.before;
     at = shaped.at;
     behind = shaped.behind;
@@ -613,6 +654,7 @@ module _ (env : Env) where
     shape = made_shape exponent nested page;
     stored = shaped.stored;
     sized = ap (λ e. size_of (unpacked (made_shape e nested page))) exponent_is ∙ size_of-made size page nested size_in;
+    flat = shaped_flat exponent page nested greatest kind;
     left = shaped.left;
   }
 
@@ -661,7 +703,7 @@ module _ (env : Env) where
         none = wants.none;
         sized =
             shaped-size wanted.size make.exponent table.0 seen.0 seen.1 (map performed_of (behind ++ did ∷ [])) wants.size_in within.size_same
-            seen.2;
+            within.make_in.greatest seen.3 seen.2;
       }
 
   -- ---- the table is attached, or another one was
@@ -672,6 +714,21 @@ module _ (env : Env) where
   unfolding HasChosen-push
   attached-saw root last slot shape steps did last_in slot_in is saw =
       let chose = HasChosen-push (Attach saw.size) steps did saw.chose in
+      let here : HasTried env.geometry saw.chose.last saw.size (saw.chose.behind ++ did ∷ []) = record {
+        slot = slot;
+        before = saw.chose.behind;
+        at = did;
+        behind = [];
+        split = refl;
+        tries =
+            subst (λ l. TriesToAttach env.geometry l slot did) (sym saw.last_same)
+            (record { table_in = last_in; slot_in = slot_in; exchanges = is });
+        sized = saw.sized;
+      } in
+      let tried : HasTriedIfNeeded env.geometry chose.root chose.last chose.shape.old (Attach saw.size) chose.behind =
+      λ size same stays.
+      let sizes : saw.size ≡ size = cc in
+      subst (λ n. HasTried env.geometry saw.chose.last n (saw.chose.behind ++ did ∷ [])) sizes here in
       by_test
       (λ t. SawAtWork (cond t (at.RootFuture root dues.Attached) (at.Unmaking root (unmake_new env.geometry slot shape)))
       (steps ++ did ∷ []))
@@ -691,6 +748,7 @@ module _ (env : Env) where
               (record { table_in = last_in; slot_in = slot_in; exchanges = is; found = eqb-true did.old 0 t });
           sized = saw.sized;
         };
+        tried = tried;
         at_once = λ e. absurd (cc);
       })
       (λ f. record {
@@ -701,6 +759,7 @@ module _ (env : Env) where
           (λ e. absurd (cc)),
           NoneAttached-push saw.chose.last saw.chose.behind did (λ some. eqb-false did.old 0 f some.attaches.found) saw.none,
         );
+        tried = tried;
         at_once = λ e. absurd (cc);
       })
 
@@ -759,6 +818,7 @@ module _ (env : Env) where
                 Any-push (ReadsFuture env.geometry has.chose.root (Some next)) behind did (loaded has.chose.root has.root_same, finds);
             apart = λ same. apart next finds (sym has.root_same ∙ same);
             says = due-says due has.chose.last has.choice (behind ++ did ∷ []) pushed;
+            tried = tried-push has.chose.root has.chose.last has.chose.shape.old has.choice behind did has.tried;
           }
 
   -- ---- the move of the current table
@@ -846,19 +906,23 @@ module _ (env : Env) where
     to = futures_more env.geometry saw.moves.chose.root slot next saw.futures did saw.to reads;
   }
 
-  -- where the last one is nested the move stops
+  -- where the last one is nested the move stops; the current table is the one that it moves
   found-saw : (emptying : Emptying) (slot : ℕ) (steps : List Did) (did : Did) → Loaded env.geometry (Slot slot ShapeWord) did.old did
-      → emptying.rehash.root ≢ slot → FindsAnew emptying.rehash slot steps
+      → emptying.rehash.root ≢ slot
+      → table_of (word_at env.geometry (words_at did.index) CurrentTable) ≡ emptying.rehash.root → FindsAnew emptying.rehash slot steps
       → let last : Last = record { table = slot; shape = did.old } in
       SawAtWork (cond (is_nested did.old) (unlocking emptying true) (at.Seed emptying last)) (steps ++ did ∷ [])
   unfolding HasChosen-push
-  found-saw emptying slot steps did loaded apart saw =
+  found-saw emptying slot steps did loaded apart current saw =
       let last : Last = record { table = slot; shape = did.old } in
       by_test (λ t. SawAtWork (cond t (unlocking emptying true) (at.Seed emptying last)) (steps ++ did ∷ [])) (is_nested did.old)
       (λ t. record {
         more = refl;
         choice = saw.moves.choice;
         chose = HasChosen-push saw.moves.choice steps did saw.moves.chose;
+        tried =
+            tried-push saw.moves.chose.root saw.moves.chose.last saw.moves.chose.shape.old saw.moves.choice saw.moves.chose.behind did
+            saw.moves.tried;
         last = slot;
         before = saw.before;
         futures = saw.futures;
@@ -869,18 +933,20 @@ module _ (env : Env) where
         apart = λ same. apart (sym saw.moves.root_same ∙ same);
         shape_read = loaded;
         nested = t;
+        current = current ∙ sym saw.moves.root_same;
         stores = tt;
       })
       (λ f. goes emptying.rehash _ steps did loaded.word.loads (λ table old new l e. cc) saw.moves)
 
-  -- and then words are stored alone
-  SawStopped-push : (again : Bool) (steps : List Did) (did : Did) → IsStore did → SawStopped env again steps
-      → SawStopped env again (steps ++ did ∷ [])
+  -- and then other words are stored alone
+  SawStopped-push : (again : Bool) (steps : List Did) (did : Did) → StoresOther env.geometry did → SawStopped env words_at again steps
+      → SawStopped env words_at again (steps ++ did ∷ [])
   unfolding HasChosen-push
   SawStopped-push again steps did stores saw = record {
     more = saw.more;
     choice = saw.choice;
     chose = HasChosen-push saw.choice steps did saw.chose;
+    tried = tried-push saw.chose.root saw.chose.last saw.chose.shape.old saw.choice saw.chose.behind did saw.tried;
     last = saw.last;
     before = saw.before;
     futures = saw.futures;
@@ -891,11 +957,25 @@ module _ (env : Env) where
     apart = saw.apart;
     shape_read = saw.shape_read;
     nested = saw.nested;
-    stores = AllByRecursion-push IsStore saw.behind did saw.stores stores;
+    current = saw.current;
+    stores = AllByRecursion-push (StoresOther env.geometry) saw.behind did saw.stores stores;
+  }
+
+  -- the word of a bucket isn't that of the current table
+  unlocking-stores : (unlock : Unlock) (did : Did) → IsUnlockIn env.geometry unlock → did.op ≡ unlock_plan unlock
+      → StoresOther env.geometry did
+  unlocking-stores unlock did there is = record {
+    place = unlock.place;
+    value = unlock.word;
+    stores = is;
+    other = λ same.
+        let order = parts_in_order env.geometry in
+        let low = there.place_in.0 in
+        absurd (omega (arith, same, low, order.page_map, order.nodes, order.pages));
   }
 
   unlocked-saw : (rehash : Rehash) (number : ℕ) (stop : Bool) (steps : List Did) (did : Did)
-      → IsStore did → IsNoAttach env.geometry did → UnlockingSaw rehash stop steps
+      → StoresOther env.geometry did → IsNoAttach env.geometry did → UnlockingSaw rehash stop steps
       → SawAtWork (unlocked_bucket env.geometry rehash number stop) (steps ++ did ∷ [])
   unlocked-saw rehash number true steps did stores quiet saw = inr (SawStopped-push true steps did stores saw)
   unlocked-saw rehash number false steps did stores quiet saw =
@@ -1117,19 +1197,32 @@ module _ (env : Env) where
         let later = is.aim_is.later in
         absurd (omega (arith, both, later))
 
+    -- and the current one is still the one that is moved
+    still_root : (emptying : Emptying) (seek : LastTableModel) (did : Did)
+        → (does : Performs mix env (works (at.EntryTable emptying seek)) did)
+        → table_of (word_at env.geometry does.words CurrentTable) ≡ emptying.rehash.root
+    still_root emptying seek did does =
+        let tables = does.whole.tables in
+        let right = tables.each does.ghost.current tables.current_in in
+        let slot = (does.ghost.table does.ghost.current).slot in
+        let is : table_of (mem env mix does.words CurrentTable) ≡ slot = (let word = tables.current_is in omega (arith, right.slot_in, word)) in
+        is ∙ does.knows.knowing.means.work.more.next.empties.followed.root_is
+
     table-saw : (emptying : Emptying) (h : Geometry) (state : LastTableAt) (steps : List Did) (did : Did)
         → let seek : LastTableModel = record { geometry = h; at = state } in
-        Performs mix env (works (at.EntryTable emptying seek)) did → AnewSaw emptying.rehash state steps
+        (does : Performs mix env (works (at.EntryTable emptying seek)) did) → does.words ≡ words_at did.index → AnewSaw emptying.rehash state steps
         → let next = last_table_after seek did.old in
         SawAtWork (entry_table_seen emptying next.0 next.1) (steps ++ did ∷ [])
-    table-saw emptying h (seeks.Future slot) steps did does saw =
+    table-saw emptying h (seeks.Future slot) steps did does here saw =
         let is = does.planned ∙ ap (λ (g : Geometry). last_table_plan_at g (seeks.Future slot)) does.within.seek_in.geometry_same in
         sought-saw emptying.rehash slot (slot_of did.old) steps did
         (reads (Slot slot FutureWord) did (does.within.seek_in.at_in, tt) is, refl) saw
-    table-saw emptying h (seeks.Shape slot) steps did does saw =
+    table-saw emptying h (seeks.Shape slot) steps did does here saw =
         let is = does.planned ∙ ap (λ (g : Geometry). last_table_plan_at g (seeks.Shape slot)) does.within.seek_in.geometry_same in
         found-saw emptying slot steps did (reads (Slot slot ShapeWord) did (does.within.seek_in.at_in, tt) is)
-        (other_last emptying h slot did does) saw
+        (other_last emptying h slot did does)
+        (subst (λ words. table_of (word_at env.geometry words CurrentTable) ≡ emptying.rehash.root) here
+        (still_root emptying (record { geometry = h; at = seeks.Shape slot }) did does)) saw
 
   -- ---- all states
 
@@ -1180,68 +1273,68 @@ module _ (env : Env) where
   ended-saw (outcomes.NoTable size) steps did is saw = no_table-push size steps did is saw
   ended-saw (outcomes.Moved again) steps did is saw = elim saw [
     | inl replaced ↦ inl (stored-saw again WorkLock 0 steps did tt (λ e. cc) is replaced)
-    | inr stops ↦ inr (SawStopped-push again steps did (_, _, is) stops)
+    | inr stops ↦ inr (SawStopped-push again steps did (record { place = _; value = _; stores = is; other = λ e. cc }) stops)
   ]
 
   pub work-saw : (mix : ℕ → ℕ → ℕ → ℕ) (state : WorkAt) (steps : List Did) (did : Did)
-      → Performs mix env (works state) did → SawAtWork state steps
+      → (does : Performs mix env (works state) did) → does.words ≡ words_at did.index → SawAtWork state steps
       → SawNextWork (steps ++ did ∷ []) (after_at mix env state did.old)
-  work-saw mix at.WorkLock steps did does saw = lock-saw steps did does.planned saw
-  work-saw mix at.CurrentTable steps did does saw = current-saw steps did does.planned saw
-  work-saw mix (at.LastTable root seek) steps did does saw =
+  work-saw mix at.WorkLock steps did does here saw = lock-saw steps did does.planned saw
+  work-saw mix at.CurrentTable steps did does here saw = current-saw steps did does.planned saw
+  work-saw mix (at.LastTable root seek) steps did does here saw =
       last-saw root seek.geometry seek.at steps did does.within.seek_in.at_in (last_small mix root seek.geometry seek.at did does)
       (does.planned ∙ ap (λ (h : Geometry). last_table_plan_at h seek.at) does.within.seek_in.geometry_same) saw
-  work-saw mix (at.Count root last) steps did does saw =
+  work-saw mix (at.Count root last) steps did does here saw =
       begun-saw root last (choice_of env did.old last.shape (root == last.table)) steps did does.planned refl saw
-  work-saw mix (at.Making wanted make) steps did does saw =
+  work-saw mix (at.Making wanted make) steps did does here saw =
       made-saw wanted make steps did does.within does.planned saw
-  work-saw mix (at.Attaching root last slot shape) steps did does saw =
+  work-saw mix (at.Attaching root last slot shape) steps did does here saw =
       attached-saw root last slot shape steps did does.within.last_in does.within.made_in.slot_in does.planned saw
-  work-saw mix (at.Unmaking root unmake) steps did does saw =
+  work-saw mix (at.Unmaking root unmake) steps did does here saw =
       unmade-saw root (unmake_after unmake did.old).0 (unmake_after unmake did.old).1 (steps ++ did ∷ [])
       (HasDue-push root steps did
       (no_attach env.geometry did _ does.planned (unmake-none env.geometry unmake.geometry unmake.slot unmake.at)) saw)
-  work-saw mix (at.RootFuture root due) steps did does saw =
+  work-saw mix (at.RootFuture root due) steps did does here saw =
       future-saw root due (slot_of did.old) steps did does.within does.planned refl (nothing-found mix root due did does)
       (other_future mix root due did does) saw
-  work-saw mix (at.RootShape root future again) steps did does saw =
+  work-saw mix (at.RootShape root future again) steps did does here saw =
       let rehash : Rehash = record { root = root; future = future; shape = did.old; again = again } in
       root-saw rehash 0 (steps ++ did ∷ []) (goes rehash _ steps did does.planned (λ table old new l e. cc) saw)
-  work-saw mix (at.Entry rehash number place) steps did does saw =
+  work-saw mix (at.Entry rehash number place) steps did does here saw =
       passed-saw rehash number (place_after place did.old).0 (place_after place did.old).1 (steps ++ did ∷ [])
       (goes rehash _ steps did does.planned (λ table old new l e. cc) saw)
-  work-saw mix (at.Locking rehash number lock) steps did does saw =
+  work-saw mix (at.Locking rehash number lock) steps did does here saw =
       locked-saw rehash number (lock_after lock did.old).0 (lock_after lock did.old).1 (steps ++ did ∷ [])
       (goes rehash _ steps did does.planned (lock-none env.geometry lock.place lock.at does.within.lock_in.place_in) saw)
-  work-saw mix (at.EntryTable emptying seek) steps did does saw =
-      table-saw mix emptying seek.geometry seek.at steps did does saw
-  work-saw mix (at.Seed emptying last) steps did does saw =
+  work-saw mix (at.EntryTable emptying seek) steps did does here saw =
+      table-saw mix emptying seek.geometry seek.at steps did does here saw
+  work-saw mix (at.Seed emptying last) steps did does here saw =
       goes emptying.rehash _ steps did does.planned (λ table old new l e. cc) saw
-  work-saw mix (at.BucketWord emptying target) steps did does saw =
+  work-saw mix (at.BucketWord emptying target) steps did does here saw =
       entry-saw (with_word emptying (unlocked did.old)) target
       (node_of env.geometry.nodes (head_of emptying.bucket.place (unlocked did.old))) (steps ++ did ∷ [])
       (goes emptying.rehash _ steps did does.planned (λ table old new l e. cc) saw)
-  work-saw mix (at.Walking emptying target walk) steps did does saw =
+  work-saw mix (at.Walking emptying target walk) steps did does here saw =
       walked-saw emptying target (last_entry_after walk did.old).0 (last_entry_after walk did.old).1 (steps ++ did ∷ [])
       (goes emptying.rehash _ steps did does.planned (λ table old new l e. cc) saw)
-  work-saw mix (at.Key emptying target entry) steps did does saw =
+  work-saw mix (at.Key emptying target entry) steps did does here saw =
       goes emptying.rehash _ steps did does.planned (λ table old new l e. cc) saw
-  work-saw mix (at.LockingSecond emptying entry table lock) steps did does saw =
+  work-saw mix (at.LockingSecond emptying entry table lock) steps did does here saw =
       second_locked-saw emptying entry table (lock_after lock did.old).0 (lock_after lock did.old).1 (steps ++ did ∷ [])
       (goes emptying.rehash _ steps did does.planned (lock-none env.geometry lock.place lock.at does.within.lock_in.place_in) saw)
-  work-saw mix (at.EntryLink emptying entry second) steps did does saw =
+  work-saw mix (at.EntryLink emptying entry second) steps did does here saw =
       goes emptying.rehash _ steps did does.planned (λ table old new l e. cc) saw
-  work-saw mix (at.Linking emptying entry second) steps did does saw =
+  work-saw mix (at.Linking emptying entry second) steps did does here saw =
       goes emptying.rehash _ steps did does.planned (λ table old new l e. cc) saw
-  work-saw mix (at.CuttingOff emptying entry) steps did does saw =
+  work-saw mix (at.CuttingOff emptying entry) steps did does here saw =
       cut-saw emptying entry.before (steps ++ did ∷ [])
       (goes emptying.rehash _ steps did does.planned (cut-none emptying.bucket.place entry.before) saw)
-  work-saw mix (at.Unlocking rehash number unlock stop) steps did does saw =
-      unlocked-saw rehash number stop steps did (_, _, does.planned) (no_attach env.geometry did _ does.planned (λ table old new l e. cc)) saw
-  work-saw mix (at.Publishing rehash) steps did does saw =
+  work-saw mix (at.Unlocking rehash number unlock stop) steps did does here saw =
+      unlocked-saw rehash number stop steps did (unlocking-stores unlock did does.within.unlock_in does.planned) (no_attach env.geometry did _ does.planned (λ table old new l e. cc)) saw
+  work-saw mix (at.Publishing rehash) steps did does here saw =
       publish-saw rehash steps did does.within.tables_in.future_in does.planned saw
-  work-saw mix (at.NewFuture rehash) steps did does saw =
+  work-saw mix (at.NewFuture rehash) steps did does here saw =
       retiring-saw rehash (slot_of did.old) steps did does.within.tables_in.future_in does.planned refl saw
-  work-saw mix (at.Retiring root again) steps did does saw =
+  work-saw mix (at.Retiring root again) steps did does here saw =
       inl (stored-saw again (Slot root StateWord) 2 steps did (does.within, tt) (λ e. cc) does.planned saw)
-  work-saw mix (at.LettingGo outcome) steps did does saw = ended-saw outcome steps did does.planned saw
+  work-saw mix (at.LettingGo outcome) steps did does here saw = ended-saw outcome steps did does.planned saw

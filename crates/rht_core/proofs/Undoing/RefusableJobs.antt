@@ -1,15 +1,19 @@
 -- What a job holds and does that may still be refused: it has raised no count and moves nothing, it has a node where it has a lock, its
--- pages are its own, and the one exchange of a future is that of a bind which attaches the table that it has made.
-use Rattle.std.proofs.Common.{◌≡◌, ◌≢◌, ℕ, ◌+◌, ◌<◌, Bool, false, List, Some, None, refl, sym, ◌∙◌, subst, arith}
+-- pages are its own, the one exchange of a future is that of a bind which attaches the table that it has made, and a page that it
+-- enters is none of its own any more.
+use Rattle.std.proofs.Common.{◌≡◌, ◌≢◌, ℕ, ◌+◌, ◌<◌, Bool, false, List, Option, Some, None, refl, sym, ◌∙◌, subst, arith}
 use Rattle.rht_words.specs.declared.env.Env.{Env}
 use Rattle.rht_words.specs.declared.geometry.Geometry.{Geometry}
 use Rattle.rht_words.specs.declared.op.Op.TheVariants.{Exchange}
+use Rattle.rht_words.specs.declared.machine.Start.{Start}
+use Rattle.rht_words.specs.declared.machine.Start.TheVariants as starts
 use Rattle.rht_words.specs.Links.{future_of, entry_of}
 use Rattle.rht_words.specs.Members.{In}
 use Rattle.rht_words.specs.Places.{Slot, FutureWord, PageWord, place_of}
 use Rattle.rht_words.specs.Shapes.{unpacked}
 use Rattle.rht_words.proofs.Members.{range_with_len-In}
 use Rattle.rht_words.proofs.Memory.{Memory}
+use Rattle.rht_model.specs.declared.history.Reply.{Reply}
 use Rattle.rht_nest.specs.Tables.{table_pages, pages_of_shape}
 use Rattle.rht_arena.specs.TakeRun.{TakeRunModel, take_run_plan_at}
 use Rattle.rht_arena.specs.declared.take_run.TakeRunAt.{TakeRunAt}
@@ -17,6 +21,16 @@ use Rattle.rht_arena.specs.declared.take_run.TakeRunAt.TheVariants as takes
 use Rattle.rht_nest.specs.Make.{MakeModel, make_plan_at, pages_of_make}
 use Rattle.rht_nest.specs.declared.make.MakeAt.{MakeAt}
 use Rattle.rht_nest.specs.declared.make.MakeAt.TheVariants as makes
+use Rattle.rht_nest.specs.Place.{PlaceModel, entered}
+use Rattle.rht_nest.specs.Grow.{GrowModel, grow_plan_at, grow_after_at}
+use Rattle.rht_nest.specs.declared.grow.GrowAt.{GrowAt}
+use Rattle.rht_nest.specs.declared.grow.GrowAt.TheVariants as grows
+use Rattle.rht_nest.specs.Unmake.{unmake_plan_at}
+use Rattle.rht_nest.specs.declared.unmake.UnmakeAt.{UnmakeAt}
+use Rattle.rht_nest.specs.declared.unmake.UnmakeAt.TheVariants as unmakes
+use Rattle.rht_bind.specs.Bind.{behind_page, grown}
+use Rattle.rht_bind.specs.Growing.{has_attached, ended_attempt, behind_attempt}
+use Rattle.rht_bind.specs.declared.bind.Attempt.{Attempt}
 use Rattle.rht_bind.specs.BindHeld.{held_of_bind}
 use Rattle.rht_bind.specs.declared.bind.BindAt.{BindAt}
 use Rattle.rht_bind.specs.declared.bind.BindAt.TheVariants as binding
@@ -30,7 +44,7 @@ use Rattle.rht_move.specs.declared.work.Wanted.{Wanted}
 use Rattle.rht_move.specs.declared.work.Outcome.TheVariants.{Idle, NoTable, Moved}
 use Rattle.rht_move.specs.declared.work.WorkAt.{WorkAt}
 use Rattle.rht_move.specs.declared.work.WorkAt.TheVariants as working
-use Rattle.rht_core.specs.Jobs.{Job, finds, binds, lists, releases, rebinds, works, counts, call_of, job_plan, held_of}
+use Rattle.rht_core.specs.Jobs.{Job, finds, binds, lists, releases, rebinds, works, counts, call_of, job_plan, job_after, held_of, held_next}
 use Rattle.rht_core.specs.Traces.{Did}
 use Rattle.rht_core.specs.Refused.{StoresLast, MayAttach}
 use Rattle.rht_core.proofs.Theory.Ghosts.{Ghost, PageHeld}
@@ -385,3 +399,76 @@ module _ (env : Env) (mix : ℕ → ℕ → ℕ → ℕ) (c : ℕ) (M : Memory) 
     enters (rebinds port owner new state) may is i = absurd (rebind-enters state may i)
     enters (works state) may is i = absurd (work-enters state (early_work state may) is i)
     enters counts may is i = absurd (cc)
+
+    -- ---- which is no page of its own any more
+
+    -- the giving back of a table enters none
+    unmake-enters : (h : Geometry) (slot : ℕ) (state : UnmakeAt) → did.op ≡ unmake_plan_at h slot state → ⊥
+    unmake-enters h slot (unmakes.Giving give) is = let same = sym is ∙ exchanges in cc
+    unmake-enters h slot unmakes.SlotBack is = let same = sym is ∙ exchanges in cc
+
+    -- behind an entry that leads to a page a bind holds none
+    page-none : (port : ℕ) (attempt : Attempt) (table shape : ℕ) (start : Start PlaceModel ℕ)
+        → In page (held_of_bind (behind_page env port attempt table shape start)).pages → ⊥
+    page-none port attempt table shape (starts.Running next) i = i
+    page-none port attempt table shape (starts.Done place) i = i
+
+    -- nor does it behind an attempt
+    answer-none : (attempt : Attempt) (answer : Option Reply)
+        → In page (held_of_bind (behind_attempt env attempt answer)).pages → ⊥
+    answer-none attempt None i = i
+    answer-none attempt (Some reply) i = i
+
+    -- a growing enters the page that it has, and goes on behind it
+    grow-gone : (port : ℕ) (attempt : Attempt) (table shape : ℕ) (place : PlaceModel) (grow : GrowModel) (state : GrowAt)
+        → did.op ≡ grow_plan_at grow.entry state
+        → In page (held_of_bind (grown env port attempt table shape place
+        (record grow { at = (grow_after_at grow.geometry state 0).0 }) (grow_after_at grow.geometry state 0).1)).pages → ⊥
+    grow-gone port attempt table shape place grow (grows.Taking take) is i = take-none take take.at (sym is ∙ exchanges)
+    grow-gone port attempt table shape place grow (grows.Entering p) is i =
+        page-none port attempt table shape (entered place p) i
+    grow-gone port attempt table shape place grow (grows.Giving there give) is i = let same = sym is ∙ exchanges in cc
+
+    -- what else a bind holds pages for is no exchange, or finds the future free and attaches them
+    bind-gone : (port owner : ℕ) (once : Bool) (state : BindAt) → bind_is_past state ≡ false
+        → did.op ≡ job_plan env (binds port owner once state) → In page (held_of_bind state).pages
+        → In page (held_next (job_after mix env (binds port owner once state) 0)).pages → ⊥
+    bind-gone port owner once (binding.Making growing size make) may is had i =
+        make-enters make.exponent make.seed make.geometry make.at is had
+    bind-gone port owner once (binding.Attaching growing slot shape) may is had i =
+        answer-none (has_attached growing.attempt) (ended_attempt once slot) i
+    bind-gone port owner once (binding.Unmaking attempt unmake answer) may is had i =
+        unmake-enters unmake.geometry unmake.slot unmake.at is
+    bind-gone port owner once (binding.Entering attempt table shape place grow) may is had i =
+        grow-gone port attempt table shape place grow grow.at is i
+    bind-gone port owner once (binding.Replacing list relink) may is had i = absurd (cc)
+    bind-gone port owner once (binding.Publish node table relink kick) may is had i = absurd (cc)
+    bind-gone port owner once (binding.Filling new) may is had i = had
+    bind-gone port owner once (binding.CurrentTable attempt) may is had i = had
+    bind-gone port owner once (binding.Locating attempt locate) may is had i = had
+    bind-gone port owner once (binding.Probing attempt table shape probe) may is had i = had
+    bind-gone port owner once (binding.FoundOwner claimed found) may is had i = had
+    bind-gone port owner once (binding.ListLink list) may is had i = had
+    bind-gone port owner once (binding.ChainLink list) may is had i = had
+    bind-gone port owner once (binding.LinkBehind list link) may is had i = had
+    bind-gone port owner once (binding.Future claimed length) may is had i = had
+    bind-gone port owner once (binding.Count claimed) may is had i = had
+    bind-gone port owner once (binding.Link claimed) may is had i = had
+    bind-gone port owner once (binding.Raise claimed) may is had i = had
+    bind-gone port owner once (binding.Unlocking attempt table unlock next) may is had i = had
+    bind-gone port owner once (binding.UnlockingFull growing unlock) may is had i = had
+    bind-gone port owner once (binding.Root growing) may is had i = had
+    bind-gone port owner once (binding.GrowthCount growing root) may is had i = had
+    bind-gone port owner once (binding.FutureAgain growing refusal) may is had i = had
+    bind-gone port owner once (binding.Giving give reply) may is had i = had
+
+    -- where the exchange of an entry for a page that the job has finds 0, the job has the page no more
+    pub gone : (job : Job) → is_past job ≡ false → did.op ≡ job_plan env job → In page (held_of job).pages
+        → In page (held_next (job_after mix env job 0)).pages → ⊥
+    gone (finds port state) may is had i = absurd (cc)
+    gone (binds port owner once state) may is had i = bind-gone port owner once state may is had i
+    gone (lists port room state) may is had i = absurd (cc)
+    gone (releases port owner state) may is had i = absurd (cc)
+    gone (rebinds port owner new state) may is had i = rebind-enters state may had
+    gone (works state) may is had i = work-enters state (early_work state may) is had
+    gone counts may is had i = absurd (cc)

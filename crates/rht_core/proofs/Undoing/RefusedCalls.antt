@@ -12,6 +12,7 @@ use Rattle.rht_words.specs.declared.config.Kind.TheVariants.{Single, Listed}
 use Rattle.rht_words.specs.declared.geometry.Geometry.{Geometry}
 use Rattle.rht_words.specs.declared.machine.Next.{Next}
 use Rattle.rht_words.specs.declared.machine.Next.TheVariants.{Go, Done}
+use Rattle.rht_words.specs.Members.{In}
 use Rattle.rht_words.specs.Operations.{applied}
 use Rattle.rht_words.proofs.EachElement.{AllByRecursion-push}
 use Rattle.rht_model.specs.declared.history.Call.{Call}
@@ -56,10 +57,10 @@ use Rattle.rht_core.proofs.Tracing.TracedJobs.{Performs, LeadsOn, IsEndedSo, job
 use Rattle.rht_core.proofs.Tracing.TracesAtEvents.{at_events}
 use Rattle.rht_core.proofs.Tracing.RepliesInRuns.{Holds, Answered, runs-right}
 use Rattle.rht_core.proofs.Undoing.TurnedBits.{held_bits}
-use Rattle.rht_core.proofs.Undoing.UndoneMoves.{Undoes, Undoes-push, MayGoBack, kept_by}
+use Rattle.rht_core.proofs.Undoing.UndoneMoves.{Undoes, GoneWhereEntered, Undoes-push, MayGoBack, kept_by}
 use Rattle.rht_core.proofs.Undoing.PastRefusal.{bind_is_past, rebind_is_past, work_is_past, is_past, StaysPast, bind-past, rebind-past, work-past}
 use Rattle.rht_core.proofs.Undoing.StoredShapes.{bind-stored}
-use Rattle.rht_core.proofs.Undoing.RefusableJobs.{refusable, mine, JobStored, attaches, enters}
+use Rattle.rht_core.proofs.Undoing.RefusableJobs.{refusable, mine, JobStored, attaches, enters, gone}
 
 -- ---- answers that say that bindings were changed
 
@@ -332,6 +333,10 @@ module _ (M : Type 0) (mix : ℕ → ℕ → ℕ → ℕ) (env : Env) (events : 
 
       undoes : UndoesOr after
       undoes low_then still_then =
+          let gone_then : GoneWhereEntered g (words_before M mix env events) (call_of job) steps did (held_of job) after =
+          λ entry page exchanges free had i.
+          gone env mix performs.caller (mem env mix performs.words) performs.ghost did entry page exchanges job may performs.planned
+          had (subst (λ old. In page (held_next (job_after mix env job old)).pages) free i) in
           let holds = refusable job may in
           let step = performs.step in
           let go_back : MayGoBack env mix (words_before M mix env events) (call_of job) steps did (held_of job) after performs.caller performs.ghost = record {
@@ -352,7 +357,8 @@ module _ (M : Type 0) (mix : ℕ → ℕ → ℕ → ℕ) (env : Env) (events : 
           performs.whole (sym here) performs.found kept.undoes go_back step.move step.ready
           (subst (λ old. Does env mix step.move did.op old (held_of job) after) (sym performs.found) step.does)) [
             | inl says ↦ inl says
-            | inr keeps ↦ inr (Undoes-push g (words_before M mix env events) (call_of job) steps did (held_of job) after kept.undoes keeps)
+            | inr keeps ↦ inr (
+                Undoes-push g (words_before M mix env events) (call_of job) steps did (held_of job) after kept.undoes keeps gone_then)
           ]
 
       leads_on : Leads job all (job_after mix env job did.old)
@@ -380,13 +386,15 @@ module _ (M : Type 0) (mix : ℕ → ℕ → ℕ → ℕ) (env : Env) (events : 
   of_first first job is going = let same : first ≡ job = cc in subst (λ j. Going j []) same going
 
   -- at first nothing is held, and nothing was turned
-  holds_none : (job : Job) → (held_of job).node ≡ None → (held_of job).slot ≡ None
+  holds_none : (job : Job) → (held_of job).node ≡ None → (held_of job).slot ≡ None → (held_of job).pages ≡ []
       → ((place bit : ℕ) → held_bits g (held_of job) place bit ≡ 0) → JobStored env job [] → MayBeRefused job []
-  holds_none job node slot none stored = record {
+  holds_none job node slot pages none stored = record {
     undoes = record {
       even = λ place bit low. inr (ap (λ n. (0 + n) % 2) (none place bit));
       node_in = λ n is. absurd (let both = sym node ∙ is in cc);
       slot_in = λ s is. absurd (let both = sym slot ∙ is in cc);
+      pages_in = λ page i. absurd (subst (In page) pages i);
+      took = λ page i. absurd (subst (In page) pages i);
     };
     still = tt;
     stored = stored;
@@ -394,17 +402,19 @@ module _ (M : Type 0) (mix : ℕ → ℕ → ℕ → ℕ) (env : Env) (events : 
 
   begins-rebind : (port owner new : ℕ) (kind : Kind) (job : Job) → first_rebind env port owner new kind ≡ Some job → Going job []
   begins-rebind port owner new Single job is =
-      of_first _ job is (inr (inr (holds_none (rebinds port owner new (rebind_at.first_state env port new)) refl refl (λ place bit. refl) tt)))
+      of_first _ job is
+      (inr (inr (holds_none (rebinds port owner new (rebind_at.first_state env port new)) refl refl refl (λ place bit. refl) tt)))
   begins-rebind port owner new Listed job is = absurd (cc)
 
   begins : (call : Call) (job : Job) → first_job env call ≡ Some job → Going job []
   begins (Find port) job is = of_first _ job is (inl refl)
   begins (Bind port owner once) job is =
-      of_first _ job is (inr (inr (holds_none (binds port owner once (bind_at.first_state env port owner)) refl refl (λ place bit. refl) tt)))
+      of_first _ job is
+      (inr (inr (holds_none (binds port owner once (bind_at.first_state env port owner)) refl refl refl (λ place bit. refl) tt)))
   begins (All port) job is = of_first _ job is (inl refl)
   begins (Release port owner) job is = of_first _ job is (inl refl)
   begins (Rebind port owner new) job is = begins-rebind port owner new env.config.kind job is
-  begins Work job is = of_first _ job is (inr (inr (holds_none (works works_at.WorkLock) refl refl (λ place bit. refl) tt)))
+  begins Work job is = of_first _ job is (inr (inr (holds_none (works works_at.WorkLock) refl refl refl (λ place bit. refl) tt)))
   begins Count job is = of_first _ job is (inl refl)
   begins _ job is = absurd (cc)
 

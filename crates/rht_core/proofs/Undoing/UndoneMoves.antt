@@ -16,15 +16,17 @@ use Rattle.rht_words.specs.Links.{future_of, entry_of}
 use Rattle.rht_words.specs.Maps.{bit_of}
 use Rattle.rht_words.specs.Members.{In}
 use Rattle.rht_words.specs.Operations.{op_place, old_of, word_after}
-use Rattle.rht_words.specs.Places.{WorkLock, Slot, SlotWord, FutureWord, StateWord, NodeMap, PageMap, PageWord, Node, NodeWord, place_of}
+use Rattle.rht_words.specs.Places.{WorkLock, Slot, SlotWord, ShapeWord, SeedWord, FutureWord, SerialWord, StateWord, LoadedSection, NodeMap, PageMap, PageWord, Node, NodeWord, place_of}
 use Rattle.rht_words.proofs.BitChanges.{bit_at-set, bit_at-set_other}
-use Rattle.rht_words.proofs.EachElement.{Any-append_left}
+use Rattle.rht_words.proofs.EachElement.{AllByRecursion-push, Any-append_left}
 use Rattle.rht_words.proofs.Members.{one_if}
+use Rattle.rht_words.proofs.PlacesApart.{parts_in_order}
 use Rattle.rht_model.specs.declared.history.Call.{Call}
 use Rattle.rht_arena.specs.Laws.{map_place, map_bit}
+use Rattle.rht_arena.specs.RunLaws.{page_place, TakesPage, GivesPage}
 use Rattle.rht_nest.specs.Tables.{pages_of_shape}
-use Rattle.rht_core.specs.Traces.{Did}
-use Rattle.rht_core.specs.Refused.{turned, turns, IsTableWord, GivesBackNode, GivesBackSlot, IsOfNodeGiven, IsOfSlotGiven, StoresLast, AttachedWith, IsOfSlot, IsOfPages, IsOfAttached, IsMissingEntry, EntersPage, IsOfEntered, MayAttach, IsExcepted}
+use Rattle.rht_core.specs.Traces.{Did, performed_of}
+use Rattle.rht_core.specs.Refused.{turned, turns, IsTableWord, GivesBackNode, GivesBackSlot, IsOfNodeGiven, IsOfSlotGiven, StoresLast, AttachedWith, IsOfSlot, IsOfPages, IsOfAttached, IsMissingEntry, EntersPage, HasTaken, EnteredWhenTaken, IsOfEntered, MayAttach, IsExcepted}
 use Rattle.rht_core.proofs.Theory.Ghosts.{Ghost, Held, SlotHeld, PageFree, PageHeld, lock_bit, state_word, has_bit}
 use Rattle.rht_core.proofs.Theory.Wholes.{place_at, Whole}
 use Rattle.rht_core.proofs.Theory.Steps.{Holding, Move, Quiet, TakesNode, GivesNode, TakesLock, DropsLock, Raises, Links, Lowers, Rebinds, LinksBehind, Arms, TakesSlot, GivesSlot, TakesPages, GivesPages, TakesWork, GivesWork, BeginsMoving, TakesSecond, Leaves, Arrives, CutsOff, Publishes, Retires, mem, Does, ReadyFor, SaysChange, IsAside, DoesQuiet, DoesTakeNode, DoesGiveNode, DoesTakeLock, DoesDropLock, DoesTakeSlot, DoesGiveSlot, DoesTakePages, DoesGivePages, DoesAttach, DoesEnter, DoesTakeWork, DoesGiveWork}
@@ -104,12 +106,14 @@ module _ (g : Geometry) (words_at : ℕ → List ℕ) (call : Call) where
   IsLeft h steps place bit = IsExcepted g words_at call steps place bit ⊎ IsOwn h place
 
   -- Of what a call holds after these operations: each bit is turned an odd number of times just where it is one of what the call holds,
-  -- but for words of its own and for those that may be left; and its node and its slot are there.
+  -- but for words of its own and for those that may be left; its node, its slot and its pages are there, and it has taken these.
   pub record Undoes (h : Holding) (steps : List Did) : Type 0 where
     pub even : (place bit : ℕ) → bit < 64
         → IsLeft h steps place bit ⊎ ((turns place bit steps + held_bits g h place bit) % 2 ≡ 0)
     pub node_in : (node : ℕ) → h.node ≡ Some node → node < g.nodes
     pub slot_in : (slot : ℕ) → h.slot ≡ Some slot → slot < 8
+    pub pages_in : (page : ℕ) → In page h.pages → page < g.pages
+    pub took : (page : ℕ) → In page h.pages → HasTaken g words_at page steps
 
   -- ---- with one operation more
 
@@ -157,12 +161,23 @@ module _ (g : Geometry) (words_at : ℕ → List ℕ) (call : Call) where
         }
 
     entered-more : (place bit : ℕ) → IsOfEntered g words_at steps place bit → IsOfEntered g words_at all place bit
-    entered-more place bit is = record {
-      entry = is.entry;
-      page = is.page;
-      entered = Any-append_left (λ step. EntersPage g (words_at step.index) is.entry is.page step) steps (did ∷ []) is.entered;
-      of_it = is.of_it;
-    }
+    entered-more place bit is =
+        let has = is.entered in
+        record {
+          entry = is.entry;
+          page = is.page;
+          entered = record {
+            before = has.before;
+            at = has.at;
+            behind = has.behind ++ did ∷ [];
+            split =
+                ap (λ before. before ++ did ∷ []) has.split
+                ∙ append_assoc has.before (has.at ∷ has.behind) (did ∷ []);
+            enters = has.enters;
+            took = has.took;
+          };
+          of_it = is.of_it;
+        }
 
     excepted-more : (place bit : ℕ) → IsExcepted g words_at call steps place bit → IsExcepted g words_at call all place bit
     excepted-more place bit (inl serial) = inl serial
@@ -173,6 +188,16 @@ module _ (g : Geometry) (words_at : ℕ → List ℕ) (call : Call) where
     excepted-more place bit (inr (inr (inr (may, inr entered)))) =
         inr (inr (inr (may, inr (entered-more place bit entered))))
 
+    -- the call had this page, and the operation doesn't give it back
+    pub record StillHas (h : Holding) (page : ℕ) : Type 0 where
+      pub has : In page h.pages
+      pub stays : GivesPage g page (performed_of did) → ⊥
+
+    -- or the operation takes it
+    pub record Takes (page : ℕ) : Type 0 where
+      pub page_in : page < g.pages
+      pub takes : TakesPage g page (performed_of did)
+
     -- what an operation has to do for that
     pub record Keeps (h h' : Holding) : Type 0 where
       pub own : (place bit : ℕ) → IsOwn h place → IsLeft h' all place bit
@@ -180,9 +205,38 @@ module _ (g : Geometry) (words_at : ℕ → List ℕ) (call : Call) where
           → IsLeft h' all place bit ⊎ ((turned place bit did + held_bits g h place bit + held_bits g h' place bit) % 2 ≡ 0)
       pub node_in : (node : ℕ) → h'.node ≡ Some node → node < g.nodes
       pub slot_in : (slot : ℕ) → h'.slot ≡ Some slot → slot < 8
+      pub had : (page : ℕ) → In page h'.pages → StillHas h page ⊎ Takes page
 
-    pub Undoes-push : (h h' : Holding) → Undoes h steps → Keeps h h' → Undoes h' all
-    Undoes-push h h' so_far keeps = record {
+    -- a page that they have taken they have still taken with one more that neither gives it back nor enters it
+    still-taken : (page : ℕ) → HasTaken g words_at page steps → (GivesPage g page (performed_of did) → ⊥)
+        → ((entry : ℕ) → EntersPage g (words_at did.index) entry page did → ⊥) → HasTaken g words_at page all
+    still-taken page has stays unentered = record {
+      before = has.before;
+      at = has.at;
+      behind = has.behind ++ did ∷ [];
+      split =
+          ap (λ before. before ++ did ∷ []) has.split
+          ∙ append_assoc has.before (has.at ∷ has.behind) (did ∷ []);
+      takes = has.takes;
+      kept = AllByRecursion-push (λ step. GivesPage g page (performed_of step) → ⊥) has.behind did has.kept stays;
+      unentered =
+          AllByRecursion-push (λ step. (entry : ℕ) → EntersPage g (words_at step.index) entry page step → ⊥) has.behind did
+          has.unentered unentered;
+    }
+
+    -- and so they have with one more that takes it
+    now-taken : (page : ℕ) → TakesPage g page (performed_of did) → HasTaken g words_at page all
+    now-taken page takes =
+        record { before = steps; at = did; behind = []; split = refl; takes = takes; kept = tt; unentered = tt }
+
+    -- where it enters a page of the call, this is none of its pages any more
+    abbrev pub GoneWhereEntered : Holding → Holding → Type 0
+    GoneWhereEntered h h' =
+        (entry page : ℕ) → did.op ≡ Exchange (place_of g (PageWord entry)) 0 (entry_of page) → did.old ≡ 0
+        → In page h.pages → In page h'.pages → ⊥
+
+    pub Undoes-push : (h h' : Holding) → Undoes h steps → Keeps h h' → GoneWhereEntered h h' → Undoes h' all
+    Undoes-push h h' so_far keeps gone = record {
       even = λ place bit low. elim (so_far.even place bit low) [
         | inl left ↦ inl (elim left [
           | inl excepted ↦ inl (excepted-more place bit excepted)
@@ -198,6 +252,16 @@ module _ (g : Geometry) (words_at : ℕ → List ℕ) (call : Call) where
       ];
       node_in = keeps.node_in;
       slot_in = keeps.slot_in;
+      pages_in = λ page i. elim (keeps.had page i) [
+        | inl still ↦ so_far.pages_in page still.has
+        | inr now ↦ now.page_in
+      ];
+      took = λ page i. elim (keeps.had page i) [
+        | inl still ↦
+            still-taken page (so_far.took page still.has) still.stays
+            (λ entry enters. gone entry page enters.exchanges enters.found still.has i)
+        | inr now ↦ now-taken page now.takes
+      ];
     }
 
 -- ---- by moves
@@ -269,9 +333,77 @@ module _ (env : Env) (mix : ℕ → ℕ → ℕ → ℕ) (words_at : ℕ → Lis
       there = own.there;
     }))
 
+    -- each page is one that it had and that isn't given back, or that it takes
+    abbrev StillHad : ℕ → Type 0
+    StillHad page = StillHas g words_at call steps did h page
+
+    abbrev HadOrTakes : Type 0
+    HadOrTakes = (page : ℕ) → In page h'.pages → StillHad page ⊎ Takes g words_at call steps did page
+
+    -- an operation on another word than those of the map gives no page back
+    off_map : ((page : ℕ) → page < g.pages → op_place did.op ≡ page_place g page → ⊥)
+        → (page : ℕ) → In page h.pages → StillHad page
+    off_map apart page i = record { has = i; stays = λ gives. apart page (so_far.pages_in page i) gives.place }
+
+    -- the bit of a page that the call has is clear, so one that leaves it doesn't give the page back
+    leaves_bit : (page : ℕ) → In page h.pages
+        → (op_place did.op ≡ page_place g page → bit_at (word_after did.old did.op) (page % 64) ≡ bit_at did.old (page % 64))
+        → StillHad page
+    leaves_bit page i same = record {
+      has = i;
+      stays = λ gives.
+          let there : did.old ≡ mem env mix words (PageMap (page / 64)) =
+          found ∙ ap (λ o. old_of words (Store o 0)) gives.place in
+          let set : bit_at (mem env mix words (PageMap (page / 64))) (page % 64) ≡ 1 =
+          ap (λ w. bit_at w (page % 64)) (sym there) ∙ sym (same gives.place) ∙ gives.sets in
+          let free = (whole.pages.bits page (so_far.pages_in page i)).0 set in
+          let held = may.mine page i in
+          let both_ways = sym held ∙ free in
+          cc;
+    }
+
+    -- where the pages are the same none is given back
+    same_had : h'.pages ≡ h.pages → ((page : ℕ) → In page h.pages → StillHad page) → HadOrTakes
+    same_had same still page i = inl (still page (subst (In page) same i))
+
+    -- no word of the map of pages is one of the pages, of the map of nodes or of a node, nor of a slot that the moves speak of, nor the
+    -- work lock
+    behind_map : (j page : ℕ) → page < g.pages → place_at env mix j ≡ page_place g page → ⊥
+    behind_map j page within same =
+        let order = parts_in_order g in absurd (omega (arith, within, same, order.nodes, order.pages))
+
+    not_in_node_map : (node page : ℕ) → node < g.nodes → map_place g node ≡ page_place g page → ⊥
+    not_in_node_map node page within same =
+        let order = parts_in_order g in absurd (omega (arith, within, same, order.page_map))
+
+    not_in_nodes : (node : ℕ) (word : NodeWord) (page : ℕ) → node < g.nodes → page < g.pages
+        → place_of g (Node node word) ≡ page_place g page → ⊥
+    not_in_nodes node word page node_in within same =
+        let order = parts_in_order g in absurd (omega (arith, within, same, order.nodes))
+
+    not_state : (slot : ℕ) → slot < 8 → (page : ℕ) → place_of g (Slot slot StateWord) ≡ page_place g page → ⊥
+    not_state slot low page same =
+        let order = parts_in_order g in absurd (omega (arith, low, same, order.page_map))
+
+    not_in_slots : (slot : ℕ) (word : SlotWord) → IsTableWord word → slot < 8 → (page : ℕ)
+        → place_of g (Slot slot word) ≡ page_place g page → ⊥
+    not_in_slots slot ShapeWord of_table low page same =
+        let order = parts_in_order g in absurd (omega (arith, low, same, order.page_map))
+    not_in_slots slot SeedWord of_table low page same =
+        let order = parts_in_order g in absurd (omega (arith, low, same, order.page_map))
+    not_in_slots slot FutureWord of_table low page same =
+        let order = parts_in_order g in absurd (omega (arith, low, same, order.page_map))
+    not_in_slots slot SerialWord of_table low page same =
+        let order = parts_in_order g in absurd (omega (arith, low, same, order.page_map))
+    not_in_slots slot StateWord of_table low page same = of_table
+    not_in_slots slot (LoadedSection caller) of_table low page same = of_table
+
+    not_first : (page : ℕ) → 1 ≡ page_place g page → ⊥
+    not_first page same = let order = parts_in_order g in absurd (omega (arith, same, order.page_map))
+
     -- so do both
-    with_same : h'.node ≡ h.node → h'.slot ≡ h.slot → Turns → Kept
-    with_same node_same slot_same turn = record {
+    with_same : h'.node ≡ h.node → h'.slot ≡ h.slot → HadOrTakes → Turns → Kept
+    with_same node_same slot_same had turn = record {
       own = λ place bit own. elim own [
         | inl node ↦ own_node node_same place bit node
         | inr slot ↦ own_slot slot_same place bit slot
@@ -279,6 +411,7 @@ module _ (env : Env) (mix : ℕ → ℕ → ℕ → ℕ) (words_at : ℕ → Lis
       turn = turn;
       node_in = λ node is. so_far.node_in node (sym node_same ∙ is);
       slot_in = λ slot is. so_far.slot_in slot (sym slot_same ∙ is);
+      had = had;
     }
 
     -- ---- nothing that others see
@@ -297,7 +430,7 @@ module _ (env : Env) (mix : ℕ → ℕ → ℕ → ℕ) (words_at : ℕ → Lis
     quiet does =
         let node_same = ap (λ (x : Holding). x.node) does.holds in
         let slot_same = ap (λ (x : Holding). x.slot) does.holds in
-        with_same node_same slot_same (λ place bit low.
+        with_same node_same slot_same had (λ place bit low.
         let same : bits' place bit ≡ bits place bit = ap (λ (x : Holding). held_bits g x place bit) does.holds in
         elim does.leaves [
           | inl leaves ↦
@@ -307,6 +440,22 @@ module _ (env : Env) (mix : ℕ → ℕ → ℕ → ℕ) (words_at : ℕ → Lis
             | inr far ↦
                 inr (unturned (turned place bit did) (bits place bit) (bits' place bit) (turned-far place bit did far) same)
           ]
+        ])
+      where
+        -- what others don't see is no word of the map
+        map_apart : IsAside g did.op h → (page : ℕ) → page < g.pages → op_place did.op ≡ page_place g page → ⊥
+        map_apart (inl own) page within at =
+            not_in_nodes own.node own.word page (so_far.node_in own.node own.has) within (sym own.place ∙ at)
+        map_apart (inr (inl own)) page within at =
+            not_in_slots own.slot own.word own.of_table own.within page (sym own.place ∙ at)
+        map_apart (inr (inr serial)) page within at =
+            let order = parts_in_order g in
+            let there = ap op_place (sym serial) ∙ at in absurd (omega (arith, there, order.page_map))
+
+        had : HadOrTakes
+        had = same_had (ap (λ (x : Holding). x.pages) does.holds) (λ page i. elim does.leaves [
+          | inl leaves ↦ leaves_bit page i (λ at. leaves (page % 64) (omega arith))
+          | inr aside ↦ off_map (map_apart aside) page i
         ])
 
     -- ---- a node
@@ -333,6 +482,8 @@ module _ (env : Env) (mix : ℕ → ℕ → ℕ → ℕ) (words_at : ℕ → Lis
               (ap (λ o. node_bit g o place bit) does.none))));
           node_in = λ node some. let same : n ≡ node = (let e = sym has ∙ some in cc) in subst (λ m. m < g.nodes) same is.within;
           slot_in = λ slot some. so_far.slot_in slot (sym slot_same ∙ some);
+          had = same_had (ap (λ (x : Holding). x.pages) does.holds)
+              (off_map (λ page within at. not_in_node_map n page is.within (sym is.clears.place ∙ at)));
         }
 
     give_node : (n : ℕ) → G.node n ≡ Held c → DoesGiveNode g n did.op h h' → Kept
@@ -372,22 +523,30 @@ module _ (env : Env) (mix : ℕ → ℕ → ℕ → ℕ) (words_at : ℕ → Lis
               ∙ sym (ap (λ o. node_bit g o place bit) does.has)) refl)));
           node_in = λ node some. absurd (let e = sym none ∙ some in cc);
           slot_in = λ slot some. so_far.slot_in slot (sym slot_same ∙ some);
+          had = same_had (ap (λ (x : Holding). x.pages) does.holds)
+              (off_map (λ page within at. not_in_node_map n page among (ap op_place (sym does.giving) ∙ at)));
         }
 
     -- ---- a lock, and the work lock
 
-    take_lock : (place : ℕ) → DoesTakeLock g place did.op did.old h h' → Kept
-    take_lock there does =
-        with_same (ap (λ (x : Holding). x.node) does.holds) (ap (λ (x : Holding). x.slot) does.holds) (λ place bit low.
+    take_lock : (j : ℕ) → DoesTakeLock g (place_at env mix j) did.op did.old h h' → Kept
+    take_lock j does =
+        let there = place_at env mix j in
+        with_same (ap (λ (x : Holding). x.node) does.holds) (ap (λ (x : Holding). x.slot) does.holds)
+        (same_had (ap (λ (x : Holding). x.pages) does.holds)
+        (off_map (λ page within at. behind_map j page within (sym does.on ∙ at)))) (λ place bit low.
         inr (then_is place bit _ (ap (λ (x : Holding). held_bits g x place bit) does.holds)
         (by_second (turned place bit did) (locked_bit g h.lock place bit) (one_bit there 0 place bit)
         (node_bit g h.node place bit) (work_bit g h.worker place bit) (slot_bit g h.slot place bit) (pages_bit g h.pages place bit)
         (comes _ _ _ (turned-one there 0 place bit did low (sets_lowest there did does.on does.even does.locks))
         (ap (λ o. locked_bit g o place bit) does.none)))))
 
-    drop_lock : (place : ℕ) → DoesDropLock g place did.op did.old h h' → Kept
-    drop_lock there does =
-        with_same (ap (λ (x : Holding). x.node) does.holds) (ap (λ (x : Holding). x.slot) does.holds) (λ place bit low.
+    drop_lock : (j : ℕ) → DoesDropLock g (place_at env mix j) did.op did.old h h' → Kept
+    drop_lock j does =
+        let there = place_at env mix j in
+        with_same (ap (λ (x : Holding). x.node) does.holds) (ap (λ (x : Holding). x.slot) does.holds)
+        (same_had (ap (λ (x : Holding). x.pages) does.holds)
+        (off_map (λ page within at. behind_map j page within (sym does.on ∙ at)))) (λ place bit low.
         inr (then_is place bit _ (ap (λ (x : Holding). held_bits g x place bit) does.holds)
         (by_second (turned place bit did) (locked_bit g h.lock place bit) 0
         (node_bit g h.node place bit) (work_bit g h.worker place bit) (slot_bit g h.slot place bit) (pages_bit g h.pages place bit)
@@ -408,7 +567,9 @@ module _ (env : Env) (mix : ℕ → ℕ → ℕ → ℕ) (words_at : ℕ → Lis
     take_work : DoesTakeWork g did.op did.old h h' → Kept
     take_work does =
         let there = place_of g WorkLock in
-        with_same (ap (λ (x : Holding). x.node) does.holds) (ap (λ (x : Holding). x.slot) does.holds) (λ place bit low.
+        with_same (ap (λ (x : Holding). x.node) does.holds) (ap (λ (x : Holding). x.slot) does.holds)
+        (same_had (ap (λ (x : Holding). x.pages) does.holds)
+        (off_map (λ page within at. not_first page (ap op_place (sym does.taking) ∙ at)))) (λ place bit low.
         inr (then_is place bit _ (ap (λ (x : Holding). held_bits g x place bit) does.holds)
         (by_third (turned place bit did) (work_bit g h.worker place bit) (one_bit there 0 place bit)
         (node_bit g h.node place bit) (locked_bit g h.lock place bit) (slot_bit g h.slot place bit) (pages_bit g h.pages place bit)
@@ -419,7 +580,9 @@ module _ (env : Env) (mix : ℕ → ℕ → ℕ → ℕ) (words_at : ℕ → Lis
     give_work works does =
         let there = place_of g WorkLock in
         let one : did.old ≡ 1 = found ∙ ap (old_of words) does.giving ∙ whole.slots.worker_is ∙ ap lock_bit works in
-        with_same (ap (λ (x : Holding). x.node) does.holds) (ap (λ (x : Holding). x.slot) does.holds) (λ place bit low.
+        with_same (ap (λ (x : Holding). x.node) does.holds) (ap (λ (x : Holding). x.slot) does.holds)
+        (same_had (ap (λ (x : Holding). x.pages) does.holds)
+        (off_map (λ page within at. not_first page (ap op_place (sym does.giving) ∙ at)))) (λ place bit low.
         inr (then_is place bit _ (ap (λ (x : Holding). held_bits g x place bit) does.holds)
         (by_third (turned place bit did) (work_bit g h.worker place bit) 0
         (node_bit g h.node place bit) (locked_bit g h.lock place bit) (slot_bit g h.slot place bit) (pages_bit g h.pages place bit)
@@ -445,6 +608,8 @@ module _ (env : Env) (mix : ℕ → ℕ → ℕ → ℕ) (words_at : ℕ → Lis
               (ap (λ o. slot_bit g o place bit) does.none))));
           node_in = λ node some. so_far.node_in node (sym node_same ∙ some);
           slot_in = λ slot some. let same : s ≡ slot = (let e = sym has ∙ some in cc) in subst (λ m. m < 8) same does.within;
+          had = same_had (ap (λ (x : Holding). x.pages) does.holds)
+              (off_map (λ page within at. not_state s does.within page (ap op_place (sym does.taking) ∙ at)));
         }
 
     give_slot : (s : ℕ) → G.slot s ≡ SlotHeld c → DoesGiveSlot g s did.op h h' → Kept
@@ -475,6 +640,8 @@ module _ (env : Env) (mix : ℕ → ℕ → ℕ → ℕ) (words_at : ℕ → Lis
               ∙ sym (ap (λ o. slot_bit g o place bit) does.has)) refl)));
           node_in = λ node some. so_far.node_in node (sym node_same ∙ some);
           slot_in = λ slot some. absurd (let e = sym none ∙ some in cc);
+          had = same_had (ap (λ (x : Holding). x.pages) does.holds)
+              (off_map (λ page within at. not_state s does.within page (ap op_place (sym does.giving) ∙ at)));
         }
 
     -- ---- pages
@@ -536,7 +703,7 @@ module _ (env : Env) (mix : ℕ → ℕ → ℕ → ℕ) (words_at : ℕ → Lis
     take_pages : (index pages_bits : ℕ) → ArePagesOf env mix G index pages_bits PageFree
         → DoesTakePages g index pages_bits did.op did.old h h' → Kept
     take_pages index pages_bits free does =
-        with_same (ap (λ (x : Holding). x.node) does.holds) (ap (λ (x : Holding). x.slot) does.holds) (λ place bit low.
+        with_same (ap (λ (x : Holding). x.node) does.holds) (ap (λ (x : Holding). x.slot) does.holds) had (λ place bit low.
         inr (then_is place bit _ (ap (λ (x : Holding). held_bits g x place bit) does.holds)
         (by_fifth (turned place bit did) (pages_bit g h.pages place bit) (pages_bit g h'.pages place bit)
         (node_bit g h.node place bit) (locked_bit g h.lock place bit) (work_bit g h.worker place bit) (slot_bit g h.slot place bit)
@@ -544,6 +711,27 @@ module _ (env : Env) (mix : ℕ → ℕ → ℕ → ℕ) (words_at : ℕ → Lis
       where
         clears : moves.ClearsBits g index pages_bits did.op did.old
         clears = does.clears
+
+        had : HadOrTakes
+        had page i = elim ((does.pages page).0 i) [
+          | inl before ↦ inl (leaves_bit page before (λ at. clears.others (page % 64) (omega arith) (λ set.
+              let has = bit_of_page index pages_bits clears.on page (page_place g page) (page % 64) at refl refl set in
+              let free_one = free.owned page has in
+              let mine_one = may.mine page before in
+              let both_ways = sym free_one ∙ mine_one in
+              cc)))
+          | inr has ↦
+              let at = only_there index pages_bits clears.on page (page_place g page) (page % 64) has refl refl in
+              let low : page % 64 < 64 = omega arith in
+              inr (record {
+                page_in = free.among page has;
+                takes = record {
+                  place = at.0;
+                  free = clears.found (page % 64) low at.1;
+                  clears = clears.cleared (page % 64) low at.1;
+                };
+              })
+        ]
 
         stays : (place bit : ℕ) → (op_place did.op ≡ place → bit_at pages_bits bit ≡ 1 → ⊥)
             → pages_bit g h'.pages place bit ≡ pages_bit g h.pages place bit
@@ -584,7 +772,7 @@ module _ (env : Env) (mix : ℕ → ℕ → ℕ → ℕ) (words_at : ℕ → Lis
     give_pages : (index pages_bits : ℕ) → ArePagesOf env mix G index pages_bits (PageHeld c)
         → DoesGivePages g index pages_bits did.op did.old h h' → Kept
     give_pages index pages_bits mine does =
-        with_same (ap (λ (x : Holding). x.node) does.holds) (ap (λ (x : Holding). x.slot) does.holds) (λ place bit low.
+        with_same (ap (λ (x : Holding). x.node) does.holds) (ap (λ (x : Holding). x.slot) does.holds) had (λ place bit low.
         inr (then_is place bit _ (ap (λ (x : Holding). held_bits g x place bit) does.holds)
         (by_fifth (turned place bit did) (pages_bit g h.pages place bit) (pages_bit g h'.pages place bit)
         (node_bit g h.node place bit) (locked_bit g h.lock place bit) (work_bit g h.worker place bit) (slot_bit g h.slot place bit)
@@ -592,6 +780,14 @@ module _ (env : Env) (mix : ℕ → ℕ → ℕ → ℕ) (words_at : ℕ → Lis
       where
         sets : moves.SetsBits g index pages_bits did.op did.old
         sets = does.sets
+
+        had : HadOrTakes
+        had page i =
+            let parts = (does.pages page).0 i in
+            inl (leaves_bit page parts.0 (λ at. sets.others (page % 64) (omega arith) (λ set.
+            let has = bit_of_page index pages_bits sets.on page (page_place g page) (page % 64) at refl refl set in
+            let both_ways = sym parts.1 ∙ has in
+            cc)))
 
         not_one : (page : ℕ) (t : Bool) → has_bit index pages_bits page ≡ t → (has_bit index pages_bits page ≡ true → ⊥)
             → has_bit index pages_bits page ≡ false
@@ -715,6 +911,7 @@ module _ (env : Env) (mix : ℕ → ℕ → ℕ → ℕ) (words_at : ℕ → Lis
           ];
           node_in = λ node some. so_far.node_in node (sym node_same ∙ some);
           slot_in = λ other some. absurd (let e = sym none ∙ some in cc);
+          had = λ page i. absurd (subst (In page) (ap (λ (x : Holding). x.pages) does.holds) i);
         }
       where
         none_held : (t n l w s p : ℕ) → t ≡ 0 → s ≡ 0 → p ≡ 0 → (t + (n + l + w + s + p) + (n + l + w + 0 + 0)) % 2 ≡ 0
@@ -728,7 +925,7 @@ module _ (env : Env) (mix : ℕ → ℕ → ℕ → ℕ) (words_at : ℕ → Lis
 
     enter : (j p : ℕ) → IsEntering env mix c j p G → DoesEnter g j p did.op did.old h h' → Kept
     enter j p ready does =
-        with_same (ap (λ (x : Holding). x.node) does.holds) (ap (λ (x : Holding). x.slot) does.holds) (λ place bit low.
+        with_same (ap (λ (x : Holding). x.node) does.holds) (ap (λ (x : Holding). x.slot) does.holds) had (λ place bit low.
         elim (cases_eq place (place_of g (PageWord j))) [
           | inl at ↦ inl (left place bit (inl at))
           | inr far ↦ elim (page_bit place bit) [
@@ -742,6 +939,11 @@ module _ (env : Env) (mix : ℕ → ℕ → ℕ → ℕ) (words_at : ℕ → Lis
           ]
         ])
       where
+        had : HadOrTakes
+        had page i =
+            inl (off_map (λ q within at. behind_map j q within (ap op_place (sym does.entering) ∙ at)) page
+            ((does.pages page).0 i).0)
+
         unset : mem env mix words (PageWord j) ≡ 0
         unset = sym (ap (old_of words) does.entering) ∙ sym found ∙ does.found
 
@@ -754,6 +956,16 @@ module _ (env : Env) (mix : ℕ → ℕ → ℕ → ℕ) (words_at : ℕ → Lis
           found = does.found;
         }
 
+        entered : EnteredWhenTaken g words_at j p every
+        entered = record {
+          before = steps;
+          at = did;
+          behind = [];
+          split = refl;
+          enters = enters_it;
+          took = so_far.took p does.had;
+        }
+
         left : (place bit : ℕ) → ((place ≡ place_of g (PageWord j)) ⊎ IsBitOf p place bit)
             → IsLeft g words_at call h' every place bit
         left place bit of_it = inl (inr (inr (inr (
@@ -761,7 +973,7 @@ module _ (env : Env) (mix : ℕ → ℕ → ℕ → ℕ) (words_at : ℕ → Lis
           inr (record {
             entry = j;
             page = p;
-            entered = Any-push (λ step. EntersPage g (words_at step.index) j p step) steps did enters_it;
+            entered = entered;
             of_it = of_it;
           }),
         ))))
@@ -791,8 +1003,8 @@ module _ (env : Env) (mix : ℕ → ℕ → ℕ → ℕ) (words_at : ℕ → Lis
     kept_by (Arms j) ready does = inr (quiet does)
     kept_by (TakesNode n) ready does = inr (take_node n does)
     kept_by (GivesNode n) ready does = inr (give_node n ready does)
-    kept_by (TakesLock j) ready does = inr (take_lock (place_at env mix j) does)
-    kept_by (DropsLock j) ready does = inr (drop_lock (place_at env mix j) does)
+    kept_by (TakesLock j) ready does = inr (take_lock j does)
+    kept_by (DropsLock j) ready does = inr (drop_lock j does)
     kept_by Raises ready does =
         absurd (let high = ap (λ (x : Holding). x.raised) does.holds in let e = sym may.low_then ∙ high in cc)
     kept_by (Links n port j) ready does = absurd (let e = sym may.low ∙ does.raised in cc)

@@ -1,21 +1,21 @@
--- Operations after which a refused call hasn't undone what it did, the fewest of each kind: a bind that never unlocks an empty bucket, or
--- enters a page where none is missing, which is the same exchange; one that leaks a slot which it had made a table in and given back
--- before; and a resizing that leaves the work lock taken.
-use Rattle.std.proofs.Common.{◌≡◌, ◌⊎◌, ℕ, ◌+◌, ◌*◌, ◌/◌, ◌%◌, ◌<◌, true, List, [], ◌∷◌, refl, ap, subst, inl, inr, arith}
+-- Operations after which a refused call hasn't undone what it did, the fewest of each kind: a bind that never unlocks an empty bucket,
+-- or enters a page that it never took, which is the same exchange; one that enters a page where none is missing; one that leaks a slot
+-- which it had made a table in and given back before; and a resizing that leaves the work lock taken.
+use Rattle.std.proofs.Common.{◌≡◌, ◌⊎◌, ℕ, ◌+◌, ◌*◌, ◌/◌, ◌%◌, ◌<◌, true, List, [], ◌∷◌, ◌++◌, length, length-append, refl, sym, ap, ◌∙◌, subst, inl, inr, arith}
 use Rattle.std.specs.List.{AllByRecursion, Any}
 use Rattle.rht_words.specs.declared.geometry.Geometry.{Geometry}
 use Rattle.rht_words.specs.declared.op.Op.{Op}
-use Rattle.rht_words.specs.declared.op.Op.TheVariants.{Store, Exchange}
-use Rattle.rht_words.specs.Places.{WorkLock, Slot, SlotWord, ShapeWord, SeedWord, FutureWord, SerialWord, StateWord, LoadedSection, PageMap, PageWord, words_in, place_of}
+use Rattle.rht_words.specs.declared.op.Op.TheVariants.{Store, Exchange, And}
+use Rattle.rht_words.specs.Places.{NextSerial, WorkLock, Slot, SlotWord, ShapeWord, SeedWord, FutureWord, SerialWord, StateWord, LoadedSection, PageMap, PageWord, words_in, place_of}
 use Rattle.rht_words.proofs.EachElement.{AllByRecursion-cut}
 use Rattle.rht_words.proofs.PlacesApart.{parts_in_order}
 use Rattle.rht_model.specs.declared.history.Call.{Call}
 use Rattle.rht_model.specs.declared.history.Call.TheVariants.{Bind, Work}
 use Rattle.rht_core.specs.Traces.{Did}
 use Rattle.rht_core.specs.ResizeCauses.{Attaches}
-use Rattle.rht_core.specs.Refused.{turns, IsTableWord, GivesBackNode, GivesBackSlot, AttachedWith, IsMissingEntry, EntersPage, IsExcepted}
+use Rattle.rht_core.specs.Refused.{turned, turns, IsTableWord, GivesBackNode, GivesBackSlot, AttachedWith, IsMissingEntry, EntersPage, EnteredWhenTaken, IsExcepted}
 use Rattle.rht_core.proofs.Histories.Behind.{Any-push_cases, Any-none}
-use Rattle.rht_core.proofs.Undoing.TurnedBits.{turned-here}
+use Rattle.rht_core.proofs.Undoing.TurnedBits.{turned-here, turned-far}
 
 -- an operation that found this word
 abbrev done : Op → ℕ → Did
@@ -48,14 +48,66 @@ module _ (g : Geometry) (words_at : ℕ → List ℕ) where
   one_only : (P : Did → Type 0) (did : Did) → Any P (did ∷ []) → P did
   one_only P did some = elim (Any-push_cases P [] did some) [ inl none ↦ absurd (Any-none P none) | inr is ↦ is ]
 
-  -- ---- a bind that never unlocks an empty bucket, or enters the first page at a word that is no missing entry
+  two_only : (P : Did → Type 0) (first second : Did) → Any P (first ∷ second ∷ []) → P first ⊎ P second
+  two_only P first second some = elim (Any-push_cases P (first ∷ []) second some) [
+    | inl before ↦ inl (one_only P first before)
+    | inr is ↦ inr is
+  ]
 
-  module _ (index : ℕ) (within : index < 64 * g.pages) (no_entry : IsMissingEntry g (words_at 0) index → ⊥) where
+  -- none of these operations enters a page
+  abbrev EnterNone : List Did → Type 0
+  EnterNone steps = AllByRecursion (λ did. (entry page : ℕ) → EntersPage g (words_at did.index) entry page did → ⊥) steps
+
+  none_entered : (steps : List Did) → EnterNone steps → (entry page : ℕ) → EnteredWhenTaken g words_at entry page steps → ⊥
+  none_entered steps none entry page has =
+      let P : Did → Type 0 = λ did. (e p : ℕ) → EntersPage g (words_at did.index) e p did → ⊥ in
+      let parts = AllByRecursion-cut P has.before (has.at ∷ has.behind) (subst (AllByRecursion P) has.split none) in
+      parts.1.0 entry page has.enters
+
+  -- nothing stands before one operation alone
+  none_before : (one at : Did) (before behind : List Did) → one ∷ [] ≡ before ++ at ∷ behind → before ≡ []
+  none_before one at [] behind is = refl
+  none_before one at (first ∷ before) behind is =
+      let lengths = ap length is in
+      let sum = length-append before (at ∷ behind) in
+      absurd (omega (arith, lengths, sum))
+
+  -- and no list without operations has one in it
+  no_split : (before behind : List Did) (at : Did) → [] ≡ before ++ at ∷ behind → ⊥
+  no_split before behind at is =
+      let lengths = ap length is in
+      let sum = length-append before (at ∷ behind) in
+      absurd (omega (arith, lengths, sum))
+
+  -- so an operation alone enters no page that was taken
+  never_taken : (one : Did) (entry page : ℕ) → EnteredWhenTaken g words_at entry page (one ∷ []) → ⊥
+  never_taken one entry page has =
+      let took = has.took in
+      no_split took.before took.behind took.at (sym (none_before one has.at has.before has.behind has.split) ∙ took.split)
+
+  -- ---- a bind that never unlocks an empty bucket, or enters the first page, which it never took
+
+  module _ (index : ℕ) (within : index < 64 * g.pages) where
     abbrev bucket : ℕ
     bucket = place_of g (PageWord index)
 
     abbrev locks_it : Did
     locks_it = done (Exchange bucket 0 1) 0
+
+    behind_slots : (table : ℕ) → table < 8 → bucket ≡ place_of g (Slot table FutureWord) → ⊥
+    behind_slots table low same =
+        let order = parts_in_order g in
+        absurd (omega (arith, low, same, order.page_map, order.nodes, order.pages))
+
+    behind_serial : bucket ≡ place_of g NextSerial → ⊥
+    behind_serial same =
+        let order = parts_in_order g in absurd (omega (arith, same, order.page_map, order.nodes, order.pages))
+
+    gives_no_node : (node : ℕ) → GivesBackNode g node locks_it → ⊥
+    gives_no_node node is = let gives = is.gives in absurd (cc)
+
+    gives_no_slot : (slot : ℕ) → GivesBackSlot g slot locks_it → ⊥
+    gives_no_slot slot is = let gives = is.gives in absurd (cc)
 
     pub never_unlocked : (port owner : ℕ) → Breaks g words_at (Bind port owner true) (locks_it ∷ []) bucket 0
     never_unlocked port owner = record {
@@ -65,30 +117,69 @@ module _ (g : Geometry) (words_at : ℕ → List ℕ) where
       unexcepted = unexcepted;
     }
       where
-        behind_slots : (table : ℕ) → table < 8 → bucket ≡ place_of g (Slot table FutureWord) → ⊥
-        behind_slots table low same =
-            let order = parts_in_order g in
-            absurd (omega (arith, low, same, order.page_map, order.nodes, order.pages))
-
-        -- the entry that it would have to be
-        entered_here : (entry page : ℕ) → EntersPage g (words_at 0) entry page locks_it → ⊥
-        entered_here entry page enters =
-            let at : bucket ≡ place_of g (PageWord entry) = (let is = enters.exchanges in cc) in
-            let same : entry ≡ index = omega (arith, at) in
-            no_entry (subst (IsMissingEntry g (words_at 0)) same enters.missing)
-
         unexcepted : IsExcepted g words_at (Bind port owner true) (locks_it ∷ []) bucket 0 → ⊥
-        unexcepted (inl serial) =
-            let order = parts_in_order g in absurd (omega (arith, serial, order.page_map, order.nodes, order.pages))
-        unexcepted (inr (inl node)) =
-            let gives = (one_only (GivesBackNode g node.node) locks_it node.given).gives in absurd (cc)
-        unexcepted (inr (inr (inl slot))) =
-            let gives = (one_only (GivesBackSlot g slot.slot) locks_it slot.given).gives in absurd (cc)
+        unexcepted (inl serial) = behind_serial serial
+        unexcepted (inr (inl node)) = gives_no_node node.node (one_only (GivesBackNode g node.node) locks_it node.given)
+        unexcepted (inr (inr (inl slot))) = gives_no_slot slot.slot (one_only (GivesBackSlot g slot.slot) locks_it slot.given)
         unexcepted (inr (inr (inr (may, inl it)))) =
             none_attached (locks_it ∷ []) (other_exchange bucket 1 0 behind_slots, tt) it.table it.slot it.shape it.attached
-        unexcepted (inr (inr (inr (may, inr it)))) =
-            entered_here it.entry it.page
-            (one_only (λ did. EntersPage g (words_at did.index) it.entry it.page did) locks_it it.entered)
+        unexcepted (inr (inr (inr (may, inr it)))) = never_taken locks_it it.entry it.page it.entered
+
+    -- ---- a bind that enters a page where none is missing, whatever it took before from the first word of the map
+
+    module _ (mask old : ℕ) (no_entry : IsMissingEntry g (words_at 0) index → ⊥) where
+      abbrev takes_page : Did
+      takes_page = done (And (place_of g (PageMap 0)) mask) old
+
+      pub none_missing : (port owner : ℕ) → Breaks g words_at (Bind port owner true) (takes_page ∷ locks_it ∷ []) bucket 0
+      none_missing port owner = record {
+        place_in = omega (arith, within);
+        bit_in = omega arith;
+        odd = one_turn (turned bucket 0 takes_page) (turned bucket 0 locks_it) (turned-far bucket 0 takes_page apart)
+            (turned-here bucket 0 locks_it refl);
+        unexcepted = unexcepted;
+      }
+        where
+          one_turn : (first second : ℕ) → first ≡ 0 → second ≡ 1 → (first + (second + 0)) % 2 ≡ 1
+          one_turn first second none one = omega (arith, none, one)
+
+          apart : place_of g (PageMap 0) ≡ bucket → ⊥
+          apart same = let order = parts_in_order g in absurd (omega (arith, within, same, order.nodes, order.pages))
+
+          -- the entry that it would have to be
+          entered_here : (entry page : ℕ) → EntersPage g (words_at 0) entry page locks_it → ⊥
+          entered_here entry page enters =
+              let at : bucket ≡ place_of g (PageWord entry) = (let is = enters.exchanges in cc) in
+              let same : entry ≡ index = omega (arith, at) in
+              no_entry (subst (IsMissingEntry g (words_at 0)) same enters.missing)
+
+          enters_none : (entry page : ℕ) → EntersPage g (words_at 0) entry page takes_page → ⊥
+          enters_none entry page enters = let is = enters.exchanges in absurd (cc)
+
+          attaches_none : (table slot : ℕ) → Attaches g table slot takes_page → ⊥
+          attaches_none table slot attaches = let is = attaches.exchanges in absurd (cc)
+
+          takes_gives_node : (node : ℕ) → GivesBackNode g node takes_page → ⊥
+          takes_gives_node node is = let gives = is.gives in absurd (cc)
+
+          takes_gives_slot : (slot : ℕ) → GivesBackSlot g slot takes_page → ⊥
+          takes_gives_slot slot is = let gives = is.gives in absurd (cc)
+
+          unexcepted : IsExcepted g words_at (Bind port owner true) (takes_page ∷ locks_it ∷ []) bucket 0 → ⊥
+          unexcepted (inl serial) = behind_serial serial
+          unexcepted (inr (inl node)) = elim (two_only (GivesBackNode g node.node) takes_page locks_it node.given) [
+            | inl first ↦ takes_gives_node node.node first
+            | inr second ↦ gives_no_node node.node second
+          ]
+          unexcepted (inr (inr (inl slot))) = elim (two_only (GivesBackSlot g slot.slot) takes_page locks_it slot.given) [
+            | inl first ↦ takes_gives_slot slot.slot first
+            | inr second ↦ gives_no_slot slot.slot second
+          ]
+          unexcepted (inr (inr (inr (may, inl it)))) =
+              none_attached (takes_page ∷ locks_it ∷ []) (attaches_none, (other_exchange bucket 1 0 behind_slots, tt))
+              it.table it.slot it.shape it.attached
+          unexcepted (inr (inr (inr (may, inr it)))) =
+              none_entered (takes_page ∷ locks_it ∷ []) (enters_none, (entered_here, tt)) it.entry it.page it.entered
 
   -- ---- a bind that leaks a slot
 
