@@ -283,7 +283,7 @@ fn written(alloc: Global, parts: &[Part]) -> Result<String, Fail> {
 fn tables_grow_and_shrink(rt: HostRuntime) -> Result<(), Fail> {
     use Part::{Each, Lines};
     // Each script, and its text.
-    let cases: [(&[Part], &[Part]); 8] = [
+    let cases: [(&[Part], &[Part]); 10] = [
         // Of 64 buckets 48 are three quarters, and 49 are more.
         (
             &[
@@ -419,6 +419,52 @@ fn tables_grow_and_shrink(rt: HostRuntime) -> Result<(), Fail> {
                     "1: bound\n1: bound\n1: bound\n1: moved\n1: released\n1: released\n1: released\n1: notable 4\n",
                 ),
                 Lines(1, "port 0: 10\nsize 8 keys 1\n"),
+            ],
+        ),
+        // The table of 256 behind the first is nested, since two pages are left: its top page and one page of
+        // buckets. No page is left for the bucket of 130, in whose page the bucket of 133 isn't.
+        (
+            &[
+                Lines(1, "table single pages 4 hint 96 hash low work manual\n"),
+                Each("1 bind ", ports(0, 1, 130), " 1\n"),
+                Lines(
+                    1,
+                    "1 bind 130 1\n1 bind 133 1\n1 find 130\n1 find 129\n1 work\n",
+                ),
+            ],
+            &[
+                Lines(130, "1: bound\n"),
+                Lines(
+                    1,
+                    "1: notable 256\n1: bound\n1: missing\n1: found 1\n1: notable 256\n",
+                ),
+                Each("port ", ports(0, 1, 130), ": 1\n"),
+                Lines(1, "port 133: 1\nsize 128 keys 131\n"),
+            ],
+        ),
+        // With two levels of entries: four pages are left. The bind of 1 enters the last of them as a page of
+        // entries, and finds none for the buckets behind it.
+        (
+            &[
+                Lines(
+                    1,
+                    "table single nodes 32 pages 132 hint 6144 hash low work manual\n",
+                ),
+                Each("1 bind ", ports(0, 8192, 17), " 1\n"),
+                Lines(
+                    1,
+                    "1 bind 1 1\n1 find 1\n1 bind 2 1\n1 bind 128 1\n1 find 128\n1 find 131072\n1 rebind 128 1 2\n1 release 131072 1\n1 find 131072\n1 work\n",
+                ),
+            ],
+            &[
+                Lines(17, "1: bound\n"),
+                Lines(
+                    1,
+                    "1: notable 8192\n1: missing\n1: notable 8192\n1: bound\n1: found 1\n1: found 1\n1: rebound\n1: released\n1: missing\n1: notable 8192\n",
+                ),
+                Lines(1, "port 0: 1\nport 128: 2\n"),
+                Each("port ", ports(8192, 8192, 15), ": 1\n"),
+                Lines(1, "size 8192 keys 17\n"),
             ],
         ),
     ];
