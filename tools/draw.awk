@@ -58,7 +58,7 @@ function begin_event() {
   worker = turn_of[line]
   operation = "worker " worker
   words = "no command is left, so nothing happens"
-  changed = -1
+  changed = looked_at = -1
   begun = 1
 }
 
@@ -82,6 +82,7 @@ function take_operation(    by) {
   if (!in_call[by]) { in_call[by] = 1; calls[by]++; steps[by] = 0 }
   steps[by]++
   operation = $0
+  looked_at = $3 + 0
   words = in_words($2, $3, $4, $5)
   perform($2, $3, $4, $5, $NF)
   did[by] = words
@@ -253,13 +254,18 @@ function perform(name, place, a, b, old,    now) {
   else set_word(place, result_of(name, now, a))
 }
 
-# Changes a word. The work lock and the buckets of flat tables are locked while they are odd.
+# Changes a word. The work lock and buckets are locked while they are odd. Of a page to which an entry
+# leads it is kept which entry that is.
 function set_word(place, value,    was) {
   place += 0
+  look_up(place)
+  if (sort == "entry") {
+    delete entry_to[page_behind(place)]
+    if (value != 0) entry_to[value - 1] = place
+  }
   was = is_odd(word_at(place))
   word[place] = value ""
   changed = place
-  look_up(place)
   if (sort != "lock" && sort != "bucket") return
   if (!was && is_odd(value)) {
     holder[place] = worker
@@ -296,10 +302,7 @@ function look_up(place,    at, number) {
     else if (at == 2) name = "the owner of " number
     else { name = "the list link of " number; sort = "link" }
   }
-  else {
-    name = bucket_name(place)
-    if (name ~ /^bucket/) sort = "bucket"
-  }
+  else name_page_word(place)
 }
 
 function name_single(place) {
@@ -322,24 +325,63 @@ function name_slot(slot, at) {
   else name = "word " at " of table " slot
 }
 
-# The bucket at a place, of whatever table has its words there.
-function bucket_name(place,    slot) {
+# A word of a page: a bucket, or an entry of a nested table, of whatever table has it.
+function name_page_word(place,    slot) {
   for (slot = 0; slot < 8; slot++) {
     if (word_at(24 + 32 * slot + 4) == 0) continue
     read_shape(slot)
-    if (!nest && place >= buckets && place < buckets + size)
-      return "bucket " (place - buckets) " of table " slot
+    if (!find_in_table(place)) continue
+    sort = depth < levels ? "entry" : "bucket"
+    if (depth == 0 || sort == "bucket") name = sort " " number " of table " slot
+    else name = "entry " word_in_page(place) " of page " page_of(place)
+    return
   }
-  return "word " ((place - page_words) % 64) " of page " int((place - page_words) / 64)
+  name = "word " word_in_page(place) " of page " page_of(place)
 }
 
-# Sets `size`, `buckets` and `nest` of a table: how many buckets it has, where they begin, and
-# whether it is nested.
+function page_of(place) { return int((place - page_words) / 64) }
+function word_in_page(place) { return (place - page_words) % 64 }
+
+# The page to which an entry leads, or -1.
+function page_behind(place,    page) {
+  page = word_at(place) - 1
+  return page < pages ? page : -1
+}
+
+# Whether a word of a page is of the table whose shape was read. If so, sets `depth`, behind how many
+# entries it is, and `number`, what the way to it reads as: an entry's place in the top page has the
+# lowest bits, and each further word's place in its page the bits from `step` on.
+function find_in_table(place,    page) {
+  if (place >= buckets && place < buckets + first_words) {
+    depth = 0
+    number = place - buckets
+    step = first_words
+    return 1
+  }
+  page = page_of(place)
+  if (!levels || !(page in entry_to) || !find_in_table(entry_to[page])) return 0
+  depth++
+  number += step * word_in_page(place)
+  step *= 64
+  return 1
+}
+
+# Sets `size` and `levels` of a table, `buckets` and `first_words`: how many buckets it has, and behind
+# how many entries each is, 0 in a flat table; where its first words begin, and how many they are, the
+# buckets of a flat table or the entries in the top page of a nested one.
 function read_shape(slot) { take_shape(word_at(24 + 32 * slot)) }
-function take_shape(shape) {
+function take_shape(shape,    nest) {
   size = 2 ^ (shape % 32)
   nest = int(shape / 32) % 32
+  levels = nest == 0 ? 0 : size < 8192 ? 1 : 2
+  first_words = nest == 0 ? size : 2 ^ nest
   buckets = page_words + 64 * int(shape / 1024)
+}
+
+# The buckets of the table whose shape was read, in words.
+function shape_text() {
+  if (!levels) return size " buckets from [" buckets "]"
+  return size " buckets behind " first_words " entries of page " page_of(buckets) " from [" buckets "]"
 }
 
 # A word in words. `sort` is that of its place.
@@ -348,7 +390,8 @@ function meaning(value) {
   if (sort == "lock") return value == 0 ? "free" : "taken"
   if (sort == "state") return value == 0 ? "free" : value == 1 ? "taken" : "retired"
   if (sort == "future") return value == 0 ? "none" : "table " (value - 1)
-  if (sort == "shape") { take_shape(value); return size " buckets from [" buckets "]" }
+  if (sort == "shape") { take_shape(value); return shape_text() }
+  if (sort == "entry") return value == 0 ? "none" : "page " (value - 1)
   if (sort == "link") return link_text(value)
   if (sort == "bucket") return bucket_text(value) (is_odd(value) ? ", locked" : "")
   return value
@@ -391,6 +434,7 @@ function cas_in_words(place, now, a, b) {
   if (sort == "bucket" && !is_odd(a) && b - 1 == a) return "locks " name
   if (sort == "lock") return "takes " name
   if (sort == "future") return "attaches " meaning(b) " as " name
+  if (sort == "entry") return "enters " meaning(b) " in " name
   return "exchanges " meaning(a) " for " meaning(b) " in " name
 }
 
