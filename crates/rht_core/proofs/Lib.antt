@@ -20,3 +20,7 @@ pub mod Histories
 pub mod Reasons
 -- the bits that calls turn, and what is left of those that change nothing
 pub mod Undoing
+-- look-ups without locks
+pub mod Finding
+-- what is given back, and that no open section could reach it
+pub mod Returning

@@ -27,6 +27,12 @@ pub mod ResizeCauses
 pub mod Alone
 -- the pages of a table, as the words have them
 pub mod TablePages
+-- what a caller in a read section could reach
+pub mod Reach
+-- what a call that tidies gives back
+pub mod Tidied
+-- what a full walk shows
+pub mod Shown
 -- what the count of ports counts, and a table that nobody uses
 pub mod Counts
 -- how many calls took a node

@@ -33,7 +33,8 @@ use Rattle.rht_core.proofs.Events.JobsOfCallers.{plan-job, left-job, nothing-job
 use Rattle.rht_core.proofs.Theory.Ghosts.{Ghost, is_taken_by}
 use Rattle.rht_core.proofs.Theory.Wholes.{outs, Whole}
 use Rattle.rht_core.proofs.Theory.Answering.{outs_of}
-use Rattle.rht_core.proofs.Theory.Reliance.{Rely}
+use Rattle.rht_core.proofs.Theory.Frames.{StaleStay, stale_write, same_owners}
+use Rattle.rht_core.proofs.Theory.Reliance.{Rely, RelyWhere}
 use Rattle.rht_core.proofs.Theory.KnowledgeKept.{Knowing-rely}
 use Rattle.rht_core.proofs.Theory.Steps.{mem, ghost_after}
 use Rattle.rht_core.proofs.Moves.Quiet.{aside}
@@ -46,8 +47,8 @@ module _ (env : Env) (mix : ℕ → ℕ → ℕ → ℕ) where
   Knows c None M G = KnowsNothing env mix c M G
   Knows c (Some job) M G = JobKnows env mix c job M G
 
-  Knows-rely : (c : ℕ) (job : Option Job) (M M' : Memory) (G G' : Ghost) → Whole env mix M G
-      → Rely env mix c M G M' G'
+  Knows-rely : {lasting : ℕ → Type 0} → (c : ℕ) (job : Option Job) (M M' : Memory) (G G' : Ghost) → Whole env mix M G
+      → RelyWhere env mix lasting c M G M' G'
       → Knows c job M G → Knows c job M' G'
   Knows-rely c None M M' G G' whole rely knows =
       Knowing-rely env mix c M M' G G' holds_no known_nothing whole rely knows
@@ -195,7 +196,8 @@ module _ (env : Env) (mix : ℕ → ℕ → ℕ → ℕ) where
       pub ghost_kept : GhostKept core G ghost event
 
     -- others see no node taken out
-    others_outs : (k : ℕ) (M M' : Memory) (G G' : Ghost) → Rely env mix k M G M' G'
+    others_outs : {lasting : ℕ → Type 0} → (k : ℕ) (M M' : Memory) (G G' : Ghost)
+        → RelyWhere env mix lasting k M G M' G'
         → outs env mix G' k ≡ outs env mix G k
     others_outs k M M' G G' rely =
         count_below-same (λ n. is_taken_by k (G.node n)) (λ n. is_taken_by k (G'.node n))
@@ -288,14 +290,18 @@ module _ (env : Env) (mix : ℕ → ℕ → ℕ → ℕ) where
     -- an enrolling leaves the whole, and all that anybody relies on
     pub enrolled : (core : Core L) (G : Ghost) → AllIn L mix env core → Inv core G
         → let M' = mem env mix (applied core.words (enrolling core.env)) in
-        Whole env mix M' G × ((k : ℕ) → Rely env mix k (mem env mix core.words) G M' G)
+        Whole env mix M' G × ((k : ℕ) → Rely env mix k (mem env mix core.words) G M' G) × StaleStay env mix (mem env mix core.words) G M' G
     enrolled core G sound inv =
         let op = enrolling core.env in
+        let v = word_after (word_at env.geometry core.words EnrolledCallers) op in
+        let M = mem env mix core.words in
+        let M' = mem env mix (applied core.words op) in
         let write = is_write env.geometry core.words EnrolledCallers op sound.stays.all_words tt refl in
-        aside env mix EnrolledCallers (word_after (word_at env.geometry core.words EnrolledCallers) op)
+        let kept = aside env mix EnrolledCallers (word_after (word_at env.geometry core.words EnrolledCallers) op)
         (mem env mix core.words) (mem env mix (applied core.words op)) G inv.whole write
         (record { current = λ e. cc; work = λ e. cc; slots = λ s w e. cc; pages = λ i e. cc }) (λ j e. cc) (λ n w e. cc) (λ i e. cc)
-        (λ e. cc)
+        (λ e. cc) in
+        (kept.0, kept.1, stale_write env mix M M' G G EnrolledCallers v write (same_owners env mix G G refl) (λ n u f e. cc) (λ n u f e. cc))
 
     enroll_kept : (core : Core L) (G : Ghost) → AllIn L mix env core → Inv core G → Kept core G Enroll
     enroll_kept core G sound inv =

@@ -20,7 +20,7 @@ use Rattle.rht_core.specs.Traces.{Did}
 use Rattle.rht_core.specs.Numbered.{Numbered, entries_of}
 use Rattle.rht_core.specs.Alone.{bindings_at}
 use Rattle.rht_core.specs.RunHistories.{bindings_behind, ChangesBindings}
-use Rattle.rht_core.proofs.Theory.Answering.{entry_of, IsSameAnswer, IsLegalOn, IsSaidOn, RecallsAnswer, SaysStill, KnowsEarly, Says}
+use Rattle.rht_core.proofs.Theory.Answering.{entry_of, IsSameAnswer, IsLegalOn, IsSaidOn, RecallsAnswer, ClaimsAnswer, SaysStill, KnowsEarly, Says}
 use Rattle.rht_core.proofs.Histories.NumberedEntries.{IsAlike, alike-legal_at, alike-left_by, push-other, push-own}
 use Rattle.rht_core.proofs.Histories.Behind.{Any-push_cases, behind-all, behind-more, behind-last, Changed, Changed-more, Changed-fewer}
 use Rattle.rht_core.proofs.Histories.GoodHistories.{IsGood, good-quiet, good-push}
@@ -264,16 +264,19 @@ module _ (M : Type 0) (mix : ℕ → ℕ → ℕ → ℕ) (env : Env) where
       ]
 
       still-next : (early : Option Answer) (There : Type 0) (was now : Option Answer)
+          → ((claims : ClaimsAnswer kind c call was now) → IsSaid more c call begin claims.answer)
           → SaysStill kind c call early There after was now → IsEarly events c call begin There early
           → Still events c call begin was → Still more c call begin now
-      still-next early There None now (inl keeps) is still = subst (Still more c call begin) (sym keeps) tt
-      still-next early There (Some was) None (inl keeps) is still = absurd keeps
-      still-next early There (Some was) (Some now) (inl keeps) is still = said-same was now keeps
+      still-next early There None now claimed (inl keeps) is still = subst (Still more c call begin) (sym keeps) tt
+      still-next early There (Some was) None claimed (inl keeps) is still = absurd keeps
+      still-next early There (Some was) (Some now) claimed (inl keeps) is still = said-same was now keeps
           (said-more c call begin was still)
-      still-next early There was now (inr (inl learns)) is still =
+      still-next early There was now claimed (inr (inl learns)) is still =
           subst (Still more c call begin) (sym learns.known) (said-now learns.answer learns.said)
-      still-next early There was now (inr (inr recalls)) is still =
+      still-next early There was now claimed (inr (inr (inl recalls))) is still =
           subst (Still more c call begin) (sym recalls.known) (said-recalled early There was now recalls is)
+      still-next early There was now claimed (inr (inr (inr claims))) is still =
+          subst (Still more c call begin) (sym claims.known) (claimed claims)
 
       pending-next : (early : Option Answer) (There : Type 0) (was now : Option Answer) (x : Numbered)
           → SaysStill kind c call early There after was now
@@ -295,7 +298,8 @@ module _ (M : Type 0) (mix : ℕ → ℕ → ℕ → ℕ) (env : Env) where
             so_far = (let l = is.so_far in omega (arith, longer, l));
           }
       pending-next early There (Some was) now x (inr (inl learns)) is = absurd (let unknown = learns.unknown in cc)
-      pending-next early There (Some was) now x (inr (inr recalls)) is = absurd (let unknown = recalls.unknown in cc)
+      pending-next early There (Some was) now x (inr (inr (inl recalls))) is = absurd (let unknown = recalls.unknown in cc)
+      pending-next early There (Some was) now x (inr (inr (inr claims))) is = absurd (let unknown = claims.unknown in cc)
 
       -- the history after the operation: the others' entries are the same
       pub record IsNext (history : List Numbered) (now : Option Answer) (es : List Numbered) : Type 0 where
@@ -305,20 +309,22 @@ module _ (M : Type 0) (mix : ℕ → ℕ → ℕ → ℕ) (env : Env) where
         pub tail : IsTail more c call begin (steps ++ did ∷ []) now es (entries_of c next)
 
       pub next_history : (early : Option Answer) (There : Type 0) (history : List Numbered) (was now : Option Answer)
-          (es : List Numbered) → IsGood M mix env events history → Says kind c call early There before after was now
+          (es : List Numbered) → IsGood M mix env events history
+          → ((claims : ClaimsAnswer kind c call was now) → IsSaid more c call begin claims.answer)
+          → Says kind c call early There before after was now
           → IsEarly events c call begin There early → IsTail events c call begin steps was es (entries_of c history)
           → IsNext history now es
-      next_history early There history was now es good (inl stills) knows (inl is) = record {
+      next_history early There history was now es good claimed (inl stills) knows (inl is) = record {
         next = history;
         good = good-quiet M mix env events event history good stills.agree;
         others = λ d ne. refl;
         tail = inl (record {
           none = is.none;
           same = unchanged stills.agree is.same;
-          still = still-next early There was now stills.said knows is.still;
+          still = still-next early There was now claimed stills.said knows is.still;
         });
       }
-      next_history early There history was now es good (inl stills) knows (inr is) = record {
+      next_history early There history was now es good claimed (inl stills) knows (inr is) = record {
         next = history;
         good = good-quiet M mix env events event history good stills.agree;
         others = λ d ne. refl;
@@ -329,7 +335,7 @@ module _ (M : Type 0) (mix : ℕ → ℕ → ℕ → ℕ) (env : Env) where
           pending = pending-next early There was now is.entry stills.said is.pending;
         });
       }
-      next_history early There history was now es good (inr changes) knows (inl is) =
+      next_history early There history was now es good claimed (inr changes) knows (inl is) =
           let entry = entry_of c call changes.answer in
           let x : Numbered = record { number = length events; entry = entry } in
           record {
@@ -353,5 +359,5 @@ module _ (M : Type 0) (mix : ℕ → ℕ → ℕ → ℕ) (env : Env) where
               };
             });
           }
-      next_history early There history was now es good (inr changes) knows (inr is) =
+      next_history early There history was now es good claimed (inr changes) knows (inr is) =
           absurd (let unknown = changes.unknown in let known = is.pending.known in cc)

@@ -83,7 +83,7 @@ use Rattle.rht_core.proofs.Theory.Readiness.{IsAttaching, linked_bucket, IsReady
 use Rattle.rht_core.proofs.Moves.Quiet.{armed_passes, arm}
 use Rattle.rht_core.proofs.Moves.Linking.{link_head}
 use Rattle.rht_core.proofs.Moves.Relinking.{relink_address, relink_value}
-use Rattle.rht_core.proofs.Pieces.ListFronts.{lock_left, change, fronted, front_made, front_only, front_locks, front_outs}
+use Rattle.rht_core.proofs.Pieces.ListFronts.{lock_left, change, fronted, front_known, front_made, front_only, front_locks, front_outs}
 use Rattle.rht_core.proofs.Pieces.NewNodes as nodes
 use Rattle.rht_core.proofs.Pieces.RunPages.{first_run-none}
 use Rattle.rht_core.proofs.Theory.TableFrames.{Knowing-retabled}
@@ -1005,7 +1005,9 @@ module _ (env : Env) (mix : ℕ → ℕ → ℕ → ℕ) (c : ℕ) (port owner :
             move =
                 Rebinds
                 (change env mix c port bucket.place bucket.word list.first n list.before M stored G whole is);
-            ready = tt;
+            ready = front_known env mix c port bucket.place bucket.word list.first n list.before M stored G whole is
+                listed k.means.node.key k.means.node.list (idle_moves_none env mix M G whole c k.only)
+                (index_at G list.claimed.table) k.means.table.passing.passed k.means.table.here;
             made = made;
             does = record {
               behind_maps = behind_maps;

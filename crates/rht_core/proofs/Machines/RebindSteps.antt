@@ -687,7 +687,7 @@ module _ (env : Env) (mix : ℕ → ℕ → ℕ → ℕ) (c : ℕ) (port owner n
           → Step env mix c call words G op (holds_found n found) holds_left Knows
       store_step Knows knows = record {
         move = Rebinds change;
-        ready = tt;
+        ready = inr (inl (removing.replacing_known env mix c port j m front rear before M M' G [] in_bucket n [] (Taken c) can));
         made = replaced;
         does = record {
           behind_maps = relink_behind_maps env mix place word (link_of n) before words all lock.bucket within;

@@ -32,12 +32,12 @@ use Rattle.rht_core.proofs.Theory.Knowns.{knows_plain, Nowhere, KnownBucket, Tak
 use Rattle.rht_core.proofs.Theory.Knowledge.{HasOnly, idle_moves_none, HoldsLock, IsAtHome, HasTakenOut, Knowing, IsFound, BucketMeans}
 use Rattle.rht_core.proofs.Theory.Passed.{stays_in}
 use Rattle.rht_core.proofs.Theory.Frames.{Made}
-use Rattle.rht_core.proofs.Theory.Readiness.{Change, changed}
+use Rattle.rht_core.proofs.Theory.Readiness.{Change, changed, IsRebinding}
 use Rattle.rht_core.proofs.Theory.Answering.{IsRight, ChangesBindings}
 use Rattle.rht_core.proofs.Theory.Steps.{Rebinds, Holding, mem, owners, owners_in, owners-stay, Step, still_has}
 use Rattle.rht_core.proofs.Moves.Relinking.{relink_address, relink_value, relinked, last_in}
-use Rattle.rht_core.proofs.Moves.Removing.{IsFoundIn, CanReplace, unlink, replace}
-use Rattle.rht_core.proofs.Moves.ListCuts.{cut_list}
+use Rattle.rht_core.proofs.Moves.Removing.{IsFoundIn, CanReplace, unlink, replace, unlinking_known, replacing_known}
+use Rattle.rht_core.proofs.Moves.ListCuts.{cut_list, cutting_known}
 use Rattle.rht_core.proofs.Pieces.Lists.{segment_link, list_among, list_rest}
 use Rattle.rht_core.proofs.Pieces.Rebounds.{IsTakenWith, taken_then, taken_more, only_rebound, owners_kept, node_behind_maps}
 use Rattle.rht_core.proofs.Pieces.Seeks.{home_of, in_list}
@@ -134,6 +134,7 @@ module _ (env : Env) (mix : ℕ → ℕ → ℕ → ℕ) (c : ℕ) (port owner :
       with_other : IsTakenWith c node change.other change.other_owner G.node
       not_held : change.other_owner ≢ Held c
       made : Made env mix c M G (after op) (changed G c change)
+      ready : IsRebinding env mix change M G
       left : (lock ≡ Some found.bucket.place) ⊎ (lock ≡ None)
       holder : change.bucket.holder ≡ Some c → lock ≡ Some found.bucket.place
       means : HasTakenOut env mix c (changed G c change) node
@@ -205,7 +206,7 @@ module _ (env : Env) (mix : ℕ → ℕ → ℕ → ℕ) (c : ℕ) (port owner :
         taken_more c node x env.geometry.nodes x_owner G.node takes.among takes.untaken takes.with_other in
         record {
           move = Rebinds change;
-          ready = tt;
+          ready = takes.ready;
           made = takes.made;
           does = record {
             behind_maps = takes.behind_maps;
@@ -328,6 +329,17 @@ module _ (env : Env) (mix : ℕ → ℕ → ℕ → ℕ) (c : ℕ) (port owner :
                     not_out = found_stays found nodes is.found k.means.table
                         (idle_moves_none env mix M G whole c k.only) bound;
                   }) write;
+              ready = inr (inr (cutting_known env mix c port j m node before front rear M (after op) G whole
+                  (record {
+                    holder = lock.holder;
+                    there = subst (In m) (sym stands.split) (in-middle m stands.front stands.rear);
+                    key_is = is.found.key_is;
+                    bound_to = bound;
+                    last = last_is;
+                    moves_none = idle_moves_none env mix M G whole c k.only;
+                    not_out = found_stays found nodes is.found k.means.table
+                        (idle_moves_none env mix M G whole c k.only) bound;
+                  })));
               left = inl refl;
               holder = λ e. refl;
               means = λ took. record {
@@ -371,6 +383,7 @@ module _ (env : Env) (mix : ℕ → ℕ → ℕ → ℕ) (c : ℕ) (port owner :
       with_other : IsTakenWith c found.node change.other change.other_owner G.node
       not_held : change.other_owner ≢ Held c
       made : Made env mix c M G (after (relink_op found link)) (changed G c change)
+      ready : IsRebinding env mix change M G
 
     first_out : (found : FoundPort) (link : ℕ) (rear nodes : List ℕ) (x : ℕ) (x_owner : Owner)
         (raised now_raised : Bool)
@@ -402,6 +415,7 @@ module _ (env : Env) (mix : ℕ → ℕ → ℕ → ℕ) (c : ℕ) (port owner :
           with_other = takes.with_other;
           not_held = takes.not_held;
           made = takes.made;
+          ready = takes.ready;
           left = left found.before;
           holder = holder_left env mix place word link found.before c G lock change nodes refl refl;
           means = λ took. means (after op) (changed G c change) found.before took
@@ -469,6 +483,8 @@ module _ (env : Env) (mix : ℕ → ℕ → ℕ → ℕ) (c : ℕ) (port owner :
               (after (relink_op found link)) G
               whole low k.only.raising low link is.means.link_is
               (found_in found link is.found [] k.means.table (idle_moves_none env mix M G whole c k.only) bound) (first_write found link lock.bucket before_in);
+          ready = inl (unlinking_known env mix c port j found.node s.front s.rear found.before M (after (relink_op found link)) G link
+              (found_in found link is.found [] k.means.table (idle_moves_none env mix M G whole c k.only) bound));
         })
       where
         none_behind : (nodes : List ℕ) → None ≡ first_of_list nodes → nodes ≡ []
@@ -535,4 +551,7 @@ module _ (env : Env) (mix : ℕ → ℕ → ℕ → ℕ) (c : ℕ) (port owner :
                   (found_in found (link_of second) is.found behind k.means.table
                   (idle_moves_none env mix M G whole c k.only) bound) second tail (Taken c) can
                   (first_write found (link_of second) lock.bucket before_in);
+              ready = inr (inl (replacing_known env mix c port j m s.front s.rear found.before M (after op) G behind
+                  (found_in found (link_of second) is.found behind k.means.table
+                  (idle_moves_none env mix M G whole c k.only) bound) second tail (Taken c) can));
             })

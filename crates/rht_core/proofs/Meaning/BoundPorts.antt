@@ -63,7 +63,7 @@ module _ (env : Env) (mix : ℕ → ℕ → ℕ → ℕ) (words : List ℕ) (G :
   head_of-locked place plain None even = ap (head_of place) (omega arith)
   head_of-locked place plain (Some c) even = grind (arith, nat_tests, even)
 
-  first_link : (j : ℕ) → j < 64 * g.pages → is_entry G j ≡ false
+  pub first_link : (j : ℕ) → j < 64 * g.pages → is_entry G j ≡ false
       → head_of (place_at env mix j) (slice_index words (place_at env mix j))
       ≡ head_of (place_at env mix j) (G.bucket j).plain
   first_link j l plain =
@@ -74,11 +74,11 @@ module _ (env : Env) (mix : ℕ → ℕ → ℕ → ℕ) (words : List ℕ) (G :
   -- ---- which nodes are met
 
   -- a node that has a seat
-  abbrev HasSeat : ℕ → Type 0
+  abbrev pub HasSeat : ℕ → Type 0
   HasSeat n = (j : ℕ) × (seat_of (G.node n) ≡ Some j)
 
   -- a link leads to such a node, or to none
-  abbrev LeadsOn : ℕ → Type 0
+  abbrev pub LeadsOn : ℕ → Type 0
   LeadsOn link = IfSome (node_of g.nodes link) HasSeat
 
   first-seat : (j n : ℕ) → In n (G.bucket j).nodes → HasSeat n
@@ -114,7 +114,7 @@ module _ (env : Env) (mix : ℕ → ℕ → ℕ → ℕ) (words : List ℕ) (G :
         ],
       )
 
-  bucket_leads : (j : ℕ) → j < 64 * g.pages → is_entry G j ≡ false
+  pub bucket_leads : (j : ℕ) → j < 64 * g.pages → is_entry G j ≡ false
       → LeadsOn (head_of (place_at env mix j) (G.bucket j).plain)
       × ((n : ℕ) → In n (G.bucket j).nodes → LeadsOn (chain_of M n))
   bucket_leads j l plain =
@@ -126,7 +126,7 @@ module _ (env : Env) (mix : ℕ → ℕ → ℕ → ℕ) (words : List ℕ) (G :
   home-below port j is = home-within env mix M G whole port (table_at G j) j is.attached is.here
 
   -- from a node that has a seat a link leads to another one, or to none
-  seat_leads : (n : ℕ) → HasSeat n → LeadsOn (chain_of M n)
+  pub seat_leads : (n : ℕ) → HasSeat n → LeadsOn (chain_of M n)
   seat_leads n has = elim (seated (G.node n) has.0 has.1) [
     | inl first ↦
         let at = whole.owned.first_at n has.0 first in
@@ -248,7 +248,7 @@ module _ (env : Env) (mix : ℕ → ℕ → ℕ → ℕ) (words : List ℕ) (G :
         place_is = sym (some-same (place_at env mix j) place is);
       }
 
-  bucket-within : (τ bucket place : ℕ) → τ < G.attached
+  pub bucket-within : (τ bucket place : ℕ) → τ < G.attached
       → bucket < size_of (unpacked (shape_of g words (G.table τ).slot))
       → bucket_in g words (shape_of g words (G.table τ).slot) bucket ≡ Some place → IsBucketAt place
   unfolding size

@@ -28,11 +28,11 @@ module _ (env : Env) (mix : ℕ → ℕ → ℕ → ℕ) (words : List ℕ) (G :
   slots_from τ count = map (λ σ. (G.table σ).slot) (range_with_len τ count)
 
   -- the slot of the next table, where one is attached
-  abbrev next_slot : ℕ → ℕ → Option ℕ
+  abbrev pub next_slot : ℕ → ℕ → Option ℕ
   next_slot τ zero = None
   next_slot τ (suc count) = Some (G.table τ).slot
 
-  future-leads : (τ count : ℕ) → τ + 1 + count ≡ G.attached
+  pub future-leads : (τ count : ℕ) → τ + 1 + count ≡ G.attached
       → slot_of (M (Slot (G.table τ).slot FutureWord)) ≡ next_slot (τ + 1) count
   future-leads τ zero all =
       ap slot_of ((whole.tables.each τ (omega (arith, all))).future_is
@@ -99,7 +99,7 @@ module _ (env : Env) (mix : ℕ → ℕ → ℕ → ℕ) (words : List ℕ) (G :
           let fuel : suc count ≤ 8 = omega (arith, few, most, slots_many τ (suc count)) in
           tables_met 8 τ (suc count) fuel all
 
-  current_slot : table_of (M CurrentTable) ≡ (G.table G.current).slot
+  pub current_slot : table_of (M CurrentTable) ≡ (G.table G.current).slot
   current_slot =
       let right = whole.tables.each G.current whole.tables.current_in in
       let word = whole.tables.current_is in omega (arith, right.slot_in, word)

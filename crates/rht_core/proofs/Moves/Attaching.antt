@@ -18,7 +18,7 @@ use Rattle.rht_core.proofs.Theory.Ghosts.{has_entries, Table, blank_bucket, put,
 use Rattle.rht_core.proofs.Theory.Wholes.{retired_stay, IsNoBucket, EntriesRight, SlotIsOf, TableRight, TablesRight, SlotsRight, PagesRight, PlacedRight, future_in, Whole, IsFlat, IsNested}
 use Rattle.rht_core.proofs.Theory.Ways.{IsSpareIn, StandsAs}
 use Rattle.rht_core.proofs.Theory.Readiness.{IsAttaching}
-use Rattle.rht_core.proofs.Theory.Frames.{Others, Made}
+use Rattle.rht_core.proofs.Theory.Frames.{Others, Made, stale_write, same_owners}
 use Rattle.rht_core.proofs.Theory.TableFrames.{TablesKept, same_kept, no_table-no_bucket, Whole-retabled, Rely-retabled, TableRight-kept, placed_kept, entry_word-kept}
 use Rattle.rht_core.proofs.Moves.Slots.{slot_word-apart, held_by_two}
 use Rattle.rht_core.proofs.Theory.Knowledge.{IsFlatMade, IsNestedMade}
@@ -356,4 +356,9 @@ module _ (env : Env) (mix : ℕ → ℕ → ℕ → ℕ) where
         })
 
     pub attach : Made env mix d M G M' G'
-    attach = record { whole = attached_whole; others = attached_others }
+    attach = record {
+      whole = attached_whole;
+      others = attached_others;
+      stale = stale_write env mix M M' G G' (Slot (G.table τ).slot FutureWord) (future_of slot) write
+          (same_owners env mix G G' refl) (λ n u f e. cc) (λ n u f e. cc);
+    }

@@ -1,13 +1,13 @@
 -- The store by which the bucket that an entry has left is cut off before it: the link of the node before it gets the bucket's marker, or
 -- the word of an empty bucket says so, which stays locked.
-use Rattle.std.proofs.Common.{◌≡◌, ◌≢◌, ◌⊎◌, ℕ, ◌*◌, ◌<◌, [], Option, Some, None, refl, sym, ◌∙◌, ap, subst, inl, arith, append-nil}
+use Rattle.std.proofs.Common.{◌≡◌, ◌≢◌, ◌⊎◌, ℕ, ◌*◌, ◌<◌, [], Option, Some, None, refl, sym, ◌∙◌, ap, subst, inl, arith, append-nil, true, false}
 use Rattle.rht_words.specs.declared.env.Env.{Env}
 use Rattle.rht_words.specs.Links.{link_of, head_of, marker_of}
 use Rattle.rht_words.specs.Chains.{IsSegment}
 use Rattle.rht_words.specs.Places.{Address, Node, ChainLink, PageWord}
 use Rattle.rht_words.specs.Members.{In}
 use Rattle.rht_words.proofs.Memory.{Memory, IsWrite}
-use Rattle.rht_core.proofs.Theory.Ghosts.{put-all, Bucket, Held, First, Behind, Ghost, lock_bit, seat_of, table_at, some-same}
+use Rattle.rht_core.proofs.Theory.Ghosts.{none-some, put-all, Bucket, Held, First, Behind, Ghost, lock_bit, seat_of, table_at, some-same, is_first}
 use Rattle.rht_core.proofs.Theory.Wholes.{chain_of, key_of, place_at, stop, BucketRight, OutRight, Whole}
 use Rattle.rht_core.proofs.Theory.Passed.{home-within, held-no_entry}
 use Rattle.rht_core.proofs.Theory.Knowns.{last_of}
@@ -70,7 +70,9 @@ module _ (env : Env) (mix : ℕ → ℕ → ℕ → ℕ) where
             other_link = λ n k ne f e. cc;
             no_leaving = λ n k ne leaving e. cc;
             no_behind = λ n p f e. cc;
+            no_seatless = λ n none e. cc;
             other_node = λ c n w ne f e. cc;
+            stale_chain = λ n used other e. cc;
           }
           go (Some p) last write =
               let first = before_first p last in
@@ -90,9 +92,15 @@ module _ (env : Env) (mix : ℕ → ℕ → ℕ → ℕ) where
                 no_behind = λ n other f e.
                     let same : n ≡ p = cc in
                     let q : First j ≡ Behind other = sym first ∙ ap G.node (sym same) ∙ f in cc;
+                no_seatless = λ n none e.
+                    let same : n ≡ p = cc in
+                    none-some none (ap (λ k. seat_of (G.node k)) same ∙ ap seat_of first);
                 other_node = λ c n w ne f e.
                     let same : n ≡ p = cc in
                     let q : First j ≡ Held c = sym first ∙ ap G.node (sym same) ∙ f in cc;
+                stale_chain = λ n used other e.
+                    let same : n ≡ p = cc in
+                    let q : true ≡ false = sym (ap is_first (ap G.node same ∙ first)) ∙ other in cc;
               }
 
       cut_right : BucketRight env mix M' j rest_bucket

@@ -1,6 +1,6 @@
 -- The stores by which the work brings the last entry of a bucket of the current table into one of a table behind it: the entry's link
 -- leads to the first node there, and then the other bucket's word leads to the entry.
-use Rattle.std.proofs.Common.{◌≡◌, ◌≢◌, ◌⊎◌, ℕ, ◌*◌, ◌<◌, List, [], ◌∷◌, ◌++◌, Option, Some, refl, sym, ◌∙◌, ap, subst, inl, inr, arith}
+use Rattle.std.proofs.Common.{◌≡◌, ◌≢◌, ◌⊎◌, ℕ, ◌*◌, ◌<◌, List, [], ◌∷◌, ◌++◌, Option, Some, refl, sym, ◌∙◌, ap, subst, inl, inr, arith, true, false}
 use Rattle.rht_words.specs.declared.env.Env.{Env}
 use Rattle.rht_words.specs.Links.{link_of, head_of, marker_of}
 use Rattle.rht_words.specs.Chains.{IsSegment}
@@ -10,7 +10,7 @@ use Rattle.rht_words.proofs.Memory.{Memory, IsWrite}
 use Rattle.rht_words.proofs.LinksRead.{heads_come_back, plain_of-link}
 use Rattle.rht_words.proofs.ChainLemmas.{IsSegment-cut, IsSegment-members}
 use Rattle.rht_words.proofs.Members.{not_in_from, in_and_not, in-middle, In-append_left, In-append_cases, IsDistinct-cut, IsDistinct-left}
-use Rattle.rht_core.proofs.Theory.Ghosts.{put-same, put-other, put-all, Bucket, Held, First, Leaving, Behind, Ghost, seat_of, table_at, none-some, some-same}
+use Rattle.rht_core.proofs.Theory.Ghosts.{put-same, put-other, put-all, Bucket, Held, First, Leaving, Behind, Ghost, seat_of, table_at, none-some, some-same, is_first}
 use Rattle.rht_core.proofs.Theory.Wholes.{chain_of, key_of, place_at, home, stop, BucketRight, OutRight, IsHomeOf, IsFirstAt, IsLeavingAt, Whole}
 use Rattle.rht_core.proofs.Theory.Passed.{home-within, held-no_entry, member-no_entry}
 use Rattle.rht_core.proofs.Theory.Frames.{Made}
@@ -73,9 +73,15 @@ module _ (env : Env) (mix : ℕ → ℕ → ℕ → ℕ) where
         no_behind = λ n p f e.
             let same : n ≡ entry = cc in
             let q : First j ≡ Behind p = sym first ∙ ap G.node (sym same) ∙ f in cc;
+        no_seatless = λ n none e.
+            let same : n ≡ entry = cc in
+            none-some none (ap (λ k. seat_of (G.node k)) same ∙ ap seat_of first);
         other_node = λ c n w ne f e.
             let same : n ≡ entry = cc in
             let q : First j ≡ Held c = sym first ∙ ap G.node (sym same) ∙ f in cc;
+        stale_chain = λ n used other e.
+            let same : n ≡ entry = cc in
+            let q : true ≡ false = sym (ap is_first (ap gone.node same ∙ put-same G.node entry (Leaving j))) ∙ other in cc;
       }
 
       left_right : BucketRight env mix M' j (left_by (G.bucket j) nodes entry)
@@ -256,7 +262,9 @@ module _ (env : Env) (mix : ℕ → ℕ → ℕ → ℕ) where
       other_link = λ n k ne f e. cc;
       no_leaving = λ n k ne leaving e. cc;
       no_behind = λ n p f e. cc;
+      no_seatless = λ n none e. cc;
       other_node = λ c n w ne f e. cc;
+      stale_chain = λ n used other e. cc;
     }
 
     joined_right : BucketRight env mix M' i joined_bucket

@@ -14,7 +14,7 @@ use Rattle.rht_core.proofs.Theory.Entries.{IsEntryIn, entry_in, entry_nested}
 use Rattle.rht_core.proofs.Theory.EnteredPages.{entry-here, entry-inside, entry-other, entry-stays, part-here, part-other, followed-stays, followed-new, stands-stay, stands-here}
 use Rattle.rht_core.proofs.Theory.Passed.{TableStays, same-TableStays}
 use Rattle.rht_core.proofs.Theory.Readiness.{entered, IsEntering}
-use Rattle.rht_core.proofs.Theory.Frames.{Others, Made}
+use Rattle.rht_core.proofs.Theory.Frames.{Others, Made, stale_write, same_owners}
 use Rattle.rht_core.proofs.Theory.TableFrames.{TablesKept, IsNoBucketWord, no_table-no_bucket, Whole-retabled, Rely-retabled, TableRight-kept, placed_kept}
 
 -- an entry whose word is 0 leads to no page
@@ -343,4 +343,9 @@ module _ (env : Env) (mix : ℕ → ℕ → ℕ → ℕ) where
         ap (λ s. (tables s).entry j) same ∙ ap (λ (t : Table). t.entry j) same_new ∙ entry-here old j p none apart
 
     pub enter : Made env mix d M G M' G'
-    enter = record { whole = entered_whole; others = entered_others }
+    enter = record {
+      whole = entered_whole;
+      others = entered_others;
+      stale = stale_write env mix M M' G G' (PageWord j) (entry_of p) write (same_owners env mix G G' refl)
+          (λ n u f e. cc) (λ n u f e. cc);
+    }

@@ -11,13 +11,13 @@ use Rattle.rht_words.proofs.Memory.{Memory, IsWrite}
 use Rattle.rht_words.specs.Members.{In, NotIn}
 use Rattle.rht_words.proofs.Members.{not_in_from, count_below-more}
 use Rattle.rht_words.proofs.ChainLemmas.{IsSegment-members}
-use Rattle.rht_core.proofs.Theory.Ghosts.{put, put-same, put-other, put-all, Free, Held, First, Leaving, Behind, Ghost, is_first, is_used, is_taken_by, IsUsed, seat_of, seat_in, seat, seat-used, held_not_used, held_by_one, none-some, some-same, table_at, is_entry}
+use Rattle.rht_core.proofs.Theory.Ghosts.{put, put-same, put-other, put-all, Free, Held, First, Leaving, Behind, Ghost, is_first, is_used, is_taken_by, IsUsed, seat_of, seat_in, seat, seat-used, listed-used, held_not_used, held_by_one, none-some, some-same, table_at, is_entry}
 use Rattle.rht_core.proofs.Theory.Wholes.{chain_of, list_of, key_of, place_at, home, stop, IsNoBucket, BucketRight, ArmedRight, IsHomeOf, IsFirstAt, IsBehindIn, IsBoundTo, Owned, ArenaRight, IsBuilt, Whole, none_out, out-seated, firsts, raisers}
 use Rattle.rht_core.proofs.Theory.Passed.{home-within, home-table, held-bucket, PassesStay, IsArmedFor, held-no_entry}
 use Rattle.rht_core.proofs.Theory.Knowledge.{ArmedFor, IsEmptied}
 use Rattle.rht_core.proofs.Theory.Reliance.{bound_used}
 use Rattle.rht_core.proofs.Theory.Readiness.{linked_bucket, linked, IsReady}
-use Rattle.rht_core.proofs.Theory.Frames.{Made, UsedStay, used_stay, chains_stay, seat_stays, first_stays, SameTables, same_tables, tables_stay, holdings_stay, entries_stay, work_stays}
+use Rattle.rht_core.proofs.Theory.Frames.{Made, UsedStay, used_stay, chains_stay, seat_stays, first_stays, SameTables, same_tables, tables_stay, holdings_stay, entries_stay, work_stays, stale_write, reowned_owners}
 use Rattle.rht_core.proofs.Theory.WholeFrames.{TablesRight-write, SlotsRight-write, PagesRight-write, IsHomeOf-same, BucketRight-frame, MovingStays, entry_words, MovingRight-frame, Leaving-frame, EntriesRight-write, locked-no_entry}
 
 module _ (env : Env) (mix : ℕ → ℕ → ℕ → ℕ) where
@@ -343,6 +343,9 @@ module _ (env : Env) (mix : ℕ → ℕ → ℕ → ℕ) where
         counted = write.others PortCount tt (λ e. cc)
             ∙ omega (arith, whole.counted, one_more_first, one_less_raiser);
       };
+      stale = stale_write env mix M M' G G' (PageWord here) (link_of n) write
+          (let was = reowned_owners env mix G n (First here) (ap is_used ready.has.mine) in record { out = was.out; used = was.used })
+          (λ m u f e. cc) (λ m u f e. cc);
       others = λ c ne. record {
         tables = tables_stay env mix M G G' whole same linked_passes;
         locks =
@@ -357,6 +360,8 @@ module _ (env : Env) (mix : ℕ → ℕ → ℕ → ℕ) where
         chains = chains_stay env mix c M M' G (PageWord here) (link_of n) whole write (λ m used e. cc);
         keys = words_stay.keys;
         owners = words_stay.owners;
+        used = λ m used. put-all (λ k o. IsUsed (G.node k) → IsUsed o) G.node n (First here) (λ was. refl) (λ k kn was. was) m used;
+        links = λ m l used none. inl (write.others (Node m ChainLink) l (λ e. cc));
         nodes =
             λ m has. put-other G.node n (First here) m
             (λ e. ne (held_by_one (G.node n) c d (ap G.node (sym e) ∙ has.mine) ready.has.mine))
@@ -368,7 +373,7 @@ module _ (env : Env) (mix : ℕ → ℕ → ℕ → ℕ) where
         unbound = linked_unbound c ne;
         holdings = holdings_stay env mix c M M' G G' same (λ s w l is. write.others (Slot s w) (l, is) (λ e. cc));
         work = work_stays env mix c M M' G G' same (entries_stay env mix M M' G G' whole words_stay
-            (λ m used. put-other G.node n (First here) m (used_differs m used))
+            (λ m used. put-other G.node n (First here) m (used_differs m (listed-used (G.node m) used)))
             (put-all (λ i b. IsEmptied env mix (G.bucket i) → IsEmptied env mix b) G.bucket here
             (linked_bucket (G.bucket here) n)
             (λ empty. absurd (none-some empty.armed ready.armed.armed)) (λ i apart empty. empty)));

@@ -1,5 +1,5 @@
 -- The store that takes a node out of a port's list behind the port's first node.
-use Rattle.std.proofs.Common.{◌≡◌, ◌≢◌, ℕ, ◌+◌, ◌*◌, ◌<◌, List, [], ◌∷◌, ◌++◌, Option, Some, true, refl, sym, ◌∙◌, ap, subst, inl, inr, arith}
+use Rattle.std.proofs.Common.{◌≡◌, ◌≢◌, ℕ, ◌+◌, ◌*◌, ◌<◌, List, [], ◌∷◌, ◌++◌, Option, Some, true, refl, sym, ◌∙◌, ap, subst, inl, inr, arith, false}
 use Rattle.std.proofs.lemmas.Bool.{cases_eq}
 use Rattle.rht_words.specs.declared.env.Env.{Env}
 use Rattle.rht_words.specs.Links.{link_of}
@@ -9,13 +9,13 @@ use Rattle.rht_words.specs.Members.{In, NotIn}
 use Rattle.rht_words.proofs.Memory.{Memory, IsWrite}
 use Rattle.rht_words.proofs.ChainLemmas.{IsSegment-cut, IsSegment-members}
 use Rattle.rht_words.proofs.Members.{in_and_not, in-middle, In-append_left, In-append_right, In-append_cases, NotIn-cut, NotIn-append, IsDistinct-cut, IsDistinct-without, IsDistinct-left, IsDistinct-apart, count_below-same}
-use Rattle.rht_core.proofs.Theory.Ghosts.{put, put-same, put-other, put-all, First, Behind, Taken, Ghost, seat_of, is_first, is_used, taken_by_one, held_not_used, table_at}
+use Rattle.rht_core.proofs.Theory.Ghosts.{put, put-same, put-other, put-all, First, Behind, Taken, Ghost, seat_of, is_first, is_used, taken_by_one, held_not_used, table_at, is_listed}
 use Rattle.rht_core.proofs.Theory.Passed.{home-within, held-no_entry}
 use Rattle.rht_core.proofs.Theory.Wholes.{list_of, key_of, MovesNone, IsHomeOf, IsFirstAt, IsBehindIn, IsBoundTo, IsBuilt, Whole, firsts, raisers}
 use Rattle.rht_core.proofs.Theory.Knowns.{last_of}
 use Rattle.rht_core.proofs.Theory.Frames.{Made, same_tables}
 use Rattle.rht_core.proofs.Theory.WholeFrames.{IsHomeOf-same, BucketRight-frame}
-use Rattle.rht_core.proofs.Theory.Readiness.{Change, changed}
+use Rattle.rht_core.proofs.Theory.Readiness.{Change, changed, IsShortening}
 use Rattle.rht_core.proofs.Moves.Rebinding.{IsStoreFor, IsChanged, IsRebound, rebind}
 use Rattle.rht_core.proofs.Moves.Relinking.{segment_relinked, last_in}
 
@@ -111,6 +111,15 @@ module _ (env : Env) (mix : ℕ → ℕ → ℕ → ℕ) (d port j m q p : ℕ) 
         go (f ∷ behind) b (inr k) =
             (whole.owned.behind_in n other ((whole.owned.bound_to other f behind b).each n k)).key_is
 
+    before_listed : is_listed (cut.node p) ≡ true
+    before_listed =
+        let apart : p ≢ q = λ e. IsDistinct-apart (m ∷ us) (q ∷ vs) p q to.distinct before_in (inl refl) (sym e) in
+        ap is_listed (put-other (put G.node q (Taken d)) q (Taken d) p apart ∙ put-other G.node q (Taken d) p apart)
+        ∙ elim before_in [
+          | inl e ↦ ap is_listed (ap G.node e ∙ first)
+          | inr i ↦ ap is_listed (is_behind p (In-append_left p us (q ∷ vs) i))
+        ]
+
     cut_store : IsStoreFor env mix d cutting M M' G (Node p ListLink) link
     cut_store = record {
       write = write;
@@ -123,10 +132,15 @@ module _ (env : Env) (mix : ℕ → ℕ → ℕ → ℕ) (d port j m q p : ℕ) 
       other_link = λ n i ne f e. cc;
       no_leaving = λ n i leaving e. cc;
       no_behind = λ n other f e. cc;
+      no_seatless = λ n none e. cc;
       other_list = λ n other ne i e.
           let same : n ≡ p = cc in ne (sym (bound_key other n i) ∙ ap (key_of M) same ∙ before_key);
       other_node = λ c n w ne held e. let same : n ≡ p = cc in held_not_used (G.node n) c held
           (rw same before_used);
+      stale_chain = λ n used other e. cc;
+      stale_list = λ n used other e.
+          let same : n ≡ p = cc in
+          let q : true ≡ false = sym (ap (λ k. is_listed (cut.node k)) same ∙ before_listed) ∙ other in cc;
     }
 
     cut-one : cut.node q ≡ Taken d
@@ -318,3 +332,22 @@ module _ (env : Env) (mix : ℕ → ℕ → ℕ → ℕ) (d port j m q p : ℕ) 
 
     pub cut_list : Made env mix d M G M' cut
     cut_list = rebind env mix d cutting M M' G (Node p ListLink) link whole cut_store cut_bound
+
+  -- what is known of this change
+  pub cutting_known : Whole env mix M G → IsBehindFirst → IsShortening env mix cutting G
+  cutting_known whole found = record {
+    first = m;
+    behind = us ++ q ∷ vs;
+    rest = us ++ vs;
+    bound_to = found.bound_to;
+    now = refl;
+    listed = λ n i. elim (In-append_cases n us vs i) [
+      | inl l ↦ In-append_left n us (q ∷ vs) l
+      | inr r ↦ In-append_right n us (q ∷ vs) (inr r)
+    ];
+    same = refl;
+    one = refl;
+    seatless = ap seat_of ((whole.owned.bound_to port m (us ++ q ∷ vs) found.bound_to).each q (in-middle q us vs));
+    used = ap is_used ((whole.owned.bound_to port m (us ++ q ∷ vs) found.bound_to).each q (in-middle q us vs));
+    gone = refl;
+  }

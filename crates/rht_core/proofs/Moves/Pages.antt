@@ -11,7 +11,7 @@ use Rattle.rht_words.proofs.Memory.{Memory, IsWrite}
 use Rattle.rht_core.proofs.Theory.Ghosts.{blank_bucket, put_in, put_in-all, PageOwner, PageFree, PageHeld, PageOf, Ghost, has_bit, with_pages}
 use Rattle.rht_core.proofs.Theory.Wholes.{IsNoBucket, SlotsRight, PagesRight, Whole}
 use Rattle.rht_core.proofs.Theory.Readiness.{ArePagesOf}
-use Rattle.rht_core.proofs.Theory.Frames.{Others, Made}
+use Rattle.rht_core.proofs.Theory.Frames.{Others, Made, stale_write, same_owners}
 use Rattle.rht_core.proofs.Theory.WholeFrames.{no_bucket}
 use Rattle.rht_core.proofs.Theory.TableFrames.{TablesKept, same_kept, IsNoBucketWord, no_table-no_bucket, Whole-retabled, Rely-retabled, TablesRight-kept, EntriesRight-kept}
 
@@ -165,6 +165,8 @@ module _ (env : Env) (mix : ℕ → ℕ → ℕ → ℕ) where
               others;
           others = repaged_others index bits v PageFree (PageHeld d) M M' G whole free (λ τ e. cc) (λ τ e. cc) write
               here others d (λ c ne e. cc) (λ c ne e. ne (cc));
+          stale = stale_write env mix M M' G (with_pages G index bits (PageHeld d)) (PageMap index) v write
+              (same_owners env mix G (with_pages G index bits (PageHeld d)) refl) (λ n u f e. cc) (λ n u f e. cc);
         },
         free,
       )
@@ -183,4 +185,6 @@ module _ (env : Env) (mix : ℕ → ℕ → ℕ → ℕ) where
         whole = repaged index bits v (PageHeld d) PageFree M M' G whole has (λ τ e. cc) (λ τ e. cc) write here others;
         others = repaged_others index bits v (PageHeld d) PageFree M M' G whole has (λ τ e. cc) (λ τ e. cc) write here
             others d (λ c ne e. ne (cc)) (λ c ne e. cc);
+        stale = stale_write env mix M M' G (with_pages G index bits PageFree) (PageMap index) v write
+            (same_owners env mix G (with_pages G index bits PageFree) refl) (λ n u f e. cc) (λ n u f e. cc);
       }

@@ -13,7 +13,7 @@ use Rattle.rht_core.proofs.Theory.Passed.{held-bucket, PassesStay, WasOut}
 use Rattle.rht_core.proofs.Theory.Readiness.{IsArming}
 use Rattle.rht_core.proofs.Theory.Knowledge.{IsEmptied}
 use Rattle.rht_core.proofs.Theory.Reliance.{Rely}
-use Rattle.rht_core.proofs.Theory.Frames.{Others, Made, IsNoTableWord, unwritten_words, used_stay, chains_stay, slots_stay, holdings_stay, entries_stay, work_stays, tables_stay, same_tables, Rely-same}
+use Rattle.rht_core.proofs.Theory.Frames.{Others, Made, IsNoTableWord, unwritten_words, used_stay, chains_stay, slots_stay, holdings_stay, entries_stay, work_stays, tables_stay, same_tables, Rely-same, stale_write, stale_none, same_owners}
 use Rattle.rht_core.proofs.Theory.WholeFrames.{TablesRight-same, no_bucket, MovingStays, entry_words, MovingRight-frame, Owned-frame, SameChains, same_chains, chains_passes, Whole-frame, locks_stay, arena_stays}
 
 module _ (env : Env) (mix : ℕ → ℕ → ℕ → ℕ) where
@@ -90,6 +90,8 @@ module _ (env : Env) (mix : ℕ → ℕ → ℕ → ℕ) where
         chains = chains_stay env mix c M M' G (PageWord j) v whole write (λ n used e. cc);
         keys = λ n l used. write.others (Node n KeyWord) l (λ e. cc);
         owners = λ n l used. write.others (Node n OwnerWord) l (λ e. cc);
+        used = λ n used. used;
+        links = λ n l used none. inl (write.others (Node n ChainLink) l (λ e. cc));
         nodes = λ n has. has.mine;
         words = λ n has w. write.others (Node n w) has.among (λ e. cc);
         raised = refl;
@@ -128,6 +130,8 @@ module _ (env : Env) (mix : ℕ → ℕ → ℕ → ℕ) where
           whole = relocked j (v + 1) (Some d) M M' G whole l unworked bucket (ap (λ p. p + 1) (sym free.1)) write;
           others = relocked_others d j (v + 1) (Some d) M M' G whole unworked
               (λ c ne h. none-some free.0 h) (λ c ne h. ne (cc)) write;
+          stale = stale_write env mix M M' G (with_holder G j (Some d)) (PageWord j) (v + 1) write
+              (same_owners env mix G (with_holder G j (Some d)) refl) (λ n u f e. cc) (λ n u f e. cc);
         },
         free.1,
         free.0,
@@ -159,6 +163,8 @@ module _ (env : Env) (mix : ℕ → ℕ → ℕ → ℕ) where
         others = relocked_others d j v None M M' G whole unworked
             (λ c ne h. let e : ◌≡◌ {A = Option ℕ} (Some d) (Some c) = sym holds ∙ h in ne (cc))
             (λ c ne h. cc) write;
+        stale = stale_write env mix M M' G (with_holder G j None) (PageWord j) v write
+            (same_owners env mix G (with_holder G j None) refl) (λ n u f e. cc) (λ n u f e. cc);
       }
 
   -- ---- a bind finds that no table is behind that of its bucket
@@ -247,6 +253,7 @@ module _ (env : Env) (mix : ℕ → ℕ → ℕ → ℕ) where
           arena = record { built = whole.arena.built; bits = whole.arena.bits };
           counted = whole.counted;
         };
+        stale = stale_none env mix M G G' (same_owners env mix G G' refl);
         others = λ c ne. record {
           tables = tables_stay env mix M G G' whole same (armed_passes d j G is);
           locks = λ i h. put-other G.bucket j armed i
@@ -256,6 +263,8 @@ module _ (env : Env) (mix : ℕ → ℕ → ℕ → ℕ) where
           chains = λ i n m h k b. refl;
           keys = λ n l used. refl;
           owners = λ n l used. refl;
+          used = λ n used. used;
+          links = λ n l used none. inl refl;
           nodes = λ n has. has.mine;
           words = λ n has w. refl;
           raised = refl;
@@ -302,6 +311,8 @@ module _ (env : Env) (mix : ℕ → ℕ → ℕ → ℕ) where
             (locks_stay env mix M M' G PortCount v whole write (λ j e. cc))
             (arena_stays env mix M M' G PortCount v whole write (with_raised G d true) refl (λ i e. cc))
             (write.same ∙ next ∙ ap (λ x. firsts env mix G + x) (sym more));
+        stale = stale_write env mix M M' G (with_raised G d true) PortCount v write
+            (same_owners env mix G (with_raised G d true) refl) (λ n u f e. cc) (λ n u f e. cc);
         others = λ c ne. Rely-same env mix c M M' G (with_raised G d true) whole
             (same_tables env mix G G.bucket G.node G.bound (put G.raised d true)) refl refl refl
             (put-other G.raised d true c ne) stay (chains_stay env mix c M M' G PortCount v whole write
@@ -334,6 +345,8 @@ module _ (env : Env) (mix : ℕ → ℕ → ℕ → ℕ) where
             (locks_stay env mix M M' G PortCount v whole write (λ j e. cc))
             (arena_stays env mix M M' G PortCount v whole write (with_raised G d false) refl (λ i e. cc))
             (write.same ∙ next);
+        stale = stale_write env mix M M' G (with_raised G d false) PortCount v write
+            (same_owners env mix G (with_raised G d false) refl) (λ n u f e. cc) (λ n u f e. cc);
         others = λ c ne. Rely-same env mix c M M' G (with_raised G d false) whole
             (same_tables env mix G G.bucket G.node G.bound (put G.raised d false)) refl refl refl
             (put-other G.raised d false c ne) stay (chains_stay env mix c M M' G PortCount v whole write

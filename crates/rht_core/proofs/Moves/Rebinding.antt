@@ -1,20 +1,20 @@
 -- The store by which a caller that has locked a port's bucket changes what the port is bound to. What it does to other buckets,
 -- ports and callers is shown here once; what it does to the port and to its bucket is asked of each such store.
-use Rattle.std.proofs.Common.{◌≡◌, ◌≢◌, ◌⊎◌, ◌↔◌, ℕ, ◌^◌, ◌+◌, ◌*◌, ◌/◌, ◌%◌, ◌<◌, ◌≤◌, List, [], ◌∷◌, Option, Some, false, refl, sym, ◌∙◌, ap, subst, inl, inr, arith}
+use Rattle.std.proofs.Common.{◌≡◌, ◌≢◌, ◌⊎◌, ◌↔◌, ℕ, ◌^◌, ◌+◌, ◌*◌, ◌/◌, ◌%◌, ◌<◌, ◌≤◌, List, [], ◌∷◌, Option, Some, None, false, refl, sym, ◌∙◌, ap, subst, inl, inr, arith, true}
 use Rattle.std.specs.Int.{bit_at}
-use Rattle.std.proofs.lemmas.Bool.{cases_eq}
+use Rattle.std.proofs.lemmas.Bool.{cases_eq, eq-eqb}
 use Rattle.rht_words.specs.declared.env.Env.{Env}
 use Rattle.rht_words.specs.declared.config.Kind.TheVariants.{Single}
 use Rattle.rht_words.specs.Places.{Address, PortCount, StateWord, NodeMap, Node, NodeWord, ChainLink, KeyWord, OwnerWord, ListLink, PageWord}
 use Rattle.rht_words.specs.Members.{In}
 use Rattle.rht_words.proofs.Memory.{Memory, IsWrite}
 use Rattle.rht_words.proofs.ChainLemmas.{IsSegment-members}
-use Rattle.rht_core.proofs.Theory.Ghosts.{put, put-same, put-other, put-all, Owner, Free, Held, First, Leaving, Behind, Ghost, is_used, is_taken_by, IsUsed, seat_of, seat_in, seat, table_at, is_entry, held_not_used, held_by_one, none-some, some-same}
+use Rattle.rht_core.proofs.Theory.Ghosts.{put, put-same, put-other, put-all, Owner, Free, Held, First, Leaving, Behind, Taken, Ghost, is_first, is_listed, is_used, is_taken_by, IsUsed, seat_of, seat_in, seat, table_at, is_entry, held_not_used, held_by_one, none-some, some-same}
 use Rattle.rht_core.proofs.Theory.Wholes.{list_of, key_of, IsNoBucket, BucketRight, ArmedRight, IsFirstAt, IsBehindIn, IsBoundTo, Owned, ArenaRight, IsBuilt, Whole, MovesNone, seated_at, out-seated, firsts, raisers}
 use Rattle.rht_core.proofs.Theory.Passed.{held-bucket, PassesStay, WasSeated}
 use Rattle.rht_core.proofs.Theory.Knowledge.{IsEmptied}
 use Rattle.rht_core.proofs.Theory.Reliance.{bound_used}
-use Rattle.rht_core.proofs.Theory.Frames.{Made, Others, IsNoTableWord, SameTables, same_tables, tables_stay, slots_stay, holdings_stay, work_stays}
+use Rattle.rht_core.proofs.Theory.Frames.{Made, Others, IsNoTableWord, SameTables, same_tables, tables_stay, slots_stay, holdings_stay, work_stays, stale_write}
 use Rattle.rht_core.proofs.Theory.WholeFrames.{is_apart, TablesRight-write, SlotsRight-write, PagesRight-write, IsHomeOf-same, BucketRight-frame, MovingStays, EntryWords, MovingRight-frame, Leaving-frame, EntriesRight-write, locked-no_entry}
 use Rattle.rht_core.proofs.Theory.Readiness.{Change, changed}
 
@@ -42,8 +42,12 @@ module _ (env : Env) (mix : ℕ → ℕ → ℕ → ℕ) (d : ℕ) (change : Cha
     pub other_link : (n i : ℕ) → i ≢ here → G.node n ≡ First i → Node n ChainLink ≢ a
     pub no_leaving : (n i : ℕ) → G.node n ≡ Leaving i → Node n ChainLink ≢ a
     pub no_behind : (n other : ℕ) → G.node n ≡ Behind other → Node n ChainLink ≢ a
+    pub no_seatless : (n : ℕ) → seat_of (G'.node n) ≡ None → Node n ChainLink ≢ a
     pub other_list : (n other : ℕ) → other ≢ port → In n (G.bound other) → Node n ListLink ≢ a
     pub other_node : (c n : ℕ) (w : NodeWord) → c ≢ d → G.node n ≡ Held c → Node n w ≢ a
+    -- nor is it the link of a node that is in no chain then, or in no list
+    pub stale_chain : (n : ℕ) → IsUsed (G.node n) → is_first (G'.node n) ≡ false → Node n ChainLink ≢ a
+    pub stale_list : (n : ℕ) → IsUsed (G.node n) → is_listed (G'.node n) ≡ false → Node n ListLink ≢ a
 
   -- a node that gets another owner is one of the port's, or the caller's that is to be one; and it is a port's then, or was one
   pub record IsChanged (n : ℕ) (owner : Owner) : Type 0 where
@@ -436,6 +440,9 @@ module _ (env : Env) (mix : ℕ → ℕ → ℕ → ℕ) (d : ℕ) (change : Cha
               ]);
           keys = λ n l used. key_stays n l;
           owners = λ n l used. store.write.others (Node n OwnerWord) l (store.no_owner n);
+          used = λ n. owners_all (λ n o. IsUsed (G.node n) → IsUsed o) (λ was. is.one_changed.used) (λ was. is.other_changed.used)
+              (λ n apart other was. was) n;
+          links = λ n l used none. inl (store.write.others (Node n ChainLink) l (store.no_seatless n none));
           nodes = λ n has. kept_owner n (held_kept c n ne has.mine) ∙ has.mine;
           words = λ n has w. store.write.others (Node n w) has.among (store.other_node c n w ne has.mine);
           raised = put-other G.raised d change.raised c ne;
@@ -470,4 +477,20 @@ module _ (env : Env) (mix : ℕ → ℕ → ℕ → ℕ) (d : ℕ) (change : Cha
             subst (In is.head) e (whole.owned.first_at is.head here first).there
 
     pub rebind : Made env mix d M G M' G'
-    rebind = record { whole = rebound_whole; others = rebound_others }
+    rebind = record {
+      whole = rebound_whole;
+      others = rebound_others;
+      stale = stale_write env mix M M' G G' a v store.write
+          (record {
+            out = λ n e. owners_all (λ k o. G.node k ≡ Taken e → o ≡ Taken e)
+                (λ out. absurd (none_out e change.one change.one_owner is.one_changed out))
+                (λ out. absurd (none_out e change.other change.other_owner is.other_changed out)) (λ k one other out. out) n;
+            used = owners_all (λ k o. IsUsed (G.node k) → IsUsed o) (λ u. is.one_changed.used) (λ u. is.other_changed.used)
+                (λ k one other u. u);
+          })
+          store.stale_chain store.stale_list;
+    }
+      where
+        none_out : (e n : ℕ) (owner : Owner) → IsChanged n owner → G.node n ≡ Taken e → ⊥
+        none_out e n owner at out =
+            let z : true ≡ false = sym (eq-eqb e e refl) ∙ sym (ap (is_taken_by e) out) ∙ was_not_out e n owner at in cc

@@ -11,15 +11,28 @@ use Rattle.rht_words.specs.Members.{In, NotIn, IsDistinct}
 use Rattle.rht_words.proofs.Memory.{Memory, IsWrite}
 use Rattle.rht_words.proofs.ChainLemmas.{IsSegment-cut, IsSegment-members}
 use Rattle.rht_words.proofs.Members.{not_in_from, in_and_not, in-middle, In-append_left, In-append_right, In-append_cases, NotIn-append, IsDistinct-cut, IsDistinct-without, IsDistinct-with, count_below, count_below-more, count_below-same}
-use Rattle.rht_core.proofs.Theory.Ghosts.{put, put-same, put-other, put-all, Owner, Held, First, Leaving, Behind, Taken, Ghost, is_first, is_used, is_taken_by, seat_of, taken_by_one, held_not_used, table_at}
+use Rattle.rht_core.proofs.Theory.Ghosts.{put, put-same, put-other, put-all, Bucket, Owner, Free, Held, First, Leaving, Behind, Taken, Ghost, is_first, is_used, is_taken_by, seat_of, taken_by_one, held_not_used, table_at, none-some}
 use Rattle.rht_core.proofs.Theory.Wholes.{chain_of, list_of, key_of, place_at, stop, MovesNone, none_out, IsHomeOf, BucketRight, IsFirstAt, IsBehindIn, IsBoundTo, IsBuilt, Whole, firsts, raisers}
 use Rattle.rht_core.proofs.Theory.Passed.{home-within, member-no_entry}
 use Rattle.rht_core.proofs.Theory.Knowns.{last_of}
 use Rattle.rht_core.proofs.Theory.Frames.{Made, same_tables}
 use Rattle.rht_core.proofs.Theory.WholeFrames.{IsHomeOf-same}
-use Rattle.rht_core.proofs.Theory.Readiness.{Change, changed}
+use Rattle.rht_core.proofs.Theory.Readiness.{Change, changed, IsUnlinking, IsReplacing}
 use Rattle.rht_core.proofs.Moves.Rebinding.{IsStoreFor, IsChanged, IsRebound, rebind}
 use Rattle.rht_core.proofs.Moves.Relinking.{relink_address, relink_value, relinked, relinked_right, last_in}
+
+-- who isn't in a chain has no seat
+seatless : (o : Owner) → is_first o ≡ false → seat_of o ≡ None
+seatless Free is = refl
+seatless (Held c) is = refl
+seatless (First j) is = absurd (cc)
+seatless (Leaving j) is = absurd (cc)
+seatless (Behind k) is = refl
+seatless (Taken c) is = refl
+
+relinked_row : (place link : ℕ) (b : Bucket) (nodes : List ℕ) (before : Option ℕ) → (relinked place link b nodes before).nodes ≡ nodes
+relinked_row place link b nodes None = refl
+relinked_row place link b nodes (Some before) = refl
 
 module _ (env : Env) (mix : ℕ → ℕ → ℕ → ℕ) (d port j m : ℕ) (front rear : List ℕ) (before : Option ℕ)
     (M M' : Memory) (G : Ghost) where
@@ -98,10 +111,12 @@ module _ (env : Env) (mix : ℕ → ℕ → ℕ → ℕ) (d port j m : ℕ) (fro
     -- ---- the store is on the bucket's word, or on the link of a node in it
 
     relink_store : (change : Change) (link : ℕ) → change.place ≡ j
+        → ((p : ℕ) → In p front → seat_of ((changed G d change).node p) ≢ None)
+        → ((p : ℕ) → In p front → is_first ((changed G d change).node p) ≡ true)
         → IsWrite env.geometry M M' (relink_address j before) (relink_value (place_at env mix j) link before)
         → IsStoreFor env mix d change M M' G (relink_address j before)
         (relink_value (place_at env mix j) link before)
-    relink_store change link here write = go before found.last write
+    relink_store change link here seated kept write = go before found.last write
       where
         go : (b : Option ℕ) → b ≡ last_of front
             → IsWrite env.geometry M M' (relink_address j b) (relink_value (place_at env mix j) link b)
@@ -118,8 +133,11 @@ module _ (env : Env) (mix : ℕ → ℕ → ℕ → ℕ) (d port j m : ℕ) (fro
           other_link = λ n i ne f e. cc;
           no_leaving = λ n i leaving e. cc;
           no_behind = λ n p f e. cc;
+          no_seatless = λ n none e. cc;
           other_list = λ n p ne i e. cc;
           other_node = λ c n w ne held e. cc;
+          stale_chain = λ n used other e. cc;
+          stale_list = λ n used other e. cc;
         }
         go (Some p) last write =
             let mine = front_first p (last_in front p (sym last)) in
@@ -141,10 +159,18 @@ module _ (env : Env) (mix : ℕ → ℕ → ℕ → ℕ) (d port j m : ℕ) (fro
               no_behind = λ n other f e.
                   let same : n ≡ p = cc in
                   let q : Behind other ≡ First j = sym f ∙ ap G.node same ∙ mine in cc;
+              no_seatless = λ n none e.
+                  let same : n ≡ p = cc in
+                  seated p (last_in front p (sym last)) (ap (λ k. seat_of ((changed G d change).node k)) (sym same) ∙ none);
               other_list = λ n p ne i e. cc;
               other_node = λ c n w ne held e.
                   let same : n ≡ p = cc in
                   held_not_used (G.node n) c held (rw same (ap is_used mine));
+              stale_chain = λ n used other e.
+                  let same : n ≡ p = cc in
+                  let q : true ≡ false = sym (ap (λ k. is_first ((changed G d change).node k)) same
+                  ∙ kept p (last_in front p (sym last))) ∙ other in cc;
+              stale_list = λ n used other e. cc;
             }
 
     -- its holder is nobody else afterwards
@@ -303,7 +329,12 @@ module _ (env : Env) (mix : ℕ → ℕ → ℕ → ℕ) (d port j m : ℕ) (fro
     unlink =
         rebind env mix d (unlinking link) M M' G (relink_address j before)
         (relink_value (place_at env mix j) link before) whole
-        (relink_store whole [] found (unlinking link) link refl write) unlinked_bound
+        (relink_store whole [] found (unlinking link) link refl
+        (λ p i none. none-some none
+        (ap seat_of (unlinked-other p (λ e. in_and_not m front (subst (λ k. In k front) e i) (apart whole [] found).0)
+        ∙ front_first whole [] found p i)))
+        (λ p i. ap is_first (unlinked-other p (λ e. in_and_not m front (subst (λ k. In k front) e i) (apart whole [] found).0)
+        ∙ front_first whole [] found p i)) write) unlinked_bound
 
   -- ---- another node comes into the place of the first one
 
@@ -620,4 +651,42 @@ module _ (env : Env) (mix : ℕ → ℕ → ℕ → ℕ) (d port j m : ℕ) (fro
 
     pub replace : Made env mix d M G M' replaced
     replace = rebind env mix d change M M' G a v whole
-        (relink_store whole behind found change (link_of x) refl write) replaced_bound
+        (relink_store whole behind found change (link_of x) refl
+        (λ p i none. none-some none (ap seat_of (replaced-stays p (In-append_left p front rear i))))
+        (λ p i. ap is_first (replaced-stays p (In-append_left p front rear i))) write) replaced_bound
+
+  -- ---- what is known of these changes
+
+  pub unlinking_known : (link : ℕ) → IsFoundIn [] → IsUnlinking env mix (unlinking link) G
+  unlinking_known link found = record {
+    first = m;
+    front = front;
+    rear = rear;
+    bound_to = found.bound_to;
+    split = found.split;
+    left = relinked_row (place_at env mix j) link (G.bucket j) (front ++ ([] ++ rear)) before;
+    none = refl;
+    one = refl;
+    other = refl;
+    gone = refl;
+  }
+
+  pub replacing_known : (behind : List ℕ) → IsFoundIn behind → (x : ℕ) (tail : List ℕ) (owner : Owner)
+      → CanReplace behind x tail owner → IsReplacing env mix (replacing x tail owner) M G
+  replacing_known behind found x tail owner can = record {
+    behind = behind;
+    tail = tail;
+    front = front;
+    rear = rear;
+    bound_to = found.bound_to;
+    split = found.split;
+    left = relinked_row (place_at env mix j) (link_of x) (G.bucket j) (front ++ ((x ∷ []) ++ rear)) before;
+    now = refl;
+    listed = λ n i. elim (can.listed n i) [ inl old ↦ inl old.0 | inr was ↦ inr was.0 ];
+    differs = can.differs;
+    owner = refl;
+    gone = seatless owner can.no_first;
+    from = elim can.from [ inl held ↦ inl (ap is_used held) | inr i ↦ inr i ];
+    among = can.among;
+    key_is = can.key_is;
+  }

@@ -9,12 +9,12 @@ use Rattle.rht_words.specs.Members.{In}
 use Rattle.rht_words.proofs.Memory.{Memory, IsWrite}
 use Rattle.rht_words.proofs.ChainLemmas.{IsSegment-members}
 use Rattle.rht_words.proofs.Members.{count_below-same}
-use Rattle.rht_core.proofs.Theory.Ghosts.{put, put-same, put-other, put-all, Bucket, Owner, Free, Held, First, Leaving, Behind, Ghost, is_first, is_taken_by, seat_of, seat_in, seat, seated, seat-first, table_at, is_entry, none-some, some-same}
+use Rattle.rht_core.proofs.Theory.Ghosts.{IsUsed, seat-used, put, put-same, put-other, put-all, Bucket, Owner, Free, Held, First, Leaving, Behind, Ghost, is_first, is_taken_by, seat_of, seat_in, seat, seated, seat-first, table_at, is_entry, none-some, some-same}
 use Rattle.rht_core.proofs.Theory.Wholes.{list_of, key_of, IsNoBucket, BucketRight, ArmedRight, OutRight, MovingRight, IsNextFor, IsHomeOf, IsFirstAt, IsLeavingAt, Owned, ArenaRight, IsBuilt, Whole, IsSeatedAt, seated_at, firsts, raisers}
 use Rattle.rht_core.proofs.Theory.Passed.{held-bucket, PassesStay, WasOut, WasSeated}
 use Rattle.rht_core.proofs.Theory.Reliance.{bound_used}
 use Rattle.rht_core.proofs.Theory.Departures.{seat-not_out}
-use Rattle.rht_core.proofs.Theory.Frames.{Made, Others, IsNoTableWord, SameTables, same_tables, tables_stay, slots_stay, holdings_stay}
+use Rattle.rht_core.proofs.Theory.Frames.{Made, Others, IsNoTableWord, SameTables, same_tables, tables_stay, slots_stay, holdings_stay, stale_write}
 use Rattle.rht_core.proofs.Theory.WholeFrames.{is_apart, TablesRight-write, SlotsRight-write, PagesRight-write, IsHomeOf-same, BucketRight-frame, EntriesRight-write, locked-no_entry}
 
 module _ (env : Env) (mix : ℕ → ℕ → ℕ → ℕ) (d here entry : ℕ) (b : Bucket) (node : ℕ → Owner) (M M' : Memory)
@@ -36,7 +36,10 @@ module _ (env : Env) (mix : ℕ → ℕ → ℕ → ℕ) (d here entry : ℕ) (b
     pub other_link : (n i : ℕ) → i ≢ here → G.node n ≡ First i → Node n ChainLink ≢ a
     pub no_leaving : (n i : ℕ) → n ≢ entry → G.node n ≡ Leaving i → Node n ChainLink ≢ a
     pub no_behind : (n other : ℕ) → G.node n ≡ Behind other → Node n ChainLink ≢ a
+    pub no_seatless : (n : ℕ) → seat_of (G.node n) ≡ None → Node n ChainLink ≢ a
     pub other_node : (c n : ℕ) (w : NodeWord) → c ≢ d → G.node n ≡ Held c → Node n w ≢ a
+    -- nor is it the link of a node that is in no chain then
+    pub stale_chain : (n : ℕ) → IsUsed (G.node n) → is_first (node n) ≡ false → Node n ChainLink ≢ a
 
   -- the entry had a seat, and has one that is no earlier
   pub record IsReseat : Type 0 where
@@ -374,6 +377,13 @@ module _ (env : Env) (mix : ℕ → ℕ → ℕ → ℕ) (d here entry : ℕ) (b
               ]);
           keys = λ n l used. key_stays n l;
           owners = λ n l used. store.write.others (Node n OwnerWord) l (store.no_owner n);
+          used = λ n. owners_all (λ n o. IsUsed (G.node n) → IsUsed o)
+              (λ used. seat-used (node entry) is.reseat.after is.reseat.now) (λ n apart used. used) n;
+          links = λ n l used none. inl (store.write.others (Node n ChainLink) l (store.no_seatless n
+              (elim (cases_eq n entry) [
+                | inl e ↦ absurd (none-some none (ap (λ k. seat_of (node k)) e ∙ is.reseat.now))
+                | inr other ↦ ap seat_of (sym (is.reseat.others n other)) ∙ none
+              ])));
           nodes = λ n has. is.reseat.others n (unseated n (ap seat_of has.mine)) ∙ has.mine;
           words = λ n has w. store.write.others (Node n w) has.among (store.other_node c n w ne has.mine);
           raised = refl;
@@ -390,4 +400,14 @@ module _ (env : Env) (mix : ℕ → ℕ → ℕ → ℕ) (d here entry : ℕ) (b
         }
 
     pub reseat : Made env mix d M G M' G'
-    reseat = record { whole = reseated_whole; others = reseated_others }
+    reseat = record {
+      whole = reseated_whole;
+      others = reseated_others;
+      stale = stale_write env mix M M' G G' a v store.write
+          (record {
+            out = λ n e out. is.reseat.others n (unseated n (ap seat_of out)) ∙ out;
+            used = owners_all (λ k o. IsUsed (G.node k) → IsUsed o) (λ u. seat-used (node entry) is.reseat.after is.reseat.now)
+                (λ k ne u. u);
+          })
+          store.stale_chain (λ n u f. store.no_list n);
+    }

@@ -8,7 +8,7 @@ use Rattle.rht_core.specs.Refused.{IsTableWord}
 use Rattle.rht_core.proofs.Theory.Ghosts.{put, put-other, put-all, SlotOwner, SlotFree, SlotHeld, Live, Retired, Ghost, state_word, has_table, with_slot}
 use Rattle.rht_core.proofs.Theory.Wholes.{retired_stay, SlotsRight, Whole}
 use Rattle.rht_core.proofs.Theory.Knowledge.{HasSlot}
-use Rattle.rht_core.proofs.Theory.Frames.{Others, Made, same_tables}
+use Rattle.rht_core.proofs.Theory.Frames.{Others, Made, same_tables, stale_write, same_owners}
 use Rattle.rht_core.proofs.Theory.WholeFrames.{SlotsRight-write}
 use Rattle.rht_core.proofs.Theory.TableFrames.{TablesKept, same_kept, IsNoBucketWord, Whole-retabled, Rely-retabled, TablesRight-kept, PagesRight-kept, EntriesRight-kept}
 use Rattle.rht_core.proofs.Moves.Quiet.{aside}
@@ -96,6 +96,8 @@ module _ (env : Env) (mix : ℕ → ℕ → ℕ → ℕ) where
           whole = reslotted s (SlotHeld d) M M' G whole l was refl write;
           others = reslotted_others s (SlotHeld d) M M' G whole l was refl write d
               (λ c ne is. let z : SlotFree ≡ SlotHeld c = sym free ∙ is in cc) (λ c ne is. ne (cc));
+          stale = stale_write env mix M M' G (with_slot G s (SlotHeld d)) (Slot s StateWord) 1 write
+              (same_owners env mix G (with_slot G s (SlotHeld d)) refl) (λ n u f e. cc) (λ n u f e. cc);
         },
         free,
       )
@@ -109,6 +111,8 @@ module _ (env : Env) (mix : ℕ → ℕ → ℕ → ℕ) where
         whole = reslotted s SlotFree M M' G whole has.within was refl write;
         others = reslotted_others s SlotFree M M' G whole has.within was refl write d
             (λ c ne. held_by_two c d ne (G.slot s) has.mine) (λ c ne is. cc);
+        stale = stale_write env mix M M' G (with_slot G s SlotFree) (Slot s StateWord) 0 write
+            (same_owners env mix G (with_slot G s SlotFree) refl) (λ n u f e. cc) (λ n u f e. cc);
       }
 
   -- ---- a word of a slot that the caller has
@@ -131,6 +135,7 @@ module _ (env : Env) (mix : ℕ → ℕ → ℕ → ℕ) where
             (PagesRight-kept env mix M M' G G.slot (Slot s w) v write (λ i e. cc) whole.pages)
             (EntriesRight-kept env mix M M' G G.table G.attached G.slot G.page whole kept (Slot s w) v write words
             (λ τ l. refl) (λ p τ of has. of) (λ j e. cc));
+        stale = stale_write env mix M M' G G (Slot s w) v write (same_owners env mix G G refl) (λ n u f e. cc) (λ n u f e. cc);
         others = λ c ne. Rely-retabled env mix M M' G G.table G.attached G.slot G.page whole kept (Slot s w) v
             write words c (record {
               slots = λ t is. is;
@@ -154,4 +159,8 @@ module _ (env : Env) (mix : ℕ → ℕ → ℕ → ℕ) where
       let kept = aside env mix NextSerial v M M' G whole write
       (record { current = λ e. cc; work = λ e. cc; slots = λ s w e. cc; pages = λ i e. cc }) (λ j e. cc)
       (λ n w e. cc) (λ i e. cc) (λ e. cc) in
-      record { whole = kept.0; others = λ c ne. kept.1 c }
+      record {
+        whole = kept.0;
+        others = λ c ne. kept.1 c;
+        stale = stale_write env mix M M' G G NextSerial v write (same_owners env mix G G refl) (λ n u f e. cc) (λ n u f e. cc);
+      }

@@ -9,7 +9,7 @@ use Rattle.rht_core.proofs.Theory.Ghosts.{Ghost, First, Leaving, SlotOwner, Slot
 use Rattle.rht_core.proofs.Theory.Wholes.{AreRetired, list_of, key_of, TablesRight, PagesRight, OutRight, MovingRight, IsLeavingAt, Owned, Whole}
 use Rattle.rht_core.proofs.Theory.Passed.{TablesGrow, Passed-stays, same-TableStays}
 use Rattle.rht_core.proofs.Theory.Reliance.{TablesStay}
-use Rattle.rht_core.proofs.Theory.Frames.{Others, Made, UsedStay, used_stay, seat_stays, chains_stay, passes_same}
+use Rattle.rht_core.proofs.Theory.Frames.{Others, Made, UsedStay, used_stay, seat_stays, chains_stay, passes_same, stale_write, same_owners}
 use Rattle.rht_core.proofs.Theory.WholeFrames.{no_bucket, BucketRight-frame, arena_stays}
 use Rattle.rht_core.proofs.Theory.Departures.{with_standing}
 
@@ -262,6 +262,8 @@ module _ (env : Env) (mix : ℕ → ℕ → ℕ → ℕ) where
         chains = chains_stay env mix c M M' G a v whole is.write (λ n used. is.word.no_node n ChainLink);
         keys = words.keys;
         owners = words.owners;
+        used = λ n used. used;
+        links = words.links;
         nodes = λ n has. has.mine;
         words = λ n has w. is.write.others (Node n w) has.among (is.word.no_node n w);
         raised = refl;
@@ -282,4 +284,9 @@ module _ (env : Env) (mix : ℕ → ℕ → ℕ → ℕ) where
       }
 
       pub restate : Made env mix d M G M' after
-      restate = record { whole = restated_whole; others = restated_others }
+      restate = record {
+        whole = restated_whole;
+        others = restated_others;
+        stale = stale_write env mix M M' G after a v is.write (same_owners env mix G after refl)
+            (λ n u f. is.word.no_node n ChainLink) (λ n u f. is.word.no_node n ListLink);
+      }

@@ -5,16 +5,17 @@ use Rattle.std.specs.Int.{bit_at, bit_not, w64}
 use Rattle.std.proofs.lemmas.Bool.{cases_eq}
 use Rattle.rht_words.specs.declared.env.Env.{Env}
 use Rattle.rht_words.specs.Maps.{bit_of, IsBitIn}
+use Rattle.rht_words.specs.Links.{node_of}
 use Rattle.rht_words.specs.Places.{PortCount, Slot, NodeMap, Node, NodeWord, ChainLink, KeyWord, OwnerWord, ListLink, map_words}
 use Rattle.rht_words.proofs.BitChanges.{bit_at-cleared, bit_at-cleared_other, bit_at-set, bit_at-set_other}
 use Rattle.rht_words.proofs.Memory.{Memory, IsWrite}
 use Rattle.rht_words.specs.Members.{In}
 use Rattle.rht_words.proofs.Members.{count_below-same}
-use Rattle.rht_core.proofs.Theory.Ghosts.{put, put-other, put-all, Owner, Free, Held, First, Behind, Ghost, is_first, is_used, is_taken_by, IsUsed, seat_of, seat-used, none-some, unused-not_first, behind_one, held_not_used, held_by_one, with_owner}
-use Rattle.rht_core.proofs.Theory.Wholes.{key_of, ArenaRight, IsBuilt, Whole, seated_at, firsts as count_firsts, raisers}
+use Rattle.rht_core.proofs.Theory.Ghosts.{put, put-other, put-all, Owner, Free, Held, First, Behind, Ghost, is_first, is_used, is_taken_by, IsUsed, seat_of, seat-used, none-some, behind_one, held_not_used, held_by_one, with_owner, Taken, is_listed, taken_by_one, IsListedNode, unlisted-not_first}
+use Rattle.rht_core.proofs.Theory.Wholes.{chain_of, key_of, ArenaRight, IsBuilt, Whole, seated_at, firsts as count_firsts, raisers}
 use Rattle.rht_core.proofs.Theory.Knowledge.{HasNode}
-use Rattle.rht_core.proofs.Theory.Reliance.{bound_used}
-use Rattle.rht_core.proofs.Theory.Frames.{Made, UsedStay, used_stay, chains_stay, holdings_stay, entries_stay, work_stays, tables_stay, same_tables, Rely-same}
+use Rattle.rht_core.proofs.Theory.Reliance.{bound_used, RelyWhere}
+use Rattle.rht_core.proofs.Theory.Frames.{Made, UsedStay, used_stay, chains_stay, holdings_stay, entries_stay, work_stays, tables_stay, same_tables, Rely-same, LeadsToFirst, stale_write, same_owners, reowned_owners}
 use Rattle.rht_core.proofs.Theory.WholeFrames.{chains_passes, SameChains, same_chains, Whole-frame, locks_stay, arena_stays}
 
 module _ (env : Env) (mix : ℕ → ℕ → ℕ → ℕ) where
@@ -34,6 +35,7 @@ module _ (env : Env) (mix : ℕ → ℕ → ℕ → ℕ) where
         lists = λ m l used. others_node m ListLink l (other m used);
         chains = λ m j seat. others_node m ChainLink (seated_at env mix M G whole m j seat).among
             (other m (seat-used (G.node m) j seat));
+        links = λ m l used none. inl (others_node m ChainLink l (other m used));
       } in
       record {
         whole = Whole-frame env mix M M' G G (Node n w) v whole write
@@ -48,6 +50,8 @@ module _ (env : Env) (mix : ℕ → ℕ → ℕ → ℕ) where
             (λ s u l is. write.others (Slot s u) (l, is) (λ e. cc))
             (λ m u held. others_node m u held.among (λ e. ne
             (held_by_one (G.node n) c d (ap G.node (sym e) ∙ held.mine) has.mine)));
+        stale = stale_write env mix M M' G G (Node n w) v write (same_owners env mix G G refl)
+            (λ m used f e. other m used (cc)) (λ m used f e. other m used (cc));
       }
 
   -- ---- the link in a chain of a node that is in none
@@ -71,8 +75,9 @@ module _ (env : Env) (mix : ℕ → ℕ → ℕ → ℕ) where
   pub chain_behind : (d n port first j v : ℕ) (behind : List ℕ) (M M' : Memory) (G : Ghost)
       → Whole env mix M G → G.node n ≡ Behind port
       → G.bound port ≡ first ∷ behind → G.node first ≡ First j → (G.bucket j).holder ≡ Some d
+      → In n behind → v ≡ chain_of M first → LeadsToFirst env mix G v
       → IsWrite env.geometry M M' (Node n ChainLink) v → Made env mix d M G M' G
-  chain_behind d n port first j v rest M M' G whole behind bound seat holder write =
+  chain_behind d n port first j v rest M M' G whole behind bound seat holder listed link led write =
       let unchained : (m j : ℕ) → seat_of (G.node m) ≡ Some j → m ≢ n =
       λ m j seat e. none-some (ap seat_of (ap G.node e ∙ behind)) seat in
       let words : UsedStay env mix M G M' = record {
@@ -81,6 +86,19 @@ module _ (env : Env) (mix : ℕ → ℕ → ℕ → ℕ) where
         lists = λ m l used. write.others (Node m ListLink) l (λ e. cc);
         chains = λ m j seat. write.others (Node m ChainLink) (seated_at env mix M G whole m j seat).among
             (λ e. unchained m j seat (cc));
+        links = λ m l used none. elim (cases_eq m n) [
+          | inl e ↦ inr (record {
+            port = port;
+            first = first;
+            behind = rest;
+            bound = bound;
+            there = inr (subst (λ k. In k rest) (sym e) listed);
+            bucket = j;
+            seat = ap seat_of seat;
+            link = ap (chain_of M') e ∙ write.same ∙ link;
+          })
+          | inr ne ↦ inl (write.others (Node m ChainLink) l (λ e. ne (cc)))
+        ];
       } in
       record {
         whole = Whole-frame env mix M M' G G (Node n ChainLink) v whole write
@@ -89,6 +107,15 @@ module _ (env : Env) (mix : ℕ → ℕ → ℕ → ℕ) where
             (locks_stay env mix M M' G (Node n ChainLink) v whole write (λ j e. cc))
             (arena_stays env mix M M' G (Node n ChainLink) v whole write G refl (λ i e. cc))
             (write.others PortCount tt (λ e. cc) ∙ whole.counted);
+        stale = record {
+          owners = same_owners env mix G G refl;
+          chains = λ m l used f. elim (cases_eq m n) [
+            | inl e ↦ inr (λ k is. led k (sym (ap (λ w. node_of env.geometry.nodes w)
+                (ap (chain_of M') e ∙ write.same)) ∙ is))
+            | inr ne ↦ inl (write.others (Node m ChainLink) l (λ e. ne (cc)))
+          ];
+          lists = λ m l used f. write.others (Node m ListLink) l (λ e. cc);
+        };
         others = λ c ne. Rely-same env mix c M M' G G whole
             (same_tables env mix G G.bucket G.node G.bound G.raised) refl refl refl refl words
             (λ i k m h here b.
@@ -120,8 +147,8 @@ module _ (env : Env) (mix : ℕ → ℕ → ℕ → ℕ) where
   -- ---- the bit of a node
 
   -- neither the old owner of a node nor the new one is a port
-  pub reowned_chains : (G : Ghost) (n : ℕ) (owner : Owner) → is_used (G.node n) ≡ false
-      → is_used owner ≡ false → SameChains env mix G (with_owner G n owner)
+  pub reowned_chains : (G : Ghost) (n : ℕ) (owner : Owner) → is_listed (G.node n) ≡ false
+      → is_listed owner ≡ false → SameChains env mix G (with_owner G n owner)
   reowned_chains G n owner was now = record {
     tables = same_tables env mix G G.bucket (put G.node n owner) G.bound G.raised;
     nodes = λ j. refl;
@@ -130,8 +157,8 @@ module _ (env : Env) (mix : ℕ → ℕ → ℕ → ℕ) where
     armed = λ j c is. (is, refl);
     kept = λ i c k entry holds is out. refl;
     used = λ m used. put-other G.node n owner m
-        (λ e. let q = sym was ∙ ap is_used (ap G.node (sym e)) ∙ used in cc);
-    used_before = λ m. put-all (λ i o. IsUsed o → o ≡ G.node i) G.node n owner
+        (λ e. let q = sym was ∙ ap is_listed (ap G.node (sym e)) ∙ used in cc);
+    used_before = λ m. put-all (λ i o. IsListedNode o → o ≡ G.node i) G.node n owner
         (λ used. let q = sym now ∙ used in absurd (cc)) (λ i ne used. refl) m;
     bound = λ port. refl;
   }
@@ -180,7 +207,7 @@ module _ (env : Env) (mix : ℕ → ℕ → ℕ → ℕ) where
   reowned : (i b value : ℕ) (owner : Owner) (M M' : Memory) (G : Ghost) → Whole env mix M G
       → IsBitIn env.geometry.nodes i b → IsBuilt env mix owner
       → IsWrite env.geometry M M' (NodeMap i) value
-      → is_used (G.node (64 * i + b)) ≡ false → is_used owner ≡ false
+      → is_listed (G.node (64 * i + b)) ≡ false → is_listed owner ≡ false
       → ((bit_at value b ≡ 1) ↔ (owner ≡ Free))
       → ((k : ℕ) → k < 64 → k ≢ b → bit_at value k ≡ bit_at (M (NodeMap i)) k)
       → Whole env mix M' (with_owner G (64 * i + b) owner)
@@ -194,7 +221,7 @@ module _ (env : Env) (mix : ℕ → ℕ → ℕ → ℕ) where
       (reowned_bits i b value owner M M' G whole at is_built write here others)
       (write.others PortCount tt (λ e. cc) ∙ whole.counted
       ∙ ap (λ x. x + raisers env mix G) (sym (reowned_firsts G n owner
-      (unused-not_first (G.node n) was) (unused-not_first owner now))))
+      (unlisted-not_first (G.node n) was) (unlisted-not_first owner now))))
 
   -- a write that leaves the bits of a word of the node map as they were
   pub retouch : (d i value : ℕ) (M M' : Memory) (G : Ghost) → Whole env mix M G
@@ -214,6 +241,7 @@ module _ (env : Env) (mix : ℕ → ℕ → ℕ → ℕ) where
                   (whole.arena.bits n k);
             })
             (write.others PortCount tt (λ e. cc) ∙ whole.counted);
+        stale = stale_write env mix M M' G G (NodeMap i) value write (same_owners env mix G G refl) (λ n u f e. cc) (λ n u f e. cc);
         others =
             λ c ne. Rely-same env mix c M M' G G whole
             (same_tables env mix G G.bucket G.node G.bound G.raised) refl refl refl refl words
@@ -232,7 +260,7 @@ module _ (env : Env) (mix : ℕ → ℕ → ℕ → ℕ) where
       let word : n / 64 ≡ i = omega (arith, at.within) in
       let bit : n % 64 ≡ b = omega (arith, at.within) in
       let free : G.node n ≡ Free = (whole.arena.bits n at.below).0 (rw word (rw bit found)) in
-      let was : is_used (G.node n) ≡ false = ap is_used free in
+      let was : is_listed (G.node n) ≡ false = ap is_listed free in
       let stay = used_stay env mix M M' G (NodeMap i) (bit_and (M (NodeMap i)) (bit_not w64 (bit_of b)))
       whole write (λ m w e. cc) in
       let same = reowned_chains G n (Held d) was refl in (
@@ -243,6 +271,9 @@ module _ (env : Env) (mix : ℕ → ℕ → ℕ → ℕ) where
                 (λ e. absurd (cc)),
               )
               (λ k l ne. bit_at-cleared_other (M (NodeMap i)) b k at.within l ne);
+          stale = stale_write env mix M M' G (with_owner G n (Held d)) (NodeMap i)
+              (bit_and (M (NodeMap i)) (bit_not w64 (bit_of b))) write (reowned_owners env mix G n (Held d) (ap is_used free))
+              (λ m u f e. cc) (λ m u f e. cc);
           others = λ c ne. record {
             tables = tables_stay env mix M G (with_owner G n (Held d)) whole same.tables
                 (chains_passes env mix M G (with_owner G n (Held d)) whole same);
@@ -252,6 +283,9 @@ module _ (env : Env) (mix : ℕ → ℕ → ℕ → ℕ) where
                 (bit_and (M (NodeMap i)) (bit_not w64 (bit_of b))) whole write (λ m used e. cc);
             keys = stay.keys;
             owners = stay.owners;
+            used = λ m used. put-all (λ k o. IsUsed (G.node k) → IsUsed o) G.node n (Held d)
+                (λ was. absurd (let both = sym was ∙ ap is_used free in cc)) (λ k kn was. was) m used;
+            links = λ m l used none. inl (write.others (Node m ChainLink) l (λ e. cc));
             nodes = λ m has. put-other G.node n (Held d) m (λ e. let q = sym free ∙ ap G.node (sym e)
                 ∙ has.mine in cc) ∙ has.mine;
             words = λ m has w. write.others (Node m w) has.among (λ e. cc);
@@ -281,17 +315,19 @@ module _ (env : Env) (mix : ℕ → ℕ → ℕ → ℕ) where
       let i = n / 64 in
       let b = n % 64 in
       let parts : 64 * i + b ≡ n = omega arith in
-      let was : is_used (G.node n) ≡ false = ap is_used has.mine in
+      let was : is_listed (G.node n) ≡ false = ap is_listed has.mine in
       let stay =
       used_stay env mix M M' G (NodeMap i) (bit_or (M (NodeMap i)) (bit_of b)) whole write (λ m w e. cc) in
       let same = reowned_chains G n Free was refl in
       let made = reowned i b (bit_or (M (NodeMap i)) (bit_of b)) Free M M' G whole
       (record { within = omega arith; below = omega (arith, has.among) }) tt write
-      (ap (λ m. is_used (G.node m)) parts ∙ was) refl
+      (ap (λ m. is_listed (G.node m)) parts ∙ was) refl
       ((λ set. refl), (λ e. bit_at-set (M (NodeMap i)) b))
       (λ k l ne. bit_at-set_other (M (NodeMap i)) b k ne) in
       record {
         whole = rw parts at made;
+        stale = stale_write env mix M M' G (with_owner G n Free) (NodeMap i) (bit_or (M (NodeMap i)) (bit_of b)) write
+            (reowned_owners env mix G n Free (ap is_used has.mine)) (λ m u f e. cc) (λ m u f e. cc);
         others = λ c ne. record {
           tables = tables_stay env mix M G (with_owner G n Free) whole same.tables
               (chains_passes env mix M G (with_owner G n Free) whole same);
@@ -301,6 +337,9 @@ module _ (env : Env) (mix : ℕ → ℕ → ℕ → ℕ) where
               write (λ m used e. cc);
           keys = stay.keys;
           owners = stay.owners;
+          used = λ m used. put-all (λ k o. IsUsed (G.node k) → IsUsed o) G.node n Free
+              (λ now. absurd (let both = sym now ∙ ap is_used has.mine in cc)) (λ k kn now. now) m used;
+          links = λ m l used none. inl (write.others (Node m ChainLink) l (λ e. cc));
           nodes = λ m held. put-other G.node n Free m
               (λ e. ne (held_by_one (G.node n) c d (ap G.node (sym e) ∙ held.mine) has.mine)) ∙ held.mine;
           words = λ m held w. write.others (Node m w) held.among (λ e. cc);
@@ -319,3 +358,52 @@ module _ (env : Env) (mix : ℕ → ℕ → ℕ → ℕ) where
           no_lock = λ j h. h;
         };
       }
+
+  -- The or that sets the bit of a node which a call of the caller has taken out. Others count on all but that this one is or was a port's.
+  pub return_node : (d n : ℕ) (M M' : Memory) (G : Ghost) → Whole env mix M G → n < env.geometry.nodes → G.node n ≡ Taken d
+      → IsWrite env.geometry M M' (NodeMap (n / 64)) (bit_or (M (NodeMap (n / 64))) (bit_of (n % 64)))
+      → Whole env mix M' (with_owner G n Free)
+      × ((c : ℕ) → c ≢ d → RelyWhere env mix (λ m. IsUsed (G.node m) × (m ≢ n)) c M G M' (with_owner G n Free))
+  return_node d n M M' G whole among mine write =
+      let i = n / 64 in
+      let b = n % 64 in
+      let parts : 64 * i + b ≡ n = omega arith in
+      let was : is_listed (G.node n) ≡ false = ap is_listed mine in
+      let stay =
+      used_stay env mix M M' G (NodeMap i) (bit_or (M (NodeMap i)) (bit_of b)) whole write (λ m w e. cc) in
+      let same = reowned_chains G n Free was refl in
+      let made = reowned i b (bit_or (M (NodeMap i)) (bit_of b)) Free M M' G whole
+      (record { within = omega arith; below = omega (arith, among) }) tt write
+      (ap (λ m. is_listed (G.node m)) parts ∙ was) refl
+      ((λ set. refl), (λ e. bit_at-set (M (NodeMap i)) b))
+      (λ k l ne. bit_at-set_other (M (NodeMap i)) b k ne) in (
+        rw parts at made,
+        (λ c ne. record {
+          tables = tables_stay env mix M G (with_owner G n Free) whole same.tables
+              (chains_passes env mix M G (with_owner G n Free) whole same);
+          locks = λ j h. refl;
+          lists = λ j m h i. refl;
+          chains = chains_stay env mix c M M' G (NodeMap i) (bit_or (M (NodeMap i)) (bit_of b)) whole
+              write (λ m used e. cc);
+          keys = stay.keys;
+          owners = stay.owners;
+          used = λ m lasts. ap is_used (put-other G.node n Free m lasts.1) ∙ lasts.0;
+          links = λ m l used none. inl (write.others (Node m ChainLink) l (λ e. cc));
+          nodes = λ m held. put-other G.node n Free m
+              (λ e. let q : Held c ≡ Taken d = sym held.mine ∙ ap G.node e ∙ mine in cc) ∙ held.mine;
+          words = λ m held w. write.others (Node m w) held.among (λ e. cc);
+          raised = refl;
+          taken = put-all (λ k o. is_taken_by c o ≡ is_taken_by c (G.node k)) G.node n Free
+              (sym (ap (is_taken_by c) mine ∙ taken_by_one c d ne)) (λ k kn. refl);
+          unbound = λ port τ j is. is.unbound;
+          holdings = holdings_stay env mix c M M' G (with_owner G n Free) same.tables
+              (λ s w l is. write.others (Slot s w) (l, is) (λ e. cc));
+          work = work_stays env mix c M M' G (with_owner G n Free) same.tables
+              (entries_stay env mix M M' G (with_owner G n Free) whole stay same.used (λ j is. is));
+          no_work = λ works. works;
+          no_node =
+              λ m. put-all (λ k o. o ≡ Held c → G.node k ≡ Held c) G.node n Free (λ e. absurd (cc))
+              (λ k kn h. h) m;
+          no_lock = λ j h. h;
+        }),
+      )

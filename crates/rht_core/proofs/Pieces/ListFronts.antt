@@ -14,10 +14,10 @@ use Rattle.rht_core.proofs.Theory.Knowns.{Replaces, StandsAt}
 use Rattle.rht_core.proofs.Theory.Knowledge.{HasOnly, HoldsLock, IsInList}
 use Rattle.rht_core.proofs.Theory.Reliance.{bound_used}
 use Rattle.rht_core.proofs.Theory.Frames.{Made}
-use Rattle.rht_core.proofs.Theory.Readiness.{Change, changed}
+use Rattle.rht_core.proofs.Theory.Readiness.{Change, changed, IsRebinding}
 use Rattle.rht_core.proofs.Theory.Steps.{reowned-outs}
 use Rattle.rht_core.proofs.Moves.Relinking.{relink_address, relink_value, relinked}
-use Rattle.rht_core.proofs.Moves.Removing.{IsFoundIn, CanReplace, replace, replacing}
+use Rattle.rht_core.proofs.Moves.Removing.{IsFoundIn, CanReplace, replace, replacing, replacing_known}
 
 -- the lock that is left behind the store, by the node before
 abbrev pub lock_left : ℕ → Option ℕ → Option ℕ
@@ -92,6 +92,12 @@ module _ (env : Env) (mix : ℕ → ℕ → ℕ → ℕ) (c port place word firs
           back_one = λ p e. (let same : port ≡ p = cc in sym same, inl refl);
           single = λ one. absurd (let both : Single ≡ Listed = sym one ∙ listed in cc);
         }
+
+    pub front_known : MovesNone env mix G c → (τ : ℕ) → Passed env mix G port τ
+        → home env mix G port τ ≡ Some j → IsRebinding env mix change M G
+    front_known none τ passed at =
+        inr (inl (replacing_known env mix c port j first stands.front stands.rear before M M' G is.behind
+        (found_in none τ passed at) n (first ∷ is.behind) (Behind port) can))
 
     pub front_made : MovesNone env mix G c → (τ : ℕ) → Passed env mix G port τ
         → home env mix G port τ ≡ Some j

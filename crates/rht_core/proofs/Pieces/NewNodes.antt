@@ -21,7 +21,7 @@ use Rattle.rht_arena.specs.NewNode.{NewNodeModel, new_node_plan, new_node_after,
 use Rattle.rht_arena.specs.declared.new_node.NewNodeAt.{NewNodeAt}
 use Rattle.rht_arena.specs.declared.new_node.NewNodeAt.TheVariants as news
 use Rattle.rht_arena.proofs.TakenWereFree.{claims}
-use Rattle.rht_core.proofs.Theory.Ghosts.{put-same, put-all, Owner, Free, Held, Ghost, IsUsed, is_used, is_taken_by, held_not_used, with_owner}
+use Rattle.rht_core.proofs.Theory.Ghosts.{put-same, put-all, Owner, Free, Held, Ghost, IsUsed, is_used, is_taken_by, held_not_used, unused-unlisted, with_owner}
 use Rattle.rht_core.proofs.Theory.Wholes.{Whole}
 use Rattle.rht_core.proofs.Theory.Knowns.{KnownNode, KnownTable, KnownBucket, knows_plain}
 use Rattle.rht_core.proofs.Theory.Knowledge.{IsPlain, NodeMeans, TableMeans, Knowing}
@@ -115,7 +115,7 @@ module _ (env : Env) (mix : ℕ → ℕ → ℕ → ℕ) (c : ℕ) (h : Holding)
     stays-reowned : (n : ℕ) (owner : Owner) → is_used (G.node n) ≡ false → is_used owner ≡ false
         → TablesStay env mix G (with_owner G n owner)
     stays-reowned n owner was now =
-        let same = reowned_chains env mix G n owner was now in
+        let same = reowned_chains env mix G n owner (unused-unlisted (G.node n) was) (unused-unlisted owner now) in
         tables_stay env mix M G (with_owner G n owner) whole same.tables
         (chains_passes env mix M G (with_owner G n owner) whole same)
 

@@ -1,7 +1,7 @@
 -- What an operation of a call says about bindings: nothing, or the call's answer, which it is on what the words stand for then; or it
 -- changes the bindings as the call is to change them, and the answer is what the call says of the bindings before. A call may also
 -- know its answer early, for the case that it will find a page missing, and say it once it has: that answer was so at an earlier event.
-use Rattle.std.proofs.Common.{◌≡◌, ◌≢◌, ◌⊎◌, ◌↔◌, ℕ, Bool, false, [], Option, Some, None, refl, sym, ap, ◌∙◌, subst, inl, inr}
+use Rattle.std.proofs.Common.{◌≡◌, ◌≢◌, ◌⊎◌, ◌↔◌, ℕ, Bool, true, false, [], Option, Some, None, refl, sym, ap, ◌∙◌, subst, inl, inr}
 use Rattle.std.specs.Prelude.{IfSome}
 use Rattle.rht_words.specs.declared.config.Kind.{Kind}
 use Rattle.rht_model.specs.declared.history.Call.{Call}
@@ -146,6 +146,10 @@ pub record IsRight (call : Call) (has : Option ℕ) (answer : Answer) : Type 0 w
   pub replied : IsReplied call answer
   pub tells : TellsNode call has answer.reply
 
+-- calls whose answers are shown to be right elsewhere
+abbrev pub may_claim : Call → Bool
+may_claim call = false
+
 module _ (kind : Kind) (c : ℕ) (call : Call) where
   -- the answer is legal on these bindings, and leaves them; or the call isn't about bindings
   pub record IsLegalOn (bindings : Multimap) (answer : Answer) : Type 0 where
@@ -172,10 +176,17 @@ module _ (kind : Kind) (c : ℕ) (call : Call) where
     pub known : now ≡ Some answer
     pub same : IsSameAnswer foreseen answer
 
-  -- an operation that changes no bindings keeps what is known of the answer, or tells it, or recalls the one that was known early
+  -- the answer is known from now on, of a call whose answers are shown to be right elsewhere
+  pub record ClaimsAnswer (was now : Option Answer) : Type 0 where
+    pub may : may_claim call ≡ true
+    pub unknown : was ≡ None
+    pub answer : Answer
+    pub known : now ≡ Some answer
+
+  -- an operation that changes no bindings keeps what is known of the answer, or tells it, or recalls the one that was known early, or claims it
   abbrev pub SaysStill : Option Answer → Type 0 → Multimap → Option Answer → Option Answer → Type 0
   SaysStill early There bindings was now =
-      KeepsAnswer was now ⊎ LearnsAnswer bindings was now ⊎ RecallsAnswer early There was now
+      KeepsAnswer was now ⊎ LearnsAnswer bindings was now ⊎ RecallsAnswer early There was now ⊎ ClaimsAnswer was now
 
   -- ---- what is known early
 
@@ -222,7 +233,8 @@ module _ (kind : Kind) (c : ℕ) (call : Call) where
   known_so So same early There before after (Some was) (Some now) (inl still) told so = elim still.said [
     | inl keeps ↦ same was now keeps so
     | inr (inl learns) ↦ absurd (let none = learns.unknown in cc)
-    | inr (inr recalls) ↦ absurd (let none = recalls.unknown in cc)
+    | inr (inr (inl recalls)) ↦ absurd (let none = recalls.unknown in cc)
+    | inr (inr (inr claims)) ↦ absurd (let none = claims.unknown in cc)
   ]
   known_so So same early There before after (Some was) (Some now) (inr changes) told so = absurd
       (let none = changes.unknown in cc)
@@ -235,7 +247,8 @@ module _ (kind : Kind) (c : ℕ) (call : Call) where
   unknown_before early There before after (Some was) None (inl still) none = elim still.said [
     | inl keeps ↦ absurd keeps
     | inr (inl learns) ↦ absurd (let unknown = learns.unknown in cc)
-    | inr (inr recalls) ↦ absurd (let unknown = recalls.unknown in cc)
+    | inr (inr (inl recalls)) ↦ absurd (let unknown = recalls.unknown in cc)
+    | inr (inr (inr claims)) ↦ absurd (let unknown = claims.unknown in cc)
   ]
   unknown_before early There before after (Some was) None (inr changes) none = absurd
       (let unknown = changes.unknown in cc)
@@ -270,7 +283,7 @@ module _ (kind : Kind) (c : ℕ) (call : Call) where
     known = learns.known;
     said = IsSaidOn-agree bindings same learns.answer agree learns.said;
   }))
-  SaysStill-agree early There bindings same was now agree (inr (inr recalls)) = inr (inr recalls)
+  SaysStill-agree early There bindings same was now agree (inr (inr other)) = inr (inr other)
 
   pub KnowsEarly-agree : (There There' : Type 0) (bindings same : Multimap) (was now : Option Answer)
       → Agree same bindings → KnowsEarly There There' bindings was now → KnowsEarly There There' same was now
@@ -296,15 +309,23 @@ module _ (kind : Kind) (c : ℕ) (call : Call) where
     pub right : IsRight call has recalls.answer
     pub takes_none : takes_out recalls.answer.reply ≡ false
 
+  -- or it claims one that is right
+  pub record ClaimsRightly (has : Option ℕ) (was now : Option Answer) : Type 0 where
+    pub claims : ClaimsAnswer was now
+    pub right : IsRight call has claims.answer
+    pub takes_none : takes_out claims.answer.reply ≡ false
+
   abbrev pub TellsOrRecalls : Option ℕ → Option Answer → Type 0 → Multimap → Option Answer → Option Answer → Type 0
   TellsOrRecalls has early There bindings was now = Tells has bindings was now ⊎ RecallsRightly has early There was now
+      ⊎ ClaimsRightly has was now
 
   pub told-says : (has : Option ℕ) (early : Option Answer) (There : Type 0) (bindings : Multimap) (was now : Option Answer)
       → TellsOrRecalls has early There bindings was now
       → SaysStill early There bindings was now
   told-says has early There bindings was now (inl (inl keeps)) = inl keeps
   told-says has early There bindings was now (inl (inr tells)) = inr (inl tells.learns)
-  told-says has early There bindings was now (inr tells) = inr (inr tells.recalls)
+  told-says has early There bindings was now (inr (inl tells)) = inr (inr (inl tells.recalls))
+  told-says has early There bindings was now (inr (inr tells)) = inr (inr (inr tells.claims))
 
   -- and it takes no node out of a list
   pub told-outs : (has : Option ℕ) (early : Option Answer) (There : Type 0) (bindings : Multimap)
@@ -315,8 +336,10 @@ module _ (kind : Kind) (c : ℕ) (call : Call) where
   told-outs has early There bindings (Some was) (Some now) (inl (inl keeps)) = outs_of-same was now keeps
   told-outs has early There bindings was now (inl (inr tells)) =
       ap outs_of tells.learns.known ∙ ap one_if tells.takes_none ∙ sym (ap outs_of tells.learns.unknown)
-  told-outs has early There bindings was now (inr tells) =
+  told-outs has early There bindings was now (inr (inl tells)) =
       ap outs_of tells.recalls.known ∙ ap one_if tells.takes_none ∙ sym (ap outs_of tells.recalls.unknown)
+  told-outs has early There bindings was now (inr (inr tells)) =
+      ap outs_of tells.claims.known ∙ ap one_if tells.takes_none ∙ sym (ap outs_of tells.claims.unknown)
 
   -- what is told is right
   pub told-right : (has : Option ℕ) (early : Option Answer) (There : Type 0) (bindings : Multimap)
@@ -327,8 +350,11 @@ module _ (kind : Kind) (c : ℕ) (call : Call) where
   told-right has early There bindings was now (inl (inr tells)) answer unknown known =
       let same : tells.learns.answer ≡ answer = let both = sym tells.learns.known ∙ known in cc in
       subst (IsRight call has) same tells.right
-  told-right has early There bindings was now (inr tells) answer unknown known =
+  told-right has early There bindings was now (inr (inl tells)) answer unknown known =
       let same : tells.recalls.answer ≡ answer = let both = sym tells.recalls.known ∙ known in cc in
+      subst (IsRight call has) same tells.right
+  told-right has early There bindings was now (inr (inr tells)) answer unknown known =
+      let same : tells.claims.answer ≡ answer = let both = sym tells.claims.known ∙ known in cc in
       subst (IsRight call has) same tells.right
 
   -- an answer is told that is legal on the bindings and leaves them
@@ -349,7 +375,7 @@ module _ (kind : Kind) (c : ℕ) (call : Call) where
   -- and told once the page isn't there
   pub recalls : (has : Option ℕ) (There : Type 0) (bindings : Multimap) (answer : Answer) → IsRight call has answer
       → takes_out answer.reply ≡ false → ¬ There → TellsOrRecalls has (Some answer) There bindings None (Some answer)
-  recalls has There bindings answer right none missing = inr (record {
+  recalls has There bindings answer right none missing = inr (inl (record {
     recalls = record {
       unknown = refl;
       foreseen = answer;
@@ -361,7 +387,7 @@ module _ (kind : Kind) (c : ℕ) (call : Call) where
     };
     right = right;
     takes_none = none;
-  })
+  }))
 
   -- where nothing comes between, what is known early stays so
   pub stays_early : (There There' : Type 0) (bindings : Multimap) (was : Option Answer) → (There → There')

@@ -1,23 +1,76 @@
 -- What a step leaves of words and tables, and of what others know, where it writes elsewhere.
-use Rattle.std.proofs.Common.{◌≡◌, ◌≢◌, ℕ, ◌<◌, List, [], ◌∷◌, Some, Bool, refl, sym, ◌∙◌, ap, subst, inl, arith}
+use Rattle.std.proofs.Common.{◌≡◌, ◌≢◌, ℕ, ◌<◌, List, [], ◌∷◌, Some, Bool, refl, sym, ◌∙◌, ap, subst, inl, arith, true, false, ◌⊎◌}
 use Rattle.rht_words.specs.declared.env.Env.{Env}
 use Rattle.rht_words.specs.Places.{Address, CurrentTable, WorkLock, Slot, SlotWord, IsSlotWord, PageMap, Node, NodeWord, ChainLink, KeyWord, OwnerWord, ListLink}
+use Rattle.rht_words.specs.Links.{node_of}
 use Rattle.rht_words.proofs.Memory.{Memory, IsWrite}
-use Rattle.rht_core.proofs.Theory.Ghosts.{Bucket, Owner, First, Leaving, Ghost, is_taken_by, IsUsed, SlotOwner, seat_of, seat_in, seat, seat-used, has_table, index_at}
+use Rattle.rht_core.proofs.Theory.Ghosts.{Bucket, Owner, First, Leaving, Ghost, is_taken_by, is_used, IsUsed, SlotOwner, seat_of, seat_in, seat, seat-used, has_table, index_at, Taken, is_first, is_listed, put-other, with_owner, IsListedNode, seat-listed}
 use Rattle.rht_core.proofs.Theory.Wholes.{chain_of, key_of, Whole, seated_at, out-seated}
 use Rattle.rht_core.proofs.Theory.Passed.{same-TableStays, TablesGrow, PassesStay, Passed-stays}
 use Rattle.rht_core.proofs.Theory.Knowledge.{HasNode, IsEmptied}
-use Rattle.rht_core.proofs.Theory.Reliance.{TablesStay, HoldingsStay, WorkStays, WordStays, ChainsStay, bound_used, Rely}
+use Rattle.rht_core.proofs.Theory.Reliance.{TablesStay, HoldingsStay, WorkStays, WordStays, ChainsStay, LinksStay, bound_used, Rely}
 
 module _ (env : Env) (mix : ℕ → ℕ → ℕ → ℕ) where
   -- what everybody but this caller can count on
   abbrev pub Others : ℕ → Memory → Ghost → Memory → Ghost → Type 0
   Others d M G M' G' = (c : ℕ) → c ≢ d → Rely env mix c M G M' G'
 
+  -- nodes that were taken out are so still, and nodes that are or were ports' are
+  pub record OwnersStay (G G' : Ghost) : Type 0 where
+    pub out : (n e : ℕ) → G.node n ≡ Taken e → G'.node n ≡ Taken e
+    pub used : (n : ℕ) → IsUsed (G.node n) → IsUsed (G'.node n)
+
+  -- the node to which the link leads, if it leads to one, is in a chain
+  abbrev pub LeadsToFirst : Ghost → ℕ → Type 0
+  LeadsToFirst G link = (m : ℕ) → node_of env.geometry.nodes link ≡ Some m → is_first (G.node m) ≡ true
+
+  -- What a step leaves of nodes that are in no chain and of those that are in no list then: the links of such that are or were ports', but that
+  -- one may be led to a node in a chain.
+  pub record StaleStay (M : Memory) (G : Ghost) (M' : Memory) (G' : Ghost) : Type 0 where
+    pub owners : OwnersStay G G'
+    pub chains : (n : ℕ) → n < env.geometry.nodes → IsUsed (G.node n) → is_first (G'.node n) ≡ false
+        → (chain_of M' n ≡ chain_of M n) ⊎ LeadsToFirst G' (chain_of M' n)
+    pub lists : (n : ℕ) → n < env.geometry.nodes → IsUsed (G.node n) → is_listed (G'.node n) ≡ false
+        → M' (Node n ListLink) ≡ M (Node n ListLink)
+
+  pub same_owners : (G G' : Ghost) → G'.node ≡ G.node → OwnersStay G G'
+  same_owners G G' same = record {
+    out = λ n e is. ap (λ node. node n) same ∙ is;
+    used = λ n used. ap (λ node. is_used (node n)) same ∙ used;
+  }
+
+  -- where one that is no port's gets another owner
+  pub reowned_owners : (G : Ghost) (n : ℕ) (owner : Owner) → is_used (G.node n) ≡ false
+      → OwnersStay G (with_owner G n owner)
+  reowned_owners G n owner was = record {
+    out = λ m e is. put-other G.node n owner m
+        (λ same. let q : true ≡ false = sym (ap is_used is) ∙ ap (λ k. is_used (G.node k)) same ∙ was in cc) ∙ is;
+    used = λ m used. ap is_used (put-other G.node n owner m
+        (λ same. let q : true ≡ false = sym used ∙ ap (λ k. is_used (G.node k)) same ∙ was in cc)) ∙ used;
+  }
+
+  pub stale_write : (M M' : Memory) (G G' : Ghost) (a : Address) (v : ℕ) → IsWrite env.geometry M M' a v → OwnersStay G G'
+      → ((n : ℕ) → IsUsed (G.node n) → is_first (G'.node n) ≡ false → Node n ChainLink ≢ a)
+      → ((n : ℕ) → IsUsed (G.node n) → is_listed (G'.node n) ≡ false → Node n ListLink ≢ a)
+      → StaleStay M G M' G'
+  stale_write M M' G G' a v write owners chains lists = record {
+    owners = owners;
+    chains = λ n l used other. inl (write.others (Node n ChainLink) l (chains n used other));
+    lists = λ n l used other. write.others (Node n ListLink) l (lists n used other);
+  }
+
+  pub stale_none : (M : Memory) (G G' : Ghost) → OwnersStay G G' → StaleStay M G M G'
+  stale_none M G G' owners = record {
+    owners = owners;
+    chains = λ n l used other. inl refl;
+    lists = λ n l used other. refl;
+  }
+
   -- what a step of a caller makes of the whole
   pub record Made (d : ℕ) (M : Memory) (G : Ghost) (M' : Memory) (G' : Ghost) : Type 0 where
     pub whole : Whole env mix M' G'
     pub others : Others d M G M' G'
+    pub stale : StaleStay M G M' G'
 
   -- each word of a node that is or was a port's stays, but for links in chains of nodes that are in none
   pub record UsedStay (M : Memory) (G : Ghost) (M' : Memory) : Type 0 where
@@ -25,6 +78,7 @@ module _ (env : Env) (mix : ℕ → ℕ → ℕ → ℕ) where
     pub owners : WordStays env mix OwnerWord M G M'
     pub lists : WordStays env mix ListLink M G M'
     pub chains : (n j : ℕ) → seat_of (G.node n) ≡ Some j → chain_of M' n ≡ chain_of M n
+    pub links : LinksStay env mix M G M' G
 
   pub used_stay : (M M' : Memory) (G : Ghost) (a : Address) (v : ℕ) → Whole env mix M G
       → IsWrite env.geometry M M' a v
@@ -35,6 +89,7 @@ module _ (env : Env) (mix : ℕ → ℕ → ℕ → ℕ) where
     lists = λ n l used. write.others (Node n ListLink) l (not_node n ListLink);
     chains = λ n j seat. write.others (Node n ChainLink) (seated_at env mix M G whole n j seat).among
         (not_node n ChainLink);
+    links = λ n l used none. inl (write.others (Node n ChainLink) l (not_node n ChainLink));
   }
 
   -- so each word of a node that has a seat does
@@ -107,7 +162,7 @@ module _ (env : Env) (mix : ℕ → ℕ → ℕ → ℕ) where
     pub armed : (j c : ℕ) → (G'.bucket j).armed ≡ Some c → (G.bucket j).armed ≡ Some c
     pub out : (j : ℕ) → (G'.bucket j).out ≡ (G.bucket j).out
     pub bound : (port : ℕ) → G'.bound port ≡ G.bound port
-    pub used : (n : ℕ) → IsUsed (G.node n) → G'.node n ≡ G.node n
+    pub used : (n : ℕ) → IsListedNode (G.node n) → G'.node n ≡ G.node n
 
   pub passes_same : (M : Memory) (G G' : Ghost) → Whole env mix M G → SamePasses G G' → PassesStay env mix G G'
   passes_same M G G' whole same = record {
@@ -127,8 +182,8 @@ module _ (env : Env) (mix : ℕ → ℕ → ℕ → ℕ) where
       seat_same : (port : ℕ) (bound : List ℕ) → G.bound port ≡ bound → seat G' port ≡ seat G port
       seat_same port [] b = ap (seat_in G'.node) (same.bound port ∙ b) ∙ sym (ap (seat_in G.node) b)
       seat_same port (n ∷ behind) b =
-          let used = bound_used env mix M G whole port (n ∷ behind) b n (inl refl) in
-          ap (seat_in G'.node) (same.bound port ∙ b) ∙ ap seat_of (same.used n used.1)
+          let to = whole.owned.bound_to port n behind b in
+          ap (seat_in G'.node) (same.bound port ∙ b) ∙ ap seat_of (same.used n (seat-listed (G.node n) to.bucket to.first))
           ∙ sym (ap (seat_in G.node) b)
 
   -- ---- what a caller has of tables, and the work
@@ -176,13 +231,13 @@ module _ (env : Env) (mix : ℕ → ℕ → ℕ → ℕ) where
 
   -- where the same nodes are used, and their words stay, so does an entry on its way
   pub entries_stay : (M M' : Memory) (G G' : Ghost) → Whole env mix M G → UsedStay M G M'
-      → ((n : ℕ) → IsUsed (G.node n) → G'.node n ≡ G.node n)
+      → ((n : ℕ) → IsListedNode (G.node n) → G'.node n ≡ G.node n)
       → ((j : ℕ) → IsEmptied env mix (G.bucket j) → IsEmptied env mix (G'.bucket j)) → EntriesStay M G M' G'
   entries_stay M M' G G' whole words used emptied = record {
     emptied = emptied;
     entries = λ j entry out.
         let seat = out-seated env mix M G j entry (whole.moving.out j entry out) in
-        used entry (seat-used (G.node entry) seat.0 seat.1);
+        used entry (seat-listed (G.node entry) seat.0 seat.1);
     chains = λ n j leaving. words.chains n j (ap seat_of leaving);
   }
 
@@ -204,6 +259,8 @@ module _ (env : Env) (mix : ℕ → ℕ → ℕ → ℕ) where
     chains = chains;
     keys = words.keys;
     owners = words.owners;
+    used = λ n used. ap (λ o. is_used (o n)) nodes ∙ used;
+    links = λ n l used none. words.links n l used (ap (λ o. seat_of (o n)) (sym nodes) ∙ none);
     nodes = λ n has. ap (λ o. o n) nodes ∙ has.mine;
     words = λ n has w. own n w has;
     raised = raised;
@@ -223,6 +280,7 @@ module _ (env : Env) (mix : ℕ → ℕ → ℕ → ℕ) where
     owners = λ n l used. refl;
     lists = λ n l used. refl;
     chains = λ n j seat. refl;
+    links = λ n l used none. inl refl;
   }
 
   -- nothing was written, and nobody's rights changed
@@ -231,4 +289,5 @@ module _ (env : Env) (mix : ℕ → ℕ → ℕ → ℕ) where
     whole = whole;
     others = λ c ne. Rely-same c M M G G whole (same_tables G G.bucket G.node G.bound G.raised) refl refl
         refl refl (unwritten_words M G) (λ j n m h i b. refl) (λ s w l is. refl) (λ n w has. refl);
+    stale = stale_none M G G (same_owners G G refl);
   }

@@ -175,6 +175,18 @@ is_used (Taken c) = true
 abbrev pub IsUsed : Owner → Type 0
 IsUsed owner = is_used owner ≡ true
 
+-- the node is in a port's list: its first one, or one behind that
+abbrev pub is_listed : Owner → Bool
+is_listed Free = false
+is_listed (Held c) = false
+is_listed (First j) = true
+is_listed (Leaving j) = true
+is_listed (Behind k) = true
+is_listed (Taken c) = false
+
+abbrev pub IsListedNode : Owner → Type 0
+IsListedNode owner = is_listed owner ≡ true
+
 -- the node was taken out of a port's list by a call of this caller
 abbrev pub is_taken_by : ℕ → Owner → Bool
 is_taken_by c Free = false
@@ -265,6 +277,40 @@ seat-used (First i) j is = refl
 seat-used (Leaving i) j is = refl
 seat-used (Behind k) j is = absurd (cc)
 seat-used (Taken c) j is = absurd (cc)
+
+pub seat-listed : (o : Owner) (j : ℕ) → seat_of o ≡ Some j → IsListedNode o
+seat-listed Free j is = absurd (cc)
+seat-listed (Held c) j is = absurd (cc)
+seat-listed (First j) k is = refl
+seat-listed (Leaving j) k is = refl
+seat-listed (Behind k) j is = absurd (cc)
+seat-listed (Taken c) j is = absurd (cc)
+
+-- one that is in a list is a port's
+pub listed-used : (o : Owner) → is_listed o ≡ true → IsUsed o
+listed-used Free is = absurd (cc)
+listed-used (Held c) is = absurd (cc)
+listed-used (First j) is = refl
+listed-used (Leaving j) is = refl
+listed-used (Behind k) is = refl
+listed-used (Taken c) is = absurd (cc)
+
+-- one that is no port's is in no list
+pub unused-unlisted : (o : Owner) → is_used o ≡ false → is_listed o ≡ false
+unused-unlisted Free is = refl
+unused-unlisted (Held c) is = refl
+unused-unlisted (First j) is = absurd (cc)
+unused-unlisted (Leaving j) is = absurd (cc)
+unused-unlisted (Behind k) is = absurd (cc)
+unused-unlisted (Taken c) is = absurd (cc)
+
+pub unlisted-not_first : (o : Owner) → is_listed o ≡ false → is_first o ≡ false
+unlisted-not_first Free is = refl
+unlisted-not_first (Held c) is = refl
+unlisted-not_first (First j) is = absurd (cc)
+unlisted-not_first (Leaving j) is = absurd (cc)
+unlisted-not_first (Behind k) is = absurd (cc)
+unlisted-not_first (Taken c) is = refl
 
 pub seat-first : (o : Owner) (j : ℕ) → seat_of o ≡ Some j → is_first o ≡ true
 seat-first Free j is = absurd (cc)

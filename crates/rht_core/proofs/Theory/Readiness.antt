@@ -1,10 +1,11 @@
 -- What a store that changes what a port is bound to makes of the ghost, and what must be known where one binds a port first.
-use Rattle.std.proofs.Common.{◌≡◌, ℕ, ◌^◌, ◌+◌, ◌<◌, ◌≤◌, List, [], ◌∷◌, Some, None, Bool, true, false, ◌*◌, ◌/◌, ◌%◌}
+use Rattle.std.proofs.Common.{◌≡◌, ◌≢◌, ◌⊎◌, ℕ, ◌^◌, ◌+◌, ◌<◌, ◌≤◌, List, [], ◌∷◌, ◌++◌, Some, None, Bool, true, false, ◌*◌, ◌/◌, ◌%◌}
 use Rattle.rht_words.specs.declared.env.Env.{Env}
 use Rattle.rht_words.specs.Links.{link_of, head_of}
 use Rattle.rht_words.specs.Places.{Slot, SeedWord, Node, ListLink}
+use Rattle.rht_words.specs.Members.{In}
 use Rattle.rht_words.proofs.Memory.{Memory}
-use Rattle.rht_core.proofs.Theory.Ghosts.{put, Bucket, Owner, First, PageOwner, Ghost, table_at, has_bit, PageHeld, PageOf, is_entry}
+use Rattle.rht_core.proofs.Theory.Ghosts.{put, Bucket, Owner, First, seat_of, is_used, PageOwner, Ghost, table_at, has_bit, PageHeld, PageOf, is_entry}
 use Rattle.rht_core.proofs.Theory.Wholes.{chain_of, key_of, place_at, MovesNone}
 use Rattle.rht_core.proofs.Theory.Knowledge.{HasNode, ArmedFor, IsMade}
 use Rattle.rht_core.proofs.Theory.Ways.{entered_table, IsInUse}
@@ -65,6 +66,53 @@ module _ (env : Env) (mix : ℕ → ℕ → ℕ → ℕ) where
     pub holder : (G.bucket j).holder ≡ Some d
     pub chain : chain_of M n ≡ head_of (place_at env mix j) (G.bucket j).plain
     pub raised : G.raised d ≡ true
+
+  -- What is known when what a port is bound to changes. Its only node goes out of its bucket; or another node comes into the first one's place,
+  -- which is nobody's or was behind that one, and those behind it were the port's; or a node behind the first one goes out of the list.
+  pub record IsUnlinking (change : Change) (G : Ghost) : Type 0 where
+    pub first : ℕ
+    pub front : List ℕ
+    pub rear : List ℕ
+    pub bound_to : G.bound change.port ≡ first ∷ []
+    pub split : (G.bucket change.place).nodes ≡ front ++ first ∷ rear
+    pub left : change.bucket.nodes ≡ front ++ rear
+    pub none : change.nodes ≡ []
+    pub one : change.one ≡ first
+    pub other : change.other ≡ first
+    pub gone : seat_of change.other_owner ≡ None
+
+  pub record IsReplacing (change : Change) (M : Memory) (G : Ghost) : Type 0 where
+    pub behind : List ℕ
+    pub tail : List ℕ
+    pub front : List ℕ
+    pub rear : List ℕ
+    pub bound_to : G.bound change.port ≡ change.one ∷ behind
+    pub split : (G.bucket change.place).nodes ≡ front ++ change.one ∷ rear
+    pub left : change.bucket.nodes ≡ front ++ change.other ∷ rear
+    pub now : change.nodes ≡ change.other ∷ tail
+    pub listed : (n : ℕ) → In n tail → In n (change.one ∷ behind)
+    pub differs : change.other ≢ change.one
+    pub owner : change.other_owner ≡ First change.place
+    pub gone : seat_of change.one_owner ≡ None
+    pub from : (is_used (G.node change.other) ≡ false) ⊎ In change.other behind
+    pub among : change.other < env.geometry.nodes
+    pub key_is : key_of M change.other ≡ change.port
+
+  pub record IsShortening (change : Change) (G : Ghost) : Type 0 where
+    pub first : ℕ
+    pub behind : List ℕ
+    pub rest : List ℕ
+    pub bound_to : G.bound change.port ≡ first ∷ behind
+    pub now : change.nodes ≡ first ∷ rest
+    pub listed : (n : ℕ) → In n rest → In n behind
+    pub same : change.bucket ≡ G.bucket change.place
+    pub one : change.one ≡ change.other
+    pub seatless : seat_of (G.node change.other) ≡ None
+    pub used : is_used (G.node change.other) ≡ true
+    pub gone : seat_of change.other_owner ≡ None
+
+  abbrev pub IsRebinding : Change → Memory → Ghost → Type 0
+  IsRebinding change M G = IsUnlinking change G ⊎ IsReplacing change M G ⊎ IsShortening change G
 
   -- What is known when a bind is armed in a bucket: the caller has locked it, and its table is the last one.
   pub record IsArming (d j : ℕ) (G : Ghost) : Type 0 where

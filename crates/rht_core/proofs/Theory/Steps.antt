@@ -25,7 +25,7 @@ use Rattle.rht_core.proofs.Theory.Wholes.{place_at, outs, Whole}
 use Rattle.rht_core.proofs.Theory.Reliance.{bound_used}
 use Rattle.rht_core.proofs.Theory.Frames.{Made, still}
 use Rattle.rht_core.proofs.Theory.Answering.{outs_of, SaysStill-agree, KnowsEarly, KnowsEarly-agree, none_early, Says, IsRight, Tells, TellsOrRecalls, told-says, told-outs, told-right}
-use Rattle.rht_core.proofs.Theory.Readiness.{linked, IsReady, IsArming, ArePagesOf, IsAttaching, IsEntering, Change, changed, entered}
+use Rattle.rht_core.proofs.Theory.Readiness.{linked, IsReady, IsRebinding, IsArming, ArePagesOf, IsAttaching, IsEntering, Change, changed, entered}
 use Rattle.rht_core.proofs.Theory.Departures.{with_worker, published, retired, left, arrived, cut_off, CanLeave, CanArrive, CanCut, CanPublish, CanRetire}
 
 -- What an operation does beside what it finds: nothing that others see, a node taken or given back, a lock taken or dropped,
@@ -366,7 +366,7 @@ module _ (env : Env) (mix : ℕ → ℕ → ℕ → ℕ) where
   ReadyFor c M G Raises = Unit {0}
   ReadyFor c M G (Links n port j) = IsReady env mix c n port j M G
   ReadyFor c M G Lowers = Unit {0}
-  ReadyFor c M G (Rebinds change) = Unit {0}
+  ReadyFor c M G (Rebinds change) = IsRebinding env mix change M G
   ReadyFor c M G (LinksBehind n) = Unit {0}
   ReadyFor c M G (Arms j) = IsArming env mix c j G
   ReadyFor c M G (TakesSlot s) = G.slot s ≡ SlotFree

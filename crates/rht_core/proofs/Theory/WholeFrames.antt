@@ -8,7 +8,7 @@ use Rattle.rht_words.proofs.Memory.{Memory, IsWrite}
 use Rattle.rht_words.specs.Members.{In}
 use Rattle.rht_words.proofs.ChainLemmas.{IsSegment-members}
 use Rattle.rht_words.specs.Links.{head_of}
-use Rattle.rht_core.proofs.Theory.Ghosts.{Table, Bucket, Owner, First, Leaving, Behind, Ghost, lock_bit, state_word, is_used, IsUsed, PageOwner, PageFree, PageHeld, PageOf, SlotOwner, seat_of, seat-used, has_table, table_at, is_entry, entry_word}
+use Rattle.rht_core.proofs.Theory.Ghosts.{Table, Bucket, Owner, First, Leaving, Behind, Ghost, lock_bit, state_word, is_used, is_listed, IsListedNode, PageOwner, PageFree, PageHeld, PageOf, SlotOwner, seat_of, seat-listed, has_table, table_at, is_entry, entry_word}
 use Rattle.rht_core.proofs.Theory.Ways.{IsSpareIn}
 use Rattle.rht_core.proofs.Theory.Wholes.{retired_stay, chain_of, list_of, key_of, place_at, home, stop, IsNoBucket, EntriesRight, TableRight, TablesRight, SlotsRight, PagesRight, LockedRight, BucketRight, ChainedRight, ArmedRight, OutRight, MovingRight, IsHomeOf, IsLeavingAt, Owned, ArenaRight, Whole, out-seated, firsts, raisers}
 use Rattle.rht_core.proofs.Theory.Passed.{held-no_entry, PassesStay}
@@ -312,9 +312,9 @@ module _ (env : Env) (mix : ℕ → ℕ → ℕ → ℕ) where
         → ((G.bucket j).armed ≡ Some c) × ((G'.bucket j).holder ≡ (G.bucket j).holder)
     pub kept : (i c k entry : ℕ) → (G.bucket i).holder ≡ Some c → (G.bucket k).out ≡ Some entry
         → (G.bucket k).holder ≡ Some c → G'.bucket i ≡ G.bucket i
-    -- a node that is used has its owner still, and none gets used
-    pub used : (n : ℕ) → IsUsed (G.node n) → G'.node n ≡ G.node n
-    pub used_before : (n : ℕ) → IsUsed (G'.node n) → G'.node n ≡ G.node n
+    -- a node that is in a list has its owner still, and none gets into one
+    pub used : (n : ℕ) → IsListedNode (G.node n) → G'.node n ≡ G.node n
+    pub used_before : (n : ℕ) → IsListedNode (G'.node n) → G'.node n ≡ G.node n
     pub bound : (port : ℕ) → G'.bound port ≡ G.bound port
 
   -- so it is where at most who has raised the count changes
@@ -348,8 +348,8 @@ module _ (env : Env) (mix : ℕ → ℕ → ℕ → ℕ) where
     kept = same.kept;
     entries = λ j entry is.
         let seat = out-seated env mix M G j entry (whole.moving.out j entry is) in
-        same.used entry (seat-used (G.node entry) seat.0 seat.1);
-    leaves = λ n j is. sym (same.used_before n (ap is_used is)) ∙ is;
+        same.used entry (seat-listed (G.node entry) seat.0 seat.1);
+    leaves = λ n j is. sym (same.used_before n (ap is_listed is)) ∙ is;
     heads = λ n j is. same.bound (key_of M n);
   }
 
@@ -358,18 +358,18 @@ module _ (env : Env) (mix : ℕ → ℕ → ℕ → ℕ) where
     pub tables : SameTables env mix G G'
     pub moving : MovingStays M G G'
     pub nodes : (j : ℕ) → (G'.bucket j).nodes ≡ (G.bucket j).nodes
-    pub used : (n : ℕ) → IsUsed (G.node n) → G'.node n ≡ G.node n
-    pub used_before : (n : ℕ) → IsUsed (G'.node n) → G'.node n ≡ G.node n
+    pub used : (n : ℕ) → IsListedNode (G.node n) → G'.node n ≡ G.node n
+    pub used_before : (n : ℕ) → IsListedNode (G'.node n) → G'.node n ≡ G.node n
     pub bound : (port : ℕ) → G'.bound port ≡ G.bound port
 
   pub Owned-frame : (M M' : Memory) (G G' : Ghost) → Whole env mix M G → SameMembers M G G' → UsedStay env mix M G M'
       → Owned env mix M' G'
   Owned-frame M M' G G' whole same words =
       let owned = whole.owned in
-      let stays : (n : ℕ) (o : Owner) → G.node n ≡ o → IsUsed o → G'.node n ≡ o =
-      λ n o is used. same.used n (ap is_used is ∙ used) ∙ is in
-      let was : (n : ℕ) (o : Owner) → G'.node n ≡ o → IsUsed o → G.node n ≡ o =
-      λ n o is used. sym (same.used_before n (ap is_used is ∙ used)) ∙ is in
+      let stays : (n : ℕ) (o : Owner) → G.node n ≡ o → IsListedNode o → G'.node n ≡ o =
+      λ n o is used. same.used n (ap is_listed is ∙ used) ∙ is in
+      let was : (n : ℕ) (o : Owner) → G'.node n ≡ o → IsListedNode o → G.node n ≡ o =
+      λ n o is used. sym (same.used_before n (ap is_listed is ∙ used)) ∙ is in
       record {
         member = λ j n i. stays n (First j) (owned.member j n (rw (sym (same.nodes j)) i)) refl;
         first_at = λ n j f.
@@ -401,7 +401,7 @@ module _ (env : Env) (mix : ℕ → ℕ → ℕ → ℕ) where
             let link = seat_stays env mix M M' G whole words n to.bucket ListLink to.first in
             record {
               bucket = to.bucket;
-              first = ap seat_of (same.used n (seat-used (G.node n) to.bucket to.first)) ∙ to.first;
+              first = ap seat_of (same.used n (seat-listed (G.node n) to.bucket to.first)) ∙ to.first;
               key_is = seat_stays env mix M M' G whole words n to.bucket KeyWord to.first ∙ to.key_is;
               list = rw link (IsSegment-members (list_of M) (list_of M') (list_of M n) behind 0
                   (λ m i. words.lists m (owned.behind_in m port (to.each m i)).among

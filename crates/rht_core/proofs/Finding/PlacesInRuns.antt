@@ -1,0 +1,207 @@
+-- In every run there are places that are right, and each node that is a port's first one no more was so, by what the words stood for, right before
+-- the event from which on it isn't.
+use Rattle.std.proofs.Common.{◌≡◌, ℕ, suc, ◌+◌, ◌<◌, List, [], ◌∷◌, ◌++◌, length, Option, Some, None, refl, sym, ◌∙◌, ap, subst, arith}
+use Rattle.std.proofs.lemmas.List.{length_push}
+use Rattle.rht_words.specs.declared.op.Op.{Op}
+use Rattle.rht_words.specs.declared.env.Env.{Env}
+use Rattle.rht_words.specs.Operations.{applied}
+use Rattle.rht_words.specs.Ports.{owner_of}
+use Rattle.rht_words.specs.Places.{Node, OwnerWord}
+use Rattle.rht_words.proofs.Memory.{Memory}
+use Rattle.rht_words.proofs.EachElement.{AllByRecursion-cut}
+use Rattle.rht_model.specs.Multimap.{Multimap}
+use Rattle.rht_core.specs.declared.event.Event.{Event}
+use Rattle.rht_core.specs.declared.event.Event.TheVariants.{Enroll, Begin, Step}
+use Rattle.rht_core.specs.Jobs.{job_of}
+use Rattle.rht_core.specs.Runs.{Core, World, opening_core, core_step, with_step, world_step, run_of, local_of, planned_in, IsAdmitted, IsAdmittedEvent}
+use Rattle.rht_core.specs.StandsFor.{stands_for}
+use Rattle.rht_core.specs.Alone.{bindings_at}
+use Rattle.rht_core.specs.RunHistories.{bindings_behind}
+use Rattle.rht_core.proofs.Events.Worlds.{induct_by_last, run_of-push}
+use Rattle.rht_core.proofs.Events.RangesInRuns.{AllIn, opens-all, event-all}
+use Rattle.rht_core.proofs.Events.Invariants.{Inv, Knows, kept, enrolled}
+use Rattle.rht_core.proofs.Events.InvariantRuns.{opening_ghost, opening_inv}
+use Rattle.rht_core.proofs.Theory.Ghosts.{Ghost, IsUsed, seat_of}
+use Rattle.rht_core.proofs.Theory.Wholes.{key_of, seated_at}
+use Rattle.rht_core.proofs.Theory.Frames.{Made, still}
+use Rattle.rht_core.proofs.Theory.Steps.{Move, Quiet, mem, owners_in, ghost_after, ReadyFor}
+use Rattle.rht_core.proofs.Meaning.BoundPorts.{stands_for_bound}
+use Rattle.rht_core.proofs.Histories.Behind.{behind-all, behind-more}
+use Rattle.rht_core.proofs.Finding.Places.{Places, PlacesRight}
+use Rattle.rht_core.proofs.Finding.Deaths.{DeathsRight, deaths_after}
+use Rattle.rht_core.proofs.Finding.PlacesSteps.{places_step}
+
+module _ (env : Env) (mix : ℕ → ℕ → ℕ → ℕ) (L : Type 0) where
+  -- the words stood for it behind so many events that the node's port had the node's owner as its first
+  pub record WasFirst (events : List Event) (M : Memory) (n t : ℕ) : Type 0 where
+    pub others : List ℕ
+    pub is : bindings_behind L mix env events t (key_of M n) ≡ owner_of (M (Node n OwnerWord)) ∷ others
+
+  pub record Placed (events : List Event) (core : Core L) : Type 0 where
+    pub ghost : Ghost
+    pub inv : Inv env mix L core ghost
+    pub all : AllIn L mix env core
+    pub places : Places
+    pub right : PlacesRight env mix ghost places (mem env mix core.words) (length events)
+    pub deaths : DeathsRight env mix (mem env mix core.words) ghost inv.whole places (length events)
+    pub said : (n t : ℕ) → n < env.geometry.nodes → IsUsed (ghost.node n) → seat_of (ghost.node n) ≡ None
+        → places.dead n ≡ Some t → WasFirst events (mem env mix core.words) n t
+
+  -- ---- one event more
+
+  module _ (events : List Event) (event : Event) (core core' : Core L)
+      (stands : bindings_at L mix env events ≡ stands_for env.geometry core.words) (placed : Placed events core)
+      (c : ℕ) (move : Move) (ready : ReadyFor env mix c (mem env mix core.words) placed.ghost move)
+      (made : Made env mix c (mem env mix core.words) placed.ghost (mem env mix core'.words) (ghost_after env mix c move placed.ghost))
+      (H : Ghost) (same : H ≡ ghost_after env mix c move placed.ghost) (inv' : Inv env mix L core' H) (all' : AllIn L mix env core') where
+    abbrev M : Memory
+    M = mem env mix core.words
+
+    abbrev M' : Memory
+    M' = mem env mix core'.words
+
+    abbrev G : Ghost
+    G = placed.ghost
+
+    abbrev G' : Ghost
+    G' = ghost_after env mix c move G
+
+    abbrev more : List Event
+    more = events ++ event ∷ []
+
+    longer : length events + 1 ≡ length more
+    longer = sym (length_push events event)
+
+    -- what a first node's port stands for
+    was_now : (n j : ℕ) → seat_of (G.node n) ≡ Some j
+        → (others : List ℕ) × (bindings_behind L mix env more (length events) (key_of M n) ≡ owner_of (M (Node n OwnerWord)) ∷ others)
+    was_now n j sits =
+        let at = seated_at env mix M G placed.inv.whole n j sits in (
+          owners_in env mix M at.behind,
+          ap (λ (b : Multimap). b (key_of M n)) (behind-more L mix env events event (length events) (omega arith)
+              ∙ behind-all L mix env events ∙ stands)
+              ∙ stands_for_bound env mix core.words G placed.inv.whole (key_of M n) ∙ ap (owners_in env mix M) at.bound_to,
+        )
+
+    -- the words of a node stay that is or was a port's
+    words_stay : (n t : ℕ) → n < env.geometry.nodes → IsUsed (G.node n)
+        → (others : List ℕ) × (bindings_behind L mix env more t (key_of M n) ≡ owner_of (M (Node n OwnerWord)) ∷ others)
+        → WasFirst more M' n t
+    words_stay n t among used was =
+        let rely = made.others (suc c) (λ e. absurd (omega arith)) in
+        record {
+          others = was.0;
+          is = ap (bindings_behind L mix env more t) (rely.keys n among used) ∙ was.1
+              ∙ ap (λ w. owner_of w ∷ was.0) (sym (rely.owners n among used));
+        }
+
+    pub next : Placed more core'
+    next =
+        let step = places_step env mix (length events) c M G placed.places M' placed.inv.whole placed.right move ready made in
+        record {
+          ghost = G';
+          inv = record {
+            same_env = inv'.same_env;
+            whole = made.whole;
+            each = subst (λ K. (k : ℕ) → Knows env mix k (job_of (local_of core' k).doing) M' K) same inv'.each;
+          };
+          all = all';
+          places = step.places;
+          right = subst (PlacesRight env mix G' step.places M') longer step.right_now;
+          deaths = subst (DeathsRight env mix M' G' made.whole step.places) longer
+              (deaths_after env mix (length events) M G placed.places M' G' step.places placed.inv.whole made.whole step.deaths placed.deaths);
+          said = λ n t among used none dead.
+              let was_used = step.deaths.used n used none in
+              words_stay n t among was_used (go n t among was_used none step.places dead step.deaths.died step.deaths.kept
+              (seat_of (G.node n)) refl);
+        }
+      where
+        go : (n t : ℕ) → n < env.geometry.nodes → IsUsed (G.node n) → seat_of (G'.node n) ≡ None → (P' : Places)
+            → P'.dead n ≡ Some t
+            → ((m j : ℕ) → seat_of (G.node m) ≡ Some j → seat_of (G'.node m) ≡ None → P'.dead m ≡ Some (length events))
+            → ((m : ℕ) → seat_of (G.node m) ≡ None → P'.dead m ≡ placed.places.dead m)
+            → (seat : Option ℕ) → seat_of (G.node n) ≡ seat
+            → (others : List ℕ) × (bindings_behind L mix env more t (key_of M n) ≡ owner_of (M (Node n OwnerWord)) ∷ others)
+        go n t among used none P' dead died kept (Some j) sits =
+            let both : ◌≡◌ {A = Option ℕ} (Some (length events)) (Some t) = sym (died n j sits none) ∙ dead in
+            let now : length events ≡ t = cc in
+            subst (λ k. (others : List ℕ) × (bindings_behind L mix env more k (key_of M n)
+            ≡ owner_of (M (Node n OwnerWord)) ∷ others)) now (was_now n j sits)
+        go n t among used none P' dead died kept None seatless =
+            let before = sym (kept n seatless) ∙ dead in
+            let was = placed.said n t among used seatless before in
+            let at = placed.deaths n among used seatless in
+            let both : ◌≡◌ {A = Option ℕ} (Some at.at) (Some t) = sym at.is ∙ before in
+            let same_time : at.at ≡ t = cc in
+            let early = at.early in (
+              was.others,
+              ap (λ (b : Multimap). b (key_of M n)) (behind-more L mix env events event t (omega (arith, same_time, early))) ∙ was.is,
+            )
+
+  -- ---- runs
+
+  placed_opening : Placed [] (opening_core env)
+  placed_opening = record {
+    ghost = opening_ghost env;
+    inv = opening_inv env mix L;
+    all = opens-all L mix env;
+    places = record { place = λ j n. None; dead = λ n. None };
+    right = record {
+      falls = λ j. tt;
+      last = λ j entry e. absurd (cc);
+      placed = λ i n p is. absurd (cc);
+      keys = λ i n m p is. absurd (cc);
+      of_port = λ port first behind n j i p bound. absurd (cc);
+      leads = λ i n p none is. absurd (cc);
+    };
+    deaths = λ n among used. absurd (cc);
+    said = λ n t among used. absurd (cc);
+  }
+
+  -- an event leads on from there
+  module _ (events : List Event) (w : World L) (stands : bindings_at L mix env events ≡ stands_for env.geometry w.core.words)
+      (placed : Placed events w.core) where
+    core : Core L
+    core = w.core
+
+    placed_step : (c : ℕ) (plan : Option Op) → planned_in w.core c ≡ plan → IsAdmittedEvent env.config.kind (Step c)
+        → Placed (events ++ Step c ∷ []) (world_step mix w (Step c)).core
+    placed_step c None is may =
+        let k = kept env mix L w.core placed.ghost (Step c) placed.all placed.inv in
+        let same : (core_step mix w.core (Step c)).0 ≡ w.core = ap (λ o. (with_step mix w.core c o).0) is in
+        next events (Step c) w.core (core_step mix w.core (Step c)).0 stands placed 0 Quiet tt
+        (subst (λ words. Made env mix 0 (mem env mix w.core.words) placed.ghost (mem env mix words) placed.ghost)
+        (ap (λ (x : Core L). x.words) (sym same)) (still env mix 0 (mem env mix w.core.words) placed.ghost placed.inv.whole))
+        k.ghost (k.ghost_kept.none is) k.inv (event-all L mix env w (Step c) may placed.all)
+    placed_step c (Some op) is may =
+        let k = kept env mix L w.core placed.ghost (Step c) placed.all placed.inv in
+        let moves = k.ghost_kept.some op is in
+        let of = moves.0 in
+        let same : (core_step mix w.core (Step c)).0.words ≡ applied w.core.words op =
+        ap (λ o. (with_step mix w.core c o).0.words) is in
+        next events (Step c) w.core (core_step mix w.core (Step c)).0 stands placed c of.step.move of.step.ready
+        (subst (λ words. Made env mix c (mem env mix w.core.words) placed.ghost (mem env mix words)
+        (ghost_after env mix c of.step.move placed.ghost)) (sym same) of.step.made)
+        k.ghost moves.1 k.inv (event-all L mix env w (Step c) may placed.all)
+
+    placed_event : (event : Event) → IsAdmittedEvent env.config.kind event → Placed (events ++ event ∷ []) (world_step mix w event).core
+    placed_event Enroll may =
+        let k = kept env mix L w.core placed.ghost Enroll placed.all placed.inv in
+        let e = enrolled env mix L w.core placed.ghost placed.all placed.inv in
+        next events Enroll w.core (core_step mix w.core Enroll).0 stands placed 0 Quiet tt
+        (record { whole = e.0; others = λ c ne. e.1 c; stale = e.2 }) k.ghost k.ghost_kept k.inv (event-all L mix env w Enroll may placed.all)
+    placed_event (Begin c call) may =
+        let k = kept env mix L w.core placed.ghost (Begin c call) placed.all placed.inv in
+        next events (Begin c call) w.core (core_step mix w.core (Begin c call)).0 stands placed 0 Quiet tt
+        (still env mix 0 (mem env mix w.core.words) placed.ghost placed.inv.whole)
+        k.ghost k.ghost_kept k.inv (event-all L mix env w (Begin c call) may placed.all)
+    placed_event (Step c) may = placed_step c (planned_in w.core c) refl may
+
+  pub has_places : (events : List Event) → IsAdmitted env.config.kind events → Placed events (run_of {M = L} mix env events).core
+  has_places =
+      induct_by_last (λ events. IsAdmitted env.config.kind events → Placed events (run_of {M = L} mix env events).core)
+      (λ none. placed_opening)
+      (λ events event each all.
+      let parts = AllByRecursion-cut (IsAdmittedEvent env.config.kind) events (event ∷ []) all in
+      subst (λ (w : World L). Placed (events ++ event ∷ []) w.core) (sym (run_of-push L mix env events event))
+      (placed_event events (run_of mix env events) refl (each parts.0) event parts.1.0))

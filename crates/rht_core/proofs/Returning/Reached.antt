@@ -1,0 +1,121 @@
+-- What a caller in a read section could reach, by the words, it may still meet.
+use Rattle.std.proofs.Common.{◌≡◌, ℕ, ◌+◌, ◌<◌, ◌≤◌, List, Some, None, Option, zero, suc, ◌-◌, true, false, refl, sym, ◌∙◌, ap, subst, arith, slice_index}
+use Rattle.std.specs.Prelude.{IfSome}
+use Rattle.rht_words.specs.declared.env.Env.{Env}
+use Rattle.rht_words.specs.Links.{head_of, slot_of}
+use Rattle.rht_words.specs.Members.{In}
+use Rattle.rht_words.specs.Places.{Slot, FutureWord}
+use Rattle.rht_words.specs.Shapes.{unpacked, size_of}
+use Rattle.rht_core.specs.Reach.{Standing, ReachesTable, at_table, at_current, by_future, ReachesNode, at_node, in_bucket, by_chain, ReachesPage, ReachesListed, in_chain, at_listed, by_list}
+use Rattle.rht_core.specs.StandsFor.{shape_of, bucket_in}
+use Rattle.rht_core.specs.TablePages.{IsPageOfTable}
+use Rattle.rht_core.proofs.Counting.TablePages.{pages_in_words}
+use Rattle.rht_core.proofs.Theory.Ghosts.{Ghost, Held, PageOf, has_table, is_first, held_not_used, seat-first}
+use Rattle.rht_core.proofs.Theory.Wholes.{place_at, Whole}
+use Rattle.rht_core.proofs.Theory.Steps.{mem}
+use Rattle.rht_core.proofs.Meaning.TablesInForce.{current_slot, future-leads}
+use Rattle.rht_core.proofs.Meaning.BoundPorts.{HasSeat, bucket_leads, bucket-within, first_link}
+use Rattle.rht_core.proofs.Returning.Readers.{Reader, IsOpen, ReaderRight, next_of, not_both}
+
+module _ (env : Env) (mix : ℕ → ℕ → ℕ → ℕ) (words : List ℕ) (G : Ghost) (whole : Whole env mix (mem env mix words) G) (c : ℕ)
+    (r : Reader) (right : ReaderRight env mix words G c r) (reads : IsOpen r) where
+  -- a table that a section may come to: it was attached, and is the one that was current when the section was opened or a later one
+  pub record MeetsTable (slot : ℕ) : Type 0 where
+    pub table : ℕ
+    pub attached : table < G.attached
+    pub slot_is : slot ≡ (G.table table).slot
+    pub since : (τ : ℕ) → r.from ≡ Some τ → τ ≤ table
+
+  -- what is known of where the caller stands
+  pub record StandsRight (at : Standing) : Type 0 where
+    pub tables : (slot : ℕ) → In slot at.tables → MeetsTable slot
+    pub nodes : (node : ℕ) → In node at.nodes → r.chains node ≡ true
+    pub listed : (node : ℕ) → In node at.listed → r.lists node ≡ true
+
+  module _ (at : Standing) (stands : StandsRight at) where
+    -- where the words of a table lead to a next one, this is the one behind it
+    next_table : (slot next : ℕ) → MeetsTable slot → slot_of (mem env mix words (Slot slot FutureWord)) ≡ Some next
+        → MeetsTable next
+    next_table slot next meets leads = go (G.attached - (meets.table + 1)) refl
+      where
+        is_word : slot_of (mem env mix words (Slot (G.table meets.table).slot FutureWord)) ≡ Some next
+        is_word = subst (λ s. slot_of (mem env mix words (Slot s FutureWord)) ≡ Some next) meets.slot_is leads
+
+        go : (count : ℕ) → G.attached - (meets.table + 1) ≡ count → MeetsTable next
+        go zero is =
+            let last = future-leads env mix words G whole meets.table zero (let l = meets.attached in omega (arith, is, l)) in
+            let none : ◌≡◌ {A = Option ℕ} None (Some next) = sym last ∙ is_word in absurd (cc)
+        go (suc count) is =
+            let more = future-leads env mix words G whole meets.table (suc count) (let l = meets.attached in omega (arith, is, l)) in
+            let named : ◌≡◌ {A = Option ℕ} (Some (G.table (meets.table + 1)).slot) (Some next) = sym more ∙ is_word in
+            record {
+              table = meets.table + 1;
+              attached = omega (arith, is);
+              slot_is = let same : (G.table (meets.table + 1)).slot ≡ next = cc in sym same;
+              since = λ τ from. let before = meets.since τ from in omega (arith, before);
+            }
+
+    pub reaches-table : (slot : ℕ) → ReachesTable env.geometry words at slot → MeetsTable slot
+    reaches-table slot (at_table s there) = stands.tables s there
+    reaches-table slot (at_current none) = record {
+      table = G.current;
+      attached = whole.tables.current_in;
+      slot_is = current_slot env mix words G whole;
+      since = right.low;
+    }
+    reaches-table slot (by_future s next reached leads) = next_table s next (reaches-table s reached) leads
+
+    -- the first link of a bucket of such a table leads to a node in a chain
+    bucket-first : (slot bucket place node : ℕ) → MeetsTable slot → bucket < size_of (unpacked (shape_of env.geometry words slot))
+        → bucket_in env.geometry words (shape_of env.geometry words slot) bucket ≡ Some place
+        → next_of env mix (head_of place (slice_index words place)) ≡ Some node → is_first (G.node node) ≡ true
+    bucket-first slot bucket place node meets below there leads =
+        let s = (G.table meets.table).slot in
+        let is = bucket-within env mix words G whole meets.table bucket place meets.attached
+        (subst (λ t. bucket < size_of (unpacked (shape_of env.geometry words t))) meets.slot_is below)
+        (subst (λ t. bucket_in env.geometry words (shape_of env.geometry words t) bucket ≡ Some place) meets.slot_is there) in
+        let j = is.index in
+        let first : next_of env mix (head_of (place_at env mix j) (G.bucket j).plain) ≡ Some node =
+        ap (next_of env mix) (sym (first_link env mix words G whole j is.within is.plain))
+        ∙ subst (λ p. next_of env mix (head_of p (slice_index words p)) ≡ Some node) is.place_is leads in
+        let has : HasSeat env mix words G whole node =
+        subst (λ o. IfSome o (HasSeat env mix words G whole)) first
+        (bucket_leads env mix words G whole j is.within is.plain).0 in
+        seat-first (G.node node) has.0 has.1
+
+    pub reaches-node : (node : ℕ) → ReachesNode env.geometry words at node → r.chains node ≡ true
+    reaches-node node (at_node n there) = stands.nodes n there
+    reaches-node node (in_bucket slot bucket place n table below there leads) =
+        right.firsts n reads (bucket-first slot bucket place n (reaches-table slot table) below there leads)
+    reaches-node node (by_chain before n reached leads) =
+        right.chain_leads before n (reaches-node before reached) leads
+
+    pub reaches-listed : (node : ℕ) → ReachesListed env.geometry words at node → r.lists node ≡ true
+    reaches-listed node (in_chain n reached) = right.chained n (reaches-node n reached)
+    reaches-listed node (at_listed n there) = stands.listed n there
+    reaches-listed node (by_list before n reached leads) = right.list_leads before n (reaches-listed before reached) leads
+
+    -- so it could reach no node that a caller has taken for itself, and none that no section may meet
+    pub safe-held : (d node : ℕ) → G.node node ≡ Held d → ReachesListed env.geometry words at node → ⊥
+    safe-held d node held reached =
+        held_not_used (G.node node) d held (right.used node (reaches-listed node reached))
+
+    pub safe-unmet : (node : ℕ) → r.lists node ≡ false → ReachesListed env.geometry words at node → ⊥
+    safe-unmet node none reached = not_both (r.lists node) (reaches-listed node reached) none
+
+    -- a slot that it could reach has a table, and a page is a table's
+    pub reaches-slot : (slot : ℕ) → ReachesTable env.geometry words at slot → has_table (G.slot slot) ≡ true
+    reaches-slot slot reached =
+        let meets = reaches-table slot reached in
+        subst (λ s. has_table (G.slot s) ≡ true) (sym meets.slot_is) (whole.tables.each meets.table meets.attached).has_slot
+
+    pub reaches-page : (page : ℕ) → ReachesPage env.geometry words at page → (τ : ℕ) × (G.page page ≡ PageOf τ)
+    reaches-page page reached =
+        let meets = reaches-table reached.slot reached.table in
+        let τ = meets.table in
+        let shape : shape_of env.geometry words reached.slot ≡ (G.table τ).shape =
+        ap (shape_of env.geometry words) meets.slot_is ∙ (whole.tables.each τ meets.attached).shape_is in (
+          τ,
+          (pages_in_words env mix words G whole τ meets.attached page).0
+              (subst (λ s. IsPageOfTable env.geometry words s page) shape reached.of),
+        )

@@ -1,0 +1,127 @@
+-- What a full walk shows, in every run, and why a walk ended with its reply.
+use Rattle.std.specs.Prelude.{◌≡◌, ◌≢◌, ℕ, ◌^◌, ◌<◌, ◌≤◌, ◌⊎◌, Some, None, Option, List, [], ◌∷◌, ◌++◌, length, map}
+use Rattle.std.specs.List.{AllByRecursion, Any, flat_map}
+use Rattle.rht_words.specs.declared.env.Env.{Env}
+use Rattle.rht_words.specs.declared.geometry.Geometry.{Geometry}
+use Rattle.rht_words.specs.declared.op.Op.TheVariants.{Add}
+use Rattle.rht_words.specs.Members.{In, IsDistinct}
+use Rattle.rht_words.specs.Operations.{op_place}
+use Rattle.rht_words.specs.Places.{NextSerial, Slot, ShapeWord, FutureWord, SerialWord, nodes_at, place_of}
+use Rattle.rht_words.specs.Shapes.{unpacked, size_of}
+use Rattle.rht_model.specs.declared.history.Call.TheVariants.{Walk}
+use Rattle.rht_model.specs.declared.history.Cursor.{Cursor}
+use Rattle.rht_model.specs.declared.history.Reply.TheVariants.{Walked}
+use Rattle.rht_core.specs.declared.event.Event.{Event}
+use Rattle.rht_core.specs.Laws.{IsRecorded}
+use Rattle.rht_core.specs.ResizeCauses.{Loaded, FindsFuture}
+use Rattle.rht_core.specs.RunHistories.{bindings_behind}
+use Rattle.rht_core.specs.Runs.{IsAdmitted}
+use Rattle.rht_core.specs.Seen.{LoadsCurrent}
+use Rattle.rht_core.specs.Traces.{Did, Past, traced_of, behind_call}
+
+-- the call is a walk from this cursor, and ended with that one
+pub record WalksFrom (from next : Option Cursor) (past : Past) : Type 0 where
+  pub limit : ℕ
+  pub call : past.done.call ≡ Walk from limit
+  pub len : ℕ
+  pub reply : past.done.reply ≡ Walked len next
+
+-- calls one behind the other, of which each goes on where the one before ended, and the last one has come to the end
+abbrev pub AreWalks : Option Cursor → List Past → Type 0
+AreWalks from [] = ⊥
+AreWalks from (past ∷ []) = WalksFrom from None past
+AreWalks from (past ∷ next ∷ pasts) =
+    (cursor : Cursor) × WalksFrom from (Some cursor) past × AreWalks (Some cursor) (next ∷ pasts)
+
+-- these calls are among those, in their order
+abbrev pub AreAmong : List Past → List Past → Type 0
+AreAmong [] all = Unit {0}
+AreAmong (past ∷ pasts) [] = ⊥
+AreAmong (past ∷ pasts) (one ∷ all) = ((past ≡ one) × AreAmong pasts all) ⊎ AreAmong (past ∷ pasts) all
+
+abbrev pub pairs_of : List Past → List (ℕ × ℕ)
+pairs_of pasts = flat_map (λ past. past.done.pairs) pasts
+
+-- the event behind the last one of these calls; this one where there is none
+abbrev pub ends_behind : ℕ → List Past → ℕ
+ends_behind from [] = from
+ends_behind from (past ∷ pasts) = ends_behind (behind_call past) pasts
+
+module _ (M : Type 0) (mix : ℕ → ℕ → ℕ → ℕ) where
+  -- Of the bindings behind the events from the one on with this number, up to that: each port that is bound behind all of them is shown; a pair
+  -- that is shown is a port and its first owner behind one of them; and no port is shown twice.
+  pub record ShowsRightly (env : Env) (events : List Event) (begin behind : ℕ) (pairs : List (ℕ × ℕ)) : Type 0 where
+    pub throughout : (port : ℕ)
+        → ((i : ℕ) → begin < i → i ≤ behind → bindings_behind M mix env events i port ≢ [])
+        → In port (map (λ pair. pair.0) pairs)
+    pub bound : AllByRecursion (λ pair. (i : ℕ) × (rest : List ℕ) × (begin < i) × (i ≤ behind)
+        × (bindings_behind M mix env events i pair.0 ≡ pair.1 ∷ rest)) pairs
+    pub once : IsDistinct (map (λ pair. pair.0) pairs)
+
+  -- fewer than 2^63 serials were taken
+  abbrev pub AreFewMade : Env → List Event → Type 0
+  AreFewMade env events =
+      (indexes : List ℕ) → IsDistinct indexes
+      → AllByRecursion (λ index. (c : ℕ) × (old : ℕ)
+      × IsRecorded M mix env events c record { index = index; op = Add (place_of env.geometry NextSerial) 1; old = old }) indexes
+      → length indexes < 2 ^ 63
+
+  -- in every run each full walk shows rightly, and each call of it has kept at most as many pairs as there are nodes
+  abbrev pub Shown : Type 0
+  Shown =
+      (env : Env) (events : List Event) (c : ℕ) (first : Past) (pasts : List Past) → IsAdmitted env.config.kind events
+      → AreFewMade env events
+      → AreWalks None (first ∷ pasts)
+      → AreAmong (first ∷ pasts) ((traced_of {M = M} mix env events).traces c).past
+      → ShowsRightly env events first.begin (ends_behind (behind_call first) pasts) (pairs_of (first ∷ pasts))
+
+-- ---- why a walk ended so
+
+-- the operation is on no word of a node and on none of a page
+abbrev pub IsBeforeNodes : Geometry → Did → Type 0
+IsBeforeNodes g did = op_place did.op < nodes_at g
+
+-- It loaded this table as the current one, then the table's serial and its shape.
+pub record BeginsIn (g : Geometry) (table serial shape : ℕ) (steps : List Did) : Type 0 where
+  pub enter : Did
+  pub current : Did
+  pub serial_at : Did
+  pub shape_at : Did
+  pub behind : List Did
+  pub split : steps ≡ enter ∷ current ∷ serial_at ∷ shape_at ∷ behind
+  pub table_in : table < 8
+  pub current_read : LoadsCurrent g table current
+  pub serial_read : Loaded g (Slot table SerialWord) serial serial_at
+  pub shape_read : Loaded g (Slot table ShapeWord) shape shape_at
+
+-- the bucket at which a call begins
+abbrev pub first_bucket : Option Cursor → ℕ
+first_bucket None = 0
+first_bucket (Some cursor) = cursor.bucket
+
+-- a cursor fits a table with this serial and this shape
+abbrev pub Fits : ℕ → ℕ → Option Cursor → Type 0
+Fits serial shape None = Unit {0}
+Fits serial shape (Some cursor) = (cursor.serial ≡ serial) × (cursor.bucket < size_of (unpacked shape))
+
+-- `Walked`: with a cursor it is the walked table's, at a later bucket, and enough pairs were kept; without one the table's future was
+-- found to be none, and behind that no bucket was looked at
+pub record SawWalked (g : Geometry) (from : Option Cursor) (limit len : ℕ) (next : Option Cursor) (steps : List Did) : Type 0 where
+  pub table : ℕ
+  pub serial : ℕ
+  pub shape : ℕ
+  pub begins : BeginsIn g table serial shape steps
+  pub fits : Fits serial shape from
+  pub ended : (next ≡ None
+      × (before : List Did) × (at : Did) × (behind : List Did) × (begins.behind ≡ before ++ at ∷ behind)
+      × Loaded g (Slot table FutureWord) 0 at × AllByRecursion (IsBeforeNodes g) behind)
+      ⊎ ((cursor : Cursor) × (next ≡ Some cursor) × (cursor.serial ≡ serial) × (first_bucket from < cursor.bucket)
+      × (cursor.bucket < size_of (unpacked shape)) × (limit ≤ len))
+
+-- `Again`: the walked table has this future, or this is the current table and the cursor doesn't fit it
+pub record SawAgain (g : Geometry) (from : Option Cursor) (slot : ℕ) (steps : List Did) : Type 0 where
+  pub table : ℕ
+  pub serial : ℕ
+  pub shape : ℕ
+  pub begins : BeginsIn g table serial shape steps
+  pub ended : Any (FindsFuture g table slot) begins.behind ⊎ ((slot ≡ table) × (Fits serial shape from → ⊥))
