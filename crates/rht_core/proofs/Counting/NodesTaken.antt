@@ -34,7 +34,7 @@ use Rattle.rht_core.specs.Laws.{IsNoTake, IsTakeOf, TakesNone, TakesOne, IsTaken
 use Rattle.rht_core.specs.Refused.{IsTableWord}
 use Rattle.rht_core.proofs.Theory.Wholes.{place_at}
 use Rattle.rht_core.proofs.Theory.Answering.{TellsNode, TellsNode-same, known_so, unknown_before}
-use Rattle.rht_core.proofs.Theory.Steps.{Holding, Move, Quiet, TakesNode, GivesNode, TakesLock, DropsLock, Raises, Links, Lowers, Rebinds, LinksBehind, Arms, TakesSlot, GivesSlot, TakesPages, GivesPages, Attaches, Enters, TakesWork, GivesWork, BeginsMoving, TakesSecond, Leaves, Arrives, CutsOff, Publishes, Retires, Does, IsAside, DoesQuiet}
+use Rattle.rht_core.proofs.Theory.Steps.{bare, Holding, Move, Quiet, TakesNode, GivesNode, TakesLock, DropsLock, Raises, Links, Lowers, Rebinds, LinksBehind, Arms, TakesSlot, GivesSlot, TakesPages, GivesPages, Attaches, Enters, TakesWork, GivesWork, BeginsMoving, TakesSecond, Leaves, Arrives, CutsOff, Publishes, Retires, Does, IsAside, DoesQuiet}
 use Rattle.rht_core.proofs.Events.JobsOfCallers.{same_call, first_unknown, first_without}
 use Rattle.rht_core.proofs.Tracing.TracedJobs.{Performs, LeadsOn, IsKeeping, jobs_keep}
 
@@ -126,7 +126,7 @@ record TookOne (g : Geometry) (h h' : Holding) (did : Did) : Type 0 where
 
 -- an operation that others don't see takes none
 took_none : (env : Env) (mix : ℕ → ℕ → ℕ → ℕ) (did : Did) (h h' : Holding)
-    → DoesQuiet env.geometry did.op did.old h h' → TookNone env.geometry h h' did
+    → DoesQuiet env.geometry did.op did.old h (bare h') → TookNone env.geometry h h' did
 took_none env mix did h h' does =
     let g = env.geometry in
     let parts = parts_in_order g in

@@ -30,7 +30,7 @@ use Rattle.rht_release.specs.declared.all.AllAt.TheVariants as at
 use Rattle.rht_core.proofs.Theory.Ghosts.{Ghost}
 use Rattle.rht_core.proofs.Theory.Wholes.{list_of, Whole}
 use Rattle.rht_core.proofs.Theory.Knowns.{Nowhere, Locks, Collected, CollectedTo, Known, last_of}
-use Rattle.rht_core.proofs.Theory.Knowledge.{Knowing}
+use Rattle.rht_core.proofs.Theory.Knowledge.{plainly, Knowing}
 use Rattle.rht_core.proofs.Theory.Answering.{IsLegalOn, IsRight, Tells, keeps, learns}
 use Rattle.rht_core.proofs.Theory.Steps.{Holding, mem, owners, owners_in, moved-map, StepWhere, step-map, answered, reads, HoldsNoneEarly, still_has}
 use Rattle.rht_core.proofs.Pieces.Locks.{unlock_step}
@@ -162,26 +162,17 @@ module _ (env : Env) (mix : ℕ → ℕ → ℕ → ℕ) (c : ℕ) (port : ℕ) 
         (goes_on (at.Owner found node) (at.ListLink found node) (room_with room (owner_at node)) refl refl
         (inl refl)
         (record {
-          knowing = record {
-            only = known.knowing.only;
+          knowing = plainly env mix known.knowing.only tt tt (record {
+            found = listed.found;
+            behind = listed.behind;
+            bound_to = listed.bound_to;
             means = record {
-              node = tt;
-              table = tt;
-              bucket = record {
-                found = listed.found;
-                behind = listed.behind;
-                bound_to = listed.bound_to;
-                means = record {
-                  before = is.before;
-                  among = is.among;
-                  owners_are = ap (λ owners. owners ++ owner_at node ∷ []) is.owners_are
-                      ∙ sym (map-append owner_at is.among.front (node ∷ []));
-                };
-              };
-              making = tt;
-              work = tt;
+              before = is.before;
+              among = is.among;
+              owners_are = ap (λ owners. owners ++ owner_at node ∷ []) is.owners_are
+                  ∙ sym (map-append owner_at is.among.front (node ∷ []));
             };
-          };
+          });
           fits = tt;
         }))
 
@@ -205,13 +196,7 @@ module _ (env : Env) (mix : ℕ → ℕ → ℕ → ℕ) (c : ℕ) (port : ℕ) 
         (goes_on (at.ListLink found node) (list_followed found None) room refl refl
         (learns env.config.kind c call None now (listing_of room.items) (listing_right room.items) refl
         (listing_legal room.items bound))
-        (record {
-          knowing = record {
-            only = known.knowing.only;
-            means = record { node = tt; table = tt; bucket = listed.found.standing.lock; making = tt; work = tt };
-          };
-          fits = tt;
-        }))
+        (record { knowing = plainly env mix known.knowing.only tt tt listed.found.standing.lock; fits = tt }))
 
     -- and before it goes on to the next one
     list_goes_on : (found : FoundPort) (node next : ℕ) (rear : List ℕ)
@@ -232,25 +217,16 @@ module _ (env : Env) (mix : ℕ → ℕ → ℕ → ℕ) (c : ℕ) (port : ℕ) 
         ∙ ap (list_followed found) (links_tell_apart.link_names env.geometry.nodes next among) in
         subst (λ later. AllMoved (at.ListLink found node) room (later, Go)) (sym goes)
         (goes_on (at.ListLink found node) (at.Owner found next) room refl refl (inl refl) (record {
-          knowing = record {
-            only = known.knowing.only;
+          knowing = plainly env mix known.knowing.only tt tt (record {
+            found = listed.found;
+            behind = listed.behind;
+            bound_to = listed.bound_to;
             means = record {
-              node = tt;
-              table = tt;
-              bucket = record {
-                found = listed.found;
-                behind = listed.behind;
-                bound_to = listed.bound_to;
-                means = record {
-                  before = last_of front;
-                  among = record { front = front; rear = rear; split = split; last = refl };
-                  owners_are = is.owners_are;
-                };
-              };
-              making = tt;
-              work = tt;
+              before = last_of front;
+              among = record { front = front; rear = rear; split = split; last = refl };
+              owners_are = is.owners_are;
             };
-          };
+          });
           fits = tt;
         }))
 
@@ -279,25 +255,16 @@ module _ (env : Env) (mix : ℕ → ℕ → ℕ → ℕ) (c : ℕ) (port : ℕ) 
         let list =
         found_list env mix M' G' w c bucket.place bucket.word port found.node found.before there in
         record {
-          knowing = record {
-            only = k.only;
+          knowing = plainly env mix k.only tt tt (record {
+            found = there;
+            behind = list.0;
+            bound_to = list.1;
             means = record {
-              node = tt;
-              table = tt;
-              bucket = record {
-                found = there;
-                behind = list.0;
-                bound_to = list.1;
-                means = record {
-                  before = None;
-                  among = record { front = []; rear = list.0; split = refl; last = refl };
-                  owners_are = none;
-                };
-              };
-              making = tt;
-              work = tt;
+              before = None;
+              among = record { front = []; rear = list.0; split = refl; last = refl };
+              owners_are = none;
             };
-          };
+          });
           fits = tt;
         }
 

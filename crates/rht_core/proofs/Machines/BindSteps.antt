@@ -72,7 +72,7 @@ use Rattle.rht_core.proofs.Theory.Ghosts.{put_in, put_in-all, PageOf, PageHeld, 
 use Rattle.rht_core.proofs.Theory.Wholes.{chain_of, key_of, place_at, word_index, place_at-index, index-within, Whole}
 use Rattle.rht_core.proofs.Theory.Passed.{home-table, Passed-stays}
 use Rattle.rht_core.proofs.Theory.Knowns.{KnownNode, KnownTable, KnownBucket, KnownList, Known, knows_plain, Nowhere, InSlot, Passes, AtHome, Unlocked, Locks, Missed, Found, Member, InList, FirstLink, Replaces, MakesNothing, HasPages, HasTaken, HasMade, Unlocks, Armed, OnWay}
-use Rattle.rht_core.proofs.Theory.Knowledge.{HasOnly, HasLock, HoldsLock, IsMember, Knowing, TableMeans, has_lock, idle_moves_none}
+use Rattle.rht_core.proofs.Theory.Knowledge.{plainly, HasOnly, HasLock, HoldsLock, IsMember, Knowing, TableMeans, has_lock, idle_moves_none}
 use Rattle.rht_core.proofs.Theory.KnowledgeStays.{TableMeans-stay}
 use Rattle.rht_core.proofs.Theory.Frames.{Made, same_tables, same_grow, tables_stay}
 use Rattle.rht_core.specs.Counts.{takes_out}
@@ -431,13 +431,7 @@ module _ (env : Env) (mix : ℕ → ℕ → ℕ → ℕ) (c : ℕ) (port owner :
         (refusal reply tt refl)) (still_has refl)
         (moved-map env mix c words G (grow_plan grow) (held_of_bind (at.Entering attempt table shape place grow))
         (holds_node (Some n) None) _ (BindNext (next, Go))
-        (λ M' G' w k. record {
-          knowing = record {
-            only = k.only;
-            means = record { node = k.means.node; table = tt; bucket = tt; making = tt; work = tt };
-          };
-          fits = tt;
-        }) step)
+        (λ M' G' w k. record { knowing = plainly env mix k.only k.means.node tt tt; fits = tt }) step)
     grown_next attempt table shape place grow (state, Done (Some page)) there step =
         let next = behind_page env port attempt table shape (entered place page) in
         rw (entered_holds attempt table shape (entered place page))
@@ -457,21 +451,12 @@ module _ (env : Env) (mix : ℕ → ℕ → ℕ → ℕ) (c : ℕ) (port owner :
     bound_knows Single single claimed first before M' G' k =
         let is = k.means.bucket in
         record {
-          knowing = record {
-            only = k.only;
-            means = record {
-              node = k.means.node;
-              table = k.means.table;
-              bucket = record {
-                lock = is.standing.lock;
-                there = rw is.standing.stands.split (in-middle first is.standing.stands.front
-                    is.standing.stands.rear);
-                key_is = is.key_is;
-              };
-              making = tt;
-              work = tt;
-            };
-          };
+          knowing = plainly env mix k.only k.means.node k.means.table (record {
+            lock = is.standing.lock;
+            there = rw is.standing.stands.split (in-middle first is.standing.stands.front
+                is.standing.stands.rear);
+            key_is = is.key_is;
+          });
           fits = single;
         }
     bound_knows Listed listed claimed first before M' G' k = record { knowing = k; fits = listed }
@@ -539,8 +524,7 @@ module _ (env : Env) (mix : ℕ → ℕ → ℕ → ℕ) (c : ℕ) (port owner :
         (subst (λ w. Made env mix c M G (mem env mix w) G') (sym same) made)
         (record { holds = refl; leaves = inl (λ bit l. refl) })
         (subst (λ w. BindNext (at.Count claimed, Go) (mem env mix w) G') (sym same) (record {
-          knowing = record {
-            only = record {
+          knowing = plainly env mix (record {
               nodes = k.only.nodes;
               locks = λ i. put-all (λ n bucket. bucket.holder ≡ Some c
                   → (Some claimed.bucket.place ≡ Some (place_at env mix n))
@@ -550,38 +534,30 @@ module _ (env : Env) (mix : ℕ → ℕ → ℕ → ℕ) (c : ℕ) (port owner :
               slots = k.only.slots;
               pages_in = k.only.pages_in;
               works = k.only.works;
-            };
-            means = record {
-              node = record {
+            }) (record {
                 has = record { mine = k.means.node.has.mine; among = k.means.node.has.among };
                 chain = k.means.node.chain;
                 key = k.means.node.key;
                 owner = k.means.node.owner;
                 list = k.means.node.list;
-              };
-              table = TableMeans-stay env mix c M M G G'
+              }) (TableMeans-stay env mix c M M G G'
                   (tables_stay env mix M G G' whole (same_tables env mix G G'.bucket G.node G.bound G.raised)
-                  (armed_passes env mix c j G ready)) (at_home port owner claimed) home_is;
-              bucket = record {
-                lock = record {
-                  bucket = lock.bucket;
-                  holder = ap (λ x. x.holder) (put-same G.bucket j b) ∙ lock.holder;
-                  plain = ap (λ x. x.plain) (put-same G.bucket j b) ∙ lock.plain;
-                };
-                table = τ;
-                armed = record {
-                  passed = Passed-stays env mix M G G' whole
-                      (same_grow env mix G G' (same_tables env mix G G'.bucket G.node G.bound G.raised))
-                      (armed_passes env mix c j G ready) port τ home_is.passing.passed;
-                  here = home_is.here;
-                  armed = ap (λ x. x.armed) (put-same G.bucket j b);
-                  unbound = unbound;
-                };
-              };
-              making = tt;
-              work = tt;
+                  (armed_passes env mix c j G ready)) (at_home port owner claimed) home_is) (record {
+            lock = record {
+              bucket = lock.bucket;
+              holder = ap (λ x. x.holder) (put-same G.bucket j b) ∙ lock.holder;
+              plain = ap (λ x. x.plain) (put-same G.bucket j b) ∙ lock.plain;
             };
-          };
+            table = τ;
+            armed = record {
+              passed = Passed-stays env mix M G G' whole
+                  (same_grow env mix G G' (same_tables env mix G G'.bucket G.node G.bound G.raised))
+                  (armed_passes env mix c j G ready) port τ home_is.passing.passed;
+              here = home_is.here;
+              armed = ap (λ x. x.armed) (put-same G.bucket j b);
+              unbound = unbound;
+            };
+          });
           fits = tt;
         })))
 
@@ -590,19 +566,7 @@ module _ (env : Env) (mix : ℕ → ℕ → ℕ → ℕ) (c : ℕ) (port owner :
         → Knowing env mix c (holds_claimed claimed) (knows_of port owner (own port owner claimed.attempt.node)
         (at_home port owner claimed) (Unlocks claimed.bucket.place claimed.bucket.word)) M G
         → BindKnows (unlocking_full claimed why) M G
-    full_knows claimed why lock k = record {
-      knowing = record {
-        only = k.only;
-        means = record {
-          node = k.means.node;
-          table = k.means.table.passing.table;
-          bucket = lock;
-          making = tt;
-          work = tt;
-        };
-      };
-      fits = tt;
-    }
+    full_knows claimed why lock k = record { knowing = plainly env mix k.only k.means.node k.means.table.passing.table lock; fits = tt }
 
     -- the future of a table in which the port was looked for in vain: where there is none, a chain that is full takes no node
     future_next : (claimed : Claimed) (count : ℕ) (future : Option ℕ)
@@ -615,33 +579,15 @@ module _ (env : Env) (mix : ℕ → ℕ → ℕ → ℕ) (c : ℕ) (port owner :
         (λ t. goes_on (at.Future claimed count) (unlocking_full claimed full.Chain) refl refl refl
         (let k = known.knowing in
         let lock = has_lock env mix c G claimed.bucket.place claimed.bucket.word k.means.bucket.lock in
-        full_knows claimed full.Chain lock (record {
-          only = k.only;
-          means = record { node = k.means.node; table = k.means.table; bucket = lock; making = tt; work = tt };
-        })))
+        full_knows claimed full.Chain lock (plainly env mix k.only k.means.node k.means.table lock)))
         (λ t. arms claimed count unbound (last refl) known)
     future_next claimed count (Some next) passing last known =
-        goes_on (at.Future claimed count) (unlocking claimed (Table next)) refl refl refl (record {
-          knowing = record {
-            only = known.knowing.only;
-            means = record {
-              node = known.knowing.means.node;
-              table = passing;
-              bucket = has_lock env mix c G claimed.bucket.place claimed.bucket.word known.knowing.means.bucket.lock;
-              making = tt;
-              work = tt;
-            };
-          };
-          fits = tt;
-        })
+        goes_on (at.Future claimed count) (unlocking claimed (Table next)) refl refl refl (record { knowing = plainly env mix known.knowing.only known.knowing.means.node passing (has_lock env mix c G claimed.bucket.place claimed.bucket.word known.knowing.means.bucket.lock); fits = tt })
 
     -- the bucket is unlocked, and the answer told behind it
     unlocking_knows : (claimed : Claimed) (reply : Reply) → Knowing env mix c (holds_claimed claimed) (known_of_bind port owner (at.Count claimed)) M G
         → BindKnows (unlocking claimed (Answer reply)) M G
-    unlocking_knows claimed reply k = record {
-      knowing = record { only = k.only; means = record { node = k.means.node; table = tt; bucket = k.means.bucket.lock; making = tt; work = tt } };
-      fits = tt;
-    }
+    unlocking_knows claimed reply k = record { knowing = plainly env mix k.only k.means.node tt k.means.bucket.lock; fits = tt }
 
     -- a count that is too great refuses the bind, and with one above the size the node doesn't go into the table
     count_next : (claimed : Claimed) → BindKnows (at.Count claimed) M G
@@ -661,11 +607,7 @@ module _ (env : Env) (mix : ℕ → ℕ → ℕ → ℕ) (c : ℕ) (port owner :
         (λ t. BindMoved (at.Count claimed) (cond t (unlocking_full claimed full.Table) (at.Link claimed), Go)) above
         (λ t. goes_on (at.Count claimed) (unlocking_full claimed full.Table) refl refl refl
         (let k = known.knowing in
-        full_knows claimed full.Table k.means.bucket.lock (record {
-          only = k.only;
-          means =
-              record { node = k.means.node; table = k.means.table; bucket = k.means.bucket.lock; making = tt; work = tt };
-        })))
+        full_knows claimed full.Table k.means.bucket.lock (plainly env mix k.only k.means.node k.means.table k.means.bucket.lock)))
         (λ t. goes_on (at.Count claimed) (at.Link claimed) refl refl refl (record { knowing = known.knowing; fits = tt })))
 
     -- in a table of one owner each the port is bound to the owner of a node of its bucket that has its key,
@@ -701,10 +643,7 @@ module _ (env : Env) (mix : ℕ → ℕ → ℕ → ℕ) (c : ℕ) (port owner :
         (learns env.config.kind c call (Some claimed.attempt.node) now (plain (Exists first))
         (with_node claimed.attempt.node (Exists first) tt refl refl (λ e. cc)) refl
         (exists known.fits first (bound_here known.fits claimed.bucket.place claimed.bucket.word found is)))
-        (record {
-          knowing = record { only = known.knowing.only; means = record { node = known.knowing.means.node; table = tt; bucket = has_lock env mix c G claimed.bucket.place claimed.bucket.word is.lock; making = tt; work = tt } };
-          fits = tt;
-        })
+        (record { knowing = plainly env mix known.knowing.only known.knowing.means.node tt (has_lock env mix c G claimed.bucket.place claimed.bucket.word is.lock); fits = tt })
 
     -- ---- the store that binds the port
 
@@ -819,10 +758,7 @@ module _ (env : Env) (mix : ℕ → ℕ → ℕ → ℕ) (c : ℕ) (port owner :
               (with_node n (Bound kick) tt refl refl (λ e. cc));
           in_time = record { taken = λ node none some. absurd (cc); gone = λ node some none told. absurd (cc) };
           outs = ap (λ o. o + 0) (reowned-outs env mix c n (First j) G (ap (is_taken_by c) ready.has.mine) refl);
-          knows = record {
-            only = nothing_left n j place is known.knowing.only;
-            means = record { node = tt; table = tt; bucket = tt; making = tt; work = tt };
-          };
+          knows = plainly env mix (nothing_left n j place is known.knowing.only) tt tt tt;
         }
 
     publish_step : (n table : ℕ) (relink : RelinkModel) (kick : Bool) → BindKnows (at.Publish n table relink kick) M G
@@ -844,21 +780,12 @@ module _ (env : Env) (mix : ℕ → ℕ → ℕ → ℕ) (c : ℕ) (port owner :
         rw stands.split (in-middle list.first stands.front stands.rear) in
         let owned = whole.owned.first_at list.first j (whole.owned.member j list.first there) in
         goes_on (at.ChainLink list) (at.LinkBehind list link) refl refl refl (record {
-          knowing = record {
-            only = known.knowing.only;
-            means = record {
-              node = known.knowing.means.node;
-              table = known.knowing.means.table;
-              bucket = record {
-                found = is;
-                behind = owned.behind;
-                bound_to = ap G.bound (sym is.key_is) ∙ owned.bound_to;
-                means = refl;
-              };
-              making = tt;
-              work = tt;
-            };
-          };
+          knowing = plainly env mix known.knowing.only known.knowing.means.node known.knowing.means.table (record {
+            found = is;
+            behind = owned.behind;
+            bound_to = ap G.bound (sym is.key_is) ∙ owned.bound_to;
+            means = refl;
+          });
           fits = known.fits;
         })
 
@@ -886,27 +813,18 @@ module _ (env : Env) (mix : ℕ → ℕ → ℕ → ℕ) (c : ℕ) (port owner :
           knowing =
               subst
               (λ t. Knowing env mix c (holds_replacing claimed t) (known_replacing port owner list t) M' G')
-              (sym first.0) (record {
-                only = k.only;
-                means = record {
-                  node = record {
+              (sym first.0) (plainly env mix k.only (record {
                     has = node.has;
                     chain = tt;
                     key = node.key;
                     owner = node.owner;
                     list = node.list;
-                  };
-                  table = k.means.table;
-                  bucket = record {
-                    found = is.found;
-                    behind = is.behind;
-                    bound_to = is.bound_to;
-                    means = record { has = node.has; alike = node.chain ∙ sym is.means };
-                  };
-                  making = tt;
-                  work = tt;
-                };
-              });
+                  }) k.means.table (record {
+                found = is.found;
+                behind = is.behind;
+                bound_to = is.bound_to;
+                means = record { has = node.has; alike = node.chain ∙ sym is.means };
+              }));
           fits = record { listed = known.fits; relink_is = refl; at_is = first.1 };
         })
         (nodes.fill_step env mix c (holds_node None (Some place)) (at_home port owner claimed)
@@ -1069,7 +987,7 @@ module _ (env : Env) (mix : ℕ → ℕ → ℕ → ℕ) (c : ℕ) (port owner :
         (subst (IsWrite env.geometry M (mem env mix (applied words op)) (PageWord j)) value
         (is_write env.geometry words (PageWord j) op all (index-within env mix claimed.bucket.place there)
         (sym back)))
-        (λ left. record { only = left.only; means = record { node = tt; table = tt; bucket = tt; making = tt; work = tt } })
+        (λ left. plainly env mix left.only tt tt tt)
     front_at claimed first (Some before) (relinks.ChainLink node) is known =
         let list : FoundList = record { claimed = claimed; first = first; before = Some before } in
         let op = Store (place_of env.geometry (Node node ChainLink)) (link_of claimed.attempt.node) in
@@ -1079,17 +997,8 @@ module _ (env : Env) (mix : ℕ → ℕ → ℕ → ℕ) (c : ℕ) (port owner :
         (link_of claimed.attempt.node)) known.fits.at_is
         (is_write env.geometry words (Node node ChainLink) op all is.relink_in.at_in refl))
         (λ left. record {
-          knowing = record {
-            only = left.only;
-            means = record {
-              node = tt;
-              table = tt;
-              bucket = left.locks
-                  before refl;
-              making = tt;
-              work = tt;
-            };
-          };
+          knowing = plainly env mix left.only tt tt (left.locks
+              before refl);
           fits = record { listed = known.fits.listed; relink_is = refl; at_is = refl };
         })
     front_at claimed first (Some before) (relinks.Word word) is known =
@@ -1170,14 +1079,7 @@ module _ (env : Env) (mix : ℕ → ℕ → ℕ → ℕ) (c : ℕ) (port owner :
         reads env mix c call words G (plan_at env (at.FutureAgain growing refusal)) (holds_node (Some n) None)
         (holds_behind n (Some reply)) (BindNext (giving env n reply, Go)) whole refl refl
         (learns env.config.kind c call (Some n) now (plain reply) right none legal)
-        (record {
-          knowing = record {
-            only = known.knowing.only;
-            means =
-                record { node = known.knowing.means.node; table = tt; bucket = tt; making = tt; work = tt };
-          };
-          fits = tt;
-        })
+        (record { knowing = plainly env mix known.knowing.only known.knowing.means.node tt tt; fits = tt })
 
     refused_next : (growing : Growing) (refusal : Refusal) (future : Option ℕ)
         → BindKnows (at.FutureAgain growing refusal) M G
@@ -1199,10 +1101,7 @@ module _ (env : Env) (mix : ℕ → ℕ → ℕ → ℕ) (c : ℕ) (port owner :
         rw (behind_holds growing.attempt answer)
         (reads env mix c call words G (plan_at env (at.FutureAgain growing why)) (holds_node (Some n) None)
         (holds_behind n answer) (BindNext (next, Go)) whole refl refl (attempt_tells n table)
-        (behind_knows growing.attempt answer M G (record {
-          only = known.knowing.only;
-          means = record { node = known.knowing.means.node; table = tt; bucket = tt; making = tt; work = tt };
-        })))
+        (behind_knows growing.attempt answer M G (plainly env mix known.knowing.only known.knowing.means.node tt tt)))
 
     -- the table is made
     made_next : (growing : Growing) (size : ℕ) (make : MakeModel) (r : MakeAt × Next (Option (ℕ × ℕ)))
@@ -1346,10 +1245,7 @@ module _ (env : Env) (mix : ℕ → ℕ → ℕ → ℕ) (c : ℕ) (port owner :
           (λ p. put_in-all (λ q o. o ≡ PageHeld c → In q []) (is_page_for shape) (PageOf G.attached) G.page
           (λ q there e. absurd (cc))
           (λ q there held. absurd (both_ways (is_page_for shape q) there (of_run q (k.only.pages_in q held)))) p) tt in
-          behind_knows attempt answer M' _ (record {
-            only = left.only;
-            means = record { node = left.means.node; table = tt; bucket = tt; making = tt; work = tt };
-          }))))
+          behind_knows attempt answer M' _ (plainly env mix left.only left.means.node tt tt))))
 
       lost : found ≢ 0
           → BindMoved (at.Attaching growing slot shape) (
@@ -1405,19 +1301,7 @@ module _ (env : Env) (mix : ℕ → ℕ → ℕ → ℕ) (c : ℕ) (port owner :
         let step : Made new.key new.owner = nodes.new_node_step env mix c held.holds_nothing Nowhere Unlocked words G all whole tt new is knows in
         node_made new r known.fits.0 known.fits.1 (nodes.made_none new.at (old_of words (new_node_plan new))) (subst (λ key. Made key owner) known.fits.0 (subst (λ o. Made new.key o) known.fits.1 step))
     bind_step (at.CurrentTable attempt) is known =
-        goes_on (at.CurrentTable attempt) (at.Locating attempt (locate_new env.geometry (table_of (M CurrentTable)))) refl refl refl (record {
-          knowing = record {
-            only = known.knowing.only;
-            means = record {
-              node = known.knowing.means.node;
-              table = first_passed env mix c (holds_node (Some attempt.node) None) (Some (own port owner attempt.node)) Unlocked words G whole port;
-              bucket = tt;
-              making = tt;
-              work = tt;
-            };
-          };
-          fits = tt;
-        })
+        goes_on (at.CurrentTable attempt) (at.Locating attempt (locate_new env.geometry (table_of (M CurrentTable)))) refl refl refl (record { knowing = plainly env mix known.knowing.only known.knowing.means.node (first_passed env mix c (holds_node (Some attempt.node) None) (Some (own port owner attempt.node)) Unlocked words G whole port) tt; fits = tt })
     bind_step (at.Locating attempt locate) is known =
         found_place attempt locate (locate_after mix port locate (old_of words (locate_plan locate)))
         (locate_step env mix c (holds_node (Some attempt.node) None) (Some (own port owner attempt.node)) Unlocked words G whole port locate is.locate_in known.knowing)
@@ -1476,16 +1360,7 @@ module _ (env : Env) (mix : ℕ → ℕ → ℕ → ℕ) (c : ℕ) (port owner :
         answered env mix c call words G (plan_at env (at.Raise claimed)) (holds_claimed claimed) (holds_publishing claimed.attempt.node p) None (BindNext (publishing env claimed kick, Go)) (inl refl) (still_has refl)
         (moved-map env mix c words G (plan_at env (at.Raise claimed)) (holds_claimed claimed) (holds_publishing claimed.attempt.node p) _ (BindNext (publishing env claimed kick, Go))
         (λ M' G' w k. let table = k.means.table in record {
-          knowing = record {
-            only = k.only;
-            means = record {
-              node = k.means.node;
-              table = record { passing = table.passing; shape_is = tt; bucket = table.bucket; here = table.here };
-              bucket = k.means.bucket;
-              making = tt;
-              work = tt;
-            };
-          };
+          knowing = plainly env mix k.only k.means.node (record { passing = table.passing; shape_is = tt; bucket = table.bucket; here = table.here }) k.means.bucket;
           fits = refl;
         })
         (raise_step env mix c (holds_claimed claimed) (Some (chained port owner claimed.attempt.node claimed.bucket.place claimed.bucket.word)) (at_home port owner claimed) (armed port owner claimed) words G all whole low known.knowing))

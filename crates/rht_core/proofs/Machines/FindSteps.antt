@@ -38,7 +38,7 @@ use Rattle.rht_find.specs.declared.find.FindAt.TheVariants as at
 use Rattle.rht_core.proofs.Theory.Ghosts.{Ghost}
 use Rattle.rht_core.proofs.Theory.Wholes.{word_index, Whole}
 use Rattle.rht_core.proofs.Theory.Knowns.{KnownTable, Nowhere, Passes, AtHome, KnownBucket, Unlocked, Locks, Missed, Member, Listing, Known, knows_plain}
-use Rattle.rht_core.proofs.Theory.Knowledge.{Knowing}
+use Rattle.rht_core.proofs.Theory.Knowledge.{plainly, Knowing}
 use Rattle.rht_core.proofs.Theory.Answering.{KeepsAnswer, IsLegalOn, IsRight, KnowsEarly, TellsOrRecalls, none_early, keeps, learns, recalls}
 use Rattle.rht_core.proofs.Theory.Steps.{Holding, mem, owners, owners_in, Moved, moved-map, StepWhere, answered_where, answered, reads, HoldsNoneEarly, still_has}
 use Rattle.rht_core.proofs.Pieces.Locates.{known_locate, IsThereAt, first_passed, locate_step, LocateKnows, LocatedKnows, LocateSays, Recalls, locate_says, FutureIs, future_is}
@@ -200,16 +200,7 @@ module _ (env : Env) (mix : ℕ → ℕ → ℕ → ℕ) (c : ℕ) (port : ℕ) 
     found_bucket locate next shape (buckets.At place) says step =
         goes_from locate (at.Probing next.table (probe_new env.geometry place port)) _ refl
         (λ M' G' k. let table = k.means.table in record {
-          knowing = record {
-            only = k.only;
-            means = record {
-              node = tt;
-              table = record { passing = table.passing; shape_is = tt; bucket = table.bucket; here = table.here };
-              bucket = tt;
-              making = tt;
-              work = tt;
-            };
-          };
+          knowing = plainly env mix k.only tt (record { passing = table.passing; shape_is = tt; bucket = table.bucket; here = table.here }) tt;
           fits = (refl, tt);
         }) step
     found_bucket locate next shape (buckets.Missing place (Some table)) says step =
@@ -227,10 +218,7 @@ module _ (env : Env) (mix : ℕ → ℕ → ℕ → ℕ) (c : ℕ) (port : ℕ) 
         (none_early kind c call There ⊥ now (finds.early_of_locate locate.at) None refl) (still_has refl)
         (moved-map env mix c words G (locate_plan locate) (before locate) (before locate) _
         (FindNext (at.Locating next, Done Missing))
-        (λ M' G' w k. record {
-          only = k.only;
-          means = record { node = tt; table = tt; bucket = tt; making = tt; work = tt };
-        }) step)
+        (λ M' G' w k. plainly env mix k.only tt tt tt) step)
 
     -- the way to the bucket
     found_place : (locate : LocateModel) (r : LocateModel × Next Located)
@@ -263,21 +251,12 @@ module _ (env : Env) (mix : ℕ → ℕ → ℕ → ℕ) (c : ℕ) (port : ℕ) 
     seen_knows table bucket before (Some node) M' G' k =
         let is = k.means.bucket in
         record {
-          knowing = record {
-            only = k.only;
-            means = record {
-              node = tt;
-              table = k.means.table;
-              bucket = record {
-                lock = is.standing.lock;
-                there = rw is.standing.stands.split (in-middle node is.standing.stands.front
-                    is.standing.stands.rear);
-                key_is = is.key_is;
-              };
-              making = tt;
-              work = tt;
-            };
-          };
+          knowing = plainly env mix k.only tt k.means.table (record {
+            lock = is.standing.lock;
+            there = rw is.standing.stands.split (in-middle node is.standing.stands.front
+                is.standing.stands.rear);
+            key_is = is.key_is;
+          });
           fits = tt;
         }
 
@@ -324,23 +303,9 @@ module _ (env : Env) (mix : ℕ → ℕ → ℕ → ℕ) (c : ℕ) (port : ℕ) 
         (FindNext (unlocking table bucket (Answer Missing), Go)) whole refl refl
         (learns env.config.kind c call None now (plain Missing) missing_right refl
         (missing_legal (ap (owners_in env mix M) unbound)))
-        (record {
-          knowing = record {
-            only = known.knowing.only;
-            means =
-                record { node = tt; table = tt; bucket = known.knowing.means.bucket.lock; making = tt; work = tt };
-          };
-          fits = tt;
-        })
+        (record { knowing = plainly env mix known.knowing.only tt tt known.knowing.means.bucket.lock; fits = tt })
     future_next table bucket (Some next) passing known =
-        goes_on (at.Future table bucket) (unlocking table bucket (Table next)) refl refl refl (record {
-          knowing = record {
-            only = known.knowing.only;
-            means =
-                record { node = tt; table = passing; bucket = known.knowing.means.bucket.lock; making = tt; work = tt };
-          };
-          fits = tt;
-        })
+        goes_on (at.Future table bucket) (unlocking table bucket (Table next)) refl refl refl (record { knowing = plainly env mix known.knowing.only tt passing known.knowing.means.bucket.lock; fits = tt })
 
     -- behind the last owner of a list the look-up has its answer, the first one
     list_ends : (table : ℕ) (bucket : Locked) (node owner : ℕ)
@@ -363,14 +328,7 @@ module _ (env : Env) (mix : ℕ → ℕ → ℕ → ℕ) (c : ℕ) (port : ℕ) 
               ∙ ap (λ o. Some (plain (Found o))) here.owner_is);
           leaves = λ p. refl;
         }))
-        (record {
-          knowing = record {
-            only = known.knowing.only;
-            means =
-                record { node = tt; table = tt; bucket = here.member.lock; making = tt; work = tt };
-          };
-          fits = tt;
-        }))
+        (record { knowing = plainly env mix known.knowing.only tt tt here.member.lock; fits = tt }))
 
     -- and before it goes on to the next node
     list_goes_on : (table : ℕ) (bucket : Locked) (node owner : ℕ)
@@ -387,23 +345,14 @@ module _ (env : Env) (mix : ℕ → ℕ → ℕ → ℕ) (c : ℕ) (port : ℕ) 
         ∙ ap (list_followed table bucket owner) (links_tell_apart.link_names env.geometry.nodes next.node
         among) in
         rw goes (goes_on (at.ListLink table bucket node owner) later refl refl refl (record {
-          knowing = record {
-            only = known.knowing.only;
-            means = record {
-              node = tt;
-              table = known.knowing.means.table;
-              bucket = record {
-                first = here.first;
-                behind = here.behind;
-                member = here.member;
-                bound_to = here.bound_to;
-                listed = inr next.there;
-                owner_is = here.owner_is;
-              };
-              making = tt;
-              work = tt;
-            };
-          };
+          knowing = plainly env mix known.knowing.only tt known.knowing.means.table (record {
+            first = here.first;
+            behind = here.behind;
+            member = here.member;
+            bound_to = here.bound_to;
+            listed = inr next.there;
+            owner_is = here.owner_is;
+          });
           fits = tt;
         }))
 
@@ -412,17 +361,8 @@ module _ (env : Env) (mix : ℕ → ℕ → ℕ → ℕ) (c : ℕ) (port : ℕ) 
     find_step at.CurrentTable is known =
         goes_on at.CurrentTable (at.Locating (locate_new env.geometry (table_of (M CurrentTable)))) refl
         refl refl (record {
-          knowing = record {
-            only = known.knowing.only;
-            means = record {
-              node = tt;
-              table = first_passed env mix c held.holds_nothing None Unlocked
-                  words G whole port;
-              bucket = tt;
-              making = tt;
-              work = tt;
-            };
-          };
+          knowing = plainly env mix known.knowing.only tt (first_passed env mix c held.holds_nothing None Unlocked
+                  words G whole port) tt;
           fits = tt;
         })
     find_step (at.Locating locate) is known =
@@ -446,23 +386,14 @@ module _ (env : Env) (mix : ℕ → ℕ → ℕ → ℕ) (c : ℕ) (port : ℕ) 
         let first = whole.owned.first_at node j (whole.owned.member j node member.there) in
         goes_on (at.FirstOwner table bucket node) (at.ListLink table bucket node
         (owner_of (M (Node node OwnerWord)))) refl refl refl (record {
-          knowing = record {
-            only = known.knowing.only;
-            means = record {
-              node = tt;
-              table = known.knowing.means.table;
-              bucket = record {
-                first = node;
-                behind = first.behind;
-                member = member;
-                bound_to = ap G.bound (sym member.key_is) ∙ first.bound_to;
-                listed = inl refl;
-                owner_is = refl;
-              };
-              making = tt;
-              work = tt;
-            };
-          };
+          knowing = plainly env mix known.knowing.only tt known.knowing.means.table (record {
+            first = node;
+            behind = first.behind;
+            member = member;
+            bound_to = ap G.bound (sym member.key_is) ∙ first.bound_to;
+            listed = inl refl;
+            owner_is = refl;
+          });
           fits = tt;
         })
     find_step (at.ListLink table bucket node owner) is known =

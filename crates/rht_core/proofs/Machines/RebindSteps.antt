@@ -40,7 +40,7 @@ use Rattle.rht_core.proofs.Theory.Ghosts.{put-same, put-other, First, Taken, Gho
 use Rattle.rht_core.proofs.Theory.Wholes.{word_index, place_at, place_at-index, outs, Whole, MovesNone}
 use Rattle.rht_core.proofs.Theory.Passed.{stays_in}
 use Rattle.rht_core.proofs.Theory.Knowns.{KnownNode, Nowhere, KnownBucket, Unlocked, Locks, Leads, LeadsTo, Succeeds, Known, first_of_list, knows_plain, KnownList}
-use Rattle.rht_core.proofs.Theory.Knowledge.{HasOnly, HoldsLock, HasTakenOut, Knowing, idle_moves_none, IsAtHome}
+use Rattle.rht_core.proofs.Theory.Knowledge.{plainly, HasOnly, HoldsLock, HasTakenOut, Knowing, idle_moves_none, IsAtHome}
 use Rattle.rht_core.proofs.Theory.Frames.{Made}
 use Rattle.rht_core.proofs.Theory.Readiness.{Change, changed}
 use Rattle.rht_core.proofs.Theory.Answering.{KeepsAnswer, IsLegalOn, IsRight, Stills, ChangesBindings, Says, Tells, keeps, learns}
@@ -285,19 +285,7 @@ module _ (env : Env) (mix : ℕ → ℕ → ℕ → ℕ) (c : ℕ) (port owner n
         step-map env mix c call words G (seek_plan seek) (held_of_rebind (at.Seeking n seek))
         (held_of_rebind state) _
         (RebindNext (state, Go))
-        (λ M' G' w k. record {
-          knowing = record {
-            only = k.only;
-            means = record {
-              node = k.means.node;
-              table = k.means.table;
-              bucket = k.means.bucket;
-              making = tt;
-              work = tt;
-            };
-          };
-          fits = tt;
-        }) step
+        (λ M' G' w k. record { knowing = plainly env mix k.only k.means.node k.means.table k.means.bucket; fits = tt }) step
 
     -- ---- the old owner
 
@@ -329,21 +317,12 @@ module _ (env : Env) (mix : ℕ → ℕ → ℕ → ℕ) (c : ℕ) (port owner n
     owner_same n found known same =
         let list = alone_in n found known in
         goes_on (at.Owner n found) (at.ChainLink n found) refl refl refl (record {
-          knowing = record {
-            only = known.knowing.only;
-            means = record {
-              node = known.knowing.means.node;
-              table = known.knowing.means.table;
-              bucket = record {
-                found = known.knowing.means.bucket;
-                behind = list.behind;
-                bound_to = list.bound_to;
-                means = record { owner_is = same; second_is = sym (ap first_of_list list.alone) };
-              };
-              making = tt;
-              work = tt;
-            };
-          };
+          knowing = plainly env mix known.knowing.only known.knowing.means.node known.knowing.means.table (record {
+            found = known.knowing.means.bucket;
+            behind = list.behind;
+            bound_to = list.bound_to;
+            means = record { owner_is = same; second_is = sym (ap first_of_list list.alone) };
+          });
           fits = tt;
         })
 
@@ -362,19 +341,7 @@ module _ (env : Env) (mix : ℕ → ℕ → ℕ → ℕ) (c : ℕ) (port owner n
         reads env mix c call words G (plan_at env (at.Owner n found)) (holds_found n found)
         (held_of_rebind next) (RebindNext (next, Go)) whole refl refl
         (learns env.config.kind c call (Some n) now (plain Absent) (absent_right n) refl legal)
-        (record {
-          knowing = record {
-            only = known.knowing.only;
-            means = record {
-              node = known.knowing.means.node;
-              table = tt;
-              bucket = known.knowing.means.bucket.standing.lock;
-              making = tt;
-              work = tt;
-            };
-          };
-          fits = tt;
-        })
+        (record { knowing = plainly env mix known.knowing.only known.knowing.means.node tt known.knowing.means.bucket.standing.lock; fits = tt })
 
     owner_next : (n : ℕ) (found : FoundPort) → RebindKnows (at.Owner n found) M G
         → RebindStep (at.Owner n found)
@@ -410,30 +377,21 @@ module _ (env : Env) (mix : ℕ → ℕ → ℕ → ℕ) (c : ℕ) (port owner n
         answered env mix c call words G op h h None Next (inl refl) (still_has refl)
         (moved-map env mix c words G op h h _ Next
         (λ M' G' w k. let node = k.means.node in let is = k.means.bucket in (
-          record {
-            only = k.only;
-            means = record {
-              node = record {
+          plainly env mix k.only (record {
                 has = node.has;
                 chain = tt;
                 key = node.key;
                 owner = node.owner;
                 list = node.list;
-              };
-              table = k.means.table;
-              bucket = record {
-                found = is.found;
-                behind = is.behind;
-                bound_to = is.bound_to;
-                means = record {
-                  leads = is.means.leads;
-                  replaces = record { has = node.has; alike = node.chain ∙ sym is.means.link_is };
-                };
-              };
-              making = tt;
-              work = tt;
+              }) k.means.table (record {
+            found = is.found;
+            behind = is.behind;
+            bound_to = is.bound_to;
+            means = record {
+              leads = is.means.leads;
+              replaces = record { has = node.has; alike = node.chain ∙ sym is.means.link_is };
             };
-          },
+          }),
           refl,
         ))
         (nodes.fill_step env mix c locked (seeks.home_of port found) bucket words G all whole tt (own port owner new n)
@@ -725,27 +683,15 @@ module _ (env : Env) (mix : ℕ → ℕ → ℕ → ℕ) (c : ℕ) (port owner n
     first_leads n found None within k =
         let there : FoundPort = record found { before = None } in
         store_step n there within k (RebindNext (ends (at.Replacing n there (replaces n there false)) found))
-        (record {
-          only = only n there within k;
-          means = record { node = tt; table = tt; bucket = taken_out n there within k; making = tt; work = tt };
-        })
+        (plainly env mix (only n there within k) tt tt (taken_out n there within k))
     first_leads n found (Some node) within k =
         let there : FoundPort = record found { before = Some node } in
         store_step n there within k (RebindNext (at.Replacing n there (replaces n there true), Go))
         (record {
-          knowing = record {
-            only = only n there within k;
-            means = record {
-              node = tt;
-              table = tt;
-              bucket = record {
-                lock = still_locked n there within k node refl;
-                took = taken_out n there within k;
-              };
-              making = tt;
-              work = tt;
-            };
-          };
+          knowing = plainly env mix (only n there within k) tt tt (record {
+            lock = still_locked n there within k node refl;
+            took = taken_out n there within k;
+          });
           fits = refl;
         })
 
@@ -795,21 +741,12 @@ module _ (env : Env) (mix : ℕ → ℕ → ℕ → ℕ) (c : ℕ) (port owner n
         let there = known.knowing.means.bucket in
         let next = at.Link n found (M (Node found.node ChainLink)) in
         goes_on (at.ChainLink n found) next refl refl refl (record {
-          knowing = record {
-            only = known.knowing.only;
-            means = record {
-              node = known.knowing.means.node;
-              table = known.knowing.means.table;
-              bucket = record {
-                found = there.found;
-                behind = there.behind;
-                bound_to = there.bound_to;
-                means = record { leads = there.means; link_is = refl };
-              };
-              making = tt;
-              work = tt;
-            };
-          };
+          knowing = plainly env mix known.knowing.only known.knowing.means.node known.knowing.means.table (record {
+            found = there.found;
+            behind = there.behind;
+            bound_to = there.bound_to;
+            means = record { leads = there.means; link_is = refl };
+          });
           fits = tt;
         })
     rebind_step (at.Link n found link) is known = link_next n found link known

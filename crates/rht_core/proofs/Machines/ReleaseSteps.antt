@@ -40,7 +40,7 @@ use Rattle.rht_release.specs.declared.release.ReleaseAt.TheVariants as at
 use Rattle.rht_core.proofs.Theory.Ghosts.{is_first, put-same, First, Behind, Ghost}
 use Rattle.rht_core.proofs.Theory.Wholes.{chain_of, list_of, word_index, Whole}
 use Rattle.rht_core.proofs.Theory.Knowns.{Nowhere, KnownBucket, Locks, TakenOut, LocksTakenOut, KnownList, AtNode, Differing, Matching, CutsOut, Leads, LeadsTo, Promotes, Known, NoOwner, list_link, first_of_list}
-use Rattle.rht_core.proofs.Theory.Knowledge.{Knowing, ListMeans}
+use Rattle.rht_core.proofs.Theory.Knowledge.{plainly, Knowing, ListMeans}
 use Rattle.rht_core.proofs.Theory.Answering.{KeepsAnswer, IsLegalOn, IsRight, keeps, learns}
 use Rattle.rht_core.proofs.Theory.Steps.{Lowers, LinksBehind, Holding, HoldsNoneEarly, by_test, mem, owners, owners_in, moved, moved-map, StepWhere, Step, step-map, answered, reads, still_has}
 use Rattle.rht_core.proofs.Moves.Quiet.{count_down}
@@ -75,7 +75,7 @@ pub nothing_known : (env : Env) (mix : ℕ → ℕ → ℕ → ℕ) (c : ℕ) (h
     (G : Ghost) → Knowing env mix c h (known_removed removed) M G → Knowing env mix c h known_nothing M G
 nothing_known env mix c h None M G k = k
 nothing_known env mix c h (Some node) M G k =
-    record { only = k.only; means = record { node = tt; table = tt; bucket = tt; making = tt; work = tt } }
+    plainly env mix k.only tt tt tt
 
 -- the port was found, and its first node has another one before it in the chain, or none
 abbrev behind_node : FoundPort → Option ℕ → FoundPort
@@ -244,16 +244,7 @@ module _ (env : Env) (mix : ℕ → ℕ → ℕ → ℕ) (c : ℕ) (port owner :
         → ListMeans env mix c M G found.node k.means.bucket.behind more → KnowsList found more M G
     list_more found known more k means =
         let is = k.means.bucket in
-        record {
-          only = k.only;
-          means = record {
-            node = tt;
-            table = k.means.table;
-            bucket = record { found = is.found; behind = is.behind; bound_to = is.bound_to; means = means };
-            making = tt;
-            work = tt;
-          };
-        }
+        plainly env mix k.only tt k.means.table (record { found = is.found; behind = is.behind; bound_to = is.bound_to; means = means })
 
     -- ---- the port isn't bound to the owner
 
@@ -308,24 +299,15 @@ module _ (env : Env) (mix : ℕ → ℕ → ℕ → ℕ) (c : ℕ) (port owner :
         let list =
         found_list env mix M' G' w c found.bucket.place found.bucket.word port found.node found.before is in
         record {
-          knowing = record {
-            only = k.only;
+          knowing = plainly env mix k.only tt k.means.table (record {
+            found = is;
+            behind = list.0;
+            bound_to = list.1;
             means = record {
-              node = tt;
-              table = k.means.table;
-              bucket = record {
-                found = is;
-                behind = list.0;
-                bound_to = list.1;
-                means = record {
-                  among = record { front = []; rear = list.0; split = refl; last = refl };
-                  none = tt;
-                };
-              };
-              making = tt;
-              work = tt;
+              among = record { front = []; rear = list.0; split = refl; last = refl };
+              none = tt;
             };
-          };
+          });
           fits = tt;
         }) step
 
@@ -387,13 +369,7 @@ module _ (env : Env) (mix : ℕ → ℕ → ℕ → ℕ) (c : ℕ) (port owner :
             rw ends (reads env mix c call words G op (holds_bucket found) (held_of_release answer)
             (ReleaseNext (answer, Go)) whole refl refl
             (learns env.config.kind c call None now (plain Absent) absent_right refl (absent_legal none))
-            (record {
-              knowing = record {
-                only = known.knowing.only;
-                means = record { node = tt; table = tt; bucket = is.found.standing.lock; making = tt; work = tt };
-              };
-              fits = tt;
-            }))
+            (record { knowing = plainly env mix known.knowing.only tt tt is.found.standing.lock; fits = tt }))
         go (next ∷ rear) split segment =
             let is = known.knowing.means.bucket in
             let there : In next (found.node ∷ is.behind) =
@@ -534,26 +510,17 @@ module _ (env : Env) (mix : ℕ → ℕ → ℕ → ℕ) (c : ℕ) (port owner :
         (inl refl) (still_has refl)
         (moved env mix c words G op (holds_bucket found) (holds_bucket found) (ReleaseNext (next, Go))
         (LinksBehind second) whole tt tt made (record { on = refl; locked = λ e. cc; none = refl; holds = refl })
-        (promoting_knows M' G found second (record {
-          only = k.only;
+        (promoting_knows M' G found second (plainly env mix k.only tt k.means.table (record {
+          found = found_kept env mix c G M M' whole made found.bucket.place found.bucket.word port m
+              found.before
+              is.found;
+          behind = is.behind;
+          bound_to = is.bound_to;
           means = record {
-            node = tt;
-            table = k.means.table;
-            bucket = record {
-              found = found_kept env mix c G M M' whole made found.bucket.place found.bucket.word port m
-                  found.before
-                  is.found;
-              behind = is.behind;
-              bound_to = is.bound_to;
-              means = record {
-                leads = record { owner_is = owner_word ∙ leads.owner_is; second_is = leads.second_is };
-                alike = write.same ∙ sym is.means.link_is ∙ sym first_link;
-              };
-            };
-            making = tt;
-            work = tt;
+            leads = record { owner_is = owner_word ∙ leads.owner_is; second_is = leads.second_is };
+            alike = write.same ∙ sym is.means.link_is ∙ sym first_link;
           };
-        }))))
+        })))))
       where
         second_in : (nodes : List ℕ) → Some second ≡ first_of_list nodes → In second nodes
         second_in [] is = absurd (cc)
@@ -687,23 +654,14 @@ module _ (env : Env) (mix : ℕ → ℕ → ℕ → ℕ) (c : ℕ) (port owner :
         (moved env mix c words G op h h' Knows Lowers whole tt tt
         (count_down env mix c M M' G whole low k.only.raising write)
         (record { subtracts = refl; high = refl; holds = refl })
-        (record {
-          only = record {
+        (plainly env mix (record {
             nodes = k.only.nodes;
             locks = k.only.locks;
             raising = put-same G.raised c false;
             slots = k.only.slots;
             pages_in = k.only.pages_in;
             works = k.only.works;
-          };
-          means = record {
-            node = tt;
-            table = tt;
-            bucket = record { among = k.means.bucket.among; taken = k.means.bucket.taken };
-            making = tt;
-            work = tt;
-          };
-        }))
+          }) tt tt (record { among = k.means.bucket.among; taken = k.means.bucket.taken })))
 
     -- the bucket is unlocked: no node has the owner, or a later one was taken out
     unlocking_step : (table : ℕ) (unlock : Unlock) (removed : Option ℕ)

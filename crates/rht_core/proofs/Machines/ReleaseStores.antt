@@ -29,7 +29,7 @@ use Rattle.rht_release.specs.declared.found_port.FoundPort.{FoundPort}
 use Rattle.rht_core.proofs.Theory.Ghosts.{index_at, put-same, put-other, Bucket, Owner, Held, First, Taken, Ghost, is_taken_by, taken_by_one}
 use Rattle.rht_core.proofs.Theory.Wholes.{list_of, place_at, word_index, place_at-index, MovesNone, Whole, outs as count_outs}
 use Rattle.rht_core.proofs.Theory.Knowns.{knows_plain, Nowhere, KnownBucket, TakenOut, LocksTakenOut, KnownList, CutsOut, LeadsTo, Promotes, Known, NoOwner, last_of, first_of_list}
-use Rattle.rht_core.proofs.Theory.Knowledge.{HasOnly, idle_moves_none, HoldsLock, IsAtHome, HasTakenOut, Knowing, IsFound, BucketMeans}
+use Rattle.rht_core.proofs.Theory.Knowledge.{plainly, HasOnly, idle_moves_none, HoldsLock, IsAtHome, HasTakenOut, Knowing, IsFound, BucketMeans}
 use Rattle.rht_core.proofs.Theory.Passed.{stays_in}
 use Rattle.rht_core.proofs.Theory.Frames.{Made}
 use Rattle.rht_core.proofs.Theory.Readiness.{Change, changed, IsRebinding}
@@ -223,26 +223,17 @@ module _ (env : Env) (mix : ℕ → ℕ → ℕ → ℕ) (c : ℕ) (port owner :
               (released_right false);
           in_time = still_has refl;
           outs = omega (arith, more);
-          knows = record {
-            only = record {
+          knows = plainly env mix (record {
               nodes = only.nodes;
               locks = only.locks;
               raising = only.raising ∙ sym same;
               slots = only.slots;
               pages_in = only.pages_in;
               works = only.works;
-            };
-            means = record {
-              node = tt;
-              table = tt;
-              bucket = takes.means (record {
-                among = takes.among;
-                taken = taken_then c node x x_owner G.node takes.with_other;
-              });
-              making = tt;
-              work = tt;
-            };
-          };
+            }) tt tt (takes.means (record {
+            among = takes.among;
+            taken = taken_then c node x x_owner G.node takes.with_other;
+          }));
         }
 
     -- The port's first node isn't on its way out of any bucket, where it was found in the bucket to which the caller has come.

@@ -33,7 +33,7 @@ use Rattle.rht_core.proofs.Theory.Ghosts.{Ghost, has_table, index_at, none-some}
 use Rattle.rht_core.proofs.Theory.Wholes.{TableRight, Whole, hash_in, home, place_at, word_index, future_in}
 use Rattle.rht_core.proofs.Theory.Passed.{hash-below, passed_first, unbound_at_last, unbound_missing, go_on, go_beyond}
 use Rattle.rht_core.proofs.Theory.Knowns.{KnownNode, KnownTable, Passes, Shaped, OnWay, AtHome, KnownBucket, knows_plain}
-use Rattle.rht_core.proofs.Theory.Knowledge.{TableMeans, IsPassing, IsShaped, IsRightBehind, IsOnWay, IsMissed, Knowing}
+use Rattle.rht_core.proofs.Theory.Knowledge.{plainly, TableMeans, IsPassing, IsShaped, IsRightBehind, IsOnWay, IsMissed, Knowing}
 use Rattle.rht_core.proofs.Theory.WaysRead.{IsPlaced, words_of_pages, read_by_entry, flat_read, on_way_read, on_way_next, at_home, missing_home}
 use Rattle.rht_core.proofs.Theory.Answering.{IsLegalOn, KnowsEarly, none_early, foresees, stays_early}
 use Rattle.rht_core.proofs.Theory.Steps.{Holding, by_test, mem, owners, owners_in, unchanged, Moved, loads}
@@ -74,10 +74,7 @@ module _ (env : Env) (mix : ℕ → ℕ → ℕ → ℕ) (c : ℕ) (h : Holding)
 
     -- the same with something else known of the table
     with_table : (table more : KnownTable) → knowing table M G → TableMeans env mix G more → knowing more M G
-    with_table table more knows means = record {
-      only = knows.only;
-      means = record { node = knows.means.node; table = means; bucket = knows.means.bucket; making = tt; work = tt };
-    }
+    with_table table more knows means = plainly env mix knows.only knows.means.node means knows.means.bucket
 
     -- the table in a slot, and what its words say
     table-right : (slot : ℕ) → has_table (G.slot slot) ≡ true → TableRight env mix M G (index_at G slot)

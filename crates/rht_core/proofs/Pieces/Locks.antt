@@ -9,7 +9,7 @@ use Rattle.rht_words.proofs.Memory.{Memory, IsWrite, is_write}
 use Rattle.rht_core.proofs.Theory.Ghosts.{put, put-all, Ghost, lock_bit, held_by, with_holder}
 use Rattle.rht_core.proofs.Theory.Wholes.{place_at, word_index, place_at-index, index-within, MovesNone, moves_none, Whole}
 use Rattle.rht_core.proofs.Theory.Knowns.{KnownNode, KnownTable, KnownBucket, Unlocked, Unlocks, Locks, TakenOut, LocksTakenOut, knows_plain}
-use Rattle.rht_core.proofs.Theory.Knowledge.{HasLock, has_lock, BucketMeans, Knowing}
+use Rattle.rht_core.proofs.Theory.Knowledge.{plainly, HasLock, has_lock, BucketMeans, Knowing}
 use Rattle.rht_core.proofs.Theory.KnowledgeStays.{TableMeans-stay, NodeMeans-stay}
 use Rattle.rht_core.proofs.Theory.Frames.{tables_stay}
 use Rattle.rht_core.proofs.Theory.WholeFrames.{chains_passes}
@@ -52,26 +52,17 @@ module _ (env : Env) (mix : ℕ → ℕ → ℕ → ℕ) (c : ℕ) (h : Holding)
         let M' = mem env mix (applied words op) in
         let G' = with_holder G j holder in
         let same = held_chains env mix G j holder unworked in
-        record {
-          only = record {
+        plainly env mix (record {
             nodes = knows.only.nodes;
             locks = only;
             raising = knows.only.raising;
             slots = knows.only.slots;
             pages_in = knows.only.pages_in;
             works = knows.only.works;
-          };
-          means = record {
-            node = NodeMeans-stay env mix c M M' G G' (λ n has. has.mine)
-                (λ n has w. write.others (Node n w) has.among (λ e. cc)) node knows.means.node;
-            table = TableMeans-stay env mix c M M' G G'
+          }) (NodeMeans-stay env mix c M M' G G' (λ n has. has.mine)
+                (λ n has w. write.others (Node n w) has.among (λ e. cc)) node knows.means.node) (TableMeans-stay env mix c M M' G G'
                 (tables_stay env mix M G G' whole same.tables (chains_passes env mix M G G' whole same))
-                table knows.means.table;
-            bucket = means;
-            making = tt;
-            work = tt;
-          };
-        }
+                table knows.means.table) means
 
     -- the holder stores the bucket's word without the lock, and this is known of the bucket then
     unlock_to : h.worker ≡ false → (place word : ℕ) (bucket after : KnownBucket) → HasLock env mix c G place word → knowing (Some place) bucket M G

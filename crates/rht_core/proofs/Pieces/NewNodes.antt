@@ -24,7 +24,7 @@ use Rattle.rht_arena.proofs.TakenWereFree.{claims}
 use Rattle.rht_core.proofs.Theory.Ghosts.{put-same, put-all, Owner, Free, Held, Ghost, IsUsed, is_used, is_taken_by, held_not_used, unused-unlisted, with_owner}
 use Rattle.rht_core.proofs.Theory.Wholes.{Whole}
 use Rattle.rht_core.proofs.Theory.Knowns.{KnownNode, KnownTable, KnownBucket, knows_plain}
-use Rattle.rht_core.proofs.Theory.Knowledge.{IsPlain, NodeMeans, TableMeans, Knowing}
+use Rattle.rht_core.proofs.Theory.Knowledge.{plainly, IsPlain, NodeMeans, TableMeans, Knowing}
 use Rattle.rht_core.proofs.Theory.Reliance.{members_used, TablesStay}
 use Rattle.rht_core.proofs.Theory.KnowledgeStays.{BucketMeans-own, TableMeans-stay, BucketMeans-stay}
 use Rattle.rht_core.proofs.Theory.Frames.{chains_stay, tables_stay}
@@ -195,22 +195,13 @@ module _ (env : Env) (mix : ℕ → ℕ → ℕ → ℕ) (c : ℕ) (h : Holding)
           holds = refl;
           leaves = inr (inl (record { node = known.node; word = w; has = refl; place = refl }));
         })
-        (record {
-          only = knows.only;
-          means = record {
-            node = word-known known w value M' knows.means.node write;
-            table = knows.means.table;
-            bucket = BucketMeans-stay env mix c M M' G G (members_used env mix M G whole)
-                (λ j holds. refl) (λ j n h i. refl)
-                (chains_stay env mix c M M' G (Node known.node w) value whole write
-                (λ n used e. not_mine n used (cc)))
-                (λ n l used. write.others (Node n KeyWord) l (λ e. not_mine n used (cc)))
-                (λ n l used. write.others (Node n OwnerWord) l (λ e. not_mine n used (cc))) (λ n. refl)
-                stays-same (λ port τ j is. is.unbound) bucket plain knows.means.bucket;
-            making = tt;
-            work = tt;
-          };
-        })
+        (plainly env mix knows.only (word-known known w value M' knows.means.node write) knows.means.table (BucketMeans-stay env mix c M M' G G (members_used env mix M G whole)
+            (λ j holds. refl) (λ j n h i. refl)
+            (chains_stay env mix c M M' G (Node known.node w) value whole write
+            (λ n used e. not_mine n used (cc)))
+            (λ n l used. write.others (Node n KeyWord) l (λ e. not_mine n used (cc)))
+            (λ n l used. write.others (Node n OwnerWord) l (λ e. not_mine n used (cc))) (λ n. refl)
+            stays-same (λ port τ j is. is.unbound) bucket plain knows.means.bucket))
 
     -- ---- a node is taken
 
@@ -234,8 +225,7 @@ module _ (env : Env) (mix : ℕ → ℕ → ℕ → ℕ) (c : ℕ) (h : Holding)
         moved env mix c words G op (holding None) (holding (Some n)) (knowing (Some n) (Some (bare n)))
         (TakesNode n) whole taken.1 tt taken.0
         (record { taking = claims env.geometry index bit word range free; none = refl; holds = refl })
-        (record {
-          only = record {
+        (plainly env mix (record {
             nodes = put-all (λ m o. o ≡ Held c → Some n ≡ Some m) G.node n (Held c) (λ e. refl)
                 (λ m ne held. let q = knows.only.nodes m held in absurd (cc));
             locks = knows.only.locks;
@@ -243,30 +233,22 @@ module _ (env : Env) (mix : ℕ → ℕ → ℕ → ℕ) (c : ℕ) (h : Holding)
             slots = knows.only.slots;
             pages_in = knows.only.pages_in;
             works = knows.only.works;
-          };
-          means = record {
-            node = record {
+          }) (record {
               has = record { mine = put-same G.node n (Held c); among = range.below };
               chain = tt;
               key = tt;
               owner = tt;
               list = tt;
-            };
-            table = tables-reowned n (Held c) (ap is_used taken.1) refl knows.means.table;
-            bucket = BucketMeans-own env mix c M M' G (with_owner G n (Held c))
-                (members_used env mix M G whole) (λ j holds. refl) (λ j m h i. refl)
-                (chains_stay env mix c M M' G (NodeMap index) (bit_and word (bit_not w64 (bit_of bit)))
-                whole write (λ m used e. cc))
-                (λ m l used. write.others (Node m KeyWord) l (λ e. cc))
-                (λ m l used. write.others (Node m OwnerWord) l (λ e. cc))
-                (put-all (λ m o. is_taken_by c o ≡ is_taken_by c (G.node m)) G.node n (Held c)
-                (sym (ap (is_taken_by c) taken.1)) (λ m ne. refl))
-                (stays-reowned n (Held c) (ap is_used taken.1) refl) (λ port τ j is. is.unbound) bucket
-                (λ x has. let none = knows.only.nodes x has.mine in absurd (cc)) knows.means.bucket;
-            making = tt;
-            work = tt;
-          };
-        })
+            }) (tables-reowned n (Held c) (ap is_used taken.1) refl knows.means.table) (BucketMeans-own env mix c M M' G (with_owner G n (Held c))
+            (members_used env mix M G whole) (λ j holds. refl) (λ j m h i. refl)
+            (chains_stay env mix c M M' G (NodeMap index) (bit_and word (bit_not w64 (bit_of bit)))
+            whole write (λ m used e. cc))
+            (λ m l used. write.others (Node m KeyWord) l (λ e. cc))
+            (λ m l used. write.others (Node m OwnerWord) l (λ e. cc))
+            (put-all (λ m o. is_taken_by c o ≡ is_taken_by c (G.node m)) G.node n (Held c)
+            (sym (ap (is_taken_by c) taken.1)) (λ m ne. refl))
+            (stays-reowned n (Held c) (ap is_used taken.1) refl) (λ port τ j is. is.unbound) bucket
+            (λ x has. let none = knows.only.nodes x has.mine in absurd (cc)) knows.means.bucket))
 
     -- one that finds the bit clear leaves the word
     claim_lost : (index bit : ℕ) → IsBitIn env.geometry.nodes index bit
@@ -290,23 +272,14 @@ module _ (env : Env) (mix : ℕ → ℕ → ℕ → ℕ) (c : ℕ) (h : Holding)
         moved env mix c words G op (holding None) (holding None) (knowing None None) Quiet whole tt tt
         (retouch env mix c index (bit_and word (bit_not w64 (bit_of bit))) M M' G whole low write same)
         (record { holds = refl; leaves = inl same })
-        (record {
-          only = knows.only;
-          means = record {
-            node = tt;
-            table = knows.means.table;
-            bucket = BucketMeans-own env mix c M M' G G (members_used env mix M G whole)
-                (λ j holds. refl) (λ j m h i. refl)
-                (chains_stay env mix c M M' G (NodeMap index) (bit_and word (bit_not w64 (bit_of bit)))
-                whole write (λ m used e. cc))
-                (λ m l used. write.others (Node m KeyWord) l (λ e. cc))
-                (λ m l used. write.others (Node m OwnerWord) l (λ e. cc)) (λ m. refl)
-                stays-same (λ port τ j is. is.unbound) bucket
-                (λ x has. let none = knows.only.nodes x has.mine in absurd (cc)) knows.means.bucket;
-            making = tt;
-            work = tt;
-          };
-        })
+        (plainly env mix knows.only tt knows.means.table (BucketMeans-own env mix c M M' G G (members_used env mix M G whole)
+            (λ j holds. refl) (λ j m h i. refl)
+            (chains_stay env mix c M M' G (NodeMap index) (bit_and word (bit_not w64 (bit_of bit)))
+            whole write (λ m used e. cc))
+            (λ m l used. write.others (Node m KeyWord) l (λ e. cc))
+            (λ m l used. write.others (Node m OwnerWord) l (λ e. cc)) (λ m. refl)
+            stays-same (λ port τ j is. is.unbound) bucket
+            (λ x has. let none = knows.only.nodes x has.mine in absurd (cc)) knows.means.bucket))
 
     -- what an operation of the taking leads to
     abbrev pub TakeMoved : Op → TakeNodeModel × Next (Option ℕ) → Type 0
@@ -359,8 +332,7 @@ module _ (env : Env) (mix : ℕ → ℕ → ℕ → ℕ) (c : ℕ) (h : Holding)
         whole knows.means.node.has.mine tt
         (give_node env mix c n M M' G whole has write)
         (record { giving = refl; has = refl; holds = refl })
-        (record {
-          only = record {
+        (plainly env mix (record {
             nodes = put-all (λ m o. o ≡ Held c → ◌≡◌ {A = Option ℕ} None (Some m)) G.node n Free
                 (λ e. absurd (cc))
                 (λ m ne held. let q = knows.only.nodes m held in absurd (ne (cc)));
@@ -369,24 +341,16 @@ module _ (env : Env) (mix : ℕ → ℕ → ℕ → ℕ) (c : ℕ) (h : Holding)
             slots = knows.only.slots;
             pages_in = knows.only.pages_in;
             works = knows.only.works;
-          };
-          means = record {
-            node = tt;
-            table = tables-reowned n Free (ap is_used has.mine) refl knows.means.table;
-            bucket = BucketMeans-stay env mix c M M' G (with_owner G n Free)
-                (members_used env mix M G whole) (λ j holds. refl) (λ j m h i. refl)
-                (chains_stay env mix c M M' G (NodeMap (n / 64))
-                (bit_or (M (NodeMap (n / 64))) (bit_of (n % 64))) whole write (λ m used e. cc))
-                (λ m l used. write.others (Node m KeyWord) l (λ e. cc))
-                (λ m l used. write.others (Node m OwnerWord) l (λ e. cc))
-                (put-all (λ m o. is_taken_by c o ≡ is_taken_by c (G.node m)) G.node n Free
-                (sym (ap (is_taken_by c) knows.means.node.has.mine)) (λ m ne. refl))
-                (stays-reowned n Free (ap is_used has.mine) refl) (λ port τ j is. is.unbound) bucket plain
-                knows.means.bucket;
-            making = tt;
-            work = tt;
-          };
-        })
+          }) tt (tables-reowned n Free (ap is_used has.mine) refl knows.means.table) (BucketMeans-stay env mix c M M' G (with_owner G n Free)
+            (members_used env mix M G whole) (λ j holds. refl) (λ j m h i. refl)
+            (chains_stay env mix c M M' G (NodeMap (n / 64))
+            (bit_or (M (NodeMap (n / 64))) (bit_of (n % 64))) whole write (λ m used e. cc))
+            (λ m l used. write.others (Node m KeyWord) l (λ e. cc))
+            (λ m l used. write.others (Node m OwnerWord) l (λ e. cc))
+            (put-all (λ m o. is_taken_by c o ≡ is_taken_by c (G.node m)) G.node n Free
+            (sym (ap (is_taken_by c) knows.means.node.has.mine)) (λ m ne. refl))
+            (stays-reowned n Free (ap is_used has.mine) refl) (λ port τ j is. is.unbound) bucket plain
+            knows.means.bucket))
 
     -- ---- a new node, state by state
 

@@ -35,8 +35,8 @@ use Rattle.rht_core.proofs.Theory.Ghosts.{put-same, put-all, Ghost, held_by, ind
 use Rattle.rht_core.proofs.Theory.Wholes.{chain_of, key_of, place_at, word_index, place_at-index, index-within, stop, Whole}
 use Rattle.rht_core.proofs.Theory.Passed.{NoKey, home-bucket, held-no_entry}
 use Rattle.rht_core.proofs.Theory.Knowns.{KnownNode, AtHome, KnownBucket, Unlocked, Locks, Stands, Differs, Missed, Found, knows_plain, StandsAt}
-use Rattle.rht_core.proofs.Theory.Knowledge.{HoldsLock, IsStanding, IsReaching, BucketMeans, Knowing}
-use Rattle.rht_core.proofs.Theory.Steps.{TakesLock, by_test, Holding, mem, Moved, moved, moved-map, loads}
+use Rattle.rht_core.proofs.Theory.Knowledge.{plainly, HoldsLock, IsStanding, IsReaching, BucketMeans, Knowing}
+use Rattle.rht_core.proofs.Theory.Steps.{bare, TakesLock, by_test, Holding, mem, Moved, moved, moved-map, loads}
 use Rattle.rht_core.proofs.Moves.Quiet.{take_lock, unworked_free, free-still}
 use Rattle.rht_core.proofs.Moves.Relinking.{last_of-more}
 use Rattle.rht_core.proofs.Pieces.Locks.{with-holder}
@@ -124,16 +124,7 @@ module _ (env : Env) (mix : ℕ → ℕ → ℕ → ℕ) (c : ℕ) (h : Holding)
       → knowing lock place bucket M G
       → BucketMeans env mix c M G more → knowing lock place more M G
   known_more lock place bucket more M G knows means =
-      record {
-        only = knows.only;
-        means = record {
-          node = knows.means.node;
-          table = knows.means.table;
-          bucket = means;
-          making = tt;
-          work = tt;
-        };
-      }
+      plainly env mix knows.only knows.means.node knows.means.table means
 
   -- ---- the walk
 
@@ -398,7 +389,7 @@ module _ (env : Env) (mix : ℕ → ℕ → ℕ → ℕ) (c : ℕ) (h : Holding)
           even = rw same even;
           locks = ap (λ w. word_after w op) same ∙ exchanged_word ∙ ap (λ w. w + 1) (sym same);
           none = refl;
-          holds = ap (λ p. holding (Some p)) (sym is);
+          holds = ap (λ p. bare (holding (Some p))) (sym is);
         })
         (with-holder env mix c h node (AtHome port slot shape place) words G all whole None place
         Unlocked (Some c) op (found + 1) knows write (unworked_free env mix G j taken.2) (Some place)

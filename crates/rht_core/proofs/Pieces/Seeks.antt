@@ -29,7 +29,7 @@ use Rattle.rht_core.specs.Counts.{takes_out}
 use Rattle.rht_core.proofs.Theory.Ghosts.{Ghost}
 use Rattle.rht_core.proofs.Theory.Wholes.{Whole}
 use Rattle.rht_core.proofs.Theory.Knowns.{KnownNode, KnownTable, Nowhere, Passes, AtHome, KnownBucket, Unlocked, Locks, Missed, Found, InList, KnownList, Known, knows_plain}
-use Rattle.rht_core.proofs.Theory.Knowledge.{Knowing}
+use Rattle.rht_core.proofs.Theory.Knowledge.{plainly, Knowing}
 use Rattle.rht_core.proofs.Theory.Answering.{IsLegalOn, IsRight, TellsOrRecalls, none_early, keeps, learns, recalls}
 use Rattle.rht_core.proofs.Theory.Steps.{Holding, mem, owners, owners_in, Moved, moved-map, StepWhere, answered_where, answered, reads, still_has}
 use Rattle.rht_core.proofs.Pieces.Locates.{known_locate, IsThereAt, first_passed, locate_step, LocateKnows, LocatedKnows, LocateSays, Recalls, locate_says, FutureIs, future_is}
@@ -202,10 +202,7 @@ module _ (env : Env) (mix : ℕ → ℕ → ℕ → ℕ) (c : ℕ) (call : Call)
         (recalls kind c call hn There now absent right takes_none says.missing))
         (none_early kind c call There ⊥ now h.early None refl) (still_has refl)
         (moved-map env mix c words G (locate_plan locate) h h _ (SeekNext (at.Locating next, Done None))
-        (λ M' G' w k. record {
-          only = k.only;
-          means = record { node = k.means.node; table = tt; bucket = tt; making = tt; work = tt };
-        }) step)
+        (λ M' G' w k. plainly env mix k.only k.means.node tt tt) step)
 
     found_place : (locate : LocateModel) (r : LocateModel × Next Located)
         → LocateMoved locate (KnowsThen locate r) → SaysThen locate r
@@ -229,21 +226,12 @@ module _ (env : Env) (mix : ℕ → ℕ → ℕ → ℕ) (c : ℕ) (call : Call)
     seen_knows table shape probe end None M' G' k =
         let table = k.means.table in
         record {
-          knowing = record {
-            only = k.only;
-            means = record {
-              node = k.means.node;
-              table = record {
+          knowing = plainly env mix k.only k.means.node (record {
                 passing = table.passing;
                 shape_is = tt;
                 bucket = table.bucket;
                 here = table.here;
-              };
-              bucket = k.means.bucket;
-              making = tt;
-              work = tt;
-            };
-          };
+              }) k.means.bucket;
           fits = tt;
         }
     seen_knows table shape probe end (Some node) M' G' k = k
@@ -283,37 +271,13 @@ module _ (env : Env) (mix : ℕ → ℕ → ℕ → ℕ) (c : ℕ) (call : Call)
         (at_lock (Some bucket.place)) (held_of_seek hn absent next) (SeekNext (next, Go)) whole refl refl
         (learns env.config.kind c call hn now absent right takes_none
         (legal (ap (owners_in env mix M) unbound)))
-        (record {
-          knowing = record {
-            only = known.knowing.only;
-            means = record {
-              node = known.knowing.means.node;
-              table = tt;
-              bucket = known.knowing.means.bucket.lock;
-              making = tt;
-              work = tt;
-            };
-          };
-          fits = tt;
-        })
+        (record { knowing = plainly env mix known.knowing.only known.knowing.means.node tt known.knowing.means.bucket.lock; fits = tt })
     future_next table bucket (Some slot) passing known =
         let next = leaving table bucket (Some slot) in
         reads env mix c call words G (seek_plan_at env.geometry (at.Future table bucket))
         (at_lock (Some bucket.place)) (held_of_seek hn absent next) (SeekNext (next, Go)) whole refl refl
         (inl refl)
-        (record {
-          knowing = record {
-            only = known.knowing.only;
-            means = record {
-              node = known.knowing.means.node;
-              table = passing;
-              bucket = known.knowing.means.bucket.lock;
-              making = tt;
-              work = tt;
-            };
-          };
-          fits = tt;
-        })
+        (record { knowing = plainly env mix known.knowing.only known.knowing.means.node passing known.knowing.means.bucket.lock; fits = tt })
 
     seek_step_at : (at : SeekAt) → IsSeekAtIn env.geometry at → SeekKnows at M G
         → SeekMoved at (seek_after_at mix env.geometry port at (old_of words (seek_plan_at env.geometry at)))
@@ -321,19 +285,7 @@ module _ (env : Env) (mix : ℕ → ℕ → ℕ → ℕ) (c : ℕ) (call : Call)
         let next = locating env.geometry (table_of (M CurrentTable)) in
         reads env mix c call words G (seek_plan_at env.geometry at.CurrentTable) (at_lock None) (at_lock None)
         (SeekNext (next, Go)) whole refl refl (inl refl)
-        (record {
-          knowing = record {
-            only = known.knowing.only;
-            means = record {
-              node = known.knowing.means.node;
-              table = first_passed env mix c (at_lock None) own Unlocked words G whole port;
-              bucket = tt;
-              making = tt;
-              work = tt;
-            };
-          };
-          fits = tt;
-        })
+        (record { knowing = plainly env mix known.knowing.only known.knowing.means.node (first_passed env mix c (at_lock None) own Unlocked words G whole port) tt; fits = tt })
     seek_step_at (at.Locating locate) is known =
         let h = held_of_seek hn absent (at.Locating locate) in
         found_place locate (locate_after mix port locate (old_of words (locate_plan locate)))

@@ -16,7 +16,7 @@ use Rattle.rht_core.proofs.Theory.Ghosts.{put-all, Ghost, lock_bit, held_by, wit
 use Rattle.rht_core.proofs.Theory.Wholes.{place_at, word_index, place_at-index, index-within, Whole}
 use Rattle.rht_core.proofs.Theory.Knowns.{KnownMaking, MakesNothing, NoAim, KnownRehash, KnownPlace, KnownWork, Empties, Faces, InBucket, Bare, Known, Nowhere, Unlocked}
 use Rattle.rht_core.proofs.Theory.Knowledge.{HasOnly, WorkMeans, Knowing}
-use Rattle.rht_core.proofs.Theory.Steps.{TakesLock, DropsLock, by_test, Holding, mem, Moved, moved, loads}
+use Rattle.rht_core.proofs.Theory.Steps.{bare, TakesLock, DropsLock, by_test, Holding, mem, Moved, moved, loads}
 use Rattle.rht_core.proofs.Moves.Working.{lock_work, unlock_work}
 use Rattle.rht_core.proofs.Theory.Passed.{held-no_entry}
 
@@ -122,7 +122,7 @@ module _ (env : Env) (mix : ℕ → ℕ → ℕ → ℕ) (c : ℕ) (h : Holding)
           even = rw same even;
           locks = ap (λ w. word_after w op) same ∙ exchanged_word found place ∙ ap (λ w. w + 1) (sym same);
           none = refl;
-          holds = ap (λ p. holding (Some p)) (sym at);
+          holds = ap (λ p. bare (holding (Some p))) (sym at);
         })
         (record {
           only = held_only j None (Some place) (Some c) knows.only (λ e. inl (ap Some (sym at)))

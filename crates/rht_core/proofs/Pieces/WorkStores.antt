@@ -23,7 +23,7 @@ use Rattle.rht_core.proofs.Theory.Knowns.{MakesNothing, KnownAim, NoAim, KnownRe
 use Rattle.rht_core.proofs.Theory.Knowledge.{Only, WorkMeans, Knowing}
 use Rattle.rht_core.proofs.Theory.Frames.{still}
 use Rattle.rht_core.proofs.Theory.Departures.{cut_plain}
-use Rattle.rht_core.proofs.Theory.Steps.{DropsLock, TakesWork, GivesWork, BeginsMoving, TakesSecond, Leaves, Arrives, CutsOff, Publishes, Retires, cut_place, by_test, unchanged, Holding, mem, Moved, moved, loads}
+use Rattle.rht_core.proofs.Theory.Steps.{bare, DropsLock, TakesWork, GivesWork, BeginsMoving, TakesSecond, Leaves, Arrives, CutsOff, Publishes, Retires, cut_place, by_test, unchanged, Holding, mem, Moved, moved, loads}
 use Rattle.rht_core.proofs.Moves.Relinking.{last_in, relink_address}
 use Rattle.rht_core.proofs.Moves.WorkLocks.{take_work}
 use Rattle.rht_core.proofs.Moves.CutOffs.{cut_value}
@@ -222,7 +222,7 @@ module _ (env : Env) (mix : ℕ → ℕ → ℕ → ℕ) (c : ℕ) (h : Holding)
             first = at.place;
             has = refl;
             none = refl;
-            holds = ap (λ p. holding (Some at.place) (Some p)) (sym there);
+            holds = ap (λ p. bare (holding (Some at.place) (Some p))) (sym there);
           })
           (knows_so (holding (Some at.place) (Some place)) (Brings root at entry place found) (after op) _
           (relocked i (Some at.place) None (Some at.place) (Some place) (Some c) knows.only

@@ -19,7 +19,7 @@ use Rattle.rht_core.specs.Jobs.{Job, works, held_of, held_next, job_after}
 use Rattle.rht_core.proofs.Theory.Ghosts.{Table, Ghost, put-same, made_table, some-same}
 use Rattle.rht_core.proofs.Theory.Wholes.{Whole}
 use Rattle.rht_core.proofs.Theory.Readiness.{IsAttaching}
-use Rattle.rht_core.proofs.Theory.Steps.{Move, Quiet, TakesNode, GivesNode, TakesLock, DropsLock, Raises, Links, Lowers, Rebinds, LinksBehind, Arms, TakesSlot, GivesSlot, TakesPages, GivesPages, Attaches, Enters, TakesWork, GivesWork, BeginsMoving, TakesSecond, Leaves, Arrives, CutsOff, Publishes, Retires, Holding, DoesAttach, ReadyFor, Does, ghost_after, mem}
+use Rattle.rht_core.proofs.Theory.Steps.{bare, Move, Quiet, TakesNode, GivesNode, TakesLock, DropsLock, Raises, Links, Lowers, Rebinds, LinksBehind, Arms, TakesSlot, GivesSlot, TakesPages, GivesPages, Attaches, Enters, TakesWork, GivesWork, BeginsMoving, TakesSecond, Leaves, Arrives, CutsOff, Publishes, Retires, Holding, DoesAttach, ReadyFor, Does, ghost_after, mem}
 use Rattle.rht_core.proofs.Tracing.TracedJobs.{Performs}
 use Rattle.rht_core.proofs.Reasons.AttachedTables.{IsNoFutureExchange}
 
@@ -256,7 +256,7 @@ module _ (env : Env) (mix : ℕ → ℕ → ℕ → ℕ) where
               subst (ReadyFor env mix does.caller M G) attach.is step.ready in
               let attaches : DoesAttach env.geometry attach.slot did.op (old_of does.words did.op)
               (held_of (works (at.Attaching root last slot shape)))
-              (held_next (job_after mix env (works (at.Attaching root last slot shape)) did.old)) =
+              (bare (held_next (job_after mix env (works (at.Attaching root last slot shape)) did.old))) =
               subst (λ m. Does env mix m did.op (old_of does.words did.op) (held_of (works (at.Attaching root last slot shape)))
               (held_next (job_after mix env (works (at.Attaching root last slot shape)) did.old))) attach.is step.does in
               let slots : attach.slot ≡ slot = some-same attach.slot slot (sym attaches.has) in

@@ -16,7 +16,7 @@ use Rattle.rht_nest.specs.Place.{PlaceModel, nested_place, entered}
 use Rattle.rht_core.proofs.Theory.Ghosts.{Bucket, Held, Leaving, Middle, PageHeld, PageOf, SlotHeld, Ghost, is_taken_by, has_table, index_at}
 use Rattle.rht_core.proofs.Theory.Wholes.{AreRetired, chain_of, key_of, place_at, word_index, hash_in, home, pages_of, MovesNone, moves_none, IsFurther, Whole}
 use Rattle.rht_core.proofs.Theory.Passed.{NoKey, Passed}
-use Rattle.rht_core.proofs.Theory.Knowns.{Armed, KnownAim, NoAim, Onward, From, Beyond, KnownRehash, KnownPlace, Follows, Nears, Faces, InBucket, Bare, Aims, LeavesBehind, AtEntry, AtHome, AtNode, AtTail, Brings, Collected, CollectedTo, CutsOut, Differing, Differs, Empties, FirstLink, Found, HasBrought, HasMade, HasPages, HasTaken, InList, InSlot, IsAmong, IsCollected, IsCollectedTo, IsCutOut, IsLeading, IsLeadingTo, IsOtherOwner, IsOwnersNode, IsPromoting, Known, KnownBucket, KnownEntry, KnownList, KnownMaking, KnownNode, KnownSlot, KnownTable, KnownWork, Leads, LeadsTo, Listing, Locks, LocksTakenOut, MakesNothing, Matching, Member, Missed, NoWork, Nowhere, OnWay, Passes, Promotes, Replaces, Rooted, Shaped, Stands, StandsAt, StandsInList, Succeeds, TakenOut, TakesOut, Unlocked, Unlocks, WithShape, Works, last_of}
+use Rattle.rht_core.proofs.Theory.Knowns.{knows_plain, Armed, KnownAim, NoAim, Onward, From, Beyond, KnownRehash, KnownPlace, Follows, Nears, Faces, InBucket, Bare, Aims, LeavesBehind, AtEntry, AtHome, AtNode, AtTail, Brings, Collected, CollectedTo, CutsOut, Differing, Differs, Empties, FirstLink, Found, HasBrought, HasMade, HasPages, HasTaken, InList, InSlot, IsAmong, IsCollected, IsCollectedTo, IsCutOut, IsLeading, IsLeadingTo, IsOtherOwner, IsOwnersNode, IsPromoting, Known, KnownBucket, KnownEntry, KnownList, KnownMaking, KnownNode, KnownSlot, KnownTable, KnownWork, Leads, LeadsTo, Listing, Locks, LocksTakenOut, MakesNothing, Matching, Member, Missed, NoWork, Nowhere, OnWay, Passes, Promotes, Replaces, Rooted, Shaped, Stands, StandsAt, StandsInList, Succeeds, TakenOut, TakesOut, Unlocked, Unlocks, WithShape, Works, last_of}
 use Rattle.rht_core.proofs.Theory.Ways.{first_page, entries_in, IsNestedShape}
 
 -- the caller does the work, and each table before the current one is retired, but for the one in this slot
@@ -494,3 +494,11 @@ module _ (env : Env) (mix : ℕ → ℕ → ℕ → ℕ) where
       Type 0 where
     pub only : Only c G h
     pub means : Means c M G known
+
+  -- what is known of a call that makes no table and doesn't do the work
+  pub plainly : {A : Type 0} {c : ℕ} {h : held.Held A} {node : Option KnownNode} {table : KnownTable} {bucket : KnownBucket}
+      {M : Memory} {G : Ghost}
+      → Only c G h → IfSome node (NodeMeans c M G) → TableMeans G table → BucketMeans c M G bucket
+      → Knowing c h (knows_plain node table bucket) M G
+  plainly only node table bucket =
+      record { only = only; means = record { node = node; table = table; bucket = bucket; making = tt; work = tt } }

@@ -77,9 +77,13 @@ unchanged words op same = rw same (set-get_or words (op_place op) 0)
 abbrev pub Holding : Type 0
 Holding = held.Held Answer
 
--- it holds the same, whatever is known of its answer, now and early
+-- what it holds, whatever is known of its answer, now and early
+abbrev pub bare : Holding → Holding
+bare h = record h { answer = None; early = None }
+
+-- it holds the same
 abbrev pub HoldsSame : Holding → Holding → Type 0
-HoldsSame h h' = h' ≡ record h { answer = h'.answer; early = h'.early }
+HoldsSame h h' = bare h' ≡ bare h
 
 -- the same, and nothing is known early
 abbrev pub HoldsNoneEarly : Holding → Holding → Type 0
@@ -139,43 +143,43 @@ module _ (g : Geometry) where
   pub record DoesTakeNode (node : ℕ) (op : Op) (old : ℕ) (h h' : Holding) : Type 0 where
     pub taking : IsTaking g node old op
     pub none : h.node ≡ None
-    pub holds : h' ≡ record h { node = Some node; answer = h'.answer; early = h'.early }
+    pub holds : bare h' ≡ record (bare h) { node = Some node }
 
   pub record DoesGiveNode (node : ℕ) (op : Op) (h h' : Holding) : Type 0 where
     pub giving : op ≡ Or (map_place g node) (bit_of (map_bit node))
     pub has : h.node ≡ Some node
-    pub holds : h' ≡ record h { node = None; answer = h'.answer; early = h'.early }
+    pub holds : bare h' ≡ record (bare h) { node = None }
 
   pub record DoesTakeLock (place : ℕ) (op : Op) (old : ℕ) (h h' : Holding) : Type 0 where
     pub on : op_place op ≡ place
     pub even : old % 2 ≡ 0
     pub locks : word_after old op ≡ old + 1
     pub none : h.lock ≡ None
-    pub holds : h' ≡ record h { lock = Some place; answer = h'.answer; early = h'.early }
+    pub holds : bare h' ≡ record (bare h) { lock = Some place }
 
   pub record DoesDropLock (place : ℕ) (op : Op) (old : ℕ) (h h' : Holding) : Type 0 where
     pub on : op_place op ≡ place
     pub even : word_after old op % 2 ≡ 0
     pub unlocks : old ≡ word_after old op + 1
     pub has : h.lock ≡ Some place
-    pub holds : h' ≡ record h { lock = None; answer = h'.answer; early = h'.early }
+    pub holds : bare h' ≡ record (bare h) { lock = None }
 
   pub record DoesRaise (op : Op) (h h' : Holding) : Type 0 where
     pub adds : op ≡ Add (place_of g PortCount) 1
     pub low : h.raised ≡ false
-    pub holds : h' ≡ record h { raised = true; answer = h'.answer; early = h'.early }
+    pub holds : bare h' ≡ record (bare h) { raised = true }
 
   pub record DoesLink (node place : ℕ) (op : Op) (h h' : Holding) : Type 0 where
     pub on : op_place op ≡ place
     pub has : h.node ≡ Some node
     pub lock : h.lock ≡ Some place
     pub raised : h.raised ≡ true
-    pub holds : h' ≡ record h { node = None; lock = None; raised = false; answer = h'.answer; early = h'.early }
+    pub holds : bare h' ≡ record (bare h) { node = None; lock = None; raised = false }
 
   pub record DoesLower (op : Op) (h h' : Holding) : Type 0 where
     pub subtracts : op ≡ Sub (place_of g PortCount) 1
     pub high : h.raised ≡ true
-    pub holds : h' ≡ record h { raised = false; answer = h'.answer; early = h'.early }
+    pub holds : bare h' ≡ record (bare h) { raised = false }
 
   -- The store is on a word of a node or of a bucket; the call has the node that it had, or none, and the lock or none. Its answer is
   -- known from then on, and says that bindings were changed.
@@ -199,7 +203,7 @@ module _ (g : Geometry) where
     pub taking : op ≡ Exchange (place_of g (Slot slot StateWord)) 0 1
     pub free : old ≡ 0
     pub none : h.slot ≡ None
-    pub holds : h' ≡ record h { slot = Some slot; answer = h'.answer; early = h'.early }
+    pub holds : bare h' ≡ record (bare h) { slot = Some slot }
 
   -- the pages of a slot are given back before it
   pub record DoesGiveSlot (slot : ℕ) (op : Op) (h h' : Holding) : Type 0 where
@@ -207,7 +211,7 @@ module _ (g : Geometry) where
     pub giving : op ≡ Store (place_of g (Slot slot StateWord)) 0
     pub has : h.slot ≡ Some slot
     pub empty : h.pages ≡ []
-    pub holds : h' ≡ record h { slot = None; answer = h'.answer; early = h'.early }
+    pub holds : bare h' ≡ record (bare h) { slot = None }
 
   -- the operation clears these bits of a word of the map of pages, all of which it found set, and leaves the others
   pub record ClearsBits (index bits : ℕ) (op : Op) (old : ℕ) : Type 0 where
@@ -219,7 +223,7 @@ module _ (g : Geometry) where
   pub record DoesTakePages (index bits : ℕ) (op : Op) (old : ℕ) (h h' : Holding) : Type 0 where
     pub clears : ClearsBits index bits op old
     pub pages : (p : ℕ) → In p h'.pages ↔ (In p h.pages ⊎ (has_bit index bits p ≡ true))
-    pub holds : h' ≡ record h { pages = h'.pages; answer = h'.answer; early = h'.early }
+    pub holds : bare h' ≡ record (bare h) { pages = h'.pages }
 
   -- or sets them, and leaves the others
   pub record SetsBits (index bits : ℕ) (op : Op) (old : ℕ) : Type 0 where
@@ -231,7 +235,7 @@ module _ (g : Geometry) where
     pub sets : SetsBits index bits op old
     pub had : (p : ℕ) → has_bit index bits p ≡ true → In p h.pages
     pub pages : (p : ℕ) → In p h'.pages ↔ (In p h.pages × (has_bit index bits p ≡ false))
-    pub holds : h' ≡ record h { pages = h'.pages; answer = h'.answer; early = h'.early }
+    pub holds : bare h' ≡ record (bare h) { pages = h'.pages }
 
   -- the exchange of the future of a table, in whose slot this is, finds that nothing follows it
   pub record DoesAttach (slot : ℕ) (op : Op) (old : ℕ) (h h' : Holding) : Type 0 where
@@ -240,7 +244,7 @@ module _ (g : Geometry) where
     pub attaching : op ≡ Exchange (place_of g (Slot last FutureWord)) 0 (future_of slot)
     pub found : old ≡ 0
     pub has : h.slot ≡ Some slot
-    pub holds : h' ≡ record h { slot = None; pages = []; answer = h'.answer; early = h'.early }
+    pub holds : bare h' ≡ record (bare h) { slot = None; pages = [] }
 
   -- the exchange of an entry finds that it leads to no page
   pub record DoesEnter (entry page : ℕ) (op : Op) (old : ℕ) (h h' : Holding) : Type 0 where
@@ -248,25 +252,25 @@ module _ (g : Geometry) where
     pub found : old ≡ 0
     pub had : In page h.pages
     pub pages : (p : ℕ) → In p h'.pages ↔ (In p h.pages × (p ≢ page))
-    pub holds : h' ≡ record h { pages = h'.pages; answer = h'.answer; early = h'.early }
+    pub holds : bare h' ≡ record (bare h) { pages = h'.pages }
 
   pub record DoesTakeWork (op : Op) (old : ℕ) (h h' : Holding) : Type 0 where
     pub taking : op ≡ Exchange (place_of g WorkLock) 0 1
     pub free : old ≡ 0
     pub idle : h.worker ≡ false
-    pub holds : h' ≡ record h { worker = true; answer = h'.answer; early = h'.early }
+    pub holds : bare h' ≡ record (bare h) { worker = true }
 
   pub record DoesGiveWork (op : Op) (h h' : Holding) : Type 0 where
     pub giving : op ≡ Store (place_of g WorkLock) 0
     pub has : h.worker ≡ true
-    pub holds : h' ≡ record h { worker = false; moving = false; answer = h'.answer; early = h'.early }
+    pub holds : bare h' ≡ record (bare h) { worker = false; moving = false }
 
   -- an operation that leaves its word, from which on entries are moved
   pub record DoesBeginMoving (op : Op) (old : ℕ) (h h' : Holding) : Type 0 where
     pub leaves : word_after old op ≡ old
     pub has : h.worker ≡ true
     pub still : h.moving ≡ false
-    pub holds : h' ≡ record h { moving = true; answer = h'.answer; early = h'.early }
+    pub holds : bare h' ≡ record (bare h) { moving = true }
 
   -- the lock of another bucket, beside that of a first one
   pub record DoesTakeSecond (place : ℕ) (op : Op) (old : ℕ) (h h' : Holding) : Type 0 where
@@ -277,7 +281,7 @@ module _ (g : Geometry) where
     pub first : ℕ
     pub has : h.lock ≡ Some first
     pub none : h.second ≡ None
-    pub holds : h' ≡ record h { second = Some place; answer = h'.answer; early = h'.early }
+    pub holds : bare h' ≡ record (bare h) { second = Some place }
 
   pub record DoesLeave (entry : ℕ) (op : Op) (h h' : Holding) : Type 0 where
     pub on : op_place op ≡ place_of g (Node entry ChainLink)
@@ -289,7 +293,7 @@ module _ (g : Geometry) where
     pub on : op_place op ≡ place
     pub moves : h.moving ≡ true
     pub has : h.second ≡ Some place
-    pub holds : h' ≡ record h { second = None; answer = h'.answer; early = h'.early }
+    pub holds : bare h' ≡ record (bare h) { second = None }
 
   -- a bucket is cut off in the link of the node before its last entry, or in its word
   abbrev pub cut_place : ℕ → Option ℕ → ℕ
@@ -387,33 +391,33 @@ module _ (env : Env) (mix : ℕ → ℕ → ℕ → ℕ) where
 
   -- which operation the move is, and how what the call holds changes by it
   abbrev pub Does : Move → Op → ℕ → Holding → Holding → Type 0
-  Does Quiet op old h h' = DoesQuiet env.geometry op old h h'
-  Does (TakesNode n) op old h h' = DoesTakeNode env.geometry n op old h h'
-  Does (GivesNode n) op old h h' = DoesGiveNode env.geometry n op h h'
-  Does (TakesLock j) op old h h' = DoesTakeLock env.geometry (place_at env mix j) op old h h'
-  Does (DropsLock j) op old h h' = DoesDropLock env.geometry (place_at env mix j) op old h h'
-  Does Raises op old h h' = DoesRaise env.geometry op h h'
-  Does (Links n port j) op old h h' = DoesLink env.geometry n (place_at env mix j) op h h'
-  Does Lowers op old h h' = DoesLower env.geometry op h h'
+  Does Quiet op old h h' = DoesQuiet env.geometry op old h (bare h')
+  Does (TakesNode n) op old h h' = DoesTakeNode env.geometry n op old h (bare h')
+  Does (GivesNode n) op old h h' = DoesGiveNode env.geometry n op h (bare h')
+  Does (TakesLock j) op old h h' = DoesTakeLock env.geometry (place_at env mix j) op old h (bare h')
+  Does (DropsLock j) op old h h' = DoesDropLock env.geometry (place_at env mix j) op old h (bare h')
+  Does Raises op old h h' = DoesRaise env.geometry op h (bare h')
+  Does (Links n port j) op old h h' = DoesLink env.geometry n (place_at env mix j) op h (bare h')
+  Does Lowers op old h h' = DoesLower env.geometry op h (bare h')
   Does (Rebinds change) op old h h' = DoesRebind env.geometry change.raised
       (place_at env mix change.place) op h h'
-  Does (LinksBehind n) op old h h' = DoesLinkBehind env.geometry n op h h'
-  Does (Arms j) op old h h' = DoesQuiet env.geometry op old h h'
-  Does (TakesSlot s) op old h h' = DoesTakeSlot env.geometry s op old h h'
-  Does (GivesSlot s) op old h h' = DoesGiveSlot env.geometry s op h h'
-  Does (TakesPages index bits) op old h h' = DoesTakePages env.geometry index bits op old h h'
-  Does (GivesPages index bits) op old h h' = DoesGivePages env.geometry index bits op old h h'
-  Does (Attaches slot shape seed serial) op old h h' = DoesAttach env.geometry slot op old h h'
-  Does (Enters j p) op old h h' = DoesEnter env.geometry j p op old h h'
-  Does TakesWork op old h h' = DoesTakeWork env.geometry op old h h'
-  Does GivesWork op old h h' = DoesGiveWork env.geometry op h h'
-  Does BeginsMoving op old h h' = DoesBeginMoving env.geometry op old h h'
-  Does (TakesSecond i) op old h h' = DoesTakeSecond env.geometry (place_at env mix i) op old h h'
-  Does (Leaves j i entry nodes) op old h h' = DoesLeave env.geometry entry op h h'
-  Does (Arrives j i entry) op old h h' = DoesArrive env.geometry (place_at env mix i) op h h'
-  Does (CutsOff j entry before) op old h h' = DoesCutOff env.geometry (place_at env mix j) before op h h'
-  Does Publishes op old h h' = DoesPublish env.geometry op h h'
-  Does (Retires s) op old h h' = DoesRetire env.geometry s op h h'
+  Does (LinksBehind n) op old h h' = DoesLinkBehind env.geometry n op h (bare h')
+  Does (Arms j) op old h h' = DoesQuiet env.geometry op old h (bare h')
+  Does (TakesSlot s) op old h h' = DoesTakeSlot env.geometry s op old h (bare h')
+  Does (GivesSlot s) op old h h' = DoesGiveSlot env.geometry s op h (bare h')
+  Does (TakesPages index bits) op old h h' = DoesTakePages env.geometry index bits op old h (bare h')
+  Does (GivesPages index bits) op old h h' = DoesGivePages env.geometry index bits op old h (bare h')
+  Does (Attaches slot shape seed serial) op old h h' = DoesAttach env.geometry slot op old h (bare h')
+  Does (Enters j p) op old h h' = DoesEnter env.geometry j p op old h (bare h')
+  Does TakesWork op old h h' = DoesTakeWork env.geometry op old h (bare h')
+  Does GivesWork op old h h' = DoesGiveWork env.geometry op h (bare h')
+  Does BeginsMoving op old h h' = DoesBeginMoving env.geometry op old h (bare h')
+  Does (TakesSecond i) op old h h' = DoesTakeSecond env.geometry (place_at env mix i) op old h (bare h')
+  Does (Leaves j i entry nodes) op old h h' = DoesLeave env.geometry entry op h (bare h')
+  Does (Arrives j i entry) op old h h' = DoesArrive env.geometry (place_at env mix i) op h (bare h')
+  Does (CutsOff j entry before) op old h h' = DoesCutOff env.geometry (place_at env mix j) before op h (bare h')
+  Does Publishes op old h h' = DoesPublish env.geometry op h (bare h')
+  Does (Retires s) op old h h' = DoesRetire env.geometry s op h (bare h')
 
   -- An operation of a caller in a call, which holds this before it and that after it, with what it knows afterwards.
   -- `early` is for a call that finds a page missing and answers as of its load of a future before, since which others may have bound the port:
@@ -678,145 +682,9 @@ module _ (env : Env) (mix : ℕ → ℕ → ℕ → ℕ) where
       → LinksNone move
       → Does move op old h h'
       → Does move op old h (with_known h' answer early)
-  does-answered Quiet op old h h' answer early none does =
-      record { holds = ap (λ x. with_known x answer early) does.holds; leaves = does.leaves }
-  does-answered (TakesNode n) op old h h' answer early none does =
-      record { taking = does.taking; none = does.none; holds = ap (λ x. with_known x answer early) does.holds }
-  does-answered (GivesNode n) op old h h' answer early none does =
-      record { giving = does.giving; has = does.has; holds = ap (λ x. with_known x answer early) does.holds }
-  does-answered (TakesLock j) op old h h' answer early none does = record {
-    on = does.on;
-    even = does.even;
-    locks = does.locks;
-    none = does.none;
-    holds = ap (λ x. with_known x answer early) does.holds;
-  }
-  does-answered (DropsLock j) op old h h' answer early none does = record {
-    on = does.on;
-    even = does.even;
-    unlocks = does.unlocks;
-    has = does.has;
-    holds = ap (λ x. with_known x answer early) does.holds;
-  }
-  does-answered Raises op old h h' answer early none does =
-      record { adds = does.adds; low = does.low; holds = ap (λ x. with_known x answer early) does.holds }
-  does-answered (Links n port j) op old h h' answer early none does = record {
-    on = does.on;
-    has = does.has;
-    lock = does.lock;
-    raised = does.raised;
-    holds = ap (λ x. with_known x answer early) does.holds;
-  }
-  does-answered Lowers op old h h' answer early none does =
-      record {
-        subtracts = does.subtracts;
-        high = does.high;
-        holds = ap (λ x. with_known x answer early) does.holds;
-      }
+  does-answered (Links n port j) op old h h' answer early none does = absurd none
   does-answered (Rebinds change) op old h h' answer early none does = absurd none
-  does-answered (LinksBehind n) op old h h' answer early none does = record {
-    on = does.on;
-    locked = does.locked;
-    none = does.none;
-    holds = ap (λ x. with_known x answer early) does.holds;
-  }
-  does-answered (Arms j) op old h h' answer early none does =
-      record { holds = ap (λ x. with_known x answer early) does.holds; leaves = does.leaves }
-  does-answered (TakesSlot s) op old h h' answer early none does = record {
-    within = does.within;
-    taking = does.taking;
-    free = does.free;
-    none = does.none;
-    holds = ap (λ x. with_known x answer early) does.holds;
-  }
-  does-answered (GivesSlot s) op old h h' answer early none does = record {
-    within = does.within;
-    giving = does.giving;
-    has = does.has;
-    empty = does.empty;
-    holds = ap (λ x. with_known x answer early) does.holds;
-  }
-  does-answered (TakesPages index bits) op old h h' answer early none does = record {
-    clears = does.clears;
-    pages = does.pages;
-    holds = ap (λ x. with_known x answer early) does.holds;
-  }
-  does-answered (GivesPages index bits) op old h h' answer early none does = record {
-    sets = does.sets;
-    had = does.had;
-    pages = does.pages;
-    holds = ap (λ x. with_known x answer early) does.holds;
-  }
-  does-answered (Attaches slot shape seed serial) op old h h' answer early none does = record {
-    last = does.last;
-    within = does.within;
-    attaching = does.attaching;
-    found = does.found;
-    has = does.has;
-    holds = ap (λ x. with_known x answer early) does.holds;
-  }
-  does-answered (Enters j p) op old h h' answer early none does = record {
-    entering = does.entering;
-    found = does.found;
-    had = does.had;
-    pages = does.pages;
-    holds = ap (λ x. with_known x answer early) does.holds;
-  }
-  does-answered TakesWork op old h h' answer early none does = record {
-    taking = does.taking;
-    free = does.free;
-    idle = does.idle;
-    holds = ap (λ x. with_known x answer early) does.holds;
-  }
-  does-answered GivesWork op old h h' answer early none does = record {
-    giving = does.giving;
-    has = does.has;
-    holds = ap (λ x. with_known x answer early) does.holds;
-  }
-  does-answered BeginsMoving op old h h' answer early none does = record {
-    leaves = does.leaves;
-    has = does.has;
-    still = does.still;
-    holds = ap (λ x. with_known x answer early) does.holds;
-  }
-  does-answered (TakesSecond i) op old h h' answer early none does = record {
-    on = does.on;
-    even = does.even;
-    locks = does.locks;
-    moves = does.moves;
-    first = does.first;
-    has = does.has;
-    none = does.none;
-    holds = ap (λ x. with_known x answer early) does.holds;
-  }
-  does-answered (Leaves j i entry nodes) op old h h' answer early none does = record {
-    on = does.on;
-    moves = does.moves;
-    holds = ap (λ x. with_known x answer early) does.holds;
-  }
-  does-answered (Arrives j i entry) op old h h' answer early none does = record {
-    on = does.on;
-    moves = does.moves;
-    has = does.has;
-    holds = ap (λ x. with_known x answer early) does.holds;
-  }
-  does-answered (CutsOff j entry before) op old h h' answer early none does = record {
-    on = does.on;
-    moves = does.moves;
-    lock = does.lock;
-    holds = ap (λ x. with_known x answer early) does.holds;
-  }
-  does-answered Publishes op old h h' answer early none does = record {
-    on = does.on;
-    moves = does.moves;
-    holds = ap (λ x. with_known x answer early) does.holds;
-  }
-  does-answered (Retires s) op old h h' answer early none does = record {
-    within = does.within;
-    retiring = does.retiring;
-    moves = does.moves;
-    holds = ap (λ x. with_known x answer early) does.holds;
-  }
+  does-answered _ op old h h' answer early none does = does
 
   -- an operation that leaves bindings is a step, with what it says of the answer on the bindings as they are, now and early
   pub answered_where : (There There' : Type 0) (c : ℕ) (call : Call) (words : List ℕ) (G : Ghost) (op : Op) (h h' : Holding)
@@ -867,7 +735,7 @@ module _ (env : Env) (mix : ℕ → ℕ → ℕ → ℕ) where
       → StepWhere There There' c call words G op h h' Knows
   reads {There} {There'} c call words G op h h' Knows whole same holds tells knows =
       let none : h'.early ≡ None = ap (λ (x : Holding). x.early) holds in
-      let too : HoldsSame h h' = holds ∙ ap (with_known h h'.answer) (sym none) in
+      let too : HoldsSame h h' = ap bare holds in
       let step = answered_where There There' c call words G op h h' h'.answer h'.early Knows (inl tells)
       (none_early env.config.kind c call There There' (owners (mem words) G) h.early h'.early none)
       (still_has (ap (λ (x : Holding). x.node) holds)) (loads c words G op h h' Knows whole same too knows) in

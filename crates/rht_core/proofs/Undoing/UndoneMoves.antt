@@ -29,7 +29,7 @@ use Rattle.rht_core.specs.Traces.{Did, performed_of}
 use Rattle.rht_core.specs.Refused.{turned, turns, IsTableWord, GivesBackNode, GivesBackSlot, IsOfNodeGiven, IsOfSlotGiven, StoresLast, AttachedWith, IsOfSlot, IsOfPages, IsOfAttached, IsMissingEntry, EntersPage, HasTaken, EnteredWhenTaken, IsOfEntered, MayAttach, IsExcepted}
 use Rattle.rht_core.proofs.Theory.Ghosts.{Ghost, Held, SlotHeld, PageFree, PageHeld, lock_bit, state_word, has_bit}
 use Rattle.rht_core.proofs.Theory.Wholes.{place_at, Whole}
-use Rattle.rht_core.proofs.Theory.Steps.{Holding, Move, Quiet, TakesNode, GivesNode, TakesLock, DropsLock, Raises, Links, Lowers, Rebinds, LinksBehind, Arms, TakesSlot, GivesSlot, TakesPages, GivesPages, TakesWork, GivesWork, BeginsMoving, TakesSecond, Leaves, Arrives, CutsOff, Publishes, Retires, mem, Does, ReadyFor, SaysChange, IsAside, DoesQuiet, DoesTakeNode, DoesGiveNode, DoesTakeLock, DoesDropLock, DoesTakeSlot, DoesGiveSlot, DoesTakePages, DoesGivePages, DoesAttach, DoesEnter, DoesTakeWork, DoesGiveWork}
+use Rattle.rht_core.proofs.Theory.Steps.{bare, Holding, Move, Quiet, TakesNode, GivesNode, TakesLock, DropsLock, Raises, Links, Lowers, Rebinds, LinksBehind, Arms, TakesSlot, GivesSlot, TakesPages, GivesPages, TakesWork, GivesWork, BeginsMoving, TakesSecond, Leaves, Arrives, CutsOff, Publishes, Retires, mem, Does, ReadyFor, SaysChange, IsAside, DoesQuiet, DoesTakeNode, DoesGiveNode, DoesTakeLock, DoesDropLock, DoesTakeSlot, DoesGiveSlot, DoesTakePages, DoesGivePages, DoesAttach, DoesEnter, DoesTakeWork, DoesGiveWork}
 use Rattle.rht_core.proofs.Theory.Steps as moves
 use Rattle.rht_core.proofs.Theory.Readiness.{ArePagesOf, IsEntering}
 use Rattle.rht_core.proofs.Undoing.EnteredWords.{entering_missing}
@@ -426,7 +426,7 @@ module _ (env : Env) (mix : ℕ → ℕ → ℕ → ℕ) (words_at : ℕ → Lis
         (record { slot = own.slot; has = own.has; word = own.word; of_table = own.of_table; there = sym at ∙ own.place })
     aside_left same (inr (inr serial)) place bit at = inl (inl (sym at ∙ ap op_place serial))
 
-    quiet : DoesQuiet g did.op did.old h h' → Kept
+    quiet : DoesQuiet g did.op did.old h (bare h') → Kept
     quiet does =
         let node_same = ap (λ (x : Holding). x.node) does.holds in
         let slot_same = ap (λ (x : Holding). x.slot) does.holds in
@@ -460,7 +460,7 @@ module _ (env : Env) (mix : ℕ → ℕ → ℕ → ℕ) (words_at : ℕ → Lis
 
     -- ---- a node
 
-    take_node : (n : ℕ) → DoesTakeNode g n did.op did.old h h' → Kept
+    take_node : (n : ℕ) → DoesTakeNode g n did.op did.old h (bare h') → Kept
     take_node n does =
         let is = does.taking in
         let slot_same = ap (λ (x : Holding). x.slot) does.holds in
@@ -486,7 +486,7 @@ module _ (env : Env) (mix : ℕ → ℕ → ℕ → ℕ) (words_at : ℕ → Lis
               (off_map (λ page within at. not_in_node_map n page is.within (sym is.clears.place ∙ at)));
         }
 
-    give_node : (n : ℕ) → G.node n ≡ Held c → DoesGiveNode g n did.op h h' → Kept
+    give_node : (n : ℕ) → G.node n ≡ Held c → DoesGiveNode g n did.op h (bare h') → Kept
     give_node n held does =
         let among = so_far.node_in n does.has in
         let slot_same = ap (λ (x : Holding). x.slot) does.holds in
@@ -529,7 +529,7 @@ module _ (env : Env) (mix : ℕ → ℕ → ℕ → ℕ) (words_at : ℕ → Lis
 
     -- ---- a lock, and the work lock
 
-    take_lock : (j : ℕ) → DoesTakeLock g (place_at env mix j) did.op did.old h h' → Kept
+    take_lock : (j : ℕ) → DoesTakeLock g (place_at env mix j) did.op did.old h (bare h') → Kept
     take_lock j does =
         let there = place_at env mix j in
         with_same (ap (λ (x : Holding). x.node) does.holds) (ap (λ (x : Holding). x.slot) does.holds)
@@ -541,7 +541,7 @@ module _ (env : Env) (mix : ℕ → ℕ → ℕ → ℕ) (words_at : ℕ → Lis
         (comes _ _ _ (turned-one there 0 place bit did low (sets_lowest there did does.on does.even does.locks))
         (ap (λ o. locked_bit g o place bit) does.none)))))
 
-    drop_lock : (j : ℕ) → DoesDropLock g (place_at env mix j) did.op did.old h h' → Kept
+    drop_lock : (j : ℕ) → DoesDropLock g (place_at env mix j) did.op did.old h (bare h') → Kept
     drop_lock j does =
         let there = place_at env mix j in
         with_same (ap (λ (x : Holding). x.node) does.holds) (ap (λ (x : Holding). x.slot) does.holds)
@@ -564,7 +564,7 @@ module _ (env : Env) (mix : ℕ → ℕ → ℕ → ℕ) (words_at : ℕ → Lis
         let after : word_after did.old did.op ≡ 0 = ap (word_after did.old) is in
         clears_lowest there did (ap op_place is) (ap (λ w. w % 2) after) (one ∙ sym (ap (λ w. w + 1) after))
 
-    take_work : DoesTakeWork g did.op did.old h h' → Kept
+    take_work : DoesTakeWork g did.op did.old h (bare h') → Kept
     take_work does =
         let there = place_of g WorkLock in
         with_same (ap (λ (x : Holding). x.node) does.holds) (ap (λ (x : Holding). x.slot) does.holds)
@@ -576,7 +576,7 @@ module _ (env : Env) (mix : ℕ → ℕ → ℕ → ℕ) (words_at : ℕ → Lis
         (comes _ _ _ (turned-one there 0 place bit did low (exchanges_one there does.taking does.free))
         (ap (λ b. work_bit g b place bit) does.idle)))))
 
-    give_work : G.worker ≡ Some c → DoesGiveWork g did.op h h' → Kept
+    give_work : G.worker ≡ Some c → DoesGiveWork g did.op h (bare h') → Kept
     give_work works does =
         let there = place_of g WorkLock in
         let one : did.old ≡ 1 = found ∙ ap (old_of words) does.giving ∙ whole.slots.worker_is ∙ ap lock_bit works in
@@ -591,7 +591,7 @@ module _ (env : Env) (mix : ℕ → ℕ → ℕ → ℕ) (words_at : ℕ → Lis
 
     -- ---- a slot
 
-    take_slot : (s : ℕ) → DoesTakeSlot g s did.op did.old h h' → Kept
+    take_slot : (s : ℕ) → DoesTakeSlot g s did.op did.old h (bare h') → Kept
     take_slot s does =
         let there = place_of g (Slot s StateWord) in
         let node_same = ap (λ (x : Holding). x.node) does.holds in
@@ -612,7 +612,7 @@ module _ (env : Env) (mix : ℕ → ℕ → ℕ → ℕ) (words_at : ℕ → Lis
               (off_map (λ page within at. not_state s does.within page (ap op_place (sym does.taking) ∙ at)));
         }
 
-    give_slot : (s : ℕ) → G.slot s ≡ SlotHeld c → DoesGiveSlot g s did.op h h' → Kept
+    give_slot : (s : ℕ) → G.slot s ≡ SlotHeld c → DoesGiveSlot g s did.op h (bare h') → Kept
     give_slot s held does =
         let there = place_of g (Slot s StateWord) in
         let node_same = ap (λ (x : Holding). x.node) does.holds in
@@ -701,7 +701,7 @@ module _ (env : Env) (mix : ℕ → ℕ → ℕ → ℕ) (words_at : ℕ → Lis
           (omega (arith, at, on, same), omega (arith, low))
 
     take_pages : (index pages_bits : ℕ) → ArePagesOf env mix G index pages_bits PageFree
-        → DoesTakePages g index pages_bits did.op did.old h h' → Kept
+        → DoesTakePages g index pages_bits did.op did.old h (bare h') → Kept
     take_pages index pages_bits free does =
         with_same (ap (λ (x : Holding). x.node) does.holds) (ap (λ (x : Holding). x.slot) does.holds) had (λ place bit low.
         inr (then_is place bit _ (ap (λ (x : Holding). held_bits g x place bit) does.holds)
@@ -770,7 +770,7 @@ module _ (env : Env) (mix : ℕ → ℕ → ℕ → ℕ) (words_at : ℕ → Lis
         ]
 
     give_pages : (index pages_bits : ℕ) → ArePagesOf env mix G index pages_bits (PageHeld c)
-        → DoesGivePages g index pages_bits did.op did.old h h' → Kept
+        → DoesGivePages g index pages_bits did.op did.old h (bare h') → Kept
     give_pages index pages_bits mine does =
         with_same (ap (λ (x : Holding). x.node) does.holds) (ap (λ (x : Holding). x.slot) does.holds) had (λ place bit low.
         inr (then_is place bit _ (ap (λ (x : Holding). held_bits g x place bit) does.holds)
@@ -848,7 +848,7 @@ module _ (env : Env) (mix : ℕ → ℕ → ℕ → ℕ) (words_at : ℕ → Lis
 
     -- ---- a table that is attached
 
-    attach : (slot : ℕ) → DoesAttach g slot did.op did.old h h' → Kept
+    attach : (slot : ℕ) → DoesAttach g slot did.op did.old h (bare h') → Kept
     attach slot does =
         let with_pages = may.attaches does.last slot does.within does.attaching does.has in
         let node_same = ap (λ (x : Holding). x.node) does.holds in
@@ -923,7 +923,7 @@ module _ (env : Env) (mix : ℕ → ℕ → ℕ → ℕ) (words_at : ℕ → Lis
     abbrev IsBitOf : ℕ → ℕ → ℕ → Type 0
     IsBitOf p place bit = (place ≡ place_of g (PageMap (p / 64))) × (bit ≡ p % 64)
 
-    enter : (j p : ℕ) → IsEntering env mix c j p G → DoesEnter g j p did.op did.old h h' → Kept
+    enter : (j p : ℕ) → IsEntering env mix c j p G → DoesEnter g j p did.op did.old h (bare h') → Kept
     enter j p ready does =
         with_same (ap (λ (x : Holding). x.node) does.holds) (ap (λ (x : Holding). x.slot) does.holds) had (λ place bit low.
         elim (cases_eq place (place_of g (PageWord j))) [
