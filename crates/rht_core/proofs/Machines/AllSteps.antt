@@ -32,7 +32,7 @@ use Rattle.rht_core.proofs.Theory.Wholes.{list_of, Whole}
 use Rattle.rht_core.proofs.Theory.Knowns.{Nowhere, Locks, Collected, CollectedTo, Known, last_of}
 use Rattle.rht_core.proofs.Theory.Knowledge.{plainly, Knowing}
 use Rattle.rht_core.proofs.Theory.Answering.{IsLegalOn, IsRight, Tells, keeps, learns}
-use Rattle.rht_core.proofs.Theory.Steps.{Holding, mem, owners, owners_in, moved-map, StepWhere, step-map, answered, reads, HoldsNoneEarly, still_has}
+use Rattle.rht_core.proofs.Theory.Steps.{answered-map, Holding, mem, owners, owners_in, StepWhere, step-map, reads, HoldsNoneEarly, still_has}
 use Rattle.rht_core.proofs.Pieces.Locks.{unlock_step}
 use Rattle.rht_core.proofs.Pieces.Lists.{list_among, list_few, list_rest, found_list}
 use Rattle.rht_core.proofs.Pieces.Seeks as seeks
@@ -118,9 +118,7 @@ module _ (env : Env) (mix : ℕ → ℕ → ℕ → ℕ) (c : ℕ) (port : ℕ) 
         (held_of_all after.items next).answer
         → AllKnows after next M G → AllMoved at after (next, Go)
     goes_on at next after same holds tells knows =
-        reads env mix c call words G (plan_at env at) (held_of_all room.items at)
-        (held_of_all after.items next)
-        (AllNext after (next, Go)) whole same holds tells knows
+        reads env mix whole same holds tells knows
 
     -- a listing is answered with the owners of the port
     listing_right : (owners : List ℕ) → IsRight call None (listing_of owners)
@@ -277,14 +275,10 @@ module _ (env : Env) (mix : ℕ → ℕ → ℕ → ℕ) (c : ℕ) (port : ℕ) 
         (seeks.SeekNext env mix c call port None None absent (r.0.at, r.1))
         → AllMoved (at.Seeking seek) room (sought r.0 r.1)
     seek_next seek (next, Go) none step =
-        step-map env mix c call words G (seek_plan seek) (held_of_all room.items (at.Seeking seek))
-        (held_of_all room.items (at.Seeking next)) _ (AllNext room (at.Seeking next, Go))
-        (λ M' G' w k. record { knowing = k.knowing; fits = (k.fits, none) }) step
+        step-map env mix (λ M' G' w k. record { knowing = k.knowing; fits = (k.fits, none) }) step
     seek_next seek (next, Done None) none step = step
     seek_next seek (next, Done (Some found)) none step =
-        step-map env mix c call words G (seek_plan seek) (held_of_all room.items (at.Seeking seek))
-        (holds_lock found.bucket.place) _ (AllNext room (at.Owner found found.node, Go))
-        (found_knows next found none) step
+        step-map env mix (found_knows next found none) step
 
     -- ---- each operation leads from what the listing knows to what it knows next
     pub all_step : (at : AllAt) → IsAllAtIn env at → AllKnows room at M G → AllStep at
@@ -305,8 +299,6 @@ module _ (env : Env) (mix : ℕ → ℕ → ℕ → ℕ) (c : ℕ) (port : ℕ) 
         let state = at.Unlocking table unlock in
         let answer = Some (listing_of room.items) in
         let told : Holding = record held.holds_nothing { answer = answer } in
-        answered env mix c call words G (plan_at env state) (held_of_all room.items state) told answer
-        (AllNext room (state, Done tt)) (inl (keeps answer)) (still_has refl)
-        (moved-map env mix c words G (plan_at env state) (held_of_all room.items state) told _
-        (AllNext room (state, Done tt)) (λ M' G' w k. k)
-        (unlock_step env mix c told None Nowhere words G all whole refl unlock.place unlock.word known.knowing))
+        answered-map env mix answer (inl (keeps answer)) (still_has refl)
+        (λ M' G' w k. k)
+        (unlock_step env mix c told None Nowhere words G all whole refl unlock.place unlock.word known.knowing)

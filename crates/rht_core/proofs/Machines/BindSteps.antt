@@ -78,7 +78,7 @@ use Rattle.rht_core.proofs.Theory.Frames.{Made, same_tables, same_grow, tables_s
 use Rattle.rht_core.specs.Counts.{takes_out}
 use Rattle.rht_core.specs.Replies.{IsBindReply, AreOwnersWith, ArePairsWith}
 use Rattle.rht_core.proofs.Theory.Answering.{KeepsAnswer, IsLegalOn, IsRight, Tells, keeps, learns}
-use Rattle.rht_core.proofs.Theory.Steps.{Attaches, Links, Rebinds, Holding, HoldsNoneEarly, by_test, mem, owners, owners_in, owners-stay, owners_in-stay, ghost_after, Moved, moved-map, still_has, reowned-outs, Step, answered, reads, Arms, unchanged, moved}
+use Rattle.rht_core.proofs.Theory.Steps.{answered-map, Attaches, Links, Rebinds, Holding, HoldsNoneEarly, by_test, mem, owners, owners_in, owners-stay, owners_in-stay, ghost_after, Moved, still_has, reowned-outs, Step, answered, reads, Arms, unchanged, moved}
 use Rattle.rht_core.proofs.Theory.Readiness.{IsAttaching, linked_bucket, IsReady, IsArming}
 use Rattle.rht_core.proofs.Moves.Quiet.{armed_passes, arm}
 use Rattle.rht_core.proofs.Moves.Linking.{link_head}
@@ -269,7 +269,7 @@ module _ (env : Env) (mix : ℕ → ℕ → ℕ → ℕ) (c : ℕ) (port owner :
         → HoldsNoneEarly (held_of_bind at) (held_of_bind next) → KeepsAnswer (held_of_bind at).answer (held_of_bind next).answer
         → BindKnows next M G → BindMoved at (next, Go)
     goes_on at next same holds says knows =
-        reads env mix c call words G (plan_at env at) (held_of_bind at) (held_of_bind next) (BindNext (next, Go)) whole same holds (inl says) knows
+        reads env mix whole same holds (inl says) knows
 
     -- a refusal is legal on all bindings, and leaves them
     refusal : (reply : Reply) → answers.IsBindRefusal reply → answers.is_refusal reply ≡ true
@@ -293,23 +293,16 @@ module _ (env : Env) (mix : ℕ → ℕ → ℕ → ℕ) (c : ℕ) (port owner :
         (nodes.knowing env mix c held.holds_nothing Nowhere Unlocked (nodes.made_by (r.0.at, r.1)) (nodes.known_made port owner (r.0.at, r.1)))
         → BindMoved (at.Filling new) (filled r.0 r.1)
     node_made new (next, Go) key own had step =
-        answered env mix c call words G (new_node_plan new) (holds_node (node_of_new new.at) None) (holds_node (node_of_new next.at) None) None (BindNext (at.Filling next, Go)) (inl refl)
-        (record { taken = λ node none some. refl; gone = λ node some none. absurd (let before = had none in cc) })
-        (moved-map env mix c words G (new_node_plan new) (holds_node (node_of_new new.at) None) (holds_node (node_of_new next.at) None) _ (BindNext (at.Filling next, Go))
-        (λ M' G' w k. record { knowing = k; fits = (key, own) }) step)
+        answered-map env mix None (inl refl) (record { taken = λ node none some. refl; gone = λ node some none. absurd (let before = had none in cc) })
+        (λ M' G' w k. record { knowing = k; fits = (key, own) }) step
     node_made new (next, Done None) key own had step =
-        answered env mix c call words G (new_node_plan new) (holds_node (node_of_new new.at) None) (holds_node None None) (Some (plain NoNode)) (BindNext (at.Filling next, Done NoNode))
-        (learns env.config.kind c call (node_of_new new.at) now (plain NoNode)
+        answered-map env mix (Some (plain NoNode)) (learns env.config.kind c call (node_of_new new.at) now (plain NoNode)
         (record { replied = record { reply = tt; owners = refl; pairs = refl }; tells = (λ none. refl, λ no_node. had refl) }) refl
-        (refusal NoNode tt refl))
-        (record { taken = λ node none some. absurd (cc); gone = λ node some none told. absurd (cc) })
-        (moved-map env mix c words G (new_node_plan new) (holds_node (node_of_new new.at) None) (holds_node None None) _ (BindNext (at.Filling next, Done NoNode))
-        (λ M' G' w k. record { only = k.only; means = k.means }) step)
+        (refusal NoNode tt refl)) (record { taken = λ node none some. absurd (cc); gone = λ node some none told. absurd (cc) })
+        (λ M' G' w k. record { only = k.only; means = k.means }) step
     node_made new (next, Done (Some n)) key own had step =
-        answered env mix c call words G (new_node_plan new) (holds_node (node_of_new new.at) None) (holds_node (Some n) None) None (BindNext (at.CurrentTable (first_attempt n), Go)) (inl refl)
-        (record { taken = λ node none some. refl; gone = λ node some none. absurd (cc) })
-        (moved-map env mix c words G (new_node_plan new) (holds_node (node_of_new new.at) None) (holds_node (Some n) None) _ (BindNext (at.CurrentTable (first_attempt n), Go))
-        (λ M' G' w k. record { knowing = k; fits = tt }) step)
+        answered-map env mix None (inl refl) (record { taken = λ node none some. refl; gone = λ node some none. absurd (cc) })
+        (λ M' G' w k. record { knowing = k; fits = tt }) step
 
     -- the bucket was looked for: where it is missing the way goes on in the table behind, or a page is to be entered
     located_knows : (attempt : Attempt) (table shape : ℕ) (bucket : LocatedBucket) (M' : Memory) (G' : Ghost)
@@ -343,15 +336,13 @@ module _ (env : Env) (mix : ℕ → ℕ → ℕ → ℕ) (c : ℕ) (port owner :
         → Moved env mix c words G (locate_plan locate) (holds_node (Some attempt.node) None) (holds_node (Some attempt.node) None) (LocateKnows env mix c (holds_node (Some attempt.node) None) (Some (own port owner attempt.node)) Unlocked port r)
         → BindMoved (at.Locating attempt locate) (located env port attempt r.0 r.1, Go)
     found_place attempt locate (next, Go) step =
-        answered env mix c call words G (locate_plan locate) (holds_node (Some attempt.node) None) (holds_node (Some attempt.node) None) None (BindNext (at.Locating attempt next, Go)) (inl refl) (still_has refl)
-        (moved-map env mix c words G (locate_plan locate) (holds_node (Some attempt.node) None) (holds_node (Some attempt.node) None) _ (BindNext (at.Locating attempt next, Go))
-        (λ M' G' w k. record { knowing = k; fits = tt }) step)
+        answered-map env mix None (inl refl) (still_has refl)
+        (λ M' G' w k. record { knowing = k; fits = tt }) step
     found_place attempt locate (next, Done there) step =
         let state = at_bucket env port attempt next.table there.shape there.bucket in
         rw (located_holds attempt next.table there.shape there.bucket)
-        (answered env mix c call words G (locate_plan locate) (holds_node (Some attempt.node) None) (holds_node (Some attempt.node) None) None (BindNext (state, Go)) (inl refl) (still_has refl)
-        (moved-map env mix c words G (locate_plan locate) (holds_node (Some attempt.node) None) (holds_node (Some attempt.node) None) _ (BindNext (state, Go))
-        (λ M' G' w k. located_knows attempt next.table there.shape there.bucket M' G' k) step))
+        (answered-map env mix None (inl refl) (still_has refl)
+        (λ M' G' w k. located_knows attempt next.table there.shape there.bucket M' G' k) step)
 
     -- ---- a page is entered on the way
 
@@ -404,10 +395,7 @@ module _ (env : Env) (mix : ℕ → ℕ → ℕ → ℕ) (c : ℕ) (port owner :
         (grown env port attempt table shape place (record grow { at = r.0 }) r.1, Go)
     grown_next attempt table shape place grow (state, Go) there step =
         let next = at.Entering attempt table shape place (record grow { at = state }) in
-        answered env mix c call words G (grow_plan grow) (held_of_bind (at.Entering attempt table shape place grow))
-        (held_of_bind next) None (BindNext (next, Go)) (inl refl) (still_has refl)
-        (moved-map env mix c words G (grow_plan grow) (held_of_bind (at.Entering attempt table shape place grow))
-        (held_of_bind next) _ (BindNext (next, Go))
+        answered-map env mix None (inl refl) (still_has refl)
         (λ M' G' w k. record {
           knowing = record {
             only = k.only;
@@ -420,27 +408,20 @@ module _ (env : Env) (mix : ℕ → ℕ → ℕ → ℕ) (c : ℕ) (port owner :
             };
           };
           fits = there;
-        }) step)
+        }) step
     grown_next attempt table shape place grow (state, Done None) there step =
         let n = attempt.node in
         let reply = NoTable (size_of (unpacked shape)) in
         let next = giving env n reply in
-        answered env mix c call words G (grow_plan grow) (held_of_bind (at.Entering attempt table shape place grow))
-        (holds_node (Some n) None) (Some (plain reply)) (BindNext (next, Go))
-        (learns env.config.kind c call (Some n) now (plain reply) (with_node n reply tt refl refl (λ e. cc)) refl
+        answered-map env mix (Some (plain reply)) (learns env.config.kind c call (Some n) now (plain reply) (with_node n reply tt refl refl (λ e. cc)) refl
         (refusal reply tt refl)) (still_has refl)
-        (moved-map env mix c words G (grow_plan grow) (held_of_bind (at.Entering attempt table shape place grow))
-        (holds_node (Some n) None) _ (BindNext (next, Go))
-        (λ M' G' w k. record { knowing = plainly env mix k.only k.means.node tt tt; fits = tt }) step)
+        (λ M' G' w k. record { knowing = plainly env mix k.only k.means.node tt tt; fits = tt }) step
     grown_next attempt table shape place grow (state, Done (Some page)) there step =
         let next = behind_page env port attempt table shape (entered place page) in
         rw (entered_holds attempt table shape (entered place page))
-        (answered env mix c call words G (grow_plan grow) (held_of_bind (at.Entering attempt table shape place grow))
-        (holds_node (Some attempt.node) None) None (BindNext (next, Go)) (inl refl) (still_has refl)
-        (moved-map env mix c words G (grow_plan grow) (held_of_bind (at.Entering attempt table shape place grow))
-        (holds_node (Some attempt.node) None) _ (BindNext (next, Go))
+        (answered-map env mix None (inl refl) (still_has refl)
         (λ M' G' w k. entered_knows attempt table shape (entered place page) M' G'
-        (record { only = k.only; means = k.means })) step))
+        (record { only = k.only; means = k.means })) step)
 
     -- the end of a walk
     bound_knows : (kind : Kind) → env.config.kind ≡ kind → (claimed : Claimed) (first : ℕ)
@@ -485,16 +466,14 @@ module _ (env : Env) (mix : ℕ → ℕ → ℕ → ℕ) (c : ℕ) (port owner :
         (ProbeKnows env mix c (holds_node (Some attempt.node) None) (Some (own port owner attempt.node)) port table (Some shape) words G all whole (r.0.at, r.1))
         → BindMoved (at.Probing attempt table shape probe) (probed env.config.kind attempt table shape r.0 r.1, Go)
     walked attempt table shape probe (next, Go) key step =
-        answered env mix c call words G (probe_plan probe) (holds_node (Some attempt.node) (lock_of_probe probe.at)) (holds_node (Some attempt.node) (lock_of_probe next.at)) None (BindNext (at.Probing attempt table shape next, Go)) (inl refl) (still_has refl)
-        (moved-map env mix c words G (probe_plan probe) (holds_node (Some attempt.node) (lock_of_probe probe.at)) (holds_node (Some attempt.node) (lock_of_probe next.at)) _ (BindNext (at.Probing attempt table shape next, Go))
-        (λ M' G' w k. record { knowing = k.0; fits = (key, k.1) }) step)
+        answered-map env mix None (inl refl) (still_has refl)
+        (λ M' G' w k. record { knowing = k.0; fits = (key, k.1) }) step
     walked attempt table shape probe (next, Done end) key step =
         let claimed : Claimed = record { attempt = attempt; table = table; shape = shape; bucket = end.bucket } in
         let there = found_or_future env.config.kind claimed end.seen.found end.seen.before end.seen.length in
         rw (seen_holds claimed end.seen.found end.seen.before end.seen.length)
-        (answered env mix c call words G (probe_plan probe) (holds_node (Some attempt.node) (lock_of_probe probe.at)) (holds_claimed claimed) None (BindNext (there, Go)) (inl refl) (still_has refl)
-        (moved-map env mix c words G (probe_plan probe) (holds_node (Some attempt.node) (lock_of_probe probe.at)) (holds_claimed claimed) _ (BindNext (there, Go))
-        (λ M' G' w k. seen_knows claimed end.seen.found end.seen.before end.seen.length M' G' k) step))
+        (answered-map env mix None (inl refl) (still_has refl)
+        (λ M' G' w k. seen_knows claimed end.seen.found end.seen.before end.seen.length M' G' k) step)
 
     -- where no table is behind that in which the port was looked for in vain, the bind is armed in its bucket
     arms : (claimed : Claimed) (count : ℕ) → G.bound port ≡ [] → index_at G claimed.table + 1 ≡ G.attached
@@ -517,8 +496,7 @@ module _ (env : Env) (mix : ℕ → ℕ → ℕ → ℕ) (c : ℕ) (port owner :
         let G' = with_armed G j c in
         let b = armed_by (G.bucket j) c in
         let same : (applied words op) ≡ words = unchanged words op refl in
-        answered env mix c call words G op (holds_claimed claimed) (holds_claimed claimed) None
-        (BindNext (at.Count claimed, Go)) (inl refl) (still_has refl)
+        answered env mix None (inl refl) (still_has refl)
         (moved env mix c words G op (holds_claimed claimed) (holds_claimed claimed)
         (BindNext (at.Count claimed, Go)) (Arms j) whole ready tt
         (subst (λ w. Made env mix c M G (mem env mix w) G') (sym same) made)
@@ -600,7 +578,7 @@ module _ (env : Env) (mix : ℕ → ℕ → ℕ → ℕ) (c : ℕ) (port owner :
         (λ t. BindMoved (at.Count claimed)
         (cond t refused (cond above (unlocking_full claimed full.Table) (at.Link claimed)), Go))
         (is_above_max (min count 65536) env.config.max)
-        (λ t. reads env mix c call words G (plan_at env (at.Count claimed)) (holds_claimed claimed) (held_of_bind refused) (BindNext (refused, Go)) whole refl refl
+        (λ t. reads env mix whole refl refl
         (learns env.config.kind c call (Some claimed.attempt.node) now (plain (TooBig count)) (with_node claimed.attempt.node (TooBig count) tt refl refl (λ e. cc)) refl (refusal (TooBig count) tt refl)) (unlocking_knows claimed (TooBig count) known.knowing))
         (λ f.
         by_test
@@ -639,7 +617,7 @@ module _ (env : Env) (mix : ℕ → ℕ → ℕ → ℕ) (c : ℕ) (port owner :
         let first = owner_of (M (Node found OwnerWord)) in
         let is = known.knowing.means.bucket in
         let answer = unlocking claimed (Answer (Exists first)) in
-        reads env mix c call words G (plan_at env (at.FoundOwner claimed found)) (holds_claimed claimed) (held_of_bind answer) (BindNext (answer, Go)) whole refl refl
+        reads env mix whole refl refl
         (learns env.config.kind c call (Some claimed.attempt.node) now (plain (Exists first))
         (with_node claimed.attempt.node (Exists first) tt refl refl (λ e. cc)) refl
         (exists known.fits first (bound_here known.fits claimed.bucket.place claimed.bucket.word found is)))
@@ -807,8 +785,7 @@ module _ (env : Env) (mix : ℕ → ℕ → ℕ → ℕ) (c : ℕ) (port owner :
         let Next : Memory → Ghost → Type 0 = BindNext (there, Go) in
         let holds = holds_claimed claimed in
         subst (λ t. Step env mix c call words G op holds (holds_replacing claimed t) Next) (sym first.0)
-        (answered env mix c call words G op holds holds None Next (inl refl) (still_has refl)
-        (moved-map env mix c words G op holds holds _ Next
+        (answered-map env mix None (inl refl) (still_has refl)
         (λ M' G' w k. let is = k.means.bucket in let node = k.means.node in record {
           knowing =
               subst
@@ -829,7 +806,7 @@ module _ (env : Env) (mix : ℕ → ℕ → ℕ → ℕ) (c : ℕ) (port owner :
         })
         (nodes.fill_step env mix c (holds_node None (Some place)) (at_home port owner claimed)
         (of_list port owner list (FirstLink link)) words G all whole tt (in_front port owner list) ChainLink
-        link known.knowing)))
+        link known.knowing))
 
     -- what a bind holds behind the store
     abbrev holds_front : Bool → Option ℕ → Holding
@@ -1009,8 +986,7 @@ module _ (env : Env) (mix : ℕ → ℕ → ℕ → ℕ) (c : ℕ) (port owner :
         BindNext (at.Replacing list (front_relink list (relinks.Word word)), Done (Bound claimed.attempt.attached)) in
         subst (λ v. Step env mix c call words G (Store place v) (holds_front claimed.attempt.attached (Some place)) told Ended)
         (sym known.fits.at_is)
-        (answered env mix c call words G (Store place claimed.bucket.word) (holds_front claimed.attempt.attached (Some place)) told
-        (Some (plain (Bound claimed.attempt.attached))) Ended (inl (keeps (Some (plain (Bound claimed.attempt.attached))))) (still_has refl)
+        (answered env mix (Some (plain (Bound claimed.attempt.attached))) (inl (keeps (Some (plain (Bound claimed.attempt.attached))))) (still_has refl)
         (unlock_step env mix c told None Nowhere words G all whole refl place claimed.bucket.word known.knowing))
 
     front_step : (list : FoundList) (relink : RelinkModel) → IsBindAtIn env (at.Replacing list relink)
@@ -1076,8 +1052,7 @@ module _ (env : Env) (mix : ℕ → ℕ → ℕ → ℕ) (c : ℕ) (port owner :
         → BindMoved (at.FutureAgain growing refusal) (giving env growing.attempt.node reply, Go)
     refused_by growing refusal reply right none legal known =
         let n = growing.attempt.node in
-        reads env mix c call words G (plan_at env (at.FutureAgain growing refusal)) (holds_node (Some n) None)
-        (holds_behind n (Some reply)) (BindNext (giving env n reply, Go)) whole refl refl
+        reads env mix whole refl refl
         (learns env.config.kind c call (Some n) now (plain reply) right none legal)
         (record { knowing = plainly env mix known.knowing.only known.knowing.means.node tt tt; fits = tt })
 
@@ -1099,8 +1074,7 @@ module _ (env : Env) (mix : ℕ → ℕ → ℕ → ℕ) (c : ℕ) (port owner :
         let answer = ended_attempt once table in
         let next = behind_attempt env growing.attempt answer in
         rw (behind_holds growing.attempt answer)
-        (reads env mix c call words G (plan_at env (at.FutureAgain growing why)) (holds_node (Some n) None)
-        (holds_behind n answer) (BindNext (next, Go)) whole refl refl (attempt_tells n table)
+        (reads env mix whole refl refl (attempt_tells n table)
         (behind_knows growing.attempt answer M G (plainly env mix known.knowing.only known.knowing.means.node tt tt)))
 
     -- the table is made
@@ -1116,28 +1090,22 @@ module _ (env : Env) (mix : ℕ → ℕ → ℕ → ℕ) (c : ℕ) (port owner :
     made_next growing size make (state, Go) step =
         let n = growing.attempt.node in
         let next = at.Making growing size (record make { at = state }) in
-        answered env mix c call words G (make_plan make) (held_of_bind (at.Making growing size make))
-        (held_of_bind next) None (BindNext (next, Go)) (inl refl) (still_has refl)
-        (moved-map env mix c words G (make_plan make) (held_of_bind (at.Making growing size make)) (held_of_bind next) _
-        (BindNext (next, Go)) (λ M' G' w k. record { knowing = k; fits = tt }) step)
+        answered-map env mix None (inl refl) (still_has refl)
+        (λ M' G' w k. record { knowing = k; fits = tt }) step
     made_next growing size make (state, Done None) step =
         let next = at.FutureAgain growing (refusals.NoTable size) in
-        answered env mix c call words G (make_plan make) (held_of_bind (at.Making growing size make))
-        (held_of_bind next) None (BindNext (next, Go)) (inl refl) (still_has refl)
-        (moved-map env mix c words G (make_plan make) (held_of_bind (at.Making growing size make)) (held_of_bind next) _
-        (BindNext (next, Go)) (λ M' G' w k. record { knowing = k; fits = tt }) step)
+        answered-map env mix None (inl refl) (still_has refl)
+        (λ M' G' w k. record { knowing = k; fits = tt }) step
     made_next growing size make (state, Done (Some table)) step =
         let h = holds_node (Some growing.attempt.node) None in
         let k = wants_table port owner growing in
         let next = at.Attaching growing table.0 table.1 in
         let same = pages_of_table-shape env.geometry table.1 step.knows.means.making.fits in
-        answered env mix c call words G (make_plan make) (held_of_bind (at.Making growing size make))
-        (held_of_bind next) None (BindNext (next, Go)) (inl refl) (still_has refl)
-        (moved-map env mix c words G (make_plan make) (held_of_bind (at.Making growing size make)) (held_of_bind next) _
-        (BindNext (next, Go)) (λ M' G' w k. record { knowing = k; fits = tt })
+        answered-map env mix None (inl refl) (still_has refl)
+        (λ M' G' w k. record { knowing = k; fits = tt })
         (subst (λ pages. Moved env mix c words G (make_plan make) (held_of_bind (at.Making growing size make))
         (holding env mix c h k (Some table.0) pages)
-        (knowing env mix c h k (Some table.0) pages (HasMade table.0 table.1))) same step))
+        (knowing env mix c h k (Some table.0) pages (HasMade table.0 table.1))) same step)
 
     -- the table is given back, and then the attempt has ended
     unmade_next : (attempt : Attempt) (unmake : UnmakeModel) (answer : Option Reply) (r : UnmakeAt × Next (Unit {0}))
@@ -1152,19 +1120,15 @@ module _ (env : Env) (mix : ℕ → ℕ → ℕ → ℕ) (c : ℕ) (port owner :
     unmade_next attempt unmake answer (state, Go) step =
         let told = option_map plain answer in
         let next = at.Unmaking attempt (record unmake { at = state }) answer in
-        answered env mix c call words G (unmake_plan unmake) (held_of_bind (at.Unmaking attempt unmake answer))
-        (held_of_bind next) told (BindNext (next, Go)) (inl (keeps told)) (still_has refl)
-        (moved-map env mix c words G (unmake_plan unmake) (held_of_bind (at.Unmaking attempt unmake answer))
-        (held_of_bind next) _ (BindNext (next, Go)) (λ M' G' w k. record { knowing = k; fits = tt }) step)
+        answered-map env mix told (inl (keeps told)) (still_has refl)
+        (λ M' G' w k. record { knowing = k; fits = tt }) step
     unmade_next attempt unmake answer (state, Done done) step =
         let told = option_map plain answer in
         let next = behind_attempt env attempt answer in
         rw (behind_holds attempt answer)
-        (answered env mix c call words G (unmake_plan unmake) (held_of_bind (at.Unmaking attempt unmake answer))
-        (holds_behind attempt.node answer) told (BindNext (next, Go)) (inl (keeps told)) (still_has refl)
-        (moved-map env mix c words G (unmake_plan unmake) (held_of_bind (at.Unmaking attempt unmake answer))
-        (holds_behind attempt.node answer) _ (BindNext (next, Go)) (λ M' G' w k. behind_knows attempt answer M' G' k)
-        step))
+        (answered-map env mix told (inl (keeps told)) (still_has refl)
+        (λ M' G' w k. behind_knows attempt answer M' G' k)
+        step)
 
     -- ---- the table is attached
 
@@ -1223,8 +1187,7 @@ module _ (env : Env) (mix : ℕ → ℕ → ℕ → ℕ) (c : ℕ) (port owner :
           let next = behind_attempt env attempt answer in
           let k = known.knowing in
           rw (behind_holds attempt answer)
-          (answered env mix c call words G op has_table_made (holds_node (Some n) None) (option_map plain answer)
-          (BindNext (next, Go)) (attempt_tells n slot) (still_has refl)
+          (answered env mix (option_map plain answer) (attempt_tells n slot) (still_has refl)
           (moved env mix c words G op has_table_made (holds_node (Some n) None) (BindNext (next, Go))
           (Attaches slot shape seed serial) whole ready tt made
           (record {
@@ -1260,7 +1223,7 @@ module _ (env : Env) (mix : ℕ → ℕ → ℕ → ℕ) (c : ℕ) (port owner :
           let k = known.knowing in
           let pages = pages_of_unmake-table env.geometry shape slot
           ∙ pages_of_table-shape env.geometry shape k.means.making.fits in
-          reads env mix c call words G op has_table_made (held_of_bind next) (BindNext (next, Go)) whole
+          reads env mix whole
           (ap (λ t. cond t (future_of slot) found) (ne_eqb found 0 some))
           (ap (λ ps. record (holds_behind n answer) { slot = Some slot; pages = ps }) pages)
           (attempt_tells n (table_of (found - 1)))
@@ -1332,14 +1295,11 @@ module _ (env : Env) (mix : ℕ → ℕ → ℕ → ℕ) (c : ℕ) (port owner :
     bind_step (at.FoundOwner claimed found) is known = found_next claimed found known
     bind_step (at.ListLink list) is known =
         let claimed = list.claimed in
-        answered env mix c call words G (plan_at env (at.ListLink list)) (holds_claimed claimed)
-        (holds_claimed claimed) None (BindNext (at.ChainLink list, Go)) (inl refl) (still_has refl)
-        (moved-map env mix c words G (plan_at env (at.ListLink list)) (holds_claimed claimed)
-        (holds_claimed claimed) _ (BindNext (at.ChainLink list, Go))
+        answered-map env mix None (inl refl) (still_has refl)
         (λ M' G' w k. record { knowing = k; fits = known.fits })
         (nodes.fill_step env mix c (holds_node None (Some claimed.bucket.place))
         (at_home port owner claimed) (first_found port owner list) words G all whole tt
-        (own port owner claimed.attempt.node) ListLink (link_of list.first) known.knowing))
+        (own port owner claimed.attempt.node) ListLink (link_of list.first) known.knowing)
     bind_step (at.ChainLink list) is known = front_loaded list known
     bind_step (at.LinkBehind list link) is known = front_linked list link known
     bind_step (at.Replacing list relink) is known = front_step list relink is known
@@ -1350,41 +1310,33 @@ module _ (env : Env) (mix : ℕ → ℕ → ℕ → ℕ) (c : ℕ) (port owner :
         (is_last env mix c (holds_claimed claimed) (Some (own port owner claimed.attempt.node)) (missed port owner claimed) words G whole port claimed.table claimed.bucket.place (Some claimed.shape) known.knowing) known
     bind_step (at.Count claimed) is known = count_next claimed known
     bind_step (at.Link claimed) is known =
-        answered env mix c call words G (plan_at env (at.Link claimed)) (holds_claimed claimed) (holds_claimed claimed) None (BindNext (at.Raise claimed, Go)) (inl refl) (still_has refl)
-        (moved-map env mix c words G (plan_at env (at.Link claimed)) (holds_claimed claimed) (holds_claimed claimed) _ (BindNext (at.Raise claimed, Go))
+        answered-map env mix None (inl refl) (still_has refl)
         (λ M' G' w k. record { knowing = k; fits = tt })
-        (nodes.fill_step env mix c (holds_node None (Some claimed.bucket.place)) (at_home port owner claimed) (armed port owner claimed) words G all whole tt (own port owner claimed.attempt.node) ChainLink (head_of claimed.bucket.place claimed.bucket.word) known.knowing))
+        (nodes.fill_step env mix c (holds_node None (Some claimed.bucket.place)) (at_home port owner claimed) (armed port owner claimed) words G all whole tt (own port owner claimed.attempt.node) ChainLink (head_of claimed.bucket.place claimed.bucket.word) known.knowing)
     bind_step (at.Raise claimed) is known =
         let kick = kicks env claimed (M PortCount) in
         let p = claimed.bucket.place in
-        answered env mix c call words G (plan_at env (at.Raise claimed)) (holds_claimed claimed) (holds_publishing claimed.attempt.node p) None (BindNext (publishing env claimed kick, Go)) (inl refl) (still_has refl)
-        (moved-map env mix c words G (plan_at env (at.Raise claimed)) (holds_claimed claimed) (holds_publishing claimed.attempt.node p) _ (BindNext (publishing env claimed kick, Go))
+        answered-map env mix None (inl refl) (still_has refl)
         (λ M' G' w k. let table = k.means.table in record {
           knowing = plainly env mix k.only k.means.node (record { passing = table.passing; shape_is = tt; bucket = table.bucket; here = table.here }) k.means.bucket;
           fits = refl;
         })
-        (raise_step env mix c (holds_claimed claimed) (Some (chained port owner claimed.attempt.node claimed.bucket.place claimed.bucket.word)) (at_home port owner claimed) (armed port owner claimed) words G all whole low known.knowing))
+        (raise_step env mix c (holds_claimed claimed) (Some (chained port owner claimed.attempt.node claimed.bucket.place claimed.bucket.word)) (at_home port owner claimed) (armed port owner claimed) words G all whole low known.knowing)
     bind_step (at.Publish n table relink kick) is known = publish_step n table relink kick known
     bind_step (at.Unlocking attempt table unlock (Table next)) is known =
-        answered env mix c call words G (plan_at env (at.Unlocking attempt table unlock (Table next))) (held_of_bind (at.Unlocking attempt table unlock (Table next))) (holds_node (Some attempt.node) None) None
-        (BindNext (at.Locating attempt (locate_new env.geometry next), Go)) (inl refl) (still_has refl)
-        (moved-map env mix c words G (plan_at env (at.Unlocking attempt table unlock (Table next))) (holds_node (Some attempt.node) (Some unlock.place)) (holds_node (Some attempt.node) None) _ (BindNext (at.Locating attempt (locate_new env.geometry next), Go))
+        answered-map env mix None (inl refl) (still_has refl)
         (λ M' G' w k. record { knowing = k; fits = tt })
-        (unlock_any env mix c (holds_node (Some attempt.node) None) (Some (own port owner attempt.node)) (Passes port next) words G all whole refl unlock.place unlock.word known.knowing))
+        (unlock_any env mix c (holds_node (Some attempt.node) None) (Some (own port owner attempt.node)) (Passes port next) words G all whole refl unlock.place unlock.word known.knowing)
     bind_step (at.Unlocking attempt table unlock (Answer reply)) is known =
         let told : Holding = record held.holds_nothing { node = Some attempt.node; answer = Some (plain reply) } in
-        answered env mix c call words G (plan_at env (at.Unlocking attempt table unlock (Answer reply))) (held_of_bind (at.Unlocking attempt table unlock (Answer reply))) told (Some (plain reply))
-        (BindNext (giving env attempt.node reply, Go)) (inl (keeps (Some (plain reply)))) (still_has refl)
-        (moved-map env mix c words G (plan_at env (at.Unlocking attempt table unlock (Answer reply))) (record told { lock = Some unlock.place }) told _ (BindNext (giving env attempt.node reply, Go))
+        answered-map env mix (Some (plain reply)) (inl (keeps (Some (plain reply)))) (still_has refl)
         (λ M' G' w k. record { knowing = k; fits = tt })
-        (unlock_any env mix c told (Some (own port owner attempt.node)) Nowhere words G all whole refl unlock.place unlock.word known.knowing))
+        (unlock_any env mix c told (Some (own port owner attempt.node)) Nowhere words G all whole refl unlock.place unlock.word known.knowing)
     bind_step (at.UnlockingFull growing unlock) is known =
         let n = growing.attempt.node in
-        answered env mix c call words G (plan_at env (at.UnlockingFull growing unlock)) (held_of_bind (at.UnlockingFull growing unlock)) (holds_node (Some n) None) None
-        (BindNext (at.Root growing, Go)) (inl refl) (still_has refl)
-        (moved-map env mix c words G (plan_at env (at.UnlockingFull growing unlock)) (holds_node (Some n) (Some unlock.place)) (holds_node (Some n) None) _ (BindNext (at.Root growing, Go))
+        answered-map env mix None (inl refl) (still_has refl)
         (λ M' G' w k. record { knowing = k; fits = tt })
-        (unlock_any env mix c (holds_node (Some n) None) (Some (own port owner n)) (InSlot growing.table) words G all whole refl unlock.place unlock.word known.knowing))
+        (unlock_any env mix c (holds_node (Some n) None) (Some (own port owner n)) (InSlot growing.table) words G all whole refl unlock.place unlock.word known.knowing)
     bind_step (at.Root growing) is known =
         goes_on (at.Root growing) (at.GrowthCount growing (table_of (M CurrentTable))) refl refl refl
         (record { knowing = known.knowing; fits = tt })
@@ -1419,6 +1371,6 @@ module _ (env : Env) (mix : ℕ → ℕ → ℕ → ℕ) (c : ℕ) (port owner :
         let told : Holding = record held.holds_nothing { answer = Some (plain reply) } in
         subst (λ g. Step env mix c call words G (give_node_plan (record { geometry = g; node = give.node })) (record told { node = Some give.node }) told (Knowing env mix c told known_nothing))
         (sym is.geometry_same)
-        (answered env mix c call words G (give_node_plan (record { geometry = env.geometry; node = give.node })) (record told { node = Some give.node }) told (Some (plain reply)) (Knowing env mix c told known_nothing)
+        (answered env mix (Some (plain reply))
         (inl (keeps (Some (plain reply)))) (record { taken = λ node none some. absurd (cc); gone = λ node some none told. absurd (cc) })
         (nodes.give_step env mix c told Nowhere Unlocked words G all whole tt (own port owner give.node) known.knowing))

@@ -40,7 +40,7 @@ use Rattle.rht_core.proofs.Theory.Wholes.{word_index, Whole}
 use Rattle.rht_core.proofs.Theory.Knowns.{KnownTable, Nowhere, Passes, AtHome, KnownBucket, Unlocked, Locks, Missed, Member, Listing, Known, knows_plain}
 use Rattle.rht_core.proofs.Theory.Knowledge.{plainly, Knowing}
 use Rattle.rht_core.proofs.Theory.Answering.{KeepsAnswer, IsLegalOn, IsRight, KnowsEarly, TellsOrRecalls, none_early, keeps, learns, recalls}
-use Rattle.rht_core.proofs.Theory.Steps.{Holding, mem, owners, owners_in, Moved, moved-map, StepWhere, answered_where, answered, reads, HoldsNoneEarly, still_has}
+use Rattle.rht_core.proofs.Theory.Steps.{answered-map, Holding, mem, owners, owners_in, Moved, moved-map, StepWhere, answered_where, reads, HoldsNoneEarly, still_has}
 use Rattle.rht_core.proofs.Pieces.Locates.{known_locate, IsThereAt, first_passed, locate_step, LocateKnows, LocatedKnows, LocateSays, Recalls, locate_says, FutureIs, future_is}
 use Rattle.rht_core.proofs.Pieces.Locks.{unlock_step}
 use Rattle.rht_core.proofs.Pieces.Lists.{IsNextOf, list_next, list_among}
@@ -160,8 +160,7 @@ module _ (env : Env) (mix : ℕ → ℕ → ℕ → ℕ) (c : ℕ) (port : ℕ) 
         → KeepsAnswer (held_of_find at).answer (held_of_find next).answer
         → FindKnows next M G → FindMoved at (next, Go)
     goes_on at next same holds says knows =
-        reads env mix c call words G (plan_at env at) (held_of_find at) (held_of_find next)
-        (FindNext (next, Go)) whole same holds (inl says) knows
+        reads env mix whole same holds (inl says) knows
 
     -- ---- the port is bound nowhere
 
@@ -187,10 +186,8 @@ module _ (env : Env) (mix : ℕ → ℕ → ℕ → ℕ) (c : ℕ) (port : ℕ) 
         → ((M' : Memory) (G' : Ghost) → Knows M' G' → FindKnows next M' G') → LocateMoved locate Knows
         → FindMoved (at.Locating locate) (next, Go)
     goes_from locate next Knows none more step =
-        rw none (answered env mix c call words G (locate_plan locate) (before locate) (before locate) None
-        (FindNext (next, Go)) (inl refl) (still_has refl)
-        (moved-map env mix c words G (locate_plan locate) (before locate) (before locate) Knows (FindNext (next, Go))
-        (λ M' G' w k. more M' G' k) step))
+        rw none (answered-map env mix None (inl refl) (still_has refl)
+        (λ M' G' w k. more M' G' k) step)
 
     -- the bucket was looked for
     found_bucket : (locate next : LocateModel) (shape : ℕ) (bucket : LocatedBucket)
@@ -216,9 +213,7 @@ module _ (env : Env) (mix : ℕ → ℕ → ℕ → ℕ) (c : ℕ) (port : ℕ) 
         (sym (early_is locate.at ∙ says.known_early))
         (recalls kind c call None There now absent missing_right refl says.missing))
         (none_early kind c call There ⊥ now (finds.early_of_locate locate.at) None refl) (still_has refl)
-        (moved-map env mix c words G (locate_plan locate) (before locate) (before locate) _
-        (FindNext (at.Locating next, Done Missing))
-        (λ M' G' w k. plainly env mix k.only tt tt tt) step)
+        (moved-map env mix (λ M' G' w k. plainly env mix k.only tt tt tt) step)
 
     -- the way to the bucket
     found_place : (locate : LocateModel) (r : LocateModel × Next Located)
@@ -237,8 +232,7 @@ module _ (env : Env) (mix : ℕ → ℕ → ℕ → ℕ) (c : ℕ) (port : ℕ) 
         (subst (KnowsEarly env.config.kind c call There There' now (early_of_locate (plain Missing) locate.at))
         (sym (early_is next.at)) says))
         (still_has refl)
-        (moved-map env mix c words G (locate_plan locate) (before locate) (before locate) _ Knows
-        (λ M' G' w k. record { knowing = record { only = k.only; means = k.means }; fits = tt }) step)
+        (moved-map env mix (λ M' G' w k. record { knowing = record { only = k.only; means = k.means }; fits = tt }) step)
     found_place locate (next, Done there) step says = found_bucket locate next there.shape there.bucket says step
 
     -- the end of a walk
@@ -271,24 +265,13 @@ module _ (env : Env) (mix : ℕ → ℕ → ℕ → ℕ) (c : ℕ) (port : ℕ) 
         None words G all whole (r.0.at, r.1))
         → FindMoved (at.Probing table probe) (probed table r.0 r.1, Go)
     walked table probe (next, Go) key step =
-        answered env mix c call words G (probe_plan probe) (at_lock (lock_of_probe probe.at))
-        (at_lock (lock_of_probe next.at)) None (FindNext (at.Probing table next, Go)) (inl refl)
-        (still_has refl)
-        (moved-map env mix c words G (probe_plan probe) (at_lock (lock_of_probe probe.at))
-        (at_lock (lock_of_probe next.at))
-        (ProbeKnows env mix c held.holds_nothing None port table None words G all whole (next.at, Go))
-        (FindNext (at.Probing table next, Go))
-        (λ M' G' w k. record { knowing = k.0; fits = (key, k.1) }) step)
+        answered-map env mix None (inl refl) (still_has refl)
+        (λ M' G' w k. record { knowing = k.0; fits = (key, k.1) }) step
     walked table probe (next, Done end) key step =
         let there = found_or_not table end.bucket end.seen.found in
         rw (seen_holds table end.bucket end.seen.found)
-        (answered env mix c call words G (probe_plan probe) (at_lock (lock_of_probe probe.at))
-        (at_lock (Some end.bucket.place)) None (FindNext (there, Go)) (inl refl) (still_has refl)
-        (moved-map env mix c words G (probe_plan probe) (at_lock (lock_of_probe probe.at))
-        (at_lock (Some end.bucket.place))
-        (ProbeKnows env mix c held.holds_nothing None port table None words G all whole
-        (next.at, Done end)) (FindNext (there, Go))
-        (λ M' G' w k. seen_knows table end.bucket end.seen.before end.seen.found M' G' k) step))
+        (answered-map env mix None (inl refl) (still_has refl)
+        (λ M' G' w k. seen_knows table end.bucket end.seen.before end.seen.found M' G' k) step)
 
     -- the future of a table in which the port was looked for in vain
     future_next : (table : ℕ) (bucket : Locked) (future : Option ℕ)
@@ -297,10 +280,7 @@ module _ (env : Env) (mix : ℕ → ℕ → ℕ → ℕ) (c : ℕ) (port : ℕ) 
         → FindKnows (at.Future table bucket) M G → FindMoved (at.Future table bucket)
         (unlocking table bucket (next_table future), Go)
     future_next table bucket None unbound known =
-        reads env mix c call words G (plan_at env (at.Future table bucket))
-        (held_of_find (at.Future table bucket)) (held_of_find
-        (unlocking table bucket (Answer Missing)))
-        (FindNext (unlocking table bucket (Answer Missing), Go)) whole refl refl
+        reads env mix whole refl refl
         (learns env.config.kind c call None now (plain Missing) missing_right refl
         (missing_legal (ap (owners_in env mix M) unbound)))
         (record { knowing = plainly env mix known.knowing.only tt tt known.knowing.means.bucket.lock; fits = tt })
@@ -318,9 +298,7 @@ module _ (env : Env) (mix : ℕ → ℕ → ℕ → ℕ) (c : ℕ) (port : ℕ) 
         ap (λ link. list_followed table bucket owner (node_of env.geometry.nodes link)) end in
         let bound : now port ≡ owner_of (M (Node here.first OwnerWord)) ∷ owners_in env mix M here.behind =
         ap (owners_in env mix M) here.bound_to in
-        rw ends (reads env mix c call words G (plan_at env (at.ListLink table bucket node owner))
-        (held_of_find (at.ListLink table bucket node owner)) (held_of_find answer)
-        (FindNext (answer, Go)) whole refl refl
+        rw ends (reads env mix whole refl refl
         (learns env.config.kind c call None now (plain (Found owner))
         (record { replied = record { reply = tt; owners = refl; pairs = refl }; tells = refl }) refl
         (record {
@@ -406,22 +384,12 @@ module _ (env : Env) (mix : ℕ → ℕ → ℕ → ℕ) (c : ℕ) (port : ℕ) 
         goes_on (at.LaterOwner table bucket node owner) (at.ListLink table bucket node owner) refl refl refl
         (record { knowing = known.knowing; fits = tt })
     find_step (at.Unlocking table unlock (Table next)) is known =
-        answered env mix c call words G (plan_at env (at.Unlocking table unlock (Table next)))
-        (held_of_find (at.Unlocking table unlock (Table next))) held.holds_nothing None
-        (FindNext (at.Locating (locate_new env.geometry next), Go)) (inl refl) (still_has refl)
-        (moved-map env mix c words G (plan_at env (at.Unlocking table unlock (Table next)))
-        (at_lock (Some unlock.place)) held.holds_nothing _
-        (FindNext (at.Locating (locate_new env.geometry next), Go))
+        answered-map env mix None (inl refl) (still_has refl)
         (λ M' G' w k. record { knowing = k; fits = tt })
         (unlock_step env mix c held.holds_nothing None (Passes port next) words G all whole refl unlock.place
-        unlock.word known.knowing))
+        unlock.word known.knowing)
     find_step (at.Unlocking table unlock (Answer reply)) is known =
         let told : Holding = record held.holds_nothing { answer = Some (plain reply) } in
-        answered env mix c call words G (plan_at env (at.Unlocking table unlock (Answer reply)))
-        (held_of_find (at.Unlocking table unlock (Answer reply))) told (Some (plain reply))
-        (FindNext (at.Unlocking table unlock (Answer reply), Done reply))
-        (inl (keeps (Some (plain reply)))) (still_has refl)
-        (moved-map env mix c words G (plan_at env (at.Unlocking table unlock (Answer reply)))
-        (record told { lock = Some unlock.place }) told _
-        (FindNext (at.Unlocking table unlock (Answer reply), Done reply)) (λ M' G' w k. k)
-        (unlock_step env mix c told None Nowhere words G all whole refl unlock.place unlock.word known.knowing))
+        answered-map env mix (Some (plain reply)) (inl (keeps (Some (plain reply)))) (still_has refl)
+        (λ M' G' w k. k)
+        (unlock_step env mix c told None Nowhere words G all whole refl unlock.place unlock.word known.knowing)

@@ -153,16 +153,14 @@ module _ (env : Env) (mix : ℕ → ℕ → ℕ → ℕ) (c : ℕ) where
         (find_at.plan_at env state) (held_of (finds port state)) (find_holds env mix c port r) (FindNext env mix c port r)
         → JobStepOf words G (job_plan env (finds port state)) (finds port state) (job_next (finds port) plain_ending r)
     finds_so port state (next, Go) step =
-        step-map env mix c (call_of (finds port state)) words G (find_at.plan_at env state) (held_of (finds port state)) (held_of (finds port next)) _ (JobNext (finds port next, Go))
-        (λ M G' w k. record { built = tt; knowing = k.knowing; fits = k.fits }) step
+        step-map env mix (λ M G' w k. record { built = tt; knowing = k.knowing; fits = k.fits }) step
     finds_so port state (next, Done reply) step = step
 
     binds_so : (port owner : ℕ) (once : Bool) (state : BindAt) (r : BindAt × Next Reply)
         → Step env mix c (call_of (binds port owner once state)) words G (bind_at.plan_at env state) (held_of (binds port owner once state)) (bind_holds env mix c port owner once r) (BindNext env mix c port owner once r)
         → JobStepOf words G (job_plan env (binds port owner once state)) (binds port owner once state) (job_next (binds port owner once) plain_ending r)
     binds_so port owner once state (next, Go) step =
-        step-map env mix c (call_of (binds port owner once state)) words G (bind_at.plan_at env state) (held_of (binds port owner once state)) (held_of (binds port owner once next)) _ (JobNext (binds port owner once next, Go))
-        (λ M G' w k. record { built = tt; knowing = k.knowing; fits = k.fits }) step
+        step-map env mix (λ M G' w k. record { built = tt; knowing = k.knowing; fits = k.fits }) step
     binds_so port owner once state (next, Done reply) step = step
 
     lists_so : (port : ℕ) (room : Kept ℕ) (state : AllAt) (after : Kept ℕ) (r : AllAt × Next (Unit {0}))
@@ -172,9 +170,7 @@ module _ (env : Env) (mix : ℕ → ℕ → ℕ → ℕ) (c : ℕ) where
         (all_holds env mix c port after r) (AllNext env mix c port after r)
         → JobStepOf words G (job_plan env (lists port room state)) (lists port room state) (job_next (lists port after) (listing_ending after) r)
     lists_so port room state after (next, Go) step =
-        step-map env mix c (All port) words G (all_at.plan_at env state) (held_of_all room.items state)
-        (held_of (lists port after next)) _ (JobNext (lists port after next, Go))
-        (λ M' G' w k. record { built = tt; knowing = k.knowing; fits = k.fits }) step
+        step-map env mix (λ M' G' w k. record { built = tt; knowing = k.knowing; fits = k.fits }) step
     lists_so port room state after (next, Done done) step = step
 
     releases_so : (port owner : ℕ) (state : ReleaseAt) (r : ReleaseAt × Next (Reply × Option ℕ))
@@ -184,14 +180,10 @@ module _ (env : Env) (mix : ℕ → ℕ → ℕ → ℕ) (c : ℕ) where
         (release_holds env mix c port owner r) (ReleaseNext env mix c port owner r)
         → JobStepOf words G (job_plan env (releases port owner state)) (releases port owner state) (job_next (releases port owner) node_ending r)
     releases_so port owner state (next, Go) step =
-        step-map env mix c (Release port owner) words G (release_at.plan_at env state) (held_of (releases port owner state))
-        (held_of (releases port owner next)) _ (JobNext (releases port owner next, Go))
-        (λ M G' w k. record { built = tt; knowing = k.knowing; fits = k.fits }) step
+        step-map env mix (λ M G' w k. record { built = tt; knowing = k.knowing; fits = k.fits }) step
     releases_so port owner state (next, Done end) step =
         let after = held.ended_with (plain end.0) in
-        step-map env mix c (Release port owner) words G (release_at.plan_at env state) (held_of (releases port owner state))
-        after _ (JobNext (job_next (releases port owner) node_ending (next, Done end)))
-        (λ M G' w k. nothing_known env mix c after end.1 M G' k) step
+        step-map env mix (λ M G' w k. nothing_known env mix c after end.1 M G' k) step
 
     rebinds_so : env.config.kind ≡ Single → (port owner new : ℕ) (state : RebindAt) (r : RebindAt × Next (Reply × Option ℕ))
         → StepWhere env mix (rebind_there state (mem env mix words))
@@ -200,21 +192,16 @@ module _ (env : Env) (mix : ℕ → ℕ → ℕ → ℕ) (c : ℕ) where
         (rebind_holds env mix c port owner new r) (RebindNext env mix c port owner new r)
         → JobStepOf words G (job_plan env (rebinds port owner new state)) (rebinds port owner new state) (job_next (rebinds port owner new) node_ending r)
     rebinds_so single port owner new state (next, Go) step =
-        step-map env mix c (Rebind port owner new) words G (rebind_at.plan_at env state) (held_of (rebinds port owner new state))
-        (held_of (rebinds port owner new next)) _ (JobNext (rebinds port owner new next, Go))
-        (λ M G' w k. record { built = single; knowing = k.knowing; fits = k.fits }) step
+        step-map env mix (λ M G' w k. record { built = single; knowing = k.knowing; fits = k.fits }) step
     rebinds_so single port owner new state (next, Done end) step =
         let after = held.ended_with (plain end.0) in
-        step-map env mix c (Rebind port owner new) words G (rebind_at.plan_at env state) (held_of (rebinds port owner new state))
-        after _ (JobNext (job_next (rebinds port owner new) node_ending (next, Done end)))
-        (λ M G' w k. nothing_known env mix c after end.1 M G' k) step
+        step-map env mix (λ M G' w k. nothing_known env mix c after end.1 M G' k) step
 
     works_so : (state : WorkAt) (r : WorkAt × Next Reply)
         → Step env mix c Work words G (work_at.plan_at env state) (held_of (works state)) (work_holds r) (WorkNext env mix c r)
         → JobStepOf words G (job_plan env (works state)) (works state) (job_next works plain_ending r)
     works_so state (next, Go) step =
-        step-map env mix c Work words G (work_at.plan_at env state) (held_of (works state)) (held_of (works next)) _ (JobNext (works next, Go))
-        (λ M G' w k. record { built = tt; knowing = k; fits = tt }) step
+        step-map env mix (λ M G' w k. record { built = tt; knowing = k; fits = tt }) step
     works_so state (next, Done reply) step = step
 
     -- each operation of a job leads from what the caller knows to what it knows next
@@ -243,8 +230,7 @@ module _ (env : Env) (mix : ℕ → ℕ → ℕ → ℕ) (c : ℕ) where
         (work_step env mix c words G all whole state within knows.knowing)
     job_step counts within knows =
         let old = old_of words (count_plan_in env) in
-        reads env mix c Count words G (count_plan_in env) held.holds_nothing (held.ended_with (plain (Counted old)))
-        (JobNext (job_after mix env counts old)) whole refl refl (inr (record {
+        reads env mix whole refl refl (inr (record {
           learns = record { unknown = refl; answer = plain (Counted old); known = refl; said = inr refl };
           right = record { replied = record { reply = tt; owners = refl; pairs = refl }; tells = refl };
           takes_none = refl;

@@ -44,7 +44,7 @@ use Rattle.rht_core.proofs.Theory.Knowledge.{plainly, HasOnly, HoldsLock, HasTak
 use Rattle.rht_core.proofs.Theory.Frames.{Made}
 use Rattle.rht_core.proofs.Theory.Readiness.{Change, changed}
 use Rattle.rht_core.proofs.Theory.Answering.{KeepsAnswer, IsLegalOn, IsRight, Stills, ChangesBindings, Says, Tells, keeps, learns}
-use Rattle.rht_core.proofs.Theory.Steps.{Rebinds, Holding, HoldsNoneEarly, by_test, mem, owners, owners_in, owners-stay, Moved, moved-map, StepWhere, Step, step-map, with_answer, answered, reads, HasNodeInTime, still_has}
+use Rattle.rht_core.proofs.Theory.Steps.{answered-map, Rebinds, Holding, HoldsNoneEarly, by_test, mem, owners, owners_in, owners-stay, Moved, StepWhere, Step, step-map, with_answer, reads, HasNodeInTime, still_has}
 use Rattle.rht_core.proofs.Moves.Relinking.{relink_address, relink_value}
 use Rattle.rht_core.proofs.Moves.Removing as removing
 use Rattle.rht_core.proofs.Moves.Removing.{IsFoundIn, CanReplace}
@@ -166,8 +166,7 @@ module _ (env : Env) (mix : ℕ → ℕ → ℕ → ℕ) (c : ℕ) (port owner n
         → KeepsAnswer (held_of_rebind at).answer (held_of_rebind next).answer
         → RebindKnows next M G → RebindMoved at (next, Go)
     goes_on at next same holds says knows =
-        reads env mix c call words G (plan_at env at) (held_of_rebind at) (held_of_rebind next)
-        (RebindNext (next, Go)) whole same holds (inl says) knows
+        reads env mix whole same holds (inl says) knows
 
     -- an operation of a piece, with what it tells of the answer
     moves_on : {There There' : Type 0} (at : RebindAt) (r : RebindAt × Next (Reply × Option ℕ)) (h' : Holding)
@@ -180,9 +179,8 @@ module _ (env : Env) (mix : ℕ → ℕ → ℕ → ℕ) (c : ℕ) (port owner n
         → StepWhere env mix There There' c call words G (plan_at env at) (held_of_rebind at) (with_answer env mix h' answer)
         (RebindNext r)
     moves_on at r h' answer Knows tells in_time more step =
-        answered env mix c call words G (plan_at env at) (held_of_rebind at) h' answer (RebindNext r)
-        tells in_time
-        (moved-map env mix c words G (plan_at env at) (held_of_rebind at) h' Knows (RebindNext r) more step)
+        answered-map env mix answer tells in_time
+        more step
 
     -- ---- the answers
 
@@ -272,20 +270,13 @@ module _ (env : Env) (mix : ℕ → ℕ → ℕ → ℕ) (c : ℕ) (port owner n
         → RebindMoved (at.Seeking n seek) (sought env.geometry n r.0 r.1, Go)
     seek_next n seek (next, Go) step =
         let state = at.Seeking n next in
-        step-map env mix c call words G (seek_plan seek) (held_of_rebind (at.Seeking n seek))
-        (held_of_rebind state) _
-        (RebindNext (state, Go)) (λ M' G' w k. record { knowing = k.knowing; fits = k.fits }) step
+        step-map env mix (λ M' G' w k. record { knowing = k.knowing; fits = k.fits }) step
     seek_next n seek (next, Done None) step =
         let state = giving env.geometry n in
-        step-map env mix c call words G (seek_plan seek) (held_of_rebind (at.Seeking n seek))
-        (held_of_rebind state) _
-        (RebindNext (state, Go)) (λ M' G' w k. record { knowing = k; fits = tt }) step
+        step-map env mix (λ M' G' w k. record { knowing = k; fits = tt }) step
     seek_next n seek (next, Done (Some found)) step =
         let state = at.Owner n found in
-        step-map env mix c call words G (seek_plan seek) (held_of_rebind (at.Seeking n seek))
-        (held_of_rebind state) _
-        (RebindNext (state, Go))
-        (λ M' G' w k. record { knowing = plainly env mix k.only k.means.node k.means.table k.means.bucket; fits = tt }) step
+        step-map env mix (λ M' G' w k. record { knowing = plainly env mix k.only k.means.node k.means.table k.means.bucket; fits = tt }) step
 
     -- ---- the old owner
 
@@ -338,8 +329,7 @@ module _ (env : Env) (mix : ℕ → ℕ → ℕ → ℕ) (c : ℕ) (port owner n
         let legal = absent_legal (first ∷ []) bound (ap (λ t. cond t Rebound Absent) other)
         (ap (λ t. cond t (new ∷ []) (first ∷ [])) other) in
         let next = owner_compared n found false in
-        reads env mix c call words G (plan_at env (at.Owner n found)) (holds_found n found)
-        (held_of_rebind next) (RebindNext (next, Go)) whole refl refl
+        reads env mix whole refl refl
         (learns env.config.kind c call (Some n) now (plain Absent) (absent_right n) refl legal)
         (record { knowing = plainly env mix known.knowing.only known.knowing.means.node tt known.knowing.means.bucket.standing.lock; fits = tt })
 
@@ -374,8 +364,7 @@ module _ (env : Env) (mix : ℕ → ℕ → ℕ → ℕ) (c : ℕ) (port owner n
         let Next = ReplacingKnows n found (relink_of env.geometry found (link_of n)) false in
         let bucket = in_list port found (LeadsTo None link owner) in
         let locked : Holding = record held.holds_nothing { lock = Some found.bucket.place } in
-        answered env mix c call words G op h h None Next (inl refl) (still_has refl)
-        (moved-map env mix c words G op h h _ Next
+        answered-map env mix None (inl refl) (still_has refl)
         (λ M' G' w k. let node = k.means.node in let is = k.means.bucket in (
           plainly env mix k.only (record {
                 has = node.has;
@@ -395,16 +384,14 @@ module _ (env : Env) (mix : ℕ → ℕ → ℕ → ℕ) (c : ℕ) (port owner n
           refl,
         ))
         (nodes.fill_step env mix c locked (seeks.home_of port found) bucket words G all whole tt (own port owner new n)
-        ChainLink link known.knowing))
+        ChainLink link known.knowing)
 
     link_next : (n : ℕ) (found : FoundPort) (link : ℕ) → RebindKnows (at.Link n found link) M G
         → RebindStep (at.Link n found link)
     link_next n found link known =
         let next = replacing env.geometry n found in
         let relink = relink_of env.geometry found (link_of n) in
-        step-map env mix c call words G (plan_at env (at.Link n found link)) (holds_found n found)
-        (held_of_rebind next) (ReplacingKnows n found relink (has_relinked found.before relink.at))
-        (RebindNext (next, Go)) (λ M' G' w k. record { knowing = k.0; fits = k.1 })
+        step-map env mix (λ M' G' w k. record { knowing = k.0; fits = k.1 })
         (subst (ReplacingNext n found link) (sym (unstored found.bucket.place (link_of n) found.before))
         (linked n found link known))
 

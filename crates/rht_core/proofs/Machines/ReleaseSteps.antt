@@ -42,7 +42,7 @@ use Rattle.rht_core.proofs.Theory.Wholes.{chain_of, list_of, word_index, Whole}
 use Rattle.rht_core.proofs.Theory.Knowns.{Nowhere, KnownBucket, Locks, TakenOut, LocksTakenOut, KnownList, AtNode, Differing, Matching, CutsOut, Leads, LeadsTo, Promotes, Known, NoOwner, list_link, first_of_list}
 use Rattle.rht_core.proofs.Theory.Knowledge.{plainly, Knowing, ListMeans}
 use Rattle.rht_core.proofs.Theory.Answering.{KeepsAnswer, IsLegalOn, IsRight, keeps, learns}
-use Rattle.rht_core.proofs.Theory.Steps.{Lowers, LinksBehind, Holding, HoldsNoneEarly, by_test, mem, owners, owners_in, moved, moved-map, StepWhere, Step, step-map, answered, reads, still_has}
+use Rattle.rht_core.proofs.Theory.Steps.{answered-map, Lowers, LinksBehind, Holding, HoldsNoneEarly, by_test, mem, owners, owners_in, moved, StepWhere, Step, step-map, answered, reads, still_has}
 use Rattle.rht_core.proofs.Moves.Quiet.{count_down}
 use Rattle.rht_core.proofs.Returning.Readers.{chain-first, next_of}
 use Rattle.rht_core.proofs.Moves.TakenNodes.{chain_behind}
@@ -227,7 +227,7 @@ module _ (env : Env) (mix : ℕ → ℕ → ℕ → ℕ) (c : ℕ) (port owner :
         → StepWhere env mix There There' c call words G op h h' Knows
         → StepWhere env mix There There' c call words G op h h' (ReleaseNext r)
     knows_next op h h' Knows r next step =
-        step-map env mix c call words G op h h' Knows (ReleaseNext r) (λ M' G' w k. next M' G' k) step
+        step-map env mix (λ M' G' w k. next M' G' k) step
 
     -- a load of which the answer isn't known
     goes_on : (at next : ReleaseAt)
@@ -236,8 +236,7 @@ module _ (env : Env) (mix : ℕ → ℕ → ℕ → ℕ) (c : ℕ) (port owner :
         → KeepsAnswer (held_of_release at).answer (held_of_release next).answer
         → ReleaseKnows next M G → ReleaseMoved at (next, Go)
     goes_on at next same holds says knows =
-        reads env mix c call words G (plan_at env at) (held_of_release at) (held_of_release next)
-        (ReleaseNext (next, Go)) whole same holds (inl says) knows
+        reads env mix whole same holds (inl says) knows
 
     -- what is known where more is said of the list
     list_more : (found : FoundPort) (known more : KnownList) → (k : KnowsList found known M G)
@@ -291,10 +290,7 @@ module _ (env : Env) (mix : ℕ → ℕ → ℕ → ℕ) (c : ℕ) (port owner :
         (SeekNext (next, Done None)) (at.Seeking next, Done (Absent, None))
         (λ M' G' k. record { only = k.only; means = k.means }) step
     sought_step seek (next, Done (Some found)) step =
-        step-map env mix c call words G (seek_plan seek) (held_of_release (at.Seeking seek))
-        (holds_bucket found)
-        (SeekNext (next, Done (Some found))) (ReleaseNext (at.Owner found found.node None, Go))
-        (λ M' G' w k.
+        step-map env mix (λ M' G' w k.
         let is = k.means.bucket in
         let list =
         found_list env mix M' G' w c found.bucket.place found.bucket.word port found.node found.before is in
@@ -366,8 +362,7 @@ module _ (env : Env) (mix : ℕ → ℕ → ℕ → ℕ) (c : ℕ) (port owner :
             let none : NotIn owner (now port) =
             subst (λ bound. NotIn owner (owners_in env mix M bound)) (sym (is.bound_to ∙ split))
             (stores.no_owner env mix c port owner low words G all whole nodes passed) in
-            rw ends (reads env mix c call words G op (holds_bucket found) (held_of_release answer)
-            (ReleaseNext (answer, Go)) whole refl refl
+            rw ends (reads env mix whole refl refl
             (learns env.config.kind c call None now (plain Absent) absent_right refl (absent_legal none))
             (record { knowing = plainly env mix known.knowing.only tt tt is.found.standing.lock; fits = tt }))
         go (next ∷ rear) split segment =
@@ -460,8 +455,7 @@ module _ (env : Env) (mix : ℕ → ℕ → ℕ → ℕ) (c : ℕ) (port owner :
         let link = M (Node found.node ChainLink) in
         let next = at.Unlinking found (relink_of env.geometry found link) in
         rw (begins_held found true link)
-        (reads env mix c call words G op (holds_bucket found) (holds_bucket found) (ReleaseNext (next, Go))
-        whole refl refl (inl refl)
+        (reads env mix whole refl refl (inl refl)
         (unlinking_knows M G found link
         (list_more found (Leads None owner) (LeadsTo None link owner) known.knowing
         (record { leads = known.knowing.means.bucket.means; link_is = refl }))))
@@ -505,8 +499,7 @@ module _ (env : Env) (mix : ℕ → ℕ → ℕ → ℕ) (c : ℕ) (port owner :
         let owner_word = ap owner_of (write.others (Node m OwnerWord) among (λ e. cc)) in
         let next = promoting env.geometry found second in
         rw (begins_held found false (link_of second))
-        (answered env mix c call words G op (holds_bucket found) (holds_bucket found) None
-        (ReleaseNext (next, Go))
+        (answered env mix None
         (inl refl) (still_has refl)
         (moved env mix c words G op (holds_bucket found) (holds_bucket found) (ReleaseNext (next, Go))
         (LinksBehind second) whole tt tt made (record { on = refl; locked = λ e. cc; none = refl; holds = refl })
@@ -540,10 +533,9 @@ module _ (env : Env) (mix : ℕ → ℕ → ℕ → ℕ) (c : ℕ) (port owner :
         let locked = holds_left (Some place) raised in
         let h = holds_left None raised in
         rw holds
-        (answered env mix c call words G op locked h h.answer (ReleaseNext r) (inl (keeps h.answer))
-        (still_has refl)
-        (moved-map env mix c words G op locked h _ (ReleaseNext r) (λ M' G' w k. next M' G' k)
-        (unlock_taken env mix c h None Nowhere words G all whole refl place word node k)))
+        (answered-map env mix h.answer (inl (keeps h.answer)) (still_has refl)
+        (λ M' G' w k. next M' G' k)
+        (unlock_taken env mix c h None Nowhere words G all whole refl place word node k))
 
     -- where a relinking stands: so it is of each that is before its first store, and of each behind it
     abbrev IsSoOf : (FoundPort → RelinkModel → ReleaseAt) → FoundPort → Option ℕ → RelinkModel → Type 0
@@ -649,7 +641,7 @@ module _ (env : Env) (mix : ℕ → ℕ → ℕ → ℕ) (c : ℕ) (port owner :
         let Knows : Memory → Ghost → Type 0 = ReleaseNext (at.Lowering node shape, Done (reply, Some node)) in
         let write : IsWrite env.geometry M M' PortCount ((M PortCount + (2 ^ 64 - 1)) % 2 ^ 64) =
         is_write env.geometry words PortCount op all tt refl in
-        answered env mix c call words G op h h' (Some (plain reply)) Knows
+        answered env mix (Some (plain reply))
         (inl (record { reply = refl; owners = refl })) (still_has refl)
         (moved env mix c words G op h h' Knows Lowers whole tt tt
         (count_down env mix c M M' G whole low k.only.raising write)
@@ -673,10 +665,9 @@ module _ (env : Env) (mix : ℕ → ℕ → ℕ → ℕ) (c : ℕ) (port owner :
         let locked : Holding = record told { lock = Some unlock.place } in
         let Knows : Memory → Ghost → Type 0 =
         ReleaseNext (at.Unlocking table unlock None, Done (Absent, None)) in
-        answered env mix c call words G op locked told told.answer Knows (inl (keeps told.answer))
-        (still_has refl)
-        (moved-map env mix c words G op locked told _ Knows (λ M' G' w k. k)
-        (unlock_step env mix c told None Nowhere words G all whole refl unlock.place unlock.word known.knowing))
+        answered-map env mix told.answer (inl (keeps told.answer)) (still_has refl)
+        (λ M' G' w k. k)
+        (unlock_step env mix c told None Nowhere words G all whole refl unlock.place unlock.word known.knowing)
     unlocking_step table unlock (Some node) known =
         unlock_left unlock.place unlock.word node false
         (at.Unlocking table unlock (Some node), Done (Released false, Some node)) refl

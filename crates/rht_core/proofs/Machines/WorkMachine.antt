@@ -59,7 +59,7 @@ use Rattle.rht_core.proofs.Theory.Wholes.{place_at-index, Whole}
 use Rattle.rht_core.proofs.Theory.Knowns.{Known, KnownMaking, MakesNothing, HasTaken, HasMade, KnownAim, NoAim, Onward, From, Beyond, KnownRehash, KnownPlace, KnownEntry, KnownWork, NoWork, Works, Rooted, Follows, Empties, LeavesBehind, Nears, Faces, InBucket, Bare, AtEntry, AtTail, Aims, Brings, TakesOut, HasBrought}
 use Rattle.rht_core.proofs.Theory.Knowledge.{WorkMeans, Means, Only, Knowing}
 use Rattle.rht_core.proofs.Theory.Answering.{Tells, keeps}
-use Rattle.rht_core.proofs.Theory.Steps.{Holding, mem, owners, Moved, moved-map, with_knowledge, with_answer, Step, answered, still_has}
+use Rattle.rht_core.proofs.Theory.Steps.{answered-map, Holding, mem, owners, Moved, moved-map, with_knowledge, with_answer, Step, still_has}
 use Rattle.rht_core.proofs.Pieces.Holdings.{bare_slot}
 use Rattle.rht_core.proofs.Pieces.Makes.{known_of_make, slot_made, made_with, known_made, make_step, slot_given, pages_given, known_given, unmake_step}
 use Rattle.rht_core.proofs.Pieces.Attaches.{attach_step, lose_attach_step}
@@ -219,13 +219,11 @@ module _ (env : Env) (mix : ℕ → ℕ → ℕ → ℕ) (c : ℕ) where
     leads op h h' known next tells same holds is moved =
         let answer = (held_of_work next).answer in
         subst (λ x. Step env mix c call words G op h x (WorkNext (next, Go))) (sym holds)
-        (answered env mix c call words G op h h' answer (WorkNext (next, Go)) tells
-        (still_has {h = h} {h' = with_answer env mix h' answer} same)
-        (moved-map env mix c words G op h h' (λ M' G'. Knowing env mix c h' known M' G') (WorkNext (next, Go))
+        (answered-map env mix answer tells (still_has {h = h} {h' = with_answer env mix h' answer} same)
         (λ M' G' w k. record {
           only = subst (λ (x : Holding). Only env mix c G' x) (sym holds) k.only;
           means = subst (λ (x : Known). Means env mix c M' G' x) (sym is) k.means;
-        }) moved))
+        }) moved)
 
     -- this is said to the call from here on, which isn't about bindings
     says : (reply : Reply) → IsWorkReply reply → AreOwnersWith reply [] → ArePairsWith reply []
@@ -253,8 +251,7 @@ module _ (env : Env) (mix : ℕ → ℕ → ℕ → ℕ) (c : ℕ) where
         → WorkMeans env mix c M' G' more)
         → Moved env mix c words G op h h' (knowing h' known) → Moved env mix c words G op h h' (knowing h' more)
     learning op h h' known more learns step =
-        moved-map env mix c words G op h h' (knowing h' known) (knowing h' more)
-        (λ M' G' w k. knows_that h' M' G' known more k (learns M' G' w k.means.work)) step
+        moved-map env mix (λ M' G' w k. knows_that h' M' G' known more k (learns M' G' w k.means.work)) step
 
     -- ---- loads that decide nothing of the answer
 
@@ -294,13 +291,9 @@ module _ (env : Env) (mix : ℕ → ℕ → ℕ → ℕ) (c : ℕ) where
         (inl refl) refl refl refl
         (take_work_step env mix c held.holds_nothing words G all whole (eqb-true word 0 t) known))
         (λ f.
-        answered env mix c call words G (plan_at env at.WorkLock) held.holds_nothing held.holds_nothing
-        (Some (plain replies.Elsewhere)) (WorkNext (at.WorkLock, Done replies.Elsewhere))
-        (says replies.Elsewhere tt refl refl refl) (still_has refl)
-        (moved-map env mix c words G (plan_at env at.WorkLock) held.holds_nothing held.holds_nothing
-        (knowing held.holds_nothing NoWork) (WorkNext (at.WorkLock, Done replies.Elsewhere))
+        answered-map env mix (Some (plain replies.Elsewhere)) (says replies.Elsewhere tt refl refl refl) (still_has refl)
         (λ M' G' w k. record { only = k.only; means = k.means })
-        (lose_work_step env mix c held.holds_nothing words G all whole (eqb-false word 0 f) known)))
+        (lose_work_step env mix c held.holds_nothing words G all whole (eqb-false word 0 f) known))
 
     last_aim-next : (slot : ℕ) (next : Option ℕ) → last_aim (next_or_shape slot next) ≡ last_sought slot next
     last_aim-next slot None = refl
@@ -842,11 +835,9 @@ module _ (env : Env) (mix : ℕ → ℕ → ℕ → ℕ) (c : ℕ) where
         let state = at.LettingGo outcome in
         let answer = plain (reply_of outcome) in
         let after : Holding = held.ended_with answer in
-        answered env mix c call words G (plan_at env state) (held_of_work state) after (Some answer)
-        (WorkNext (state, Done (reply_of outcome))) (inl (keeps (Some answer))) (still_has refl)
-        (moved-map env mix c words G (plan_at env state) (held_of_work state) after (knowing after NoWork)
-        (WorkNext (state, Done (reply_of outcome))) (λ M' G' w k. k)
-        (give_work_step env mix c after words G all whole (has_moved outcome) known))
+        answered-map env mix (Some answer) (inl (keeps (Some answer))) (still_has refl)
+        (λ M' G' w k. k)
+        (give_work_step env mix c after words G all whole (has_moved outcome) known)
 
     -- ---- all states
 

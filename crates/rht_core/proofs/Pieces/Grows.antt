@@ -114,9 +114,7 @@ module _ (env : Env) (mix : ℕ → ℕ → ℕ → ℕ) (c : ℕ) (h : Holding)
         → Moved env mix c words G op (holds pages) (holds []) (knows_that table [] (HasPages []))
         → Moved env mix c words G op (holds pages) (holds []) (knows_that table [] MakesNothing)
     ended table pages op step =
-        moved-map env mix c words G op (holds pages) (holds []) (knows_that table [] (HasPages []))
-        (knows_that table [] MakesNothing)
-        (λ M' G' now k. record {
+        moved-map env mix (λ M' G' now k. record {
           only = k.only;
           means = record {
             node = k.means.node;

@@ -284,12 +284,7 @@ module _ (env : Env) (mix : ℕ → ℕ → ℕ → ℕ) (c : ℕ) (h : Holding)
         tt knows in
         subst (λ ps. Moved env mix c words G op (holds (Some slot) (range_with_len page (pages_taken exponent nested))) (holds (Some slot) ps)
         (knows_that (Some slot) ps (HasMade slot (made_shape exponent nested page)))) (sym (made_run nested page run))
-        (moved-map env mix c words G op (holds (Some slot) (range_with_len page (pages_taken exponent nested)))
-        (holds (Some slot) (range_with_len page (pages_taken exponent nested)))
-        (knows_that (Some slot) (range_with_len page (pages_taken exponent nested))
-        (HasTaken (with_slot_word slot_now SerialWord serial) (range_with_len page (pages_taken exponent nested))))
-        (knows_that (Some slot) (range_with_len page (pages_taken exponent nested)) (HasMade slot (made_shape exponent nested page)))
-        (λ M' G' now k. record {
+        (moved-map env mix (λ M' G' now k. record {
           only = k.only;
           means = record {
             node = k.means.node;

@@ -464,14 +464,10 @@ module _ (env : Env) (mix : ℕ → ℕ → ℕ → ℕ) (c : ℕ) (h : Holding)
     lock_next : (op : Op) (r : LockModel × Next ℕ) → LockMoved op r
         → ProbeMoved op None (lock_taken env.geometry port r.0 r.1)
     lock_next op (lock, Go) step =
-        moved-map env mix c words G op (holding None) (holding None) (LockKnows (lock, Go))
-        (ProbeKnows (probes.Locking lock, Go)) (λ M' G' w k. (k, tt)) step
+        moved-map env mix (λ M' G' w k. (k, tt)) step
     lock_next op (lock, Done word) step =
         started op lock word (locked_walk_new env.geometry lock.place word port)
-        (moved-map env mix c words G op (holding None) (holding (Some lock.place))
-        (LockKnows (lock, Done word)) (StartKnows lock.place word
-        (locked_walk_new env.geometry lock.place word port))
-        (λ M' G' w k. walk_start M' G' w lock.place word k) step)
+        (moved-map env mix (λ M' G' w k. walk_start M' G' w lock.place word k) step)
 
     walk_next : (op : Op) (bucket : Locked) (r : LockedWalkModel × Next Seen)
         → WalkMoved bucket.place bucket.word op r

@@ -31,7 +31,7 @@ use Rattle.rht_core.proofs.Theory.Wholes.{Whole}
 use Rattle.rht_core.proofs.Theory.Knowns.{KnownNode, KnownTable, Nowhere, Passes, AtHome, KnownBucket, Unlocked, Locks, Missed, Found, InList, KnownList, Known, knows_plain}
 use Rattle.rht_core.proofs.Theory.Knowledge.{plainly, Knowing}
 use Rattle.rht_core.proofs.Theory.Answering.{IsLegalOn, IsRight, TellsOrRecalls, none_early, keeps, learns, recalls}
-use Rattle.rht_core.proofs.Theory.Steps.{Holding, mem, owners, owners_in, Moved, moved-map, StepWhere, answered_where, answered, reads, still_has}
+use Rattle.rht_core.proofs.Theory.Steps.{answered-map, Holding, mem, owners, owners_in, Moved, moved-map, StepWhere, answered_where, answered, reads, still_has}
 use Rattle.rht_core.proofs.Pieces.Locates.{known_locate, IsThereAt, first_passed, locate_step, LocateKnows, LocatedKnows, LocateSays, Recalls, locate_says, FutureIs, future_is}
 use Rattle.rht_core.proofs.Pieces.Locks.{unlock_step}
 use Rattle.rht_core.proofs.Pieces.Probes.{known_probe, known_found, place_of_probe, IsProbeFor, probed_by, ProbeKnows, probe_step}
@@ -151,9 +151,8 @@ module _ (env : Env) (mix : ℕ → ℕ → ℕ → ℕ) (c : ℕ) (call : Call)
         → Moved env mix c words G op (at_lock lock) (at_lock after) Knows
         → StepWhere env mix There There' c call words G op (at_lock lock) (at_lock after) (SeekNext r)
     moves_on op lock after Knows r more step =
-        answered env mix c call words G op (at_lock lock) (at_lock after) None (SeekNext r) (inl refl)
-        (still_has refl)
-        (moved-map env mix c words G op (at_lock lock) (at_lock after) Knows (SeekNext r) more step)
+        answered-map env mix None (inl refl) (still_has refl)
+        more step
 
     -- the way to the bucket
     abbrev LocateMoved : LocateModel → (Memory → Ghost → Type 0) → Type 0
@@ -176,8 +175,8 @@ module _ (env : Env) (mix : ℕ → ℕ → ℕ → ℕ) (c : ℕ) (call : Call)
         → SeekMoved (at.Locating locate) r
     goes_from locate r Knows none more step =
         let h = held_of_seek hn absent (at.Locating locate) in
-        rw none (answered env mix c call words G (locate_plan locate) h h None (SeekNext r) (inl refl) (still_has refl)
-        (moved-map env mix c words G (locate_plan locate) h h Knows (SeekNext r) (λ M' G' w k. more M' G' k) step))
+        rw none (answered-map env mix None (inl refl) (still_has refl)
+        (λ M' G' w k. more M' G' k) step)
 
     -- the bucket was looked for
     found_bucket : (locate next : LocateModel) (shape : ℕ) (bucket : LocatedBucket)
@@ -201,8 +200,7 @@ module _ (env : Env) (mix : ℕ → ℕ → ℕ → ℕ) (c : ℕ) (call : Call)
         (subst (λ early. TellsOrRecalls kind c call hn early There now None (Some absent)) (sym says.known_early)
         (recalls kind c call hn There now absent right takes_none says.missing))
         (none_early kind c call There ⊥ now h.early None refl) (still_has refl)
-        (moved-map env mix c words G (locate_plan locate) h h _ (SeekNext (at.Locating next, Done None))
-        (λ M' G' w k. plainly env mix k.only k.means.node tt tt) step)
+        (moved-map env mix (λ M' G' w k. plainly env mix k.only k.means.node tt tt) step)
 
     found_place : (locate : LocateModel) (r : LocateModel × Next Located)
         → LocateMoved locate (KnowsThen locate r) → SaysThen locate r
@@ -213,8 +211,7 @@ module _ (env : Env) (mix : ℕ → ℕ → ℕ → ℕ) (c : ℕ) (call : Call)
         answered_where env mix (IsThereAt locate.at M)
         (IsThereAt next.at (mem env mix (applied words (locate_plan locate)))) c call words G (locate_plan locate) h h None
         (early_of_locate absent next.at) Knows (inl (inl refl)) says (still_has refl)
-        (moved-map env mix c words G (locate_plan locate) h h _ Knows
-        (λ M' G' w k. record { knowing = record { only = k.only; means = k.means }; fits = tt }) step)
+        (moved-map env mix (λ M' G' w k. record { knowing = record { only = k.only; means = k.means }; fits = tt }) step)
     found_place locate (next, Done there) step says = found_bucket locate next there.shape there.bucket says step
 
     -- the end of a walk
@@ -267,15 +264,13 @@ module _ (env : Env) (mix : ℕ → ℕ → ℕ → ℕ) (c : ℕ) (call : Call)
         → SeekMoved (at.Future table bucket) (leaving table bucket future, Go)
     future_next table bucket None unbound known =
         let next = leaving table bucket None in
-        reads env mix c call words G (seek_plan_at env.geometry (at.Future table bucket))
-        (at_lock (Some bucket.place)) (held_of_seek hn absent next) (SeekNext (next, Go)) whole refl refl
+        reads env mix whole refl refl
         (learns env.config.kind c call hn now absent right takes_none
         (legal (ap (owners_in env mix M) unbound)))
         (record { knowing = plainly env mix known.knowing.only known.knowing.means.node tt known.knowing.means.bucket.lock; fits = tt })
     future_next table bucket (Some slot) passing known =
         let next = leaving table bucket (Some slot) in
-        reads env mix c call words G (seek_plan_at env.geometry (at.Future table bucket))
-        (at_lock (Some bucket.place)) (held_of_seek hn absent next) (SeekNext (next, Go)) whole refl refl
+        reads env mix whole refl refl
         (inl refl)
         (record { knowing = plainly env mix known.knowing.only known.knowing.means.node passing known.knowing.means.bucket.lock; fits = tt })
 
@@ -283,8 +278,7 @@ module _ (env : Env) (mix : ℕ → ℕ → ℕ → ℕ) (c : ℕ) (call : Call)
         → SeekMoved at (seek_after_at mix env.geometry port at (old_of words (seek_plan_at env.geometry at)))
     seek_step_at at.CurrentTable is known =
         let next = locating env.geometry (table_of (M CurrentTable)) in
-        reads env mix c call words G (seek_plan_at env.geometry at.CurrentTable) (at_lock None) (at_lock None)
-        (SeekNext (next, Go)) whole refl refl (inl refl)
+        reads env mix whole refl refl (inl refl)
         (record { knowing = plainly env mix known.knowing.only known.knowing.means.node (first_passed env mix c (at_lock None) own Unlocked words G whole port) tt; fits = tt })
     seek_step_at (at.Locating locate) is known =
         let h = held_of_seek hn absent (at.Locating locate) in
@@ -309,8 +303,7 @@ module _ (env : Env) (mix : ℕ → ℕ → ℕ → ℕ) (c : ℕ) (call : Call)
     seek_step_at (at.Leaving table unlock None) is known =
         let op = seek_plan_at env.geometry (at.Leaving table unlock None) in
         let told = holds_seeking hn absent None (Some absent) in
-        answered env mix c call words G op (record told { lock = Some unlock.place }) told (Some absent)
-        (SeekNext (at.Leaving table unlock None, Done None)) (inl (keeps (Some absent))) (still_has refl)
+        answered env mix (Some absent) (inl (keeps (Some absent))) (still_has refl)
         (unlock_step env mix c told own Nowhere words G all whole refl unlock.place unlock.word known.knowing)
 
     -- each operation leads from what is known to what is known next

@@ -442,11 +442,11 @@ module _ (env : Env) (mix : ℕ → ℕ → ℕ → ℕ) where
   Step c call words G op h h' Knows = StepWhere ⊥ ⊥ c call words G op h h' Knows
 
   -- the same step with more said of what the caller knows
-  pub step-map : {There There' : Type 0} (c : ℕ) (call : Call) (words : List ℕ) (G : Ghost) (op : Op) (h h' : Holding)
-      (Knows More : Memory → Ghost → Type 0)
+  pub step-map : {There There' : Type 0} {c : ℕ} {call : Call} {words : List ℕ} {G : Ghost} {op : Op} {h h' : Holding}
+      {Knows More : Memory → Ghost → Type 0}
       → ((M : Memory) (G' : Ghost) → Whole env mix M G' → Knows M G' → More M G')
       → StepWhere There There' c call words G op h h' Knows → StepWhere There There' c call words G op h h' More
-  step-map c call words G op h h' Knows More more step = record {
+  step-map {There} {There'} {c} {call} {words} {G} {op} more step = record {
     move = step.move;
     ready = step.ready;
     made = step.made;
@@ -620,11 +620,10 @@ module _ (env : Env) (mix : ℕ → ℕ → ℕ → ℕ) where
     knows = knows;
   }
 
-  pub moved-map : (c : ℕ) (words : List ℕ) (G : Ghost) (op : Op) (h h' : Holding) (Knows More : Memory
-      → Ghost → Type 0)
+  pub moved-map : {c : ℕ} {words : List ℕ} {G : Ghost} {op : Op} {h h' : Holding} {Knows More : Memory → Ghost → Type 0}
       → ((M : Memory) (G' : Ghost) → Whole env mix M G' → Knows M G' → More M G')
       → Moved c words G op h h' Knows → Moved c words G op h h' More
-  moved-map c words G op h h' Knows More more step = record {
+  moved-map {c} {words} {G} {op} more step = record {
     move = step.move;
     ready = step.ready;
     binds_none = step.binds_none;
@@ -717,23 +716,31 @@ module _ (env : Env) (mix : ℕ → ℕ → ℕ → ℕ) where
       }
 
   -- the same where nothing is known early after it
-  pub answered : {There There' : Type 0} (c : ℕ) (call : Call) (words : List ℕ) (G : Ghost) (op : Op) (h h' : Holding)
-      (answer : Option Answer)
-      (Knows : Memory → Ghost → Type 0)
+  pub answered : {There There' : Type 0} {c : ℕ} {call : Call} {words : List ℕ} {G : Ghost} {op : Op} {h h' : Holding}
+      {Knows : Memory → Ghost → Type 0} (answer : Option Answer)
       → Tells env.config.kind c call h.node (owners (mem words) G) h.answer answer
       → HasNodeInTime h (with_answer h' answer)
       → Moved c words G op h h' Knows → StepWhere There There' c call words G op h (with_answer h' answer) Knows
-  answered {There} {There'} c call words G op h h' answer Knows tells in_time step =
+  answered {There} {There'} {c} {call} {words} {G} {op} {h} {h'} {Knows} answer tells in_time step =
       answered_where There There' c call words G op h h' answer None Knows (inl tells)
       (none_early env.config.kind c call There There' (owners (mem words) G) h.early None refl) in_time step
 
+  -- the same with more said of what the caller knows
+  pub answered-map : {There There' : Type 0} {c : ℕ} {call : Call} {words : List ℕ} {G : Ghost} {op : Op} {h h' : Holding}
+      {Knows More : Memory → Ghost → Type 0} (answer : Option Answer)
+      → Tells env.config.kind c call h.node (owners (mem words) G) h.answer answer
+      → HasNodeInTime h (with_answer h' answer)
+      → ((M : Memory) (G' : Ghost) → Whole env mix M G' → Knows M G' → More M G')
+      → Moved c words G op h h' Knows → StepWhere There There' c call words G op h (with_answer h' answer) More
+  answered-map answer tells in_time more step = answered answer tells in_time (moved-map more step)
+
   -- a load, after which nothing more is known of the answer, or it is told
-  pub reads : {There There' : Type 0} (c : ℕ) (call : Call) (words : List ℕ) (G : Ghost) (op : Op) (h h' : Holding)
-      (Knows : Memory → Ghost → Type 0)
+  pub reads : {There There' : Type 0} {c : ℕ} {call : Call} {words : List ℕ} {G : Ghost} {op : Op} {h h' : Holding}
+      {Knows : Memory → Ghost → Type 0}
       → Whole env mix (mem words) G → word_after (old_of words op) op ≡ old_of words op → HoldsNoneEarly h h'
       → Tells env.config.kind c call h.node (owners (mem words) G) h.answer h'.answer → Knows (mem words) G
       → StepWhere There There' c call words G op h h' Knows
-  reads {There} {There'} c call words G op h h' Knows whole same holds tells knows =
+  reads {There} {There'} {c} {call} {words} {G} {op} {h} {h'} {Knows} whole same holds tells knows =
       let none : h'.early ≡ None = ap (λ (x : Holding). x.early) holds in
       let too : HoldsSame h h' = ap bare holds in
       let step = answered_where There There' c call words G op h h' h'.answer h'.early Knows (inl tells)
