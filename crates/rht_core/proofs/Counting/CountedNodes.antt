@@ -44,21 +44,8 @@ module _ (env : Env) (mix : ℕ → ℕ → ℕ → ℕ) (c : ℕ) (M : Memory) 
   bind-own : (port owner : ℕ) (once : Bool) (state : BindAt)
       → JobKnows env mix c (binds port owner once state) M G
       → (held_of_bind state).raised ≡ true → OwnNode env G c
-  bind-own port owner once (at.Filling new) knows is = absurd (cc)
-  bind-own port owner once (at.CurrentTable attempt) knows is = absurd (cc)
-  bind-own port owner once (at.Locating attempt locate) knows is = absurd (cc)
-  bind-own port owner once (at.Entering attempt table shape place grow) knows is = absurd (cc)
-  bind-own port owner once (at.Probing attempt table shape probe) knows is = absurd (cc)
-  bind-own port owner once (at.FoundOwner claimed found) knows is = absurd (cc)
-  bind-own port owner once (at.ListLink list) knows is = absurd (cc)
-  bind-own port owner once (at.ChainLink list) knows is = absurd (cc)
-  bind-own port owner once (at.LinkBehind list link) knows is = absurd (cc)
   bind-own port owner once (at.Replacing list relink) knows is =
       let none = front_raises list.claimed (has_relinked list.before relink.at) in absurd (cc)
-  bind-own port owner once (at.Future claimed length) knows is = absurd (cc)
-  bind-own port owner once (at.Count claimed) knows is = absurd (cc)
-  bind-own port owner once (at.Link claimed) knows is = absurd (cc)
-  bind-own port owner once (at.Raise claimed) knows is = absurd (cc)
   bind-own port owner once (at.Publish node table relink kick) knows is =
       let has = knows.knowing.means.node.has in
       record {
@@ -66,15 +53,7 @@ module _ (env : Env) (mix : ℕ → ℕ → ℕ → ℕ) (c : ℕ) (M : Memory) 
         among = has.among;
         mine = inl has.mine;
       }
-  bind-own port owner once (at.Unlocking attempt table unlock next) knows is = absurd (cc)
-  bind-own port owner once (at.UnlockingFull growing unlock) knows is = absurd (cc)
-  bind-own port owner once (at.Root growing) knows is = absurd (cc)
-  bind-own port owner once (at.GrowthCount growing root) knows is = absurd (cc)
-  bind-own port owner once (at.Making growing size make) knows is = absurd (cc)
-  bind-own port owner once (at.FutureAgain growing refusal) knows is = absurd (cc)
-  bind-own port owner once (at.Attaching growing slot shape) knows is = absurd (cc)
-  bind-own port owner once (at.Unmaking attempt unmake answer) knows is = absurd (cc)
-  bind-own port owner once (at.Giving give reply) knows is = absurd (cc)
+  bind-own port owner once _ knows is = absurd (cc)
 
   -- a release that is to lower the count has taken the node out
   taken-own : (node : ℕ) → HasTakenOut env mix c G node → OwnNode env G c
@@ -89,20 +68,13 @@ module _ (env : Env) (mix : ℕ → ℕ → ℕ → ℕ) (c : ℕ) (M : Memory) 
   release-own : (port owner : ℕ) (state : ReleaseAt)
       → JobKnows env mix c (releases port owner state) M G
       → (held_of_release state).raised ≡ true → OwnNode env G c
-  release-own port owner (release_at.Seeking seek) knows is = absurd (cc)
-  release-own port owner (release_at.Owner found node before) knows is = absurd (cc)
-  release-own port owner (release_at.ListLink found node) knows is = absurd (cc)
-  release-own port owner (release_at.LinkBehind found node before) knows is = absurd (cc)
-  release-own port owner (release_at.CuttingOut found node before link) knows is = absurd (cc)
-  release-own port owner (release_at.ChainLink found second) knows is = absurd (cc)
-  release-own port owner (release_at.SecondLink found second link) knows is = absurd (cc)
   release-own port owner (release_at.Promoting found relink) knows is =
       let none = relinking_raises found (has_relinked found.before relink.at) in absurd (cc)
   release-own port owner (release_at.Unlinking found relink) knows is =
       unlinking-own port owner found (LeadsTo None relink.link owner) (has_relinked found.before relink.at)
       knows.knowing.means.bucket is
   release-own port owner (release_at.Lowering node shape) knows is = taken-own node knows.knowing.means.bucket
-  release-own port owner (release_at.Unlocking table unlock removed) knows is = absurd (cc)
+  release-own port owner _ knows is = absurd (cc)
 
   job-own : (job : Job) → JobKnows env mix c job M G → (held_of job).raised ≡ true → OwnNode env G c
   job-own (finds port state) knows is = let none = find_raises state in absurd (cc)

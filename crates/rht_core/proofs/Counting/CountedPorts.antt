@@ -25,12 +25,9 @@ none_of P x other ys all = not_in_from x ys (λ i. other x (AllByRecursion-In P 
 
 -- a node of which this is said has a seat
 first_in : (owner : Owner) → is_first owner ≡ true → (j : ℕ) × (seat_of owner ≡ Some j)
-first_in Free is = absurd (cc)
-first_in (Held c) is = absurd (cc)
 first_in (First j) is = (j, refl)
 first_in (Leaving j) is = (j, refl)
-first_in (Behind k) is = absurd (cc)
-first_in (Taken c) is = absurd (cc)
+first_in _ is = absurd (cc)
 
 module _ (bindings : Multimap) where
   abbrev IsBound : ℕ → Type 0

@@ -137,14 +137,8 @@ module _ (g : Geometry) where
   took_in : (call : Call) (reply : Reply) (steps : List Did) → IsTakenIn g call reply steps
       → Covers (cond (needs_node call && not (is_no_node reply)) 1 0) (TookBit steps)
   took_in (Bind port owner once) reply steps taken = took_by reply steps taken
-  took_in (Find port) reply steps none = covers_none _ (TookBit steps) (no_take steps none)
-  took_in (All port) reply steps none = covers_none _ (TookBit steps) (no_take steps none)
-  took_in (Release port owner) reply steps none = covers_none _ (TookBit steps) (no_take steps none)
   took_in (Rebind port owner new) reply steps taken = took_by reply steps taken
-  took_in (Walk from limit) reply steps none = covers_none _ (TookBit steps) (no_take steps none)
-  took_in Work reply steps none = covers_none _ (TookBit steps) (no_take steps none)
-  took_in Tidy reply steps none = covers_none _ (TookBit steps) (no_take steps none)
-  took_in Count reply steps none = covers_none _ (TookBit steps) (no_take steps none)
+  took_in _ reply steps none = covers_none _ (TookBit steps) (no_take steps none)
 
   -- one of the calls took the node
   abbrev pub TookPast : List Past → ℕ → Type 0

@@ -79,12 +79,8 @@ no_table_kept env words after same none = record {
 
     slot_place-within : (slot : ℕ) (word : SlotWord) → slot < 8 → IsSlotWord word
         → let place = place_of env.geometry (Slot slot word) in (24 ≤ place) × (place < 280)
-    slot_place-within slot ShapeWord low is = (omega (arith, low), omega (arith, low))
-    slot_place-within slot SeedWord low is = (omega (arith, low), omega (arith, low))
-    slot_place-within slot FutureWord low is = (omega (arith, low), omega (arith, low))
-    slot_place-within slot SerialWord low is = (omega (arith, low), omega (arith, low))
-    slot_place-within slot StateWord low is = (omega (arith, low), omega (arith, low))
     slot_place-within slot (LoadedSection caller) low is = (omega (arith, low, is), omega (arith, low, is))
+    slot_place-within slot _ low is = (omega (arith, low), omega (arith, low))
 
 pub no_table-opening : (env : Env) → IsNoTableMade env (opening_words env)
 no_table-opening env =
@@ -110,25 +106,7 @@ module _ (env : Env) (mix : ℕ → ℕ → ℕ → ℕ) where
   work-spares (work_at.Count root last) within calm = by_load _ _ refl
   work-spares (work_at.RootFuture root due) within calm = by_load _ _ refl
   work-spares (work_at.LettingGo outcome) within calm = inr (inl refl)
-  work-spares (work_at.Making wanted make) within calm = absurd calm
-  work-spares (work_at.Attaching root last slot shape) within calm = absurd calm
-  work-spares (work_at.Unmaking root unmake) within calm = absurd calm
-  work-spares (work_at.RootShape root future again) within calm = absurd calm
-  work-spares (work_at.Entry rehash number place) within calm = absurd calm
-  work-spares (work_at.Locking rehash number lock) within calm = absurd calm
-  work-spares (work_at.EntryTable emptying seek) within calm = absurd calm
-  work-spares (work_at.Seed emptying last) within calm = absurd calm
-  work-spares (work_at.BucketWord emptying target) within calm = absurd calm
-  work-spares (work_at.Walking emptying target walk) within calm = absurd calm
-  work-spares (work_at.Key emptying target entry) within calm = absurd calm
-  work-spares (work_at.LockingSecond emptying entry table lock) within calm = absurd calm
-  work-spares (work_at.EntryLink emptying entry second) within calm = absurd calm
-  work-spares (work_at.Linking emptying entry second) within calm = absurd calm
-  work-spares (work_at.CuttingOff emptying entry) within calm = absurd calm
-  work-spares (work_at.Unlocking rehash number unlock stop) within calm = absurd calm
-  work-spares (work_at.Publishing rehash) within calm = absurd calm
-  work-spares (work_at.NewFuture rehash) within calm = absurd calm
-  work-spares (work_at.Retiring root again) within calm = absurd calm
+  work-spares _ within calm = absurd calm
 
   job-spares : (c : ℕ) (job : Job) → JobIn env mix c job → CalmJob env job → SparesSlots (job_plan env job)
   job-spares c (finds port state) within calm = find-spares env state within
@@ -248,15 +226,8 @@ module _ (M : Type 0) (mix : ℕ → ℕ → ℕ → ℕ) (env : Env) (roomy : I
     first_rebind-calm port owner new Listed = tt
 
     first-calm : (call : Call) → IfSome (first_job env call) (CalmJob env)
-    first-calm (Find port) = tt
-    first-calm (Bind port owner once) = tt
-    first-calm (All port) = tt
-    first-calm (Release port owner) = tt
     first-calm (Rebind port owner new) = first_rebind-calm port owner new env.config.kind
-    first-calm (Walk from limit) = tt
-    first-calm Work = tt
-    first-calm Tidy = tt
-    first-calm Count = tt
+    first-calm _ = tt
 
     calls-calm : (c : ℕ) → IsAdmitted env.config.kind events
         → let r : Traced M = traced_of mix env events in IsKeeping M mix env Now Ended (view_of r.world c) (r.traces c)

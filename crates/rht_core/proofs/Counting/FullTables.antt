@@ -83,13 +83,7 @@ module _ (mix : ℕ → ℕ → ℕ → ℕ) (env : Env) where
 -- a look-up raises none
 pub find_raises : (state : FindAt) → (held_of_find state).raised ≡ false
 find_raises find_at.CurrentTable = refl
-find_raises (find_at.Locating locate) = refl
-find_raises (find_at.Probing table probe) = refl
-find_raises (find_at.Future table bucket) = refl
-find_raises (find_at.FirstOwner table bucket node) = refl
-find_raises (find_at.ListLink table bucket node owner) = refl
-find_raises (find_at.LaterOwner table bucket node owner) = refl
-find_raises (find_at.Unlocking table unlock next) = refl
+find_raises _ = refl
 
 -- nor does a bind that puts its node in front of a list
 pub front_raises : (claimed : Claimed) (stored : Bool) → (holds_replacing claimed stored).raised ≡ false
@@ -105,39 +99,16 @@ relink_stores relink (relinks.Word word) place is = cc
 -- and there it loads nothing
 bind_loads-unraised : (e : Env) (place : ℕ) (state : BindAt) → plan_at e state ≡ Load place
     → (held_of_bind state).raised ≡ false
-bind_loads-unraised e place (at.Filling new) is = refl
-bind_loads-unraised e place (at.CurrentTable attempt) is = refl
-bind_loads-unraised e place (at.Locating attempt locate) is = refl
-bind_loads-unraised e place (at.Entering attempt table shape way grow) is = refl
-bind_loads-unraised e place (at.Probing attempt table shape probe) is = refl
-bind_loads-unraised e place (at.FoundOwner claimed found) is = refl
-bind_loads-unraised e place (at.ListLink list) is = refl
-bind_loads-unraised e place (at.ChainLink list) is = refl
-bind_loads-unraised e place (at.LinkBehind list link) is = refl
 bind_loads-unraised e place (at.Replacing list relink) is = front_raises list.claimed
     (has_relinked list.before relink.at)
-bind_loads-unraised e place (at.Future claimed length) is = refl
-bind_loads-unraised e place (at.Count claimed) is = refl
-bind_loads-unraised e place (at.Link claimed) is = refl
-bind_loads-unraised e place (at.Raise claimed) is = refl
 bind_loads-unraised e place (at.Publish node table relink kick) is = absurd
     (relink_stores relink relink.at place is)
-bind_loads-unraised e place (at.Unlocking attempt table unlock next) is = refl
-bind_loads-unraised e place (at.UnlockingFull growing unlock) is = refl
-bind_loads-unraised e place (at.Root growing) is = refl
-bind_loads-unraised e place (at.GrowthCount growing root) is = refl
-bind_loads-unraised e place (at.Making growing size make) is = refl
-bind_loads-unraised e place (at.FutureAgain growing refusal) is = refl
-bind_loads-unraised e place (at.Attaching growing slot shape) is = refl
-bind_loads-unraised e place (at.Unmaking attempt unmake answer) is = refl
-bind_loads-unraised e place (at.Giving give reply) is = refl
+bind_loads-unraised e place _ is = refl
 
 -- a listing raises none
 pub all_raises : (owners : List ℕ) (state : AllAt) → (held_of_all owners state).raised ≡ false
 all_raises owners (all_at.Seeking seek) = refl
-all_raises owners (all_at.Owner found node) = refl
-all_raises owners (all_at.ListLink found node) = refl
-all_raises owners (all_at.Unlocking table unlock) = refl
+all_raises owners _ = refl
 
 -- a release that has raised it, and is to lower it, loads nothing either
 pub relinking_raises : (found : FoundPort) (stored : Bool) → (holds_relinking found false stored).raised ≡ false
@@ -146,19 +117,12 @@ relinking_raises found true = refl
 
 release_loads-unraised : (e : Env) (place : ℕ) (state : ReleaseAt) → release_plan_at e state ≡ Load place
     → (held_of_release state).raised ≡ false
-release_loads-unraised e place (release_at.Seeking seek) is = refl
-release_loads-unraised e place (release_at.Owner found node before) is = refl
-release_loads-unraised e place (release_at.ListLink found node) is = refl
-release_loads-unraised e place (release_at.LinkBehind found node before) is = refl
-release_loads-unraised e place (release_at.CuttingOut found node before link) is = refl
-release_loads-unraised e place (release_at.ChainLink found second) is = refl
-release_loads-unraised e place (release_at.SecondLink found second link) is = refl
 release_loads-unraised e place (release_at.Promoting found relink) is =
     relinking_raises found (has_relinked found.before relink.at)
 release_loads-unraised e place (release_at.Unlinking found relink) is = absurd
     (relink_stores relink relink.at place is)
 release_loads-unraised e place (release_at.Lowering node shape) is = absurd (cc)
-release_loads-unraised e place (release_at.Unlocking table unlock removed) is = refl
+release_loads-unraised e place _ is = refl
 
 -- a rebind raises none
 replacing_raises : (node : ℕ) (found : FoundPort) (stored : Bool) → (holds_replacing_of node found stored).raised ≡ false
@@ -166,43 +130,14 @@ replacing_raises node found false = refl
 replacing_raises node found true = refl
 
 pub rebind_raises : (state : RebindAt) → (held_of_rebind state).raised ≡ false
-rebind_raises (rebind_at.Filling new) = refl
-rebind_raises (rebind_at.Seeking node seek) = refl
-rebind_raises (rebind_at.Owner node found) = refl
-rebind_raises (rebind_at.ChainLink node found) = refl
-rebind_raises (rebind_at.Link node found link) = refl
 rebind_raises (rebind_at.Replacing node found relink) =
     replacing_raises node found (has_relinked found.before relink.at)
-rebind_raises (rebind_at.Unlocking node table unlock) = refl
-rebind_raises (rebind_at.Giving give) = refl
+rebind_raises _ = refl
 
 -- nor does a resizing
 pub work_raises : (state : WorkAt) → (held_of_work state).raised ≡ false
 work_raises work_at.WorkLock = refl
-work_raises work_at.CurrentTable = refl
-work_raises (work_at.LastTable root seek) = refl
-work_raises (work_at.Count root last) = refl
-work_raises (work_at.Making wanted make) = refl
-work_raises (work_at.Attaching root last slot shape) = refl
-work_raises (work_at.Unmaking root unmake) = refl
-work_raises (work_at.RootFuture root due) = refl
-work_raises (work_at.RootShape root future again) = refl
-work_raises (work_at.Entry rehash number place) = refl
-work_raises (work_at.Locking rehash number lock) = refl
-work_raises (work_at.EntryTable emptying seek) = refl
-work_raises (work_at.Seed emptying last) = refl
-work_raises (work_at.BucketWord emptying target) = refl
-work_raises (work_at.Walking emptying target walk) = refl
-work_raises (work_at.Key emptying target entry) = refl
-work_raises (work_at.LockingSecond emptying entry table lock) = refl
-work_raises (work_at.EntryLink emptying entry second) = refl
-work_raises (work_at.Linking emptying entry second) = refl
-work_raises (work_at.CuttingOff emptying entry) = refl
-work_raises (work_at.Unlocking rehash number unlock stop) = refl
-work_raises (work_at.Publishing rehash) = refl
-work_raises (work_at.NewFuture rehash) = refl
-work_raises (work_at.Retiring root again) = refl
-work_raises (work_at.LettingGo outcome) = refl
+work_raises _ = refl
 
 -- what loads has raised none
 load-unraised : (env : Env) (job : Job) (place : ℕ) → job_plan env job ≡ Load place

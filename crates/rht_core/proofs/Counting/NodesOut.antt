@@ -23,12 +23,9 @@ is_out (Taken c) = true
 
 -- a node with a seat isn't
 pub seat-is_out : (o : Owner) (j : ℕ) → seat_of o ≡ Some j → is_out o ≡ false
-seat-is_out Free j is = absurd (cc)
-seat-is_out (Held c) j is = absurd (cc)
 seat-is_out (First i) j is = refl
 seat-is_out (Leaving i) j is = refl
-seat-is_out (Behind k) j is = absurd (cc)
-seat-is_out (Taken c) j is = absurd (cc)
+seat-is_out _ j is = absurd (cc)
 
 -- ---- sums over callers
 
@@ -70,12 +67,8 @@ module _ (env : Env) (mix : ℕ → ℕ → ℕ → ℕ) (G : Ghost) (built : (n
   -- each node that is out was taken by one of the callers
   taken_once : (owner : Owner) → IsBuilt env mix owner
       → one_if (is_out owner) ≡ sum_by (λ c. one_if (is_taken_by c owner)) callers
-  taken_once Free is = sym (sum_by-zero callers)
-  taken_once (Held c) is = sym (sum_by-zero callers)
-  taken_once (First j) is = sym (sum_by-zero callers)
-  taken_once (Leaving j) is = sym (sum_by-zero callers)
-  taken_once (Behind k) is = sym (sum_by-zero callers)
   taken_once (Taken d) is = sym (one_caller d env.geometry.callers is)
+  taken_once _ is = sym (sum_by-zero callers)
 
   counted_below : (bound : ℕ)
       → count_below (λ n. is_out (G.node n)) bound ≡ sum_by

@@ -83,12 +83,9 @@ on_page_map g did index on node clears =
     absurd (omega (arith, on, there, clears.within, parts.page_map))
 
 offset-less : (word : SlotWord) → IsTableWord word → slot_offset word < 4
-offset-less ShapeWord of_table = omega arith
-offset-less SeedWord of_table = omega arith
-offset-less FutureWord of_table = omega arith
-offset-less SerialWord of_table = omega arith
 offset-less StateWord of_table = absurd of_table
 offset-less (LoadedSection caller) of_table = absurd of_table
+offset-less _ of_table = omega arith
 
 on_slot : (g : Geometry) (did : Did) (slot : ℕ) (word : SlotWord) → slot < 8 → slot_offset word < 8
     → op_place did.op ≡ place_of g (Slot slot word) → IsNoTake g did
@@ -365,14 +362,8 @@ module _ (mix : ℕ → ℕ → ℕ → ℕ) (env : Env) where
       → TellsNode call node reply → HasTaken g node steps
       → IsTakenIn g call reply steps
   ends_taken (Bind port owner once) node reply steps tells taken = by_none node reply steps tells taken
-  ends_taken (Find port) has reply steps none taken = subst (λ n. HasTaken g n steps) none taken
-  ends_taken (All port) has reply steps none taken = subst (λ n. HasTaken g n steps) none taken
-  ends_taken (Release port owner) has reply steps none taken = subst (λ n. HasTaken g n steps) none taken
   ends_taken (Rebind port owner new) node reply steps tells taken = by_none node reply steps tells taken
-  ends_taken (Walk from limit) has reply steps none taken = subst (λ n. HasTaken g n steps) none taken
-  ends_taken Work has reply steps none taken = subst (λ n. HasTaken g n steps) none taken
-  ends_taken Tidy has reply steps none taken = subst (λ n. HasTaken g n steps) none taken
-  ends_taken Count has reply steps none taken = subst (λ n. HasTaken g n steps) none taken
+  ends_taken _ has reply steps none taken = subst (λ n. HasTaken g n steps) none taken
 
   abbrev pub Ended : Call → Ending → List Did → Type 0
   Ended call ending steps = IsTakenIn g call ending.answer.reply steps

@@ -66,63 +66,24 @@ use Rattle.rht_core.proofs.Reasons.CausesInRuns.{causes}
 
 find_has_none : (state : FindAt) → (held_of_find state).node ≡ None
 find_has_none finding.CurrentTable = refl
-find_has_none (finding.Locating locate) = refl
-find_has_none (finding.Probing table probe) = refl
-find_has_none (finding.Future table bucket) = refl
-find_has_none (finding.FirstOwner table bucket node) = refl
-find_has_none (finding.ListLink table bucket node owner) = refl
-find_has_none (finding.LaterOwner table bucket node owner) = refl
-find_has_none (finding.Unlocking table unlock next) = refl
+find_has_none _ = refl
 
 all_has_none : (owners : List ℕ) (state : AllAt) → (held_of_all owners state).node ≡ None
 all_has_none owners (listing.Seeking seek) = refl
-all_has_none owners (listing.Owner found node) = refl
-all_has_none owners (listing.ListLink found node) = refl
-all_has_none owners (listing.Unlocking table unlock) = refl
+all_has_none owners _ = refl
 
 relinking_has_none : (found : FoundPort) (raised stored : Bool) → (holds_relinking found raised stored).node ≡ None
 relinking_has_none found raised false = refl
 relinking_has_none found raised true = refl
 
 release_has_none : (state : ReleaseAt) → (held_of_release state).node ≡ None
-release_has_none (releasing.Seeking seek) = refl
-release_has_none (releasing.Owner found node before) = refl
-release_has_none (releasing.ListLink found node) = refl
-release_has_none (releasing.LinkBehind found node before) = refl
-release_has_none (releasing.CuttingOut found node before link) = refl
-release_has_none (releasing.ChainLink found second) = refl
-release_has_none (releasing.SecondLink found second link) = refl
 release_has_none (releasing.Promoting found relink) = relinking_has_none found false (has_relinked found.before relink.at)
 release_has_none (releasing.Unlinking found relink) = relinking_has_none found true (has_relinked found.before relink.at)
-release_has_none (releasing.Lowering node shape) = refl
-release_has_none (releasing.Unlocking table unlock removed) = refl
+release_has_none _ = refl
 
 work_has_none : (state : WorkAt) → (held_of_work state).node ≡ None
 work_has_none working.WorkLock = refl
-work_has_none working.CurrentTable = refl
-work_has_none (working.LastTable root seek) = refl
-work_has_none (working.Count root last) = refl
-work_has_none (working.Making wanted make) = refl
-work_has_none (working.Attaching root last slot shape) = refl
-work_has_none (working.Unmaking root unmake) = refl
-work_has_none (working.RootFuture root due) = refl
-work_has_none (working.RootShape root future again) = refl
-work_has_none (working.Entry rehash number place) = refl
-work_has_none (working.Locking rehash number lock) = refl
-work_has_none (working.EntryTable emptying seek) = refl
-work_has_none (working.Seed emptying last) = refl
-work_has_none (working.BucketWord emptying target) = refl
-work_has_none (working.Walking emptying target walk) = refl
-work_has_none (working.Key emptying target entry) = refl
-work_has_none (working.LockingSecond emptying entry table lock) = refl
-work_has_none (working.EntryLink emptying entry second) = refl
-work_has_none (working.Linking emptying entry second) = refl
-work_has_none (working.CuttingOff emptying entry) = refl
-work_has_none (working.Unlocking rehash number unlock stop) = refl
-work_has_none (working.Publishing rehash) = refl
-work_has_none (working.NewFuture rehash) = refl
-work_has_none (working.Retiring root again) = refl
-work_has_none (working.LettingGo outcome) = refl
+work_has_none _ = refl
 
 job_has_none : (job : Job) → needs_node (call_of job) ≡ false → (held_of job).node ≡ None
 job_has_none (finds port state) needs = find_has_none state
@@ -137,14 +98,8 @@ job_has_none counts needs = refl
 tells_none : (call : Call) (node : Option ℕ) (reply : Reply) → needs_node call ≡ false → TellsNode call node reply
     → node ≡ None
 tells_none (Bind port owner once) node reply needs tells = absurd (cc)
-tells_none (Find port) node reply needs none = none
-tells_none (All port) node reply needs none = none
-tells_none (Release port owner) node reply needs none = none
 tells_none (Rebind port owner new) node reply needs tells = absurd (cc)
-tells_none (Walk from limit) node reply needs none = none
-tells_none Work node reply needs none = none
-tells_none Tidy node reply needs none = none
-tells_none Count node reply needs none = none
+tells_none _ node reply needs none = none
 
 -- ---- the call in progress
 

@@ -196,15 +196,8 @@ module _ (env : Env) where
     first_rebind-one port owner new Listed = tt
 
     first-one : (call : Call) → IfSome (first_job env call) OneJob
-    first-one (Find port) = tt
-    first-one (Bind port owner once) = tt
-    first-one (All port) = tt
-    first-one (Release port owner) = tt
     first-one (Rebind port owner new) = first_rebind-one port owner new env.config.kind
-    first-one (Walk from limit) = tt
-    first-one Work = tt
-    first-one Tidy = tt
-    first-one Count = tt
+    first-one _ = tt
 
     module _ (first : 16 ≤ first_size env.config) (mix : ℕ → ℕ → ℕ → ℕ) (words_at : ℕ → List ℕ)
         (few : (i : ℕ) → HasFew env (words_at i)) (did : Did) where

@@ -123,15 +123,9 @@ module _ (g : Geometry) (exponent : ℕ) where
   made-so : (h : Geometry) (allowed : Bool) (state : MakeAt) (old : ℕ) → allowed ≡ false → IsMakeAtIn g exponent allowed state
       → IsMadeSo (make_after_at h exponent allowed state old).1
   made-so h allowed (makes.Slot slot) old none within = slot-made h (may_nest exponent allowed) slot old
-  made-so h allowed (makes.Taking slot take) old none within = tt
-  made-so h allowed (makes.TakingTop slot take) old none within = tt
-  made-so h allowed (makes.SlotBack slot) old none within = tt
-  made-so h allowed (makes.NextSerial slot nested page) old none within = tt
-  made-so h allowed (makes.Shape slot nested page serial) old none within = tt
-  made-so h allowed (makes.Seed slot nested page serial) old none within = tt
-  made-so h allowed (makes.Future slot nested page serial) old none within = tt
   made-so h allowed (makes.Serial slot nested page serial) old none within =
       (nested, page, refl, subst (λ a. IsKind exponent a nested) none within.taken.kind)
+  made-so h allowed _ old none within = tt
 
   sized-made : (shape : ℕ) → 4 ≤ exponent → exponent ≤ 17 → (nested : Bool) (page : ℕ) → shape ≡ made_shape exponent nested page
       → IsKind exponent false nested → IsSized shape
@@ -262,7 +256,6 @@ module _ (env : Env) (keeps : env.config.shrink ≡ false) where
   sized-work mix at.WorkLock old within sized shape =
       by_test (λ t. SizedWork (cond {A = WorkAt × Next Reply} t (at.CurrentTable, Go) (at.WorkLock, Done Elsewhere)).0) (old == 0)
       (λ t. tt) (λ f. tt)
-  sized-work mix at.CurrentTable old within sized shape = tt
   sized-work mix (at.Attaching root last slot shape) old within sized sees =
       by_test (λ t. SizedWork (cond t (at.RootFuture root dues.Attached) (at.Unmaking root (unmake_new env.geometry slot shape))))
       (old == 0) (λ t. tt) (λ f. tt)
@@ -276,22 +269,16 @@ module _ (env : Env) (keeps : env.config.shrink ≡ false) where
       sized-locked rehash number (lock_after lock old).0 (lock_after lock old).1
   sized-work mix (at.EntryTable emptying seek) old within sized shape =
       sized-entry_table emptying (last_table_after seek old).0 (last_table_after seek old).1
-  sized-work mix (at.Seed emptying last) old within sized shape = tt
   sized-work mix (at.BucketWord emptying target) old within sized shape =
       sized-first (with_word emptying (unlocked old)) target (node_of env.geometry.nodes (head_of emptying.bucket.place (unlocked old)))
   sized-work mix (at.Walking emptying target walk) old within sized shape =
       sized-walked emptying target (last_entry_after walk old).0 (last_entry_after walk old).1
-  sized-work mix (at.Key emptying target entry) old within sized shape = tt
   sized-work mix (at.LockingSecond emptying entry table lock) old within sized shape =
       sized-second_locked emptying entry table (lock_after lock old).0 (lock_after lock old).1
-  sized-work mix (at.EntryLink emptying entry second) old within sized shape = tt
-  sized-work mix (at.Linking emptying entry second) old within sized shape = tt
   sized-work mix (at.CuttingOff emptying entry) old within sized shape = sized-cut emptying entry.before
   sized-work mix (at.Unlocking rehash number unlock stop) old within sized shape = sized-unlocked rehash number stop
-  sized-work mix (at.Publishing rehash) old within sized shape = tt
   sized-work mix (at.NewFuture rehash) old within sized shape = sized-retiring rehash (slot_of old)
-  sized-work mix (at.Retiring root again) old within sized shape = tt
-  sized-work mix (at.LettingGo outcome) old within sized shape = tt
+  sized-work mix _ old within sized shape = tt
 
 -- ---- ghosts
 
@@ -306,35 +293,12 @@ module _ (env : Env) (mix : ℕ → ℕ → ℕ → ℕ) where
   -- no other move attaches any
   pub moved-sized : (c : ℕ) (move : Move) (G : Ghost) → AreSized G
       → ((slot shape seed serial : ℕ) → move ≡ Attaches slot shape seed serial → IsSized shape) → AreSized (ghost_after env mix c move G)
-  moved-sized c Quiet G sized attaches = sized
-  moved-sized c (TakesNode n) G sized attaches = sized
-  moved-sized c (GivesNode n) G sized attaches = sized
-  moved-sized c (TakesLock j) G sized attaches = sized
-  moved-sized c (DropsLock j) G sized attaches = sized
-  moved-sized c Raises G sized attaches = sized
-  moved-sized c (Links n k j) G sized attaches = sized
-  moved-sized c Lowers G sized attaches = sized
-  moved-sized c (Rebinds change) G sized attaches = sized
-  moved-sized c (LinksBehind n) G sized attaches = sized
-  moved-sized c (Arms j) G sized attaches = sized
-  moved-sized c (TakesSlot s) G sized attaches = sized
-  moved-sized c (GivesSlot s) G sized attaches = sized
-  moved-sized c (TakesPages index bits) G sized attaches = sized
-  moved-sized c (GivesPages index bits) G sized attaches = sized
   moved-sized c (Attaches slot shape seed serial) G sized attaches =
       attached-sized G slot shape seed serial sized (attaches slot shape seed serial refl) c
   moved-sized c (Enters j p) G sized attaches =
       put-all (λ i t. i < G.attached → IsSized t.shape) G.table (table_at G j) (entered_table (G.table (table_at G j)) j p)
       (sized (table_at G j)) (λ i other. sized i)
-  moved-sized c TakesWork G sized attaches = sized
-  moved-sized c GivesWork G sized attaches = sized
-  moved-sized c BeginsMoving G sized attaches = sized
-  moved-sized c (TakesSecond i) G sized attaches = sized
-  moved-sized c (Leaves j i entry nodes) G sized attaches = sized
-  moved-sized c (Arrives j i entry) G sized attaches = sized
-  moved-sized c (CutsOff j entry before) G sized attaches = sized
-  moved-sized c Publishes G sized attaches = sized
-  moved-sized c (Retires s) G sized attaches = sized
+  moved-sized c _ G sized attaches = sized
 
   -- the shape of a slot that has a table
   pub slot-sized : (words : List ℕ) (G : Ghost) → Whole env mix (mem env mix words) G → AreSized G → (slot : ℕ)

@@ -105,9 +105,7 @@ give_node-spares give = behind _ (omega arith)
 
 pub locate-spares : (h : Geometry) (table : ℕ) (state : LocateAt) → SparesSlots (locate_plan_at h table state)
 locate-spares h table locates.Shape = by_load _ _ refl
-locate-spares h table (locates.Seed shape) = by_load _ _ refl
-locate-spares h table (locates.Early shape place) = by_load _ _ refl
-locate-spares h table (locates.Entry shape early place) = by_load _ _ refl
+locate-spares h table _ = by_load _ _ refl
 
 module _ (g : Geometry) where
   lock-spares : (place : ℕ) (state : LockAt) → IsBucketPlace g place → SparesSlots (lock_plan_at place state)
@@ -144,14 +142,10 @@ module _ (env : Env) where
   g = env.geometry
 
   pub find-spares : (state : FindAt) → IsFindAtIn env state → SparesSlots (find_plan_at env state)
-  find-spares finds.CurrentTable within = by_load _ _ refl
   find-spares (finds.Locating locate) within = locate-spares locate.geometry locate.table locate.at
   find-spares (finds.Probing table probe) within = probe-spares g probe.at within.probe_in.at_in
-  find-spares (finds.Future table bucket) within = by_load _ _ refl
-  find-spares (finds.FirstOwner table bucket node) within = by_load _ _ refl
-  find-spares (finds.ListLink table bucket node owner) within = by_load _ _ refl
-  find-spares (finds.LaterOwner table bucket node owner) within = by_load _ _ refl
   find-spares (finds.Unlocking table unlock next) within = unlock-spares g unlock within.unlock_in
+  find-spares _ within = by_load _ _ refl
 
   pub all-spares : (state : AllAt) → all.IsAllAtIn env state → SparesSlots (all.plan_at env state)
   all-spares (alls.Seeking seek) within = seek-spares g seek.geometry seek.at within.at_in
@@ -161,16 +155,13 @@ module _ (env : Env) where
 
   pub release-spares : (state : ReleaseAt) → release.IsReleaseAtIn env state → SparesSlots (release.plan_at env state)
   release-spares (releases.Seeking seek) within = seek-spares g seek.geometry seek.at within.at_in
-  release-spares (releases.Owner found node before) within = by_load _ _ refl
-  release-spares (releases.ListLink found node) within = by_load _ _ refl
-  release-spares (releases.LinkBehind found node before) within = by_load _ _ refl
   release-spares (releases.CuttingOut found node before link) within = at_node g before ListLink _ refl
-  release-spares (releases.ChainLink found second) within = by_load _ _ refl
   release-spares (releases.SecondLink found second link) within = at_node g second ChainLink _ refl
   release-spares (releases.Promoting found relink) within = relink-spares g relink relink.at within.relink_in.place_in
   release-spares (releases.Unlinking found relink) within = relink-spares g relink relink.at within.relink_in.place_in
   release-spares (releases.Lowering node shape) within = inr (inr (inl refl))
   release-spares (releases.Unlocking table unlock removed) within = unlock-spares g unlock within.unlock_in
+  release-spares _ within = by_load _ _ refl
 
   pub rebind-spares : (state : RebindAt) → rebind.IsRebindAtIn env state → SparesSlots (rebind.plan_at env state)
   rebind-spares (rebinds.Filling new) within = new_node-spares new.geometry new.key new.owner new.at

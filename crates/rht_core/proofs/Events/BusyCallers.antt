@@ -24,13 +24,7 @@ module _ (M : Type 0) where
   -- who is in a call plans an operation
   doing_plans : (doing : Doing M) → does_nothing doing ≡ false → doing_plan doing ≡ None → ⊥
   doing_plans Idle busy none = absurd (cc)
-  doing_plans (Finding m) busy none = absurd (cc)
-  doing_plans (Binding m) busy none = absurd (cc)
-  doing_plans (Listing m) busy none = absurd (cc)
-  doing_plans (Releasing m) busy none = absurd (cc)
-  doing_plans (Rebinding m) busy none = absurd (cc)
-  doing_plans (Working m) busy none = absurd (cc)
-  doing_plans (Counting m) busy none = absurd (cc)
+  doing_plans _ busy none = absurd (cc)
 
   pub busy_plans : (local : Local M) → is_idle local ≡ false → plan_of local ≡ None → ⊥
   busy_plans local busy none = doing_plans local.doing busy none

@@ -57,13 +57,7 @@ module _ (M : Type 0) where
   -- who is in no call plans none
   nothing_plans : (doing : Doing M) → does_nothing doing ≡ true → doing_plan doing ≡ None
   nothing_plans Idle idle = refl
-  nothing_plans (Finding m) idle = absurd (cc)
-  nothing_plans (Binding m) idle = absurd (cc)
-  nothing_plans (Listing m) idle = absurd (cc)
-  nothing_plans (Releasing m) idle = absurd (cc)
-  nothing_plans (Rebinding m) idle = absurd (cc)
-  nothing_plans (Working m) idle = absurd (cc)
-  nothing_plans (Counting m) idle = absurd (cc)
+  nothing_plans _ idle = absurd (cc)
 
   pub idle_plans : (local : Local M) → is_idle local ≡ true → plan_of local ≡ None
   idle_plans local idle = nothing_plans local.doing idle

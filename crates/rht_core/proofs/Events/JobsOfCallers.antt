@@ -191,13 +191,7 @@ module _ {M : Type 0} where
   -- who is in no call has no job
   pub nothing-job : (doing : Doing M) → does_nothing doing ≡ is_no_job (job_of doing)
   nothing-job Idle = refl
-  nothing-job (Finding m) = refl
-  nothing-job (Binding m) = refl
-  nothing-job (Listing m) = refl
-  nothing-job (Releasing m) = refl
-  nothing-job (Rebinding m) = refl
-  nothing-job (Working m) = refl
-  nothing-job (Counting m) = refl
+  nothing-job _ = refl
 
   -- ---- the beginning of a call
 

@@ -46,77 +46,47 @@ module _ (env : Env) (mix : ℕ → ℕ → ℕ → ℕ) where
     -- the page outlives a step of anybody else: entries that lead to a page lead there still
     located-stays : (port slot : ℕ) (at : LocateAt) → TableMeans env mix G (known_locate port slot at)
         → IsThereAt at M → IsThereAt at M'
-    located-stays port slot locates.Shape means there = there
-    located-stays port slot (locates.Seed shape) means there = there
-    located-stays port slot (locates.Early shape place) means there = there
     located-stays port slot (locates.Entry shape early place) means there =
         let passing = means.shaped.passing in
         placed-stays env mix M M' G G' whole whole' port slot shape place early means
         (TableMeans-stay env mix c M M' G G' rely.tables (OnWay port slot shape place early) means)
         (λ j here. ap (home env mix G' port) (rely.tables.grow.indices slot passing.table)
         ∙ home-stays env mix G G' rely.tables.grow port (index_at G slot) j passing.passed.attached here) there
+    located-stays port slot _ means there = there
 
     sought-stays : (port : ℕ) (own : Option KnownNode) (at : SeekAt) → TableMeans env mix G (known_of_seek port own at).table
         → seek_there at M → seek_there at M'
-    sought-stays port own seeking.CurrentTable means there = there
     sought-stays port own (seeking.Locating locate) means there = located-stays port locate.table locate.at means there
-    sought-stays port own (seeking.Probing table shape probe) means there = there
-    sought-stays port own (seeking.Future table bucket) means there = there
-    sought-stays port own (seeking.Leaving table unlock future) means there = there
+    sought-stays port own _ means there = there
 
     found-stays : (port : ℕ) (at : FindAt) → TableMeans env mix G (known_of_find port at).table → find_there at M
         → find_there at M'
-    found-stays port finding.CurrentTable means there = there
     found-stays port (finding.Locating locate) means there = located-stays port locate.table locate.at means there
-    found-stays port (finding.Probing table probe) means there = there
-    found-stays port (finding.Future table bucket) means there = there
-    found-stays port (finding.FirstOwner table bucket node) means there = there
-    found-stays port (finding.ListLink table bucket node owner) means there = there
-    found-stays port (finding.LaterOwner table bucket node owner) means there = there
-    found-stays port (finding.Unlocking table unlock next) means there = there
+    found-stays port _ means there = there
 
     listed-stays : (port : ℕ) (owners : List ℕ) (at : AllAt) → TableMeans env mix G (known_of_all port owners at).table
         → all_there at M → all_there at M'
     listed-stays port owners (listing.Seeking seek) means there = sought-stays port None seek.at means there
-    listed-stays port owners (listing.Owner found node) means there = there
-    listed-stays port owners (listing.ListLink found node) means there = there
-    listed-stays port owners (listing.Unlocking table unlock) means there = there
+    listed-stays port owners _ means there = there
 
     released-stays : (port owner : ℕ) (at : ReleaseAt) → TableMeans env mix G (known_of_release port owner at).table
         → release_there at M → release_there at M'
     released-stays port owner (releasing.Seeking seek) means there = sought-stays port None seek.at means there
-    released-stays port owner (releasing.Owner found node before) means there = there
-    released-stays port owner (releasing.ListLink found node) means there = there
-    released-stays port owner (releasing.LinkBehind found node before) means there = there
-    released-stays port owner (releasing.CuttingOut found node before link) means there = there
-    released-stays port owner (releasing.ChainLink found second) means there = there
-    released-stays port owner (releasing.SecondLink found second link) means there = there
-    released-stays port owner (releasing.Promoting found relink) means there = there
-    released-stays port owner (releasing.Unlinking found relink) means there = there
-    released-stays port owner (releasing.Lowering node shape) means there = there
-    released-stays port owner (releasing.Unlocking table unlock removed) means there = there
+    released-stays port owner _ means there = there
 
     rebound-stays : (port owner new : ℕ) (at : RebindAt) → TableMeans env mix G (known_of_rebind port owner new at).table
         → rebind_there at M → rebind_there at M'
-    rebound-stays port owner new (rebinding.Filling fresh) means there = there
     rebound-stays port owner new (rebinding.Seeking node seek) means there =
         sought-stays port (Some (filled node port new)) seek.at means there
-    rebound-stays port owner new (rebinding.Owner node found) means there = there
-    rebound-stays port owner new (rebinding.ChainLink node found) means there = there
-    rebound-stays port owner new (rebinding.Link node found link) means there = there
-    rebound-stays port owner new (rebinding.Replacing node found relink) means there = there
-    rebound-stays port owner new (rebinding.Unlocking node table unlock) means there = there
-    rebound-stays port owner new (rebinding.Giving give) means there = there
+    rebound-stays port owner new _ means there = there
 
     pub IsThere-rely : (job : Job) → JobKnows env mix c job M G → IsThere env mix job M → IsThere env mix job M'
     IsThere-rely (finds port state) knows there = found-stays port state knows.knowing.means.table there
-    IsThere-rely (binds port owner once state) knows there = there
     IsThere-rely (lists port room state) knows there = listed-stays port room.items state knows.knowing.means.table there
     IsThere-rely (releases port owner state) knows there = released-stays port owner state knows.knowing.means.table there
     IsThere-rely (rebinds port owner new state) knows there =
         rebound-stays port owner new state knows.knowing.means.table there
-    IsThere-rely (works state) knows there = there
-    IsThere-rely counts knows there = there
+    IsThere-rely _ knows there = there
 
   module _ (L : Type 0) (core : Core L) (G : Ghost) (inv : Inv env mix L core G) (c : ℕ) (job : Job)
       (is : job_of (local_of core c).doing ≡ Some job) where

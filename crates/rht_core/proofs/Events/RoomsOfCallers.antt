@@ -28,13 +28,11 @@ use Rattle.rht_core.proofs.Events.CallBeginnings.{begins_so}
 -- an operation of a listing leaves its room's limit
 room_after-limit : (state : AllAt) (room : Kept ℕ) (word : ℕ)
     → (room_after state room word).limit ≡ room.limit
-room_after-limit (alls.Seeking seek) room word = refl
 room_after-limit (alls.Owner found node) room word =
     cond_both (nat_lt (length room.items) room.limit)
     (record { items = room.items ++ owner_of word ∷ []; limit = room.limit }) room
     (λ (after : Kept ℕ). after.limit ≡ room.limit) (λ t. refl) (λ f. refl)
-room_after-limit (alls.ListLink found node) room word = refl
-room_after-limit (alls.Unlocking table unlock) room word = refl
+room_after-limit _ room word = refl
 
 module _ (M : Type 0) where
   -- ---- the beginning of a call
@@ -69,13 +67,7 @@ module _ (M : Type 0) where
   -- whose own room is empty then
   pub owners_beside-none : (doing : Doing M) (room : Kept ℕ) → (owners_beside doing room).items ≡ []
   owners_beside-none Idle room = refl
-  owners_beside-none (Finding m) room = refl
-  owners_beside-none (Binding m) room = refl
-  owners_beside-none (Listing m) room = refl
-  owners_beside-none (Releasing m) room = refl
-  owners_beside-none (Rebinding m) room = refl
-  owners_beside-none (Working m) room = refl
-  owners_beside-none (Counting m) room = refl
+  owners_beside-none _ room = refl
 
   -- ---- an operation
 
@@ -119,12 +111,6 @@ module _ (M : Type 0) where
   -- and while the call goes on the room of its caller stays as it is
   pub owners_after-stay : (mix : ℕ → ℕ → ℕ → ℕ) (doing : Doing M) (room : Kept ℕ) (old : ℕ)
       → (doing_after mix doing old).1 ≡ None → owners_after mix doing room old ≡ room
-  owners_after-stay mix Idle room old is = refl
-  owners_after-stay mix (Finding m) room old is = refl
-  owners_after-stay mix (Binding m) room old is = refl
   owners_after-stay mix (Listing m) room old is =
       listed_next-stays m (room_after m.at m.room old) room (after_at mix m.env m.port m.at old) is
-  owners_after-stay mix (Releasing m) room old is = refl
-  owners_after-stay mix (Rebinding m) room old is = refl
-  owners_after-stay mix (Working m) room old is = refl
-  owners_after-stay mix (Counting m) room old is = refl
+  owners_after-stay mix _ room old is = refl

@@ -63,10 +63,7 @@ IsRefusedForNode-reply (Find port) reply is taken about refused = absurd (let no
 IsRefusedForNode-reply (All port) reply is taken about refused = absurd (let none = all-no_refusal reply is in cc)
 IsRefusedForNode-reply (Release port owner) reply is taken about refused = absurd (let none = release-no_refusal reply is in cc)
 IsRefusedForNode-reply (Rebind port owner new) reply is taken about refused = rebind-for_node reply is refused
-IsRefusedForNode-reply (Walk from limit) reply is taken about refused = absurd (cc)
-IsRefusedForNode-reply Work reply is taken about refused = absurd (cc)
-IsRefusedForNode-reply Tidy reply is taken about refused = absurd (cc)
-IsRefusedForNode-reply Count reply is taken about refused = absurd (cc)
+IsRefusedForNode-reply _ reply is taken about refused = absurd (cc)
 
 -- what is so of all replies is so of those of the entries
 pub entries_told-replies : (P : Reply → Type 0) (c : ℕ) (calls : List Call) (endings : List Ending)
@@ -137,25 +134,16 @@ module _ (kind : Kind) where
   -- a call that isn't about bindings changes none, and has no answer
   after-other : (bindings : Multimap) (call : Call) → is_some (port_of call) ≡ false → bindings_after kind bindings call ≡ bindings
   after-other bindings (Bind port owner once) other = absurd (cc)
-  after-other bindings (Find port) other = refl
-  after-other bindings (All port) other = refl
   after-other bindings (Release port owner) other = absurd (cc)
   after-other bindings (Rebind port owner new) other = absurd (cc)
-  after-other bindings (Walk from limit) other = refl
-  after-other bindings Work other = refl
-  after-other bindings Tidy other = refl
-  after-other bindings Count other = refl
+  after-other bindings _ other = refl
 
   answer-other : (bindings : Multimap) (call : Call) → is_some (port_of call) ≡ false → answer_of kind bindings call ≡ None
-  answer-other bindings (Bind port owner once) other = absurd (cc)
-  answer-other bindings (Find port) other = absurd (cc)
-  answer-other bindings (All port) other = absurd (cc)
-  answer-other bindings (Release port owner) other = absurd (cc)
-  answer-other bindings (Rebind port owner new) other = absurd (cc)
   answer-other bindings (Walk from limit) other = refl
   answer-other bindings Work other = refl
   answer-other bindings Tidy other = refl
   answer-other bindings Count other = refl
+  answer-other bindings _ other = absurd (cc)
 
   -- so what some first calls with entries leave is what some first calls leave
   pub after-told : (c : ℕ) (calls : List Call) (endings : List Ending) (before : Multimap) (count : ℕ)

@@ -139,12 +139,7 @@ module _ (ports : List ℕ) where
   after-among kind bindings (Rebind port owner new) among is =
       others-among bindings port (owners_rebound owner new (bindings port)) among
       (λ some. among port (λ none. some (ap (owners_rebound owner new) none)))
-  after-among kind bindings (Find port) among is = among
-  after-among kind bindings (All port) among is = among
-  after-among kind bindings (Walk from limit) among is = among
-  after-among kind bindings Work among is = among
-  after-among kind bindings Tidy among is = among
-  after-among kind bindings Count among is = among
+  after-among kind bindings _ among is = among
 
   left-among : (kind : Kind) (bindings : Multimap) (entries : List Entry) → AreAmong bindings
       → AllByRecursion (λ (e : Entry). BindsAmong ports e.call) entries → AreAmong (bindings_left kind bindings entries)

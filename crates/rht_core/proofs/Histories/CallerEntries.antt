@@ -28,15 +28,11 @@ use Rattle.rht_core.proofs.Histories.GoodHistories.{IsGood, good-quiet, good-pus
 -- a call that is answered is about bindings
 answered_about : (k : Kind) (b : Multimap) (call : Call) (answer : Answer) → answer_of k b call ≡ Some answer
     → is_some (port_of call) ≡ true
-answered_about k b (Bind port owner once) answer is = refl
-answered_about k b (Find port) answer is = refl
-answered_about k b (All port) answer is = refl
-answered_about k b (Release port owner) answer is = refl
-answered_about k b (Rebind port owner new) answer is = refl
 answered_about k b (Walk from limit) answer is = absurd (cc)
 answered_about k b Work answer is = absurd (cc)
 answered_about k b Tidy answer is = absurd (cc)
 answered_about k b Count answer is = absurd (cc)
+answered_about k b _ answer is = refl
 
 module _ (M : Type 0) (mix : ℕ → ℕ → ℕ → ℕ) (env : Env) where
   abbrev kind : Kind

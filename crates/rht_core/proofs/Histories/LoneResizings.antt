@@ -78,26 +78,15 @@ module _ (M : Type 0) (mix : ℕ → ℕ → ℕ → ℕ) (env : Env) (events : 
   no_work port owner new Listed state is = cc
 
   work-begins : (call : Call) (state : WorkAt) → first_job env call ≡ Some (works state) → Now (works state) []
-  work-begins (Find port) state is = absurd (cc)
-  work-begins (Bind port owner once) state is = absurd (cc)
-  work-begins (All port) state is = absurd (cc)
-  work-begins (Release port owner) state is = absurd (cc)
   work-begins (Rebind port owner new) state is = absurd (no_work port owner new env.config.kind state is)
-  work-begins (Walk from limit) state is = absurd (cc)
   work-begins Work state is =
       let here : works_at.WorkLock ≡ state = cc in
       subst (λ s. Now (works s) []) here (refl, λ now still. tt)
-  work-begins Tidy state is = absurd (cc)
-  work-begins Count state is = absurd (cc)
+  work-begins _ state is = absurd (cc)
 
   begins : (call : Call) (job : Job) → first_job env call ≡ Some job → Now job []
-  begins call (finds port state) is = tt
-  begins call (binds port owner once state) is = tt
-  begins call (lists port room state) is = tt
-  begins call (releases port owner state) is = tt
-  begins call (rebinds port owner new state) is = tt
   begins call (works state) is = work-begins call state is
-  begins call counts is = tt
+  begins call _ is = tt
 
   next-leads : {S A : Type 0} (start : Job) (job : S → Job) (ending : A → Ending) (all : List Did) (next : S × Next A)
       → GoesOrEnds (λ state. Now (job state) all) (λ end. Ended (call_of start) (ending end) all) next

@@ -125,14 +125,7 @@ calls_of-all P worker (command ∷ commands) all = go (command.0 == worker) (cal
 -- a call that is taken is so as a bind
 IsBindTaken-call : (call : Call) (reply : Reply) → IsCallTaken call reply → IsBindTaken call reply
 IsBindTaken-call (Bind port owner once) reply is = is
-IsBindTaken-call (Find port) reply is = tt
-IsBindTaken-call (All port) reply is = tt
-IsBindTaken-call (Release port owner) reply is = tt
-IsBindTaken-call (Rebind port owner new) reply is = tt
-IsBindTaken-call (Walk from limit) reply is = tt
-IsBindTaken-call Work reply is = tt
-IsBindTaken-call Tidy reply is = tt
-IsBindTaken-call Count reply is = tt
+IsBindTaken-call _ reply is = tt
 
 module _ (M : Type 0) (mix : ℕ → ℕ → ℕ → ℕ) (env : Env) where
   -- so where no bind of a caller is refused but for want of a node, no call is

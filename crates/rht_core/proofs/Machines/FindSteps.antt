@@ -75,11 +75,8 @@ find_there_next (at, Done reply) M = ⊥
 
 -- what it knows early is what any call does whose port is bound nowhere
 early_is : (at : LocateAt) → finds.early_of_locate at ≡ early_of_locate (plain Missing) at
-early_is locates.Shape = refl
-early_is (locates.Seed shape) = refl
-early_is (locates.Early shape place) = refl
 early_is (locates.Entry shape None place) = refl
-early_is (locates.Entry shape (Some next) place) = refl
+early_is _ = refl
 
 -- where the call goes on behind an unlocking, the port has been passed there
 abbrev pub known_behind : ℕ → Then Reply → KnownTable

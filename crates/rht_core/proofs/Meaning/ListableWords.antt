@@ -44,12 +44,8 @@ port_by (Behind port) key = port
 port_by (Taken c) key = key
 
 port_by-seat : (o : Owner) (j key : ℕ) → seat_of o ≡ Some j → port_by o key ≡ key
-port_by-seat Free j key is = refl
-port_by-seat (Held c) j key is = refl
-port_by-seat (First k) j key is = refl
-port_by-seat (Leaving k) j key is = refl
 port_by-seat (Behind port) j key is = absurd (cc)
-port_by-seat (Taken c) j key is = refl
+port_by-seat _ j key is = refl
 
 module _ (env : Env) (mix : ℕ → ℕ → ℕ → ℕ) (words : List ℕ) (G : Ghost) (whole : Whole env mix (mem env mix words) G) where
   abbrev whose : ℕ → ℕ

@@ -23,12 +23,9 @@ use Rattle.rht_core.proofs.Moves.Relinking.{relink_address, relink_value, relink
 
 -- who isn't in a chain has no seat
 seatless : (o : Owner) → is_first o ≡ false → seat_of o ≡ None
-seatless Free is = refl
-seatless (Held c) is = refl
 seatless (First j) is = absurd (cc)
 seatless (Leaving j) is = absurd (cc)
-seatless (Behind k) is = refl
-seatless (Taken c) is = refl
+seatless _ is = refl
 
 relinked_row : (place link : ℕ) (b : Bucket) (nodes : List ℕ) (before : Option ℕ) → (relinked place link b nodes before).nodes ≡ nodes
 relinked_row place link b nodes None = refl

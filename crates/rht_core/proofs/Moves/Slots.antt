@@ -16,9 +16,7 @@ use Rattle.rht_core.proofs.Moves.Quiet.{aside}
 -- a slot with state word 0 is free
 free_state : (owner : SlotOwner) → state_word owner ≡ 0 → owner ≡ SlotFree
 free_state SlotFree is = refl
-free_state (SlotHeld c) is = absurd (omega arith)
-free_state (Live τ) is = absurd (omega arith)
-free_state (Retired τ) is = absurd (omega arith)
+free_state _ is = absurd (omega arith)
 
 -- no word of a slot is a bucket's or a node's
 pub slot_word-apart : (G : Ghost) (s : ℕ) (w : SlotWord) → IsNoBucketWord G (Slot s w)

@@ -45,12 +45,9 @@ with_slot_word known StateWord value = known
 with_slot_word known (LoadedSection caller) value = known
 
 slot_word_is : (w : SlotWord) → IsTableWord w → IsSlotWord w
-slot_word_is ShapeWord of_table = tt
-slot_word_is SeedWord of_table = tt
-slot_word_is FutureWord of_table = tt
-slot_word_is SerialWord of_table = tt
 slot_word_is StateWord of_table = absurd of_table
 slot_word_is (LoadedSection caller) of_table = absurd of_table
+slot_word_is _ of_table = tt
 
 module _ (env : Env) (mix : ℕ → ℕ → ℕ → ℕ) (c : ℕ) (h : Holding) (known : Known) where
   -- what the call holds with this slot and these pages, and what the caller knows with this known of them

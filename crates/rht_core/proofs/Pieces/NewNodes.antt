@@ -72,9 +72,7 @@ made_by (at, Done made) = made
 pub made_none : (state : NewNodeAt) (word : ℕ) → made_by (new_node_after_at state word) ≡ None
     → node_of_new state ≡ None
 made_none (news.Taking take) word none = refl
-made_none (news.Key node) word none = absurd (cc)
-made_none (news.Owner node) word none = absurd (cc)
-made_none (news.ListLink node) word none = absurd (cc)
+made_none _ word none = absurd (cc)
 
 abbrev pub known_made : ℕ → ℕ → NewNodeAt × Next (Option ℕ) → Option KnownNode
 known_made key owner (at, Go) = known_at key owner at

@@ -244,15 +244,11 @@ module _ (g : Geometry) where
       → IsNoFutureExchange g (new_node_plan_at h key owner state)
   new_node-none h key owner (news.Taking take) table old new l e =
       take_node-none take.geometry take.at table old new l e
-  new_node-none h key owner (news.Key node) table old new l e = cc
-  new_node-none h key owner (news.Owner node) table old new l e = cc
-  new_node-none h key owner (news.ListLink node) table old new l e = cc
+  new_node-none h key owner _ table old new l e = cc
 
   locate-none : (h : Geometry) (slot : ℕ) (state : LocateAt) → IsNoFutureExchange g (locate_plan_at h slot state)
   locate-none h slot locates.Shape table old new l e = cc
-  locate-none h slot (locates.Seed shape) table old new l e = cc
-  locate-none h slot (locates.Early shape place) table old new l e = cc
-  locate-none h slot (locates.Entry shape early place) table old new l e = cc
+  locate-none h slot _ table old new l e = cc
 
   -- buckets stand behind the slots
   pub lock-none : (place : ℕ) (state : LockAt) → IsBucketPlace g place → IsNoFutureExchange g (lock_plan_at place state)
@@ -299,12 +295,7 @@ module _ (g : Geometry) where
       run-none take.geometry take.pages take.at table old new l e
   make-none h exponent seed (makes.TakingTop slot take) table old new l e =
       run-none take.geometry take.pages take.at table old new l e
-  make-none h exponent seed (makes.SlotBack slot) table old new l e = cc
-  make-none h exponent seed (makes.NextSerial slot nested page) table old new l e = cc
-  make-none h exponent seed (makes.Shape slot nested page serial) table old new l e = cc
-  make-none h exponent seed (makes.Seed slot nested page serial) table old new l e = cc
-  make-none h exponent seed (makes.Future slot nested page serial) table old new l e = cc
-  make-none h exponent seed (makes.Serial slot nested page serial) table old new l e = cc
+  make-none h exponent seed _ table old new l e = cc
 
   pub unmake-none : (h : Geometry) (slot : ℕ) (state : UnmakeAt) → IsNoFutureExchange g (unmake_plan_at h slot state)
   unmake-none h slot (unmakes.Giving give) table old new l e = cc

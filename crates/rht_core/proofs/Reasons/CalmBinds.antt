@@ -200,7 +200,6 @@ module _ (env : Env) (Good Come : ℕ → Type 0) where
     calm-bind mix port owner once (at.Locating attempt locate) steps did does saw calm is =
         calm-located mix port attempt locate locate.at did.old calm.0 calm.1 (λ shape. is.shape attempt locate refl shape calm.0)
         (λ shape seed. is.flat attempt locate shape refl seed (subst CalmLocate seed calm.1))
-    calm-bind mix port owner once (at.Entering attempt table shape place grow) steps did does saw calm is = absurd calm
     calm-bind mix port owner once (at.Probing attempt table shape probe) steps did does saw calm is =
         calm-probed env.config.kind attempt table shape (probe_after probe did.old).0 (probe_after probe did.old).1 calm
     calm-bind mix port owner once (at.FoundOwner claimed found) steps did does saw calm is = λ refused. absurd (cc)
@@ -219,14 +218,8 @@ module _ (env : Env) (Good Come : ℕ → Type 0) where
         calm-published node table kick (relink_after relink).0 (relink_after relink).1
     calm-bind mix port owner once (at.Unlocking attempt table unlock next) steps did does saw calm is =
         calm-unlocked attempt next calm
-    calm-bind mix port owner once (at.UnlockingFull growing unlock) steps did does saw calm is = absurd calm
-    calm-bind mix port owner once (at.Root growing) steps did does saw calm is = absurd calm
-    calm-bind mix port owner once (at.GrowthCount growing root) steps did does saw calm is = absurd calm
-    calm-bind mix port owner once (at.Making growing size make) steps did does saw calm is = absurd calm
-    calm-bind mix port owner once (at.FutureAgain growing refusal) steps did does saw calm is = absurd calm
-    calm-bind mix port owner once (at.Attaching growing slot shape) steps did does saw calm is = absurd calm
-    calm-bind mix port owner once (at.Unmaking attempt unmake answer) steps did does saw calm is = absurd calm
     calm-bind mix port owner once (at.Giving give reply) steps did does saw calm is = calm
+    calm-bind mix port owner once _ steps did does saw calm is = absurd calm
 
   -- its operations leave the words of slots
   pub bind-spares : (state : BindAt) → IsBindAtIn env state → CalmBind state → SparesSlots (plan_at env state)
@@ -246,11 +239,4 @@ module _ (env : Env) (Good Come : ℕ → Type 0) where
   bind-spares (at.Publish node table relink kick) within calm = relink-spares env.geometry relink relink.at within.relink_in.place_in
   bind-spares (at.Unlocking attempt table unlock next) within calm = unlock-spares env.geometry unlock within.unlock_in
   bind-spares (at.Giving give reply) within calm = give_node-spares give
-  bind-spares (at.UnlockingFull growing unlock) within calm = absurd calm
-  bind-spares (at.Entering attempt table shape place grow) within calm = absurd calm
-  bind-spares (at.Root growing) within calm = absurd calm
-  bind-spares (at.GrowthCount growing root) within calm = absurd calm
-  bind-spares (at.Making growing size make) within calm = absurd calm
-  bind-spares (at.FutureAgain growing refusal) within calm = absurd calm
-  bind-spares (at.Attaching growing slot shape) within calm = absurd calm
-  bind-spares (at.Unmaking attempt unmake answer) within calm = absurd calm
+  bind-spares _ within calm = absurd calm

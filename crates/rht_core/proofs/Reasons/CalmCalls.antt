@@ -259,22 +259,4 @@ module _ (env : Env) where
           does.found ∙ ap (old_of does.words) does.planned ∙ ap (λ w. word_at env.geometry w (Slot root FutureWord)) now in
           subst (λ f. CalmWork (work.future_or_idle root due f)) (sym (ap slot_of found ∙ future-none root does.within)) refl
       calm-work (work_at.LettingGo outcome) does now calm = rw calm (λ is. absurd (cc))
-      calm-work (work_at.Making wanted make) does now calm = absurd calm
-      calm-work (work_at.Attaching root last slot shape) does now calm = absurd calm
-      calm-work (work_at.Unmaking root unmake) does now calm = absurd calm
-      calm-work (work_at.RootShape root future again) does now calm = absurd calm
-      calm-work (work_at.Entry rehash number place) does now calm = absurd calm
-      calm-work (work_at.Locking rehash number lock) does now calm = absurd calm
-      calm-work (work_at.EntryTable emptying seek) does now calm = absurd calm
-      calm-work (work_at.Seed emptying last) does now calm = absurd calm
-      calm-work (work_at.BucketWord emptying target) does now calm = absurd calm
-      calm-work (work_at.Walking emptying target walk) does now calm = absurd calm
-      calm-work (work_at.Key emptying target entry) does now calm = absurd calm
-      calm-work (work_at.LockingSecond emptying entry table lock) does now calm = absurd calm
-      calm-work (work_at.EntryLink emptying entry second) does now calm = absurd calm
-      calm-work (work_at.Linking emptying entry second) does now calm = absurd calm
-      calm-work (work_at.CuttingOff emptying entry) does now calm = absurd calm
-      calm-work (work_at.Unlocking rehash number unlock stop) does now calm = absurd calm
-      calm-work (work_at.Publishing rehash) does now calm = absurd calm
-      calm-work (work_at.NewFuture rehash) does now calm = absurd calm
-      calm-work (work_at.Retiring root again) does now calm = absurd calm
+      calm-work _ does now calm = absurd calm

@@ -352,9 +352,7 @@ module _ (env : Env) (words_at : ℕ → List ℕ) (mix : ℕ → ℕ → ℕ �
       subst (λ (h : Geometry). SawSoFar h (before ++ performed_of did ∷ []) (take_node_after take did.old)) fits.geometry_same after in
       taking-saw (take_node_after take did.old).0 (take_node_after take did.old).1 all
       (subst (λ (list : List Performed). SawSoFar env.geometry list (take_node_after take did.old)) (sym (map-append performed_of steps (did ∷ []))) here)
-  new-saw new (news.Key node) steps did is within plan saw = tt
-  new-saw new (news.Owner node) steps did is within plan saw = tt
-  new-saw new (news.ListLink node) steps did is within plan saw = tt
+  new-saw new _ steps did is within plan saw = tt
 
   bind_made-saw : (new : NewNodeModel) (r : NewNodeAt × Next (Option ℕ)) (all : List Did) → SawMade all r
       → SawNext all (filled (record new { at = r.0 }) r.1)
@@ -399,12 +397,9 @@ module _ (env : Env) (words_at : ℕ → List ℕ) (mix : ℕ → ℕ → ℕ �
       rebind_sought-saw node (seek_after mix port seek did.old).0 (seek_after mix port seek did.old).1 (steps ++ did ∷ [])
   rebind-saw owner new (rebinds_at.Owner node found) steps did does saw =
       rebind_compared-saw node found (owner_of did.old == owner) (steps ++ did ∷ [])
-  rebind-saw owner new (rebinds_at.ChainLink node found) steps did does saw = tt
-  rebind-saw owner new (rebinds_at.Link node found link) steps did does saw = tt
   rebind-saw owner new (rebinds_at.Replacing node found relink) steps did does saw =
       rebind_replaced-saw node found (relink_after relink).0 (relink_after relink).1 (steps ++ did ∷ [])
-  rebind-saw owner new (rebinds_at.Unlocking node table unlock) steps did does saw = tt
-  rebind-saw owner new (rebinds_at.Giving give) steps did does saw = tt
+  rebind-saw owner new _ steps did does saw = tt
 
   SawForReply-push : (reply : Option Reply) (steps : List Did) (did : Did) → IsStill did
       → SawForReply reply steps → SawForReply reply (steps ++ did ∷ [])
@@ -555,15 +550,9 @@ module _ (env : Env) (words_at : ℕ → List ℕ) (mix : ℕ → ℕ → ℕ �
   -- nor does the making of a table load a shape
   make_loads : (h : Geometry) (exponent seed : ℕ) (state : MakeAt) (did : Did)
       → did.op ≡ make_plan_at h exponent seed state → IsNoShapeLoad env.geometry did
-  make_loads h exponent seed (makes.Slot slot) did is = no_load env.geometry did _ is (λ place load. cc)
   make_loads h exponent seed (makes.Taking slot take) did is = run_loads take.geometry take.pages take.at did is
   make_loads h exponent seed (makes.TakingTop slot take) did is = run_loads take.geometry take.pages take.at did is
-  make_loads h exponent seed (makes.SlotBack slot) did is = no_load env.geometry did _ is (λ place load. cc)
-  make_loads h exponent seed (makes.NextSerial slot nested page) did is = no_load env.geometry did _ is (λ place load. cc)
-  make_loads h exponent seed (makes.Shape slot nested page serial) did is = no_load env.geometry did _ is (λ place load. cc)
-  make_loads h exponent seed (makes.Seed slot nested page serial) did is = no_load env.geometry did _ is (λ place load. cc)
-  make_loads h exponent seed (makes.Future slot nested page serial) did is = no_load env.geometry did _ is (λ place load. cc)
-  make_loads h exponent seed (makes.Serial slot nested page serial) did is = no_load env.geometry did _ is (λ place load. cc)
+  make_loads h exponent seed _ did is = no_load env.geometry did _ is (λ place load. cc)
 
   -- a store of a link loads nothing and adds nothing
   relink-no_load : (m : RelinkModel) (state : RelinkAt) (place : ℕ) → relink_plan_at m state ≢ Load place
@@ -626,8 +615,6 @@ module _ (env : Env) (words_at : ℕ → List ℕ) (mix : ℕ → ℕ → ℕ �
         → m.geometry ≡ env.geometry → did.old ≡ old_of words did.op → (state : LocateAt)
         → did.op ≡ locate_plan_at m.geometry m.table state → TableMeans env mix G (known_locate port m.table state)
         → TellsNone env.geometry (SeesNoFuture env.geometry) m.table state did
-    early-told words G whole m did within same found locates.Shape plan means = tt
-    early-told words G whole m did within same found (locates.Seed shape) plan means = tt
     early-told words G whole m did within same found (locates.Early shape place) plan means = λ none.
         let loads : did.op ≡ Load (place_of env.geometry (Slot m.table FutureWord)) =
         plan ∙ ap (λ (h : Geometry). Load (place_of h (Slot m.table FutureWord))) same in
@@ -637,7 +624,7 @@ module _ (env : Env) (words_at : ℕ → List ℕ) (mix : ℕ → ℕ → ℕ �
           word = record { there = (within, tt); loads = loads };
           found = no_slot did.old (omega (arith, word, few)) none;
         }
-    early-told words G whole m did within same found (locates.Entry shape early place) plan means = tt
+    early-told words G whole m did within same found _ plan means = tt
 
     -- what the operations behind the load of a table's shape see before that of an entry, where the future was this
     abbrev SeesEntry : ℕ → Option ℕ → List Did → Type 0

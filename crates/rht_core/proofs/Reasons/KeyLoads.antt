@@ -62,16 +62,10 @@ module _ (g : Geometry) where
 
   pub no_key-make : (h : Geometry) (exponent seed : ℕ) (allowed : Bool) (state : MakeAt) (did : Did) → IsMakeAtIn g exponent allowed state
       → did.op ≡ make_plan_at h exponent seed state → IsNoKeyLoad g did
-  no_key-make h exponent seed allowed (makes.Slot slot) did within is = no_key did _ is (λ place load. cc)
   no_key-make h exponent seed allowed (makes.Taking slot take) did within is =
       no_key-run take.pages take.at did within.take_in.at_in
       (is ∙ ap (λ (of : Geometry). take_run_plan_at of take.pages take.at) within.take_in.geometry_same)
   no_key-make h exponent seed allowed (makes.TakingTop slot take) did within is =
       no_key-run take.pages take.at did within.taking.take_in.at_in
       (is ∙ ap (λ (of : Geometry). take_run_plan_at of take.pages take.at) within.taking.take_in.geometry_same)
-  no_key-make h exponent seed allowed (makes.SlotBack slot) did within is = no_key did _ is (λ place load. cc)
-  no_key-make h exponent seed allowed (makes.NextSerial slot nested page) did within is = no_key did _ is (λ place load. cc)
-  no_key-make h exponent seed allowed (makes.Shape slot nested page serial) did within is = no_key did _ is (λ place load. cc)
-  no_key-make h exponent seed allowed (makes.Seed slot nested page serial) did within is = no_key did _ is (λ place load. cc)
-  no_key-make h exponent seed allowed (makes.Future slot nested page serial) did within is = no_key did _ is (λ place load. cc)
-  no_key-make h exponent seed allowed (makes.Serial slot nested page serial) did within is = no_key did _ is (λ place load. cc)
+  no_key-make h exponent seed allowed _ did within is = no_key did _ is (λ place load. cc)

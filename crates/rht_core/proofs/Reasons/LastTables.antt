@@ -151,33 +151,9 @@ module _ (env : Env) (mix : ℕ → ℕ → ℕ → ℕ) where
 
   -- no move adds a table but one that attaches it
   adds_none : (c : ℕ) (move : Move) (G : Ghost) → ((ghost_after env mix c move G).attached ≡ G.attached) ⊎ IsAttach move
-  adds_none c Quiet G = inl refl
-  adds_none c (TakesNode n) G = inl refl
-  adds_none c (GivesNode n) G = inl refl
-  adds_none c (TakesLock j) G = inl refl
-  adds_none c (DropsLock j) G = inl refl
-  adds_none c Raises G = inl refl
-  adds_none c (Links n port j) G = inl refl
-  adds_none c Lowers G = inl refl
-  adds_none c (Rebinds change) G = inl refl
-  adds_none c (LinksBehind n) G = inl refl
-  adds_none c (Arms j) G = inl refl
-  adds_none c (TakesSlot s) G = inl refl
-  adds_none c (GivesSlot s) G = inl refl
-  adds_none c (TakesPages index bits) G = inl refl
-  adds_none c (GivesPages index bits) G = inl refl
   adds_none c (Attaches slot shape seed serial) G =
       inr (record { slot = slot; shape = shape; seed = seed; serial = serial; is = refl })
-  adds_none c (Enters j p) G = inl refl
-  adds_none c TakesWork G = inl refl
-  adds_none c GivesWork G = inl refl
-  adds_none c BeginsMoving G = inl refl
-  adds_none c (TakesSecond i) G = inl refl
-  adds_none c (Leaves j i entry nodes) G = inl refl
-  adds_none c (Arrives j i entry) G = inl refl
-  adds_none c (CutsOff j entry before) G = inl refl
-  adds_none c Publishes G = inl refl
-  adds_none c (Retires s) G = inl refl
+  adds_none c _ G = inl refl
 
   -- and that one exchanges a future
   attach_exchanges : (op : Op) (old : ℕ) (h h' : Holding) (move : Move) → IsAttach move → Does env mix move op old h h'

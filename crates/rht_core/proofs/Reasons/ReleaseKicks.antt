@@ -60,9 +60,7 @@ IsNoSub op = (place value : ℕ) → op ≢ Sub place value
 
 locate-none : (h : Geometry) (slot : ℕ) (state : LocateAt) → IsNoSub (locate_plan_at h slot state)
 locate-none h slot locates.Shape place value is = cc
-locate-none h slot (locates.Seed shape) place value is = cc
-locate-none h slot (locates.Early shape way) place value is = cc
-locate-none h slot (locates.Entry shape early way) place value is = cc
+locate-none h slot _ place value is = cc
 
 lock-none : (place : ℕ) (state : LockAt) → IsNoSub (lock_plan_at place state)
 lock-none bucket locks.Word place value is = cc
@@ -81,11 +79,9 @@ relink-none m (relinks.ChainLink before) place value is = cc
 relink-none m (relinks.Word word) place value is = cc
 
 seek-none : (g : Geometry) (state : SeekAt) → IsNoSub (seek_plan_at g state)
-seek-none g seeks.CurrentTable place value is = cc
 seek-none g (seeks.Locating locate) place value is = locate-none locate.geometry locate.table locate.at place value is
 seek-none g (seeks.Probing table shape probe) place value is = probe-none probe.at place value is
-seek-none g (seeks.Future table bucket) place value is = cc
-seek-none g (seeks.Leaving table unlock future) place value is = cc
+seek-none g _ place value is = cc
 
 module _ (env : Env) where
   -- the operation doesn't lower the count of ports
@@ -221,10 +217,8 @@ module _ (env : Env) where
 
   -- and so it has nothing to tell of one
   nothing-told : (table : ℕ) (state : LocateAt) (did : Did) → TellsNone env.geometry NothingOfNone table state did
-  nothing-told table locates.Shape did = tt
-  nothing-told table (locates.Seed shape) did = tt
   nothing-told table (locates.Early shape place) did = λ none. tt
-  nothing-told table (locates.Entry shape early place) did = tt
+  nothing-told table _ did = tt
 
   seek-saw : (mix : ℕ → ℕ → ℕ → ℕ) (port : ℕ) (h : Geometry) (state : SeekAt) (steps : List Did) (did : Did)
       → IsSeekAtIn env.geometry state → did.op ≡ seek_plan_at h state → SawSeek state steps

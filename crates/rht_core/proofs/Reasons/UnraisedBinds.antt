@@ -64,15 +64,11 @@ module _ (g : Geometry) where
 
   new_node-none : (h : Geometry) (key owner : ℕ) (state : NewNodeAt) → IsNoCountAdd (new_node_plan_at h key owner state)
   new_node-none h key owner (news.Taking take) is = take_node-none take.geometry take.at is
-  new_node-none h key owner (news.Key node) is = cc
-  new_node-none h key owner (news.Owner node) is = cc
-  new_node-none h key owner (news.ListLink node) is = cc
+  new_node-none h key owner _ is = cc
 
   locate-none : (h : Geometry) (slot : ℕ) (state : LocateAt) → IsNoCountAdd (locate_plan_at h slot state)
   locate-none h slot locates.Shape is = cc
-  locate-none h slot (locates.Seed shape) is = cc
-  locate-none h slot (locates.Early shape place) is = cc
-  locate-none h slot (locates.Entry shape early place) is = cc
+  locate-none h slot _ is = cc
 
   lock-none : (place : ℕ) (state : LockAt) → IsNoCountAdd (lock_plan_at place state)
   lock-none place locks.Word is = cc
@@ -103,15 +99,9 @@ module _ (g : Geometry) where
 
   -- the number of the next table is another word
   make-none : (h : Geometry) (exponent seed : ℕ) (state : MakeAt) → IsNoCountAdd (make_plan_at h exponent seed state)
-  make-none h exponent seed (makes.Slot slot) is = cc
   make-none h exponent seed (makes.Taking slot take) is = run-none take.geometry take.pages take.at is
   make-none h exponent seed (makes.TakingTop slot take) is = run-none take.geometry take.pages take.at is
-  make-none h exponent seed (makes.SlotBack slot) is = cc
-  make-none h exponent seed (makes.NextSerial slot nested page) is = cc
-  make-none h exponent seed (makes.Shape slot nested page serial) is = cc
-  make-none h exponent seed (makes.Seed slot nested page serial) is = cc
-  make-none h exponent seed (makes.Future slot nested page serial) is = cc
-  make-none h exponent seed (makes.Serial slot nested page serial) is = cc
+  make-none h exponent seed _ is = cc
 
   unmake-none : (h : Geometry) (slot : ℕ) (state : UnmakeAt) → IsNoCountAdd (unmake_plan_at h slot state)
   unmake-none h slot (unmakes.Giving give) is = cc

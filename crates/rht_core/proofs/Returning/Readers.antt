@@ -80,20 +80,14 @@ not_both b is isnt = let e : true ≡ false = sym is ∙ isnt in cc
 -- ---- owners
 
 pub first-listed : (o : Owner) → is_first o ≡ true → is_listed o ≡ true
-first-listed Free is = absurd (cc)
-first-listed (Held c) is = absurd (cc)
 first-listed (First j) is = refl
 first-listed (Leaving j) is = refl
-first-listed (Behind k) is = absurd (cc)
-first-listed (Taken c) is = absurd (cc)
+first-listed _ is = absurd (cc)
 
 first-seat_of : (o : Owner) → is_first o ≡ true → (j : ℕ) × (seat_of o ≡ Some j)
-first-seat_of Free is = absurd (cc)
-first-seat_of (Held c) is = absurd (cc)
 first-seat_of (First j) is = (j, refl)
 first-seat_of (Leaving j) is = (j, refl)
-first-seat_of (Behind k) is = absurd (cc)
-first-seat_of (Taken c) is = absurd (cc)
+first-seat_of _ is = absurd (cc)
 
 module _ (env : Env) (mix : ℕ → ℕ → ℕ → ℕ) where
   -- the node to which a link leads

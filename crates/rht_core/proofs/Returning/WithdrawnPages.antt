@@ -55,19 +55,14 @@ module _ (env : Env) (mix : ℕ → ℕ → ℕ → ℕ) (table : Table) (page :
   one_child : (q r : ℕ) (one other : Part) (a b : ℕ) → has_entries one ≡ true → has_entries other ≡ true
       → StandsAs table q one → StandsAs table r other → child table.shape one a ≡ child table.shape other b
       → Same one other a b
-  one_child q r Row other a b has too first second is = absurd (cc)
-  one_child q r (Leaf low) other a b has too first second is = absurd (cc)
-  one_child q r (Middle low) Row a b has too first second is = absurd (cc)
-  one_child q r (Middle low) (Leaf high) a b has too first second is = absurd (cc)
   one_child q r (Middle low) (Middle high) a b has too first second is =
       middles low high a b first.below second.below (leaves_same (low + N * a) (high + N * b) is)
   one_child q r (Middle low) Top a b has too first second is =
       absurd (top_and_middle (is_deep table.shape) b (low + N * a) first.deep (sym is))
-  one_child q r Top Row a b has too first second is = absurd (cc)
-  one_child q r Top (Leaf high) a b has too first second is = absurd (cc)
   one_child q r Top (Middle high) a b has too first second is =
       absurd (top_and_middle (is_deep table.shape) a (high + N * b) second.deep is)
   one_child q r Top Top a b has too first second is = (refl, tops (is_deep table.shape) a b is)
+  one_child q r _ _ a b has too first second is = absurd (cc)
 
   -- two entries of the table's pages that lead to one page are one
   pub one_entry : (i j p : ℕ) → page (i / 64) ≡ PageOf τ → page (j / 64) ≡ PageOf τ → has_entries (table.part (i / 64)) ≡ true
@@ -119,9 +114,7 @@ module _ (env : Env) (mix : ℕ → ℕ → ℕ → ℕ) (table : Table) (page :
 
     not_row : (part : Part) → has_entries part ≡ true → part ≢ Row
     not_row Row has e = absurd (cc)
-    not_row (Leaf low) has e = cc
-    not_row (Middle low) has e = cc
-    not_row Top has e = cc
+    not_row _ has e = cc
 
     top_apart : first_page table.shape ≢ p
     top_apart e =

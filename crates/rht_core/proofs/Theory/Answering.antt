@@ -93,14 +93,7 @@ pub record IsReplied (call : Call) (answer : Answer) : Type 0 where
 -- the same answer is one of the call's as well
 IsReplyTo-aside : (call : Call) → IsKickAside (IsReplyTo call)
 IsReplyTo-aside (Bind port owner once) = record { bound = λ k l is. is; released = λ k l is. is }
-IsReplyTo-aside (Find port) = record { bound = λ k l is. is; released = λ k l is. is }
-IsReplyTo-aside (All port) = record { bound = λ k l is. is; released = λ k l is. is }
-IsReplyTo-aside (Release port owner) = record { bound = λ k l is. is; released = λ k l is. is }
-IsReplyTo-aside (Rebind port owner new) = record { bound = λ k l is. is; released = λ k l is. is }
-IsReplyTo-aside (Walk from limit) = record { bound = λ k l is. is; released = λ k l is. is }
-IsReplyTo-aside Work = record { bound = λ k l is. is; released = λ k l is. is }
-IsReplyTo-aside Tidy = record { bound = λ k l is. is; released = λ k l is. is }
-IsReplyTo-aside Count = record { bound = λ k l is. is; released = λ k l is. is }
+IsReplyTo-aside _ = record { bound = λ k l is. is; released = λ k l is. is }
 
 pub IsReplied-same : (call : Call) (was now : Answer) → IsSameAnswer was now → IsReplied call was
     → IsReplied call now
@@ -126,14 +119,8 @@ no_node-aside A = record {
 
 TellsNode-aside : (call : Call) (has : Option ℕ) → IsKickAside (TellsNode call has)
 TellsNode-aside (Bind port owner once) has = no_node-aside (has ≡ None)
-TellsNode-aside (Find port) has = record { bound = λ k l is. is; released = λ k l is. is }
-TellsNode-aside (All port) has = record { bound = λ k l is. is; released = λ k l is. is }
-TellsNode-aside (Release port owner) has = record { bound = λ k l is. is; released = λ k l is. is }
 TellsNode-aside (Rebind port owner new) has = no_node-aside (has ≡ None)
-TellsNode-aside (Walk from limit) has = record { bound = λ k l is. is; released = λ k l is. is }
-TellsNode-aside Work has = record { bound = λ k l is. is; released = λ k l is. is }
-TellsNode-aside Tidy has = record { bound = λ k l is. is; released = λ k l is. is }
-TellsNode-aside Count has = record { bound = λ k l is. is; released = λ k l is. is }
+TellsNode-aside _ has = record { bound = λ k l is. is; released = λ k l is. is }
 
 pub TellsNode-same : (call : Call) (has : Option ℕ) (was now : Answer) → IsSameAnswer was now
     → TellsNode call has was.reply

@@ -262,72 +262,50 @@ abbrev pub IsSeated : Owner → ℕ → Type 0
 IsSeated o j = (o ≡ First j) ⊎ (o ≡ Leaving j)
 
 pub seated : (o : Owner) (j : ℕ) → seat_of o ≡ Some j → IsSeated o j
-seated Free j is = absurd (cc)
-seated (Held c) j is = absurd (cc)
 seated (First i) j is = inl (let same : i ≡ j = cc in ap First same)
 seated (Leaving i) j is = inr (let same : i ≡ j = cc in ap Leaving same)
-seated (Behind k) j is = absurd (cc)
-seated (Taken c) j is = absurd (cc)
+seated _ j is = absurd (cc)
 
 -- such a node is used, and is in a chain
 pub seat-used : (o : Owner) (j : ℕ) → seat_of o ≡ Some j → IsUsed o
-seat-used Free j is = absurd (cc)
-seat-used (Held c) j is = absurd (cc)
 seat-used (First i) j is = refl
 seat-used (Leaving i) j is = refl
-seat-used (Behind k) j is = absurd (cc)
-seat-used (Taken c) j is = absurd (cc)
+seat-used _ j is = absurd (cc)
 
 pub seat-listed : (o : Owner) (j : ℕ) → seat_of o ≡ Some j → IsListedNode o
-seat-listed Free j is = absurd (cc)
-seat-listed (Held c) j is = absurd (cc)
 seat-listed (First j) k is = refl
 seat-listed (Leaving j) k is = refl
-seat-listed (Behind k) j is = absurd (cc)
-seat-listed (Taken c) j is = absurd (cc)
+seat-listed _ j is = absurd (cc)
 
 -- one that is in a list is a port's
 pub listed-used : (o : Owner) → is_listed o ≡ true → IsUsed o
-listed-used Free is = absurd (cc)
-listed-used (Held c) is = absurd (cc)
 listed-used (First j) is = refl
 listed-used (Leaving j) is = refl
 listed-used (Behind k) is = refl
-listed-used (Taken c) is = absurd (cc)
+listed-used _ is = absurd (cc)
 
 -- one that is no port's is in no list
 pub unused-unlisted : (o : Owner) → is_used o ≡ false → is_listed o ≡ false
 unused-unlisted Free is = refl
 unused-unlisted (Held c) is = refl
-unused-unlisted (First j) is = absurd (cc)
-unused-unlisted (Leaving j) is = absurd (cc)
-unused-unlisted (Behind k) is = absurd (cc)
-unused-unlisted (Taken c) is = absurd (cc)
+unused-unlisted _ is = absurd (cc)
 
 pub unlisted-not_first : (o : Owner) → is_listed o ≡ false → is_first o ≡ false
-unlisted-not_first Free is = refl
-unlisted-not_first (Held c) is = refl
 unlisted-not_first (First j) is = absurd (cc)
 unlisted-not_first (Leaving j) is = absurd (cc)
 unlisted-not_first (Behind k) is = absurd (cc)
-unlisted-not_first (Taken c) is = refl
+unlisted-not_first _ is = refl
 
 pub seat-first : (o : Owner) (j : ℕ) → seat_of o ≡ Some j → is_first o ≡ true
-seat-first Free j is = absurd (cc)
-seat-first (Held c) j is = absurd (cc)
 seat-first (First i) j is = refl
 seat-first (Leaving i) j is = refl
-seat-first (Behind k) j is = absurd (cc)
-seat-first (Taken c) j is = absurd (cc)
+seat-first _ j is = absurd (cc)
 
 -- a node that is no port's is in no chain
 pub unused-not_first : (o : Owner) → is_used o ≡ false → is_first o ≡ false
-unused-not_first Free is = refl
-unused-not_first (Held c) is = refl
 unused-not_first (First j) is = absurd (cc)
 unused-not_first (Leaving j) is = absurd (cc)
-unused-not_first (Behind k) is = refl
-unused-not_first (Taken c) is = refl
+unused-not_first _ is = refl
 
 pub taken_by_one : (c d : ℕ) → c ≢ d → is_taken_by c (Taken d) ≡ false
 taken_by_one c d ne = go (d == c) refl
@@ -338,12 +316,8 @@ taken_by_one c d ne = go (d == c) refl
 
 -- a node that counts as taken out by this caller is
 pub taken_is : (c : ℕ) (o : Owner) → is_taken_by c o ≡ true → o ≡ Taken c
-taken_is c Free is = absurd (cc)
-taken_is c (Held d) is = absurd (cc)
-taken_is c (First j) is = absurd (cc)
-taken_is c (Leaving j) is = absurd (cc)
-taken_is c (Behind k) is = absurd (cc)
 taken_is c (Taken d) is = ap Taken (eqb-true d c is)
+taken_is c _ is = absurd (cc)
 
 -- one owner is not another
 pub held_not_used : (o : Owner) (d : ℕ) → o ≡ Held d → IsUsed o → ⊥

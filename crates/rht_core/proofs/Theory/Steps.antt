@@ -542,65 +542,23 @@ module _ (env : Env) (mix : ℕ → ℕ → ℕ → ℕ) where
   -- where a move binds no port otherwise, each port is bound to what it was
   same_bound : (c : ℕ) (move : Move) (G : Ghost) (port : ℕ) → LinksNone move
       → (ghost_after c move G).bound port ≡ G.bound port
-  same_bound c Quiet G port none = refl
-  same_bound c (TakesNode n) G port none = refl
-  same_bound c (GivesNode n) G port none = refl
-  same_bound c (TakesLock j) G port none = refl
-  same_bound c (DropsLock j) G port none = refl
-  same_bound c Raises G port none = refl
   same_bound c (Links n k j) G port none = absurd none
-  same_bound c Lowers G port none = refl
   same_bound c (Rebinds change) G port none = absurd none
-  same_bound c (LinksBehind n) G port none = refl
-  same_bound c (Arms j) G port none = refl
-  same_bound c (TakesSlot s) G port none = refl
-  same_bound c (GivesSlot s) G port none = refl
-  same_bound c (TakesPages index bits) G port none = refl
-  same_bound c (GivesPages index bits) G port none = refl
-  same_bound c (Attaches slot shape seed serial) G port none = refl
-  same_bound c (Enters j p) G port none = refl
-  same_bound c TakesWork G port none = refl
-  same_bound c GivesWork G port none = refl
-  same_bound c BeginsMoving G port none = refl
-  same_bound c (TakesSecond i) G port none = refl
-  same_bound c (Leaves j i entry nodes) G port none = refl
-  same_bound c (Arrives j i entry) G port none = refl
-  same_bound c (CutsOff j entry before) G port none = refl
-  same_bound c Publishes G port none = refl
-  same_bound c (Retires s) G port none = refl
+  same_bound c _ G port none = refl
 
   -- nor does it take one out of a list
   same_outs : (c : ℕ) (move : Move) (M : Memory) (G : Ghost) → Whole env mix M G → LinksNone move → ReadyFor c M G move
       → outs env mix (ghost_after c move G) c ≡ outs env mix G c
-  same_outs c Quiet M G whole none ready = refl
   same_outs c (TakesNode n) M G whole none ready = reowned-outs c n (Held c) G (ap (is_taken_by c) ready) refl
   same_outs c (GivesNode n) M G whole none ready = reowned-outs c n Free G (ap (is_taken_by c) ready) refl
-  same_outs c (TakesLock j) M G whole none ready = refl
-  same_outs c (DropsLock j) M G whole none ready = refl
-  same_outs c Raises M G whole none ready = refl
   same_outs c (Links n k j) M G whole none ready = absurd none
-  same_outs c Lowers M G whole none ready = refl
   same_outs c (Rebinds change) M G whole none ready = absurd none
-  same_outs c (LinksBehind n) M G whole none ready = refl
-  same_outs c (Arms j) M G whole none ready = refl
-  same_outs c (TakesSlot s) M G whole none ready = refl
-  same_outs c (GivesSlot s) M G whole none ready = refl
-  same_outs c (TakesPages index bits) M G whole none ready = refl
-  same_outs c (GivesPages index bits) M G whole none ready = refl
-  same_outs c (Attaches slot shape seed serial) M G whole none ready = refl
-  same_outs c (Enters j p) M G whole none ready = refl
-  same_outs c TakesWork M G whole none ready = refl
-  same_outs c GivesWork M G whole none ready = refl
-  same_outs c BeginsMoving M G whole none ready = refl
-  same_outs c (TakesSecond i) M G whole none ready = refl
   same_outs c (Leaves j i entry nodes) M G whole none can =
       let there : In entry (G.bucket j).nodes = subst (In entry) (sym can.split) (in-middle entry nodes []) in
       reowned-outs c entry (Leaving j) G (ap (is_taken_by c) (whole.owned.member j entry there)) refl
   same_outs c (Arrives j i entry) M G whole none can =
       reowned-outs c entry (First i) G (ap (is_taken_by c) can.leaving) refl
-  same_outs c (CutsOff j entry before) M G whole none ready = refl
-  same_outs c Publishes M G whole none ready = refl
-  same_outs c (Retires s) M G whole none ready = refl
+  same_outs c _ M G whole none ready = refl
 
   pub moved : (c : ℕ) (words : List ℕ) (G : Ghost) (op : Op) (h h' : Holding) (Knows : Memory → Ghost
       → Type 0) (move : Move)

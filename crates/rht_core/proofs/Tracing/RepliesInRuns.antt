@@ -115,19 +115,9 @@ module _ (M : Type 0) (mix : ℕ → ℕ → ℕ → ℕ) (env : Env) where
       → IsAtJob M mix env Holds Answered (job_of doing) book steps
       → IsBookOf env c doing book
   book-of c Idle book steps within at = at
-  book-of c (Finding m) book steps within at =
-      record { same_env = within.same_env; same_caller = within.same_caller; call = at.call }
-  book-of c (Binding m) book steps within at =
-      record { same_env = within.same_env; same_caller = within.same_caller; call = at.call }
-  book-of c (Listing m) book steps within at =
-      record { same_env = within.same_env; same_caller = within.same_caller; call = at.call }
-  book-of c (Releasing m) book steps within at =
-      record { same_env = within.same_env; same_caller = within.same_caller; call = at.call }
-  book-of c (Rebinding m) book steps within at =
-      record { same_env = within.same_env; same_caller = within.same_caller; call = at.call }
-  book-of c (Working m) book steps within at =
-      record { same_env = within.same_env; same_caller = within.same_caller; call = at.call }
   book-of c (Counting m) book steps within at = record { same_env = within; call = at.call }
+  book-of c _ book steps within at =
+      record { same_env = within.same_env; same_caller = within.same_caller; call = at.call }
 
   -- the calls of a trace are those of its book
   all-answered : (calls : List Past) → AllByRecursion (IsEndedSo M mix env Holds Answered) calls

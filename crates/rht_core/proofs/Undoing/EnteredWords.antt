@@ -31,9 +31,7 @@ module _ (env : Env) (mix : ℕ → ℕ → ℕ → ℕ) where
   -- the state word of a slot that has a table says that it isn't free
   not_free : (owner : SlotOwner) → has_table owner ≡ true → state_word owner ≢ 0
   not_free SlotFree has is = cc
-  not_free (SlotHeld c) has is = cc
-  not_free (Live τ) has is = cc
-  not_free (Retired τ) has is = cc
+  not_free _ has is = cc
 
   table_taken : (M : Memory) (G : Ghost) → Whole env mix M G → (slot : ℕ) → slot < 8 → has_table (G.slot slot) ≡ true
       → M (Slot slot StateWord) ≢ 0

@@ -150,28 +150,7 @@ module _ (port owner : ℕ) (once : Bool) where
   bind-past mix env (binding.Replacing list relink) old past = replaced-past list (relink_after relink).0 (relink_after relink).1
   bind-past mix env (binding.Publish node table relink kick) old past =
       published-past node table kick (relink_after relink).0 (relink_after relink).1
-  bind-past mix env (binding.Filling new) old past = absurd (cc)
-  bind-past mix env (binding.CurrentTable attempt) old past = absurd (cc)
-  bind-past mix env (binding.Locating attempt locate) old past = absurd (cc)
-  bind-past mix env (binding.Entering attempt table shape place grow) old past = absurd (cc)
-  bind-past mix env (binding.Probing attempt table shape probe) old past = absurd (cc)
-  bind-past mix env (binding.FoundOwner claimed found) old past = absurd (cc)
-  bind-past mix env (binding.ListLink list) old past = absurd (cc)
-  bind-past mix env (binding.ChainLink list) old past = absurd (cc)
-  bind-past mix env (binding.LinkBehind list link) old past = absurd (cc)
-  bind-past mix env (binding.Future claimed length) old past = absurd (cc)
-  bind-past mix env (binding.Count claimed) old past = absurd (cc)
-  bind-past mix env (binding.Link claimed) old past = absurd (cc)
-  bind-past mix env (binding.Raise claimed) old past = absurd (cc)
-  bind-past mix env (binding.Unlocking attempt table unlock next) old past = absurd (cc)
-  bind-past mix env (binding.UnlockingFull growing unlock) old past = absurd (cc)
-  bind-past mix env (binding.Root growing) old past = absurd (cc)
-  bind-past mix env (binding.GrowthCount growing root) old past = absurd (cc)
-  bind-past mix env (binding.Making growing size make) old past = absurd (cc)
-  bind-past mix env (binding.FutureAgain growing refusal) old past = absurd (cc)
-  bind-past mix env (binding.Attaching growing slot shape) old past = absurd (cc)
-  bind-past mix env (binding.Unmaking attempt unmake answer) old past = absurd (cc)
-  bind-past mix env (binding.Giving give reply) old past = absurd (cc)
+  bind-past mix env _ old past = absurd (cc)
 
 module _ (port owner new : ℕ) where
   abbrev end_reply : Reply × Option ℕ → Reply
@@ -189,13 +168,7 @@ module _ (port owner new : ℕ) where
       → RebindPast (rebind_at.after_at mix env port owner state old)
   rebind-past mix env (rebinding.Replacing node found relink) old past =
       rebound-past node found (relink_after relink).0 (relink_after relink).1
-  rebind-past mix env (rebinding.Filling new_node) old past = absurd (cc)
-  rebind-past mix env (rebinding.Seeking node seek) old past = absurd (cc)
-  rebind-past mix env (rebinding.Owner node found) old past = absurd (cc)
-  rebind-past mix env (rebinding.ChainLink node found) old past = absurd (cc)
-  rebind-past mix env (rebinding.Link node found link) old past = absurd (cc)
-  rebind-past mix env (rebinding.Unlocking node table unlock) old past = absurd (cc)
-  rebind-past mix env (rebinding.Giving give) old past = absurd (cc)
+  rebind-past mix env _ old past = absurd (cc)
 
 -- ---- a resizing
 
@@ -294,20 +267,15 @@ work-past mix env (at.Locking rehash number lock) old past =
     locked-past env.geometry rehash number (lock_after lock old).0 (lock_after lock old).1
 work-past mix env (at.EntryTable emptying seek) old past =
     entry_table-past emptying (last_table_after seek old).0 (last_table_after seek old).1
-work-past mix env (at.Seed emptying last) old past = refl
 work-past mix env (at.BucketWord emptying target) old past =
     entry-past env.geometry (with_word emptying (unlocked old)) target
     (node_of env.geometry.nodes (head_of emptying.bucket.place (unlocked old)))
 work-past mix env (at.Walking emptying target walk) old past =
     walked-past emptying target (last_entry_after walk old).0 (last_entry_after walk old).1
-work-past mix env (at.Key emptying target entry) old past = refl
 work-past mix env (at.LockingSecond emptying entry table lock) old past =
     second_locked-past emptying entry table (lock_after lock old).0 (lock_after lock old).1
-work-past mix env (at.EntryLink emptying entry second) old past = refl
-work-past mix env (at.Linking emptying entry second) old past = refl
 work-past mix env (at.CuttingOff emptying entry) old past = cut-past env.geometry emptying entry.before
 work-past mix env (at.Unlocking rehash number unlock stop) old past = unlocked-past env.geometry rehash number stop
-work-past mix env (at.Publishing rehash) old past = refl
 work-past mix env (at.NewFuture rehash) old past = retiring-past rehash (slot_of old)
-work-past mix env (at.Retiring root again) old past = refl
 work-past mix env (at.LettingGo outcome) old past = ended-past mix env outcome old past
+work-past mix env _ old past = refl

@@ -78,10 +78,6 @@ has_no_lock low still none = record { low = low; still = still; locked_has = λ 
 bind-refusable : (state : BindAt) → bind_is_past state ≡ false → IsRefusable (held_of_bind state)
 bind-refusable (binding.Replacing list relink) may = absurd (cc)
 bind-refusable (binding.Publish node table relink kick) may = absurd (cc)
-bind-refusable (binding.Filling new) may = has_no_lock refl refl refl
-bind-refusable (binding.CurrentTable attempt) may = has_no_lock refl refl refl
-bind-refusable (binding.Locating attempt locate) may = has_no_lock refl refl refl
-bind-refusable (binding.Entering attempt table shape place grow) may = has_no_lock refl refl refl
 bind-refusable (binding.Probing attempt table shape probe) may = has_node refl refl attempt.node refl
 bind-refusable (binding.FoundOwner claimed found) may = has_node refl refl claimed.attempt.node refl
 bind-refusable (binding.ListLink list) may = has_node refl refl list.claimed.attempt.node refl
@@ -93,13 +89,7 @@ bind-refusable (binding.Link claimed) may = has_node refl refl claimed.attempt.n
 bind-refusable (binding.Raise claimed) may = has_node refl refl claimed.attempt.node refl
 bind-refusable (binding.Unlocking attempt table unlock next) may = has_node refl refl attempt.node refl
 bind-refusable (binding.UnlockingFull growing unlock) may = has_node refl refl growing.attempt.node refl
-bind-refusable (binding.Root growing) may = has_no_lock refl refl refl
-bind-refusable (binding.GrowthCount growing root) may = has_no_lock refl refl refl
-bind-refusable (binding.Making growing size make) may = has_no_lock refl refl refl
-bind-refusable (binding.FutureAgain growing refusal) may = has_no_lock refl refl refl
-bind-refusable (binding.Attaching growing slot shape) may = has_no_lock refl refl refl
-bind-refusable (binding.Unmaking attempt unmake answer) may = has_no_lock refl refl refl
-bind-refusable (binding.Giving give reply) may = has_no_lock refl refl refl
+bind-refusable _ may = has_no_lock refl refl refl
 
 rebind-refusable : (state : RebindAt) → rebind_is_past state ≡ false → IsRefusable (held_of_rebind state)
 rebind-refusable (rebinding.Replacing node found relink) may = absurd (cc)
@@ -126,45 +116,18 @@ early_work working.CurrentTable may = at_current
 early_work (working.LastTable root seek) may = at_last root seek
 early_work (working.Count root last) may = at_count root last
 early_work (working.Making wanted make) may = at_making wanted make
-early_work (working.Attaching root last slot shape) may = absurd (cc)
-early_work (working.Unmaking root unmake) may = absurd (cc)
-early_work (working.RootFuture root due) may = absurd (cc)
-early_work (working.RootShape root future again) may = absurd (cc)
-early_work (working.Entry rehash number place) may = absurd (cc)
-early_work (working.Locking rehash number lock) may = absurd (cc)
-early_work (working.EntryTable emptying seek) may = absurd (cc)
-early_work (working.Seed emptying last) may = absurd (cc)
-early_work (working.BucketWord emptying target) may = absurd (cc)
-early_work (working.Walking emptying target walk) may = absurd (cc)
-early_work (working.Key emptying target entry) may = absurd (cc)
-early_work (working.LockingSecond emptying entry table lock) may = absurd (cc)
-early_work (working.EntryLink emptying entry second) may = absurd (cc)
-early_work (working.Linking emptying entry second) may = absurd (cc)
-early_work (working.CuttingOff emptying entry) may = absurd (cc)
-early_work (working.Unlocking rehash number unlock stop) may = absurd (cc)
-early_work (working.Publishing rehash) may = absurd (cc)
-early_work (working.NewFuture rehash) may = absurd (cc)
-early_work (working.Retiring root again) may = absurd (cc)
 early_work (working.LettingGo (NoTable size)) may = at_end size
-early_work (working.LettingGo Idle) may = absurd (cc)
-early_work (working.LettingGo (Moved again)) may = absurd (cc)
+early_work _ may = absurd (cc)
 
 work-refusable : (state : WorkAt) → IsEarlyWork state → IsRefusable (held_of_work state)
 work-refusable state at_lock = has_no_lock refl refl refl
-work-refusable state at_current = has_no_lock refl refl refl
-work-refusable state (at_last root seek) = has_no_lock refl refl refl
-work-refusable state (at_count root last) = has_no_lock refl refl refl
-work-refusable state (at_making wanted make) = has_no_lock refl refl refl
-work-refusable state (at_end size) = has_no_lock refl refl refl
+work-refusable state _ = has_no_lock refl refl refl
 
 pub refusable : (job : Job) → is_past job ≡ false → IsRefusable (held_of job)
-refusable (finds port state) may = absurd (cc)
 refusable (binds port owner once state) may = bind-refusable state may
-refusable (lists port room state) may = absurd (cc)
-refusable (releases port owner state) may = absurd (cc)
 refusable (rebinds port owner new state) may = rebind-refusable state may
 refusable (works state) may = work-refusable state (early_work state may)
-refusable counts may = absurd (cc)
+refusable _ may = absurd (cc)
 
 -- what it has stored for a table that it makes
 abbrev pub JobStored : Env → Job → List Did → Type 0
@@ -189,14 +152,8 @@ module _ (env : Env) (mix : ℕ → ℕ → ℕ → ℕ) (c : ℕ) (M : Memory) 
   make-mine : (exponent seed : ℕ) (state : MakeAt) → MakingMeans env mix c M G (known_of_make exponent seed state)
       → AreMine (pages_of_make exponent state)
   make-mine exponent seed (makes.Slot slot) means page i = absurd i
-  make-mine exponent seed (makes.Taking slot take) means page i = means.mine page i
-  make-mine exponent seed (makes.TakingTop slot take) means page i = means.mine page i
   make-mine exponent seed (makes.SlotBack slot) means page i = absurd i
-  make-mine exponent seed (makes.NextSerial slot nested page_first) means page i = means.mine page i
-  make-mine exponent seed (makes.Shape slot nested page_first serial) means page i = means.mine page i
-  make-mine exponent seed (makes.Seed slot nested page_first serial) means page i = means.mine page i
-  make-mine exponent seed (makes.Future slot nested page_first serial) means page i = means.mine page i
-  make-mine exponent seed (makes.Serial slot nested page_first serial) means page i = means.mine page i
+  make-mine exponent seed _ means page i = means.mine page i
 
   -- those of a table that was made lie from its first page on, and are there
   below_end : (shape page : ℕ) → In page (pages_of_shape shape) → page < (unpacked shape).page + table_pages (unpacked shape)
@@ -221,54 +178,24 @@ module _ (env : Env) (mix : ℕ → ℕ → ℕ → ℕ) (c : ℕ) (M : Memory) 
       knows.knowing.means.making.mine page i
   bind-mine port owner once (binding.Replacing list relink) may knows page i = absurd (cc)
   bind-mine port owner once (binding.Publish node table relink kick) may knows page i = absurd (cc)
-  bind-mine port owner once (binding.Filling new) may knows page i = absurd i
-  bind-mine port owner once (binding.CurrentTable attempt) may knows page i = absurd i
-  bind-mine port owner once (binding.Locating attempt locate) may knows page i = absurd i
   bind-mine port owner once (binding.Entering attempt table shape place grow) may knows page i =
       knows.knowing.means.making page i
-  bind-mine port owner once (binding.Probing attempt table shape probe) may knows page i = absurd i
-  bind-mine port owner once (binding.FoundOwner claimed found) may knows page i = absurd i
-  bind-mine port owner once (binding.ListLink list) may knows page i = absurd i
-  bind-mine port owner once (binding.ChainLink list) may knows page i = absurd i
-  bind-mine port owner once (binding.LinkBehind list link) may knows page i = absurd i
-  bind-mine port owner once (binding.Future claimed length) may knows page i = absurd i
-  bind-mine port owner once (binding.Count claimed) may knows page i = absurd i
-  bind-mine port owner once (binding.Link claimed) may knows page i = absurd i
-  bind-mine port owner once (binding.Raise claimed) may knows page i = absurd i
-  bind-mine port owner once (binding.Unlocking attempt table unlock next) may knows page i = absurd i
-  bind-mine port owner once (binding.UnlockingFull growing unlock) may knows page i = absurd i
-  bind-mine port owner once (binding.Root growing) may knows page i = absurd i
-  bind-mine port owner once (binding.GrowthCount growing root) may knows page i = absurd i
-  bind-mine port owner once (binding.FutureAgain growing refusal) may knows page i = absurd i
-  bind-mine port owner once (binding.Giving give reply) may knows page i = absurd i
+  bind-mine port owner once _ may knows page i = absurd i
 
   rebind-mine : (state : RebindAt) → rebind_is_past state ≡ false → AreMine (held_of_rebind state).pages
   rebind-mine (rebinding.Replacing node found relink) may page i = absurd (cc)
-  rebind-mine (rebinding.Filling new) may page i = absurd i
-  rebind-mine (rebinding.Seeking node seek) may page i = absurd i
-  rebind-mine (rebinding.Owner node found) may page i = absurd i
-  rebind-mine (rebinding.ChainLink node found) may page i = absurd i
-  rebind-mine (rebinding.Link node found link) may page i = absurd i
-  rebind-mine (rebinding.Unlocking node table unlock) may page i = absurd i
-  rebind-mine (rebinding.Giving give) may page i = absurd i
+  rebind-mine _ may page i = absurd i
 
   work-mine : (state : WorkAt) → IsEarlyWork state → JobKnows env mix c (works state) M G → AreMine (held_of_work state).pages
-  work-mine state at_lock knows page i = absurd i
-  work-mine state at_current knows page i = absurd i
-  work-mine state (at_last root seek) knows page i = absurd i
-  work-mine state (at_count root last) knows page i = absurd i
   work-mine state (at_making wanted make) knows page i =
       make-mine make.exponent make.seed make.at knows.knowing.means.making page i
-  work-mine state (at_end size) knows page i = absurd i
+  work-mine state _ knows page i = absurd i
 
   pub mine : (job : Job) → is_past job ≡ false → JobKnows env mix c job M G → AreMine (held_of job).pages
-  mine (finds port state) may knows page i = absurd (cc)
   mine (binds port owner once state) may knows page i = bind-mine port owner once state may knows page i
-  mine (lists port room state) may knows page i = absurd (cc)
-  mine (releases port owner state) may knows page i = absurd (cc)
   mine (rebinds port owner new state) may knows page i = rebind-mine state may page i
   mine (works state) may knows page i = work-mine state (early_work state may) knows page i
-  mine counts may knows page i = absurd (cc)
+  mine _ may knows page i = absurd (cc)
 
   -- ---- which exchange of a future it makes
 
@@ -294,59 +221,26 @@ module _ (env : Env) (mix : ℕ → ℕ → ℕ → ℕ) (c : ℕ) (M : Memory) 
         }
     bind-attaches port owner once (binding.Unmaking attempt unmake answer) may knows stored is has =
         absurd (unmake-none g unmake.geometry unmake.slot unmake.at last 0 (future_of slot) low (sym is ∙ exchanges))
-    bind-attaches port owner once (binding.Replacing list relink) may knows stored is has = absurd (cc)
-    bind-attaches port owner once (binding.Publish node table relink kick) may knows stored is has = absurd (cc)
-    bind-attaches port owner once (binding.Filling new) may knows stored is has = absurd (cc)
-    bind-attaches port owner once (binding.CurrentTable attempt) may knows stored is has = absurd (cc)
-    bind-attaches port owner once (binding.Locating attempt locate) may knows stored is has = absurd (cc)
-    bind-attaches port owner once (binding.Entering attempt table shape place grow) may knows stored is has = absurd (cc)
-    bind-attaches port owner once (binding.Probing attempt table shape probe) may knows stored is has = absurd (cc)
-    bind-attaches port owner once (binding.FoundOwner claimed found) may knows stored is has = absurd (cc)
-    bind-attaches port owner once (binding.ListLink list) may knows stored is has = absurd (cc)
-    bind-attaches port owner once (binding.ChainLink list) may knows stored is has = absurd (cc)
-    bind-attaches port owner once (binding.LinkBehind list link) may knows stored is has = absurd (cc)
-    bind-attaches port owner once (binding.Future claimed length) may knows stored is has = absurd (cc)
-    bind-attaches port owner once (binding.Count claimed) may knows stored is has = absurd (cc)
-    bind-attaches port owner once (binding.Link claimed) may knows stored is has = absurd (cc)
-    bind-attaches port owner once (binding.Raise claimed) may knows stored is has = absurd (cc)
-    bind-attaches port owner once (binding.Unlocking attempt table unlock next) may knows stored is has = absurd (cc)
-    bind-attaches port owner once (binding.UnlockingFull growing unlock) may knows stored is has = absurd (cc)
-    bind-attaches port owner once (binding.Root growing) may knows stored is has = absurd (cc)
-    bind-attaches port owner once (binding.GrowthCount growing root) may knows stored is has = absurd (cc)
-    bind-attaches port owner once (binding.FutureAgain growing refusal) may knows stored is has = absurd (cc)
-    bind-attaches port owner once (binding.Giving give reply) may knows stored is has = absurd (cc)
+    bind-attaches port owner once _ may knows stored is has = absurd (cc)
 
     -- a rebind has no slot
     rebind-slot : (state : RebindAt) → rebind_is_past state ≡ false → (held_of_rebind state).slot ≡ Some slot → ⊥
     rebind-slot (rebinding.Replacing node found relink) may has = absurd (cc)
-    rebind-slot (rebinding.Filling new) may has = cc
-    rebind-slot (rebinding.Seeking node seek) may has = cc
-    rebind-slot (rebinding.Owner node found) may has = cc
-    rebind-slot (rebinding.ChainLink node found) may has = cc
-    rebind-slot (rebinding.Link node found link) may has = cc
-    rebind-slot (rebinding.Unlocking node table unlock) may has = cc
-    rebind-slot (rebinding.Giving give) may has = cc
+    rebind-slot _ may has = cc
 
     -- and a resizing that may be refused exchanges none
     work-attaches : (state : WorkAt) → IsEarlyWork state → did.op ≡ job_plan env (works state)
         → (held_of_work state).slot ≡ Some slot → ⊥
-    work-attaches state at_lock is has = cc
-    work-attaches state at_current is has = cc
-    work-attaches state (at_last root seek) is has = cc
-    work-attaches state (at_count root last_table) is has = cc
     work-attaches state (at_making wanted make) is has =
         make-none g make.geometry make.exponent make.seed make.at last 0 (future_of slot) low (sym is ∙ exchanges)
-    work-attaches state (at_end size) is has = cc
+    work-attaches state _ is has = cc
 
     pub attaches : (job : Job) → is_past job ≡ false → JobKnows env mix c job M G → JobStored env job steps
         → did.op ≡ job_plan env job → (held_of job).slot ≡ Some slot → MayAttachNow job
-    attaches (finds port state) may knows stored is has = absurd (cc)
     attaches (binds port owner once state) may knows stored is has = bind-attaches port owner once state may knows stored is has
-    attaches (lists port room state) may knows stored is has = absurd (cc)
-    attaches (releases port owner state) may knows stored is has = absurd (cc)
     attaches (rebinds port owner new state) may knows stored is has = absurd (rebind-slot state may has)
     attaches (works state) may knows stored is has = absurd (work-attaches state (early_work state may) is has)
-    attaches counts may knows stored is has = absurd (cc)
+    attaches _ may knows stored is has = absurd (cc)
 
   -- ---- which page it enters
 
@@ -365,40 +259,23 @@ module _ (env : Env) (mix : ℕ → ℕ → ℕ → ℕ) (c : ℕ) (M : Memory) 
     make-enters exponent seed h (makes.Taking slot take) is i = take-none take take.at (sym is ∙ exchanges)
     make-enters exponent seed h (makes.TakingTop slot take) is i = take-none take take.at (sym is ∙ exchanges)
     make-enters exponent seed h (makes.SlotBack slot) is i = i
-    make-enters exponent seed h (makes.NextSerial slot nested first) is i = let same = sym is ∙ exchanges in cc
-    make-enters exponent seed h (makes.Shape slot nested first serial) is i = let same = sym is ∙ exchanges in cc
-    make-enters exponent seed h (makes.Seed slot nested first serial) is i = let same = sym is ∙ exchanges in cc
-    make-enters exponent seed h (makes.Future slot nested first serial) is i = let same = sym is ∙ exchanges in cc
-    make-enters exponent seed h (makes.Serial slot nested first serial) is i = let same = sym is ∙ exchanges in cc
+    make-enters exponent seed h _ is i = let same = sym is ∙ exchanges in cc
 
     rebind-enters : (state : RebindAt) → rebind_is_past state ≡ false → In page (held_of_rebind state).pages → ⊥
     rebind-enters (rebinding.Replacing node found relink) may i = absurd (cc)
-    rebind-enters (rebinding.Filling new) may i = i
-    rebind-enters (rebinding.Seeking node seek) may i = i
-    rebind-enters (rebinding.Owner node found) may i = i
-    rebind-enters (rebinding.ChainLink node found) may i = i
-    rebind-enters (rebinding.Link node found link) may i = i
-    rebind-enters (rebinding.Unlocking node table unlock) may i = i
-    rebind-enters (rebinding.Giving give) may i = i
+    rebind-enters _ may i = i
 
     work-enters : (state : WorkAt) → IsEarlyWork state → did.op ≡ job_plan env (works state)
         → In page (held_of_work state).pages → ⊥
-    work-enters state at_lock is i = i
-    work-enters state at_current is i = i
-    work-enters state (at_last root seek) is i = i
-    work-enters state (at_count root last_table) is i = i
     work-enters state (at_making wanted make) is i = make-enters make.exponent make.seed make.geometry make.at is i
-    work-enters state (at_end size) is i = i
+    work-enters state _ is i = i
 
     pub enters : (job : Job) → is_past job ≡ false → did.op ≡ job_plan env job → In page (held_of job).pages
         → MayAttach (call_of job)
-    enters (finds port state) may is i = absurd (cc)
     enters (binds port owner once state) may is i = tt
-    enters (lists port room state) may is i = absurd (cc)
-    enters (releases port owner state) may is i = absurd (cc)
     enters (rebinds port owner new state) may is i = absurd (rebind-enters state may i)
     enters (works state) may is i = absurd (work-enters state (early_work state may) is i)
-    enters counts may is i = absurd (cc)
+    enters _ may is i = absurd (cc)
 
     -- ---- which is no page of its own any more
 
@@ -443,32 +320,12 @@ module _ (env : Env) (mix : ℕ → ℕ → ℕ → ℕ) (c : ℕ) (M : Memory) 
         grow-gone port attempt table shape place grow grow.at is i
     bind-gone port owner once (binding.Replacing list relink) may is had i = absurd (cc)
     bind-gone port owner once (binding.Publish node table relink kick) may is had i = absurd (cc)
-    bind-gone port owner once (binding.Filling new) may is had i = had
-    bind-gone port owner once (binding.CurrentTable attempt) may is had i = had
-    bind-gone port owner once (binding.Locating attempt locate) may is had i = had
-    bind-gone port owner once (binding.Probing attempt table shape probe) may is had i = had
-    bind-gone port owner once (binding.FoundOwner claimed found) may is had i = had
-    bind-gone port owner once (binding.ListLink list) may is had i = had
-    bind-gone port owner once (binding.ChainLink list) may is had i = had
-    bind-gone port owner once (binding.LinkBehind list link) may is had i = had
-    bind-gone port owner once (binding.Future claimed length) may is had i = had
-    bind-gone port owner once (binding.Count claimed) may is had i = had
-    bind-gone port owner once (binding.Link claimed) may is had i = had
-    bind-gone port owner once (binding.Raise claimed) may is had i = had
-    bind-gone port owner once (binding.Unlocking attempt table unlock next) may is had i = had
-    bind-gone port owner once (binding.UnlockingFull growing unlock) may is had i = had
-    bind-gone port owner once (binding.Root growing) may is had i = had
-    bind-gone port owner once (binding.GrowthCount growing root) may is had i = had
-    bind-gone port owner once (binding.FutureAgain growing refusal) may is had i = had
-    bind-gone port owner once (binding.Giving give reply) may is had i = had
+    bind-gone port owner once _ may is had i = had
 
     -- where the exchange of an entry for a page that the job has finds 0, the job has the page no more
     pub gone : (job : Job) → is_past job ≡ false → did.op ≡ job_plan env job → In page (held_of job).pages
         → In page (held_next (job_after mix env job 0)).pages → ⊥
-    gone (finds port state) may is had i = absurd (cc)
     gone (binds port owner once state) may is had i = bind-gone port owner once state may is had i
-    gone (lists port room state) may is had i = absurd (cc)
-    gone (releases port owner state) may is had i = absurd (cc)
     gone (rebinds port owner new state) may is had i = rebind-enters state may had
     gone (works state) may is had i = work-enters state (early_work state may) is had
-    gone counts may is had i = absurd (cc)
+    gone _ may is had i = absurd (cc)

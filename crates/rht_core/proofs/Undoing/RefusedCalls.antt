@@ -67,25 +67,7 @@ use Rattle.rht_core.proofs.Undoing.RefusableJobs.{refusable, mine, JobStored, at
 -- a call that ends with such a reply changes something
 change-not_nothing : (call : Call) (reply : Reply) → is_change reply ≡ true → changes_nothing call reply ≡ true → ⊥
 change-not_nothing call (replies.Bound kick) change nothing = cc
-change-not_nothing call (replies.Released kick) change nothing = cc
-change-not_nothing call replies.Rebound change nothing = cc
-change-not_nothing call (replies.Exists owner) change nothing = cc
-change-not_nothing call (replies.Found owner) change nothing = cc
-change-not_nothing call replies.Missing change nothing = cc
-change-not_nothing call (replies.Listed len) change nothing = cc
-change-not_nothing call replies.Absent change nothing = cc
-change-not_nothing call (replies.TooBig count) change nothing = cc
-change-not_nothing call (replies.Again table) change nothing = cc
-change-not_nothing call (replies.Busy root last) change nothing = cc
-change-not_nothing call (replies.NoTable size) change nothing = cc
-change-not_nothing call replies.NoNode change nothing = cc
-change-not_nothing call (replies.Pending caller section) change nothing = cc
-change-not_nothing call replies.Elsewhere change nothing = cc
-change-not_nothing call (replies.Walked len next) change nothing = cc
-change-not_nothing call (replies.Moved again) change nothing = cc
-change-not_nothing call replies.Idle change nothing = cc
-change-not_nothing call (replies.Clear returned) change nothing = cc
-change-not_nothing call (replies.Counted count) change nothing = cc
+change-not_nothing call _ change nothing = cc
 
 module _ (kind : Kind) (c : ℕ) (call : Call) (before after : Multimap) where
   -- an operation that changes bindings tells one
@@ -159,11 +141,7 @@ module _ (M : Type 0) (mix : ℕ → ℕ → ℕ → ℕ) (env : Env) (events : 
   ended-so (All port) ending steps undone = tt
   ended-so (Release port owner) ending steps undone = tt
   ended-so Count ending steps undone = tt
-  ended-so (Bind port owner once) ending steps undone = undone
-  ended-so (Rebind port owner new) ending steps undone = undone
-  ended-so (Walk from limit) ending steps undone = undone
-  ended-so Work ending steps undone = undone
-  ended-so Tidy ending steps undone = undone
+  ended-so _ ending steps undone = undone
 
   abbrev Leads : Job → List Did → Job × Next Ending → Type 0
   Leads job all next = LeadsOn M mix env Going Ended job all next
@@ -245,17 +223,14 @@ module _ (M : Type 0) (mix : ℕ → ℕ → ℕ → ℕ) (env : Env) (events : 
 
   stored_then : (job : Job) (steps : List Did) (did : Did) → is_past job ≡ false → did.op ≡ job_plan env job
       → JobStored env job steps → NextStored (steps ++ did ∷ []) (job_after mix env job did.old)
-  stored_then (finds port state) steps did may is stored = absurd (cc)
   stored_then (binds port owner once state) steps did may is stored =
       let r = bind_at.after_at mix env port once state did.old in
       next-stored (steps ++ did ∷ []) (binds port owner once) plain_ending r (bind-stored env mix port once state steps did is stored)
-  stored_then (lists port room state) steps did may is stored = absurd (cc)
-  stored_then (releases port owner state) steps did may is stored = absurd (cc)
   stored_then (rebinds port owner new state) steps did may is stored =
       next-stored (steps ++ did ∷ []) (rebinds port owner new) node_ending (rebind_at.after_at mix env port owner state did.old) tt
   stored_then (works state) steps did may is stored =
       next-stored (steps ++ did ∷ []) works plain_ending (work_at.after_at mix env state did.old) tt
-  stored_then counts steps did may is stored = absurd (cc)
+  stored_then _ steps did may is stored = absurd (cc)
 
   -- a call that has ended holds nothing
   nothing_held : (n : ℕ) → (n + 0) % 2 ≡ 0 → n % 2 ≡ 0
@@ -446,11 +421,7 @@ module _ (M : Type 0) (mix : ℕ → ℕ → ℕ → ℕ) (env : Env) (events : 
   undone-by (Release port owner) ending steps ended right nothing =
       absurd (release-changes port owner ending.answer.reply right nothing)
   undone-by Count ending steps ended right nothing = absurd (count-changes ending.answer.reply right nothing)
-  undone-by (Bind port owner once) ending steps ended right nothing = ended nothing
-  undone-by (Rebind port owner new) ending steps ended right nothing = ended nothing
-  undone-by (Walk from limit) ending steps ended right nothing = ended nothing
-  undone-by Work ending steps ended right nothing = ended nothing
-  undone-by Tidy ending steps ended right nothing = ended nothing
+  undone-by _ ending steps ended right nothing = ended nothing
 
   module _ (c : ℕ) where
     -- behind an operation's event the words are as it left them

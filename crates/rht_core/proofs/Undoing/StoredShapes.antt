@@ -289,7 +289,6 @@ module _ (env : Env) where
       attach-stored (steps ++ did ∷ []) once growing slot shape did.old
   bind-stored mix port once (at.Filling new) steps did is stored =
       filled-stored (steps ++ did ∷ []) (new_node_after new did.old).0 (new_node_after new did.old).1
-  bind-stored mix port once (at.CurrentTable attempt) steps did is stored = tt
   bind-stored mix port once (at.Locating attempt locate) steps did is stored =
       let r = locate_after mix port locate did.old in located-stored (steps ++ did ∷ []) port attempt r.0 r.1
   bind-stored mix port once (at.Entering attempt table shape place grow) steps did is stored =
@@ -297,27 +296,19 @@ module _ (env : Env) where
   bind-stored mix port once (at.Probing attempt table shape probe) steps did is stored =
       let r = probe_after probe did.old in
       probed-stored (steps ++ did ∷ []) env.config.kind attempt table shape r.0 r.1
-  bind-stored mix port once (at.FoundOwner claimed found) steps did is stored = tt
-  bind-stored mix port once (at.ListLink list) steps did is stored = tt
-  bind-stored mix port once (at.ChainLink list) steps did is stored = tt
-  bind-stored mix port once (at.LinkBehind list link) steps did is stored = tt
   bind-stored mix port once (at.Replacing list relink) steps did is stored =
       replaced-stored (steps ++ did ∷ []) list (relink_after relink).0 (relink_after relink).1
   bind-stored mix port once (at.Future claimed length) steps did is stored =
       future-stored (steps ++ did ∷ []) claimed length (slot_of did.old)
   bind-stored mix port once (at.Count claimed) steps did is stored = count-stored (steps ++ did ∷ []) claimed did.old
-  bind-stored mix port once (at.Link claimed) steps did is stored = tt
-  bind-stored mix port once (at.Raise claimed) steps did is stored = tt
   bind-stored mix port once (at.Publish node table relink kick) steps did is stored =
       published-stored (steps ++ did ∷ []) node table kick (relink_after relink).0 (relink_after relink).1
   bind-stored mix port once (at.Unlocking attempt table unlock next) steps did is stored =
       unlocked-stored (steps ++ did ∷ []) attempt next
-  bind-stored mix port once (at.UnlockingFull growing unlock) steps did is stored = tt
-  bind-stored mix port once (at.Root growing) steps did is stored = tt
   bind-stored mix port once (at.GrowthCount growing root) steps did is stored =
       want-stored (steps ++ did ∷ []) growing root did.old
   bind-stored mix port once (at.FutureAgain growing refusal) steps did is stored =
       refused-stored (steps ++ did ∷ []) once growing refusal (slot_of did.old)
   bind-stored mix port once (at.Unmaking attempt unmake answer) steps did is stored =
       let r = unmake_after unmake did.old in unmade-stored (steps ++ did ∷ []) attempt answer r.0 r.1
-  bind-stored mix port once (at.Giving give reply) steps did is stored = tt
+  bind-stored mix port once _ steps did is stored = tt

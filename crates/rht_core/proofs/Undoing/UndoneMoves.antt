@@ -387,16 +387,10 @@ module _ (env : Env) (mix : ℕ → ℕ → ℕ → ℕ) (words_at : ℕ → Lis
 
     not_in_slots : (slot : ℕ) (word : SlotWord) → IsTableWord word → slot < 8 → (page : ℕ)
         → place_of g (Slot slot word) ≡ page_place g page → ⊥
-    not_in_slots slot ShapeWord of_table low page same =
-        let order = parts_in_order g in absurd (omega (arith, low, same, order.page_map))
-    not_in_slots slot SeedWord of_table low page same =
-        let order = parts_in_order g in absurd (omega (arith, low, same, order.page_map))
-    not_in_slots slot FutureWord of_table low page same =
-        let order = parts_in_order g in absurd (omega (arith, low, same, order.page_map))
-    not_in_slots slot SerialWord of_table low page same =
-        let order = parts_in_order g in absurd (omega (arith, low, same, order.page_map))
     not_in_slots slot StateWord of_table low page same = of_table
     not_in_slots slot (LoadedSection caller) of_table low page same = of_table
+    not_in_slots slot _ of_table low page same =
+        let order = parts_in_order g in absurd (omega (arith, low, same, order.page_map))
 
     not_first : (page : ℕ) → 1 ≡ page_place g page → ⊥
     not_first page same = let order = parts_in_order g in absurd (omega (arith, same, order.page_map))
@@ -1021,9 +1015,4 @@ module _ (env : Env) (mix : ℕ → ℕ → ℕ → ℕ) (words_at : ℕ → Lis
     kept_by GivesWork ready does = inr (give_work ready does)
     kept_by BeginsMoving ready does =
         absurd (let moving = ap (λ (x : Holding). x.moving) does.holds in let e = sym may.still_then ∙ moving in cc)
-    kept_by (TakesSecond i) ready does = absurd (let e = sym may.still ∙ does.moves in cc)
-    kept_by (Leaves j i entry nodes) ready does = absurd (let e = sym may.still ∙ does.moves in cc)
-    kept_by (Arrives j i entry) ready does = absurd (let e = sym may.still ∙ does.moves in cc)
-    kept_by (CutsOff j entry before) ready does = absurd (let e = sym may.still ∙ does.moves in cc)
-    kept_by Publishes ready does = absurd (let e = sym may.still ∙ does.moves in cc)
-    kept_by (Retires s) ready does = absurd (let e = sym may.still ∙ does.moves in cc)
+    kept_by _ ready does = absurd (let e = sym may.still ∙ does.moves in cc)

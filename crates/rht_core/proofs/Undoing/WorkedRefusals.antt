@@ -211,12 +211,9 @@ module _ (g : Geometry) (words_at : ℕ → List ℕ) where
 
       -- the word of the slot's state is no word of a table's
       no_table_word : (slot : ℕ) (word : SlotWord) → IsTableWord word → state ≡ place_of g (Slot slot word) → ⊥
-      no_table_word slot ShapeWord of_table same = absurd (omega (arith, same))
-      no_table_word slot SeedWord of_table same = absurd (omega (arith, same))
-      no_table_word slot FutureWord of_table same = absurd (omega (arith, same))
-      no_table_word slot SerialWord of_table same = absurd (omega (arith, same))
       no_table_word slot StateWord of_table same = of_table
       no_table_word slot (LoadedSection caller) of_table same = of_table
+      no_table_word slot _ of_table same = absurd (omega (arith, same))
 
       -- nor is it an entry or a word of the map of pages
       before_pages : (entry page : ℕ)
