@@ -7,9 +7,10 @@ use Rattle.rht_words.specs.Places.{Address, Section, Node, NodeMap, ChainLink, L
 use Rattle.rht_words.proofs.Memory.{IsWrite}
 use Rattle.rht_core.proofs.Theory.Ghosts.{put-other, Free, Ghost, IsUsed, is_first, is_listed, is_used, with_owner}
 use Rattle.rht_core.proofs.Theory.Wholes.{chain_of, Whole}
+use Rattle.rht_core.proofs.Theory.SeatedLinks.{next_of, chain-first}
 use Rattle.rht_core.proofs.Theory.Frames.{Made}
 use Rattle.rht_core.proofs.Theory.Steps.{mem}
-use Rattle.rht_core.proofs.Returning.Readers.{Reader, ReaderRight, LeavesStale, meets_too, reader-stays, not_both, next_of, chain-first}
+use Rattle.rht_core.proofs.Returning.Readers.{Reader, ReaderRight, LeavesStale, meets_too, reader-stays, not_both}
 
 module _ (env : Env) (mix : ℕ → ℕ → ℕ → ℕ) (words words' : List ℕ) (G G' : Ghost) (c : ℕ) (low : c < 16) (r : Reader)
     (a : Address) (v : ℕ) (write : IsWrite env.geometry (mem env mix words) (mem env mix words') a v) (section : Section c ≢ a)
@@ -39,7 +40,7 @@ module _ (env : Env) (mix : ℕ → ℕ → ℕ → ℕ) (words words' : List �
           let word : chain_of (mem env mix words') m ≡ chain_of (mem env mix words) first =
           ap (λ i. chain_of (mem env mix words') i) e ∙ ap (mem env mix words') (sym at) ∙ write.same ∙ value in
           ap (λ H. is_first (H.node k)) same
-          ∙ chain-first env mix words G whole first k is (sym (ap (next_of env mix) word) ∙ leads))
+          ∙ chain-first env mix (mem env mix words) G whole first k is (sym (ap (next_of env) word) ∙ leads))
       | inr ne ↦ inl (write.others (Node m ChainLink) l (λ e. ne (let q = e ∙ at in cc)))
     ];
     lists = λ m l used_one other. write.others (Node m ListLink) l (λ e. let q = e ∙ at in cc);
