@@ -8,9 +8,10 @@ use Rattle.rht_words.specs.Places.{Section}
 use Rattle.rht_words.proofs.LinksRead.{links_tell_apart}
 use Rattle.rht_words.proofs.Memory.{Memory}
 use Rattle.rht_words.specs.Members.{In}
-use Rattle.rht_core.proofs.Theory.Ghosts.{Owner, Free, Held, First, Leaving, Behind, Taken, Ghost, is_first, is_listed, listed-used, IsUsed, seat_of}
+use Rattle.rht_core.proofs.Theory.Ghosts.{Owner, Free, Held, First, Leaving, Behind, Taken, Ghost, is_first, is_listed, listed-used, IsUsed, not_first-seatless, seat-first}
 use Rattle.rht_core.proofs.Theory.Wholes.{chain_of, list_of, key_of, seated_at, Whole}
-use Rattle.rht_core.proofs.Theory.SeatedLinks.{next_of, chain-first}
+use Rattle.rht_core.proofs.Theory.Frames.{LinksStay}
+use Rattle.rht_core.proofs.Theory.SeatedLinks.{next_of, link-next_of, chain-first}
 use Rattle.rht_core.proofs.Theory.Steps.{mem}
 use Rattle.rht_core.proofs.Pieces.Lists.{list_next, list_among}
 
@@ -165,9 +166,7 @@ module _ (env : Env) (mix : ℕ → ℕ → ℕ → ℕ) where
     pub section : mem env mix words' (Section c) ≡ mem env mix words (Section c)
     pub current : G.current ≤ G'.current
     pub used : (n : ℕ) → r.lists n ≡ true → IsUsed (G.node n) → IsUsed (G'.node n)
-    pub chains : (n : ℕ) → n < env.geometry.nodes → IsUsed (G.node n) → is_first (G'.node n) ≡ false
-        → (chain_of (mem env mix words') n ≡ chain_of (mem env mix words) n)
-        ⊎ ((m : ℕ) → next_of env (chain_of (mem env mix words') n) ≡ Some m → is_first (G'.node m) ≡ true)
+    pub chains : LinksStay env mix (mem env mix words) G (mem env mix words') G'
     pub lists : (n : ℕ) → n < env.geometry.nodes → IsUsed (G.node n) → is_listed (G'.node n) ≡ false
         → list_of (mem env mix words') n ≡ list_of (mem env mix words) n
 
@@ -218,11 +217,13 @@ module _ (env : Env) (mix : ℕ → ℕ → ℕ → ℕ) where
       | inr other ↦
           let before = met-before n is other in
           let in_list = right.chained n before in
-          elim (leaves.chains n (right.among n in_list) (right.used n in_list) other) [
+          elim (leaves.chains n (right.among n in_list) (right.used n in_list) (not_first-seatless (G'.node n) other)) [
             | inl same ↦
                 left_true (r.chains m) (is_open r && is_first (G'.node m))
                 (right.chain_leads n m before (sym (ap (next_of env) same) ∙ leads))
-            | inr led ↦ first-met m (open-chains n is) (led m leads)
+            | inr led ↦
+                let sits = led.leads m (link-next_of env (chain_of (mem env mix words') n) m leads) in
+                first-met m (open-chains n is) (seat-first (G'.node m) sits.bucket sits.seat)
           ]
     ]
 

@@ -331,6 +331,12 @@ first-seat (First j) is = (j, refl)
 first-seat (Leaving j) is = (j, refl)
 first-seat o is = absurd (cc)
 
+-- who is in none has no seat
+pub not_first-seatless : (o : Owner) → is_first o ≡ false → seat_of o ≡ None
+not_first-seatless (First j) is = absurd (cc)
+not_first-seatless (Leaving j) is = absurd (cc)
+not_first-seatless o is = refl
+
 -- a node that is no port's is in no chain
 pub unused-not_first : (o : Owner) → is_used o ≡ false → is_first o ≡ false
 unused-not_first Free is = refl
