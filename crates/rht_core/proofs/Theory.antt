@@ -16,6 +16,8 @@ pub mod PlacesRead
 pub mod MissingEntries
 -- what a caller that goes from table to table has passed
 pub mod Passed
+-- where the words of buckets and the links of first nodes lead
+pub mod SeatedLinks
 -- what may be known
 pub mod Knowns
 -- what each caller knows

@@ -34,7 +34,7 @@ use Rattle.rht_core.proofs.Theory.Ghosts.{Ghost, is_taken_by}
 use Rattle.rht_core.proofs.Theory.Wholes.{outs, Whole}
 use Rattle.rht_core.proofs.Theory.Answering.{outs_of}
 use Rattle.rht_core.proofs.Theory.Frames.{StaleStay, stale_write, same_owners}
-use Rattle.rht_core.proofs.Theory.Reliance.{Rely, RelyWhere}
+use Rattle.rht_core.proofs.Theory.Reliance.{Rely}
 use Rattle.rht_core.proofs.Theory.KnowledgeKept.{Knowing-rely}
 use Rattle.rht_core.proofs.Theory.Steps.{mem, ghost_after}
 use Rattle.rht_core.proofs.Moves.Quiet.{aside}
@@ -47,8 +47,8 @@ module _ (env : Env) (mix : ℕ → ℕ → ℕ → ℕ) where
   Knows c None M G = KnowsNothing env mix c M G
   Knows c (Some job) M G = JobKnows env mix c job M G
 
-  Knows-rely : {lasting : ℕ → Type 0} → (c : ℕ) (job : Option Job) (M M' : Memory) (G G' : Ghost) → Whole env mix M G
-      → RelyWhere env mix lasting c M G M' G'
+  Knows-rely : (c : ℕ) (job : Option Job) (M M' : Memory) (G G' : Ghost) → Whole env mix M G
+      → Rely env mix c M G M' G'
       → Knows c job M G → Knows c job M' G'
   Knows-rely c None M M' G G' whole rely knows =
       Knowing-rely env mix c M M' G G' holds_no known_nothing whole rely knows
@@ -196,8 +196,7 @@ module _ (env : Env) (mix : ℕ → ℕ → ℕ → ℕ) where
       pub ghost_kept : GhostKept core G ghost event
 
     -- others see no node taken out
-    others_outs : {lasting : ℕ → Type 0} → (k : ℕ) (M M' : Memory) (G G' : Ghost)
-        → RelyWhere env mix lasting k M G M' G'
+    others_outs : (k : ℕ) (M M' : Memory) (G G' : Ghost) → Rely env mix k M G M' G'
         → outs env mix G' k ≡ outs env mix G k
     others_outs k M M' G G' rely =
         count_below-same (λ n. is_taken_by k (G.node n)) (λ n. is_taken_by k (G'.node n))

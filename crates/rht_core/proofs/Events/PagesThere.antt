@@ -26,7 +26,7 @@ use Rattle.rht_core.proofs.Theory.Knowns.{KnownNode, OnWay}
 use Rattle.rht_core.proofs.Theory.Knowledge.{TableMeans}
 use Rattle.rht_core.proofs.Theory.KnowledgeStays.{TableMeans-stay}
 use Rattle.rht_core.proofs.Theory.WaysRead.{placed-stays}
-use Rattle.rht_core.proofs.Theory.Reliance.{RelyWhere}
+use Rattle.rht_core.proofs.Theory.Reliance.{Rely}
 use Rattle.rht_core.proofs.Theory.Steps.{mem}
 use Rattle.rht_core.proofs.Pieces.NewNodes.{filled}
 use Rattle.rht_core.proofs.Pieces.Locates.{known_locate, IsThereAt}
@@ -41,8 +41,8 @@ use Rattle.rht_core.proofs.Events.RangesInRuns.{AllIn}
 use Rattle.rht_core.proofs.Events.Invariants.{Inv, Knows, StepOf, enrolled}
 
 module _ (env : Env) (mix : ℕ → ℕ → ℕ → ℕ) where
-  module _ {lasting : ℕ → Type 0} (c : ℕ) (M M' : Memory) (G G' : Ghost) (whole : Whole env mix M G)
-      (whole' : Whole env mix M' G') (rely : RelyWhere env mix lasting c M G M' G') where
+  module _ (c : ℕ) (M M' : Memory) (G G' : Ghost) (whole : Whole env mix M G) (whole' : Whole env mix M' G')
+      (rely : Rely env mix c M G M' G') where
     -- the page outlives a step of anybody else: entries that lead to a page lead there still
     located-stays : (port slot : ℕ) (at : LocateAt) → TableMeans env mix G (known_locate port slot at)
         → IsThereAt at M → IsThereAt at M'

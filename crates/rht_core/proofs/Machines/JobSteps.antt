@@ -41,7 +41,7 @@ use Rattle.rht_core.proofs.Theory.Ghosts.{Ghost}
 use Rattle.rht_core.proofs.Theory.Wholes.{Whole}
 use Rattle.rht_core.proofs.Theory.Knowns.{Known}
 use Rattle.rht_core.proofs.Theory.Knowledge.{Knowing}
-use Rattle.rht_core.proofs.Theory.Reliance.{RelyWhere}
+use Rattle.rht_core.proofs.Theory.Reliance.{Rely}
 use Rattle.rht_core.proofs.Theory.KnowledgeKept.{Knowing-rely}
 use Rattle.rht_core.proofs.Theory.Steps.{mem, Holding, Step, StepWhere, step-map, reads}
 use Rattle.rht_core.proofs.Machines.EarlyPages.{IsThere, IsThereNext}
@@ -133,8 +133,7 @@ module _ (env : Env) (mix : ℕ → ℕ → ℕ → ℕ) (c : ℕ) where
       c (call_of job) words G op (held_of job) (held_next r) (JobNext r)
 
   -- what it knows outlives a step of anybody else
-  pub JobKnows-rely : {lasting : ℕ → Type 0} → (job : Job) (M M' : Memory) (G G' : Ghost) → Whole env mix M G
-      → RelyWhere env mix lasting c M G M' G'
+  pub JobKnows-rely : (job : Job) (M M' : Memory) (G G' : Ghost) → Whole env mix M G → Rely env mix c M G M' G'
       → JobKnows job M G → JobKnows job M' G'
   JobKnows-rely job M M' G G' whole rely knows = record {
     built = knows.built;

@@ -44,7 +44,6 @@ use Rattle.rht_core.proofs.Theory.Knowledge.{plainly, Knowing, ListMeans}
 use Rattle.rht_core.proofs.Theory.Answering.{KeepsAnswer, IsLegalOn, IsRight, keeps, learns}
 use Rattle.rht_core.proofs.Theory.Steps.{answered-map, Lowers, LinksBehind, Holding, HoldsNoneEarly, by_test, mem, owners, owners_in, moved, StepWhere, Step, step-map, answered, reads, still_has}
 use Rattle.rht_core.proofs.Moves.Quiet.{count_down}
-use Rattle.rht_core.proofs.Returning.Readers.{chain-first, next_of}
 use Rattle.rht_core.proofs.Moves.TakenNodes.{chain_behind}
 use Rattle.rht_core.proofs.Moves.Relinking.{last_none, last_of-more}
 use Rattle.rht_core.proofs.Pieces.Locks.{unlock_step, unlock_taken}
@@ -490,9 +489,7 @@ module _ (env : Env) (mix : ℕ → ℕ → ℕ → ℕ) (c : ℕ) (port owner :
         is_write env.geometry words (Node second ChainLink) op all within refl in
         let made =
         chain_behind env mix c second port m j link is.behind M M' G whole mine is.bound_to first lock.holder
-        (second_in is.behind leads.second_is) (sym is.means.link_is)
-        (λ k led. chain-first env mix words G whole m k (ap is_first first) (ap (next_of env mix) is.means.link_is ∙ led))
-        write in
+        (second_in is.behind leads.second_is) (sym is.means.link_is) write in
         let apart : m ≢ second = λ e. let z : First j ≡ Behind port = sym first ∙ ap G.node e ∙ mine in cc in
         let first_link : chain_of M' m ≡ chain_of M m =
         write.others (Node m ChainLink) among (λ e. apart (cc)) in

@@ -19,9 +19,10 @@ use Rattle.rht_words.proofs.LinksRead.{links_tell_apart}
 use Rattle.rht_words.specs.Members.{In, IsDistinct, NotIn}
 use Rattle.rht_words.proofs.Members.{In-flat_map, flat_map-In, In-range_with_len, range_with_len-In, find-Some, find-None, In-AllByRecursion, count_below-most, length-count_below, not_in_from, In-append_cases, In-append_right, IsDistinct-with}
 use Rattle.rht_core.specs.StandsFor.{in_force, chain_from, bucket_in, bucket_nodes, table_nodes, has_key, first_node, list_from, nodes_of, stands_for, shape_of}
-use Rattle.rht_core.proofs.Theory.Ghosts.{Ghost, lock_bit, table_at, some-same, First, Leaving, seat_of, seated, is_entry}
-use Rattle.rht_core.proofs.Theory.Wholes.{chain_of, list_of, key_of, hash_in, home, place_at, Whole, stop, out-seated, seated_at, IsHomeOf}
+use Rattle.rht_core.proofs.Theory.Ghosts.{Ghost, HasSeat, lock_bit, table_at, some-same, First, Leaving, seat_of, seated, is_entry}
+use Rattle.rht_core.proofs.Theory.Wholes.{chain_of, list_of, key_of, hash_in, home, place_at, Whole, stop, seated_at, IsHomeOf}
 use Rattle.rht_core.proofs.Theory.Passed.{hash-below, home-within, held-no_entry, member-no_entry, place-word, place-bucket}
+use Rattle.rht_core.proofs.Theory.SeatedLinks.{link-next_of, head-seated, chain-seated}
 use Rattle.rht_core.proofs.Pieces.Lists.{list_among, list_few}
 use Rattle.rht_core.proofs.Theory.Steps.{mem, owners, owners_in}
 use Rattle.rht_core.proofs.Theory.Entries.{bucket-no_entry}
@@ -73,93 +74,44 @@ module _ (env : Env) (mix : ℕ → ℕ → ℕ → ℕ) (words : List ℕ) (G :
 
   -- ---- which nodes are met
 
-  -- a node that has a seat
-  abbrev pub HasSeat : ℕ → Type 0
-  HasSeat n = (j : ℕ) × (seat_of (G.node n) ≡ Some j)
+  -- the nodes of a bucket have a seat, and who has one is one of the nodes
+  member-seat : (j n : ℕ) → In n (G.bucket j).nodes → HasSeat G n
+  member-seat j n i = record { bucket = j; seat = ap seat_of (whole.owned.member j n i) }
 
-  -- a link leads to such a node, or to none
-  abbrev pub LeadsOn : ℕ → Type 0
-  LeadsOn link = IfSome (node_of g.nodes link) HasSeat
+  seat-among : (n : ℕ) → HasSeat G n → n < g.nodes
+  seat-among n has = (seated_at env mix M G whole n has.bucket has.seat).among
 
-  first-seat : (j n : ℕ) → In n (G.bucket j).nodes → HasSeat n
-  first-seat j n i = (j, ap seat_of (whole.owned.member j n i))
-
-  out-seat : (j entry : ℕ) → (G.bucket j).out ≡ Some entry → HasSeat entry
-  out-seat j entry is = out-seated env mix M G j entry (whole.moving.out j entry is)
-
-  seat-among : (n : ℕ) → HasSeat n → n < g.nodes
-  seat-among n has = (seated_at env mix M G whole n has.0 has.1).among
-
-  link_leads : (link n : ℕ) → link ≡ link_of n → HasSeat n → LeadsOn link
-  link_leads link n is has = rw (ap (node_of g.nodes) is ∙ links_tell_apart.link_names g.nodes n (seat-among n has)) has
-
-  -- the end of a bucket's chain, and any link in it
-  stop_leads : (j : ℕ) → LeadsOn (stop env mix (place_at env mix j) (G.bucket j).out)
-  stop_leads j = go (G.bucket j).out refl
+  -- a link that is no other node's leads to a node that has a seat, or to none
+  leads_on : (link : ℕ) → ((n : ℕ) → link ≡ link_of n → HasSeat G n) → IfSome (node_of g.nodes link) (HasSeat G)
+  leads_on link to = go (node_of g.nodes link) refl
     where
-      go : (out : Option ℕ) → (G.bucket j).out ≡ out → LeadsOn (stop env mix (place_at env mix j) out)
-      go None is = rw (links_tell_apart.marker_names_no_node g.nodes (place_at env mix j)) tt
-      go (Some entry) is = link_leads (link_of entry) entry refl (out-seat j entry is)
-
-  segment_leads : (link : ℕ) (nodes : List ℕ) (end : ℕ) → IsSegment (chain_of M) link nodes end
-      → ((n : ℕ) → In n nodes → HasSeat n) → LeadsOn end
-      → LeadsOn link × ((n : ℕ) → In n nodes → LeadsOn (chain_of M n))
-  segment_leads link [] end s seats last = (subst LeadsOn (sym s) last, λ n i. absurd i)
-  segment_leads link (m ∷ nodes) end s seats last =
-      let rest = segment_leads (chain_of M m) nodes end s.1 (λ n i. seats n (inr i)) last in (
-        link_leads link m s.0 (seats m (inl refl)),
-        λ n i. elim i [
-          | inl e ↦ rw e rest.0
-          | inr k ↦ rest.1 n k
-        ],
-      )
-
-  pub bucket_leads : (j : ℕ) → j < 64 * g.pages → is_entry G j ≡ false
-      → LeadsOn (head_of (place_at env mix j) (G.bucket j).plain)
-      × ((n : ℕ) → In n (G.bucket j).nodes → LeadsOn (chain_of M n))
-  bucket_leads j l plain =
-      segment_leads (head_of (place_at env mix j) (G.bucket j).plain) (G.bucket j).nodes
-      (stop env mix (place_at env mix j) (G.bucket j).out) (whole.buckets j l plain).chained.segment
-      (first-seat j) (stop_leads j)
-
-  home-below : (port j : ℕ) → IsHomeOf env mix G port j → j < 64 * g.pages
-  home-below port j is = home-within env mix M G whole port (table_at G j) j is.attached is.here
-
-  -- from a node that has a seat a link leads to another one, or to none
-  pub seat_leads : (n : ℕ) → HasSeat n → LeadsOn (chain_of M n)
-  seat_leads n has = elim (seated (G.node n) has.0 has.1) [
-    | inl first ↦
-        let at = whole.owned.first_at n has.0 first in
-        (bucket_leads has.0 (home-below (key_of M n) has.0 at.at_home)
-        (member-no_entry env mix M G whole has.0 n at.there)).1 n at.there
-    | inr leaving ↦
-        let next = (whole.owned.leaving_at n has.0 leaving).next in
-        let below = home-within env mix M G whole (key_of M n) (table_at G next.bucket) next.bucket next.attached
-        next.here in
-        subst LeadsOn (sym next.chain) (bucket_leads next.bucket below
-        (held-no_entry env mix M G whole next.bucket next.worker next.holder)).0
-  ]
+      go : (next : Option ℕ) → node_of g.nodes link ≡ next → IfSome next (HasSeat G)
+      go None is = tt
+      go (Some n) is = to n (link-next_of env link n is)
 
   -- so each node that is met along chains has a seat
-  chain_seats : (left : ℕ) (first : Option ℕ) → IfSome first HasSeat → (n : ℕ)
-      → In n (chain_from g words left first) → HasSeat n
+  chain_seats : (left : ℕ) (first : Option ℕ) → IfSome first (HasSeat G) → (n : ℕ)
+      → In n (chain_from g words left first) → HasSeat G n
   chain_seats zero first has n i = absurd i
   chain_seats (suc left) None has n i = absurd i
   chain_seats (suc left) (Some m) has n i = elim i [
     | inl e ↦ rw e has
-    | inr k ↦ chain_seats left (node_of g.nodes (chain_of M m)) (seat_leads m has) n k
+    | inr k ↦ chain_seats left (node_of g.nodes (chain_of M m))
+        (leads_on (chain_of M m) (λ z. chain-seated env mix M G whole m z has)) n k
   ]
 
   bucket_seats : (j n : ℕ) → j < 64 * g.pages → is_entry G j ≡ false → In n (bucket_nodes g words (Some (place_at env mix j)))
-      → HasSeat n
+      → HasSeat G n
   bucket_seats j n l plain i =
-      chain_seats g.nodes (node_of g.nodes (head_of (place_at env mix j) (G.bucket j).plain)) (bucket_leads j l plain).0 n
+      let head = head_of (place_at env mix j) (G.bucket j).plain in
+      chain_seats g.nodes (node_of g.nodes head)
+      (leads_on head (λ z. head-seated env mix M G whole j z (whole.buckets j l plain).chained)) n
       (subst (λ link. In n (chain_from g words g.nodes (node_of g.nodes link))) (first_link j l plain) i)
 
   -- ---- and each node that has a seat is met in its bucket
 
   distinct_met : (j : ℕ) → j < 64 * g.pages → is_entry G j ≡ false → (nodes : List ℕ) (end : ℕ) → IsDistinct nodes
-      → ((n : ℕ) → In n nodes → HasSeat n)
+      → ((n : ℕ) → In n nodes → HasSeat G n)
       → IsSegment (chain_of M) (head_of (place_at env mix j) (G.bucket j).plain) nodes end
       → (n : ℕ) → In n nodes → In n (bucket_nodes g words (Some (place_at env mix j)))
   distinct_met j l plain nodes end distinct seats segment n i =
@@ -177,7 +129,7 @@ module _ (env : Env) (mix : ℕ → ℕ → ℕ → ℕ) (words : List ℕ) (G :
       let plain = member-no_entry env mix M G whole j n i in
       let chained = (whole.buckets j l plain).chained in
       distinct_met j l plain (G.bucket j).nodes (stop env mix (place_at env mix j) (G.bucket j).out) chained.distinct
-      (first-seat j) chained.segment n i
+      (member-seat j) chained.segment n i
 
   -- an entry on its way is met behind the bucket's nodes, of which it is none
   leaving_met : (j n : ℕ) → j < 64 * g.pages → G.node n ≡ Leaving j
@@ -197,8 +149,8 @@ module _ (env : Env) (mix : ℕ → ℕ → ℕ → ℕ) (words : List ℕ) (G :
       distinct_met j l plain (nodes ++ n ∷ []) (chain_of M n)
       (IsDistinct-with nodes n [] (subst IsDistinct (sym (append-nil nodes)) chained.distinct) apart tt)
       (λ m i. elim (In-append_cases m nodes (n ∷ []) i) [
-        | inl k ↦ first-seat j m k
-        | inr k ↦ elim k [ inl e ↦ (j, ap seat_of (ap G.node e ∙ leaving)) | inr none ↦ absurd none ]
+        | inl k ↦ member-seat j m k
+        | inr k ↦ elim k [ inl e ↦ record { bucket = j; seat = ap seat_of (ap G.node e ∙ leaving) } | inr none ↦ absurd none ]
       ])
       (IsSegment-append (chain_of M) nodes (n ∷ []) first (link_of n) (chain_of M n) upto (refl, refl))
       n (In-append_right n nodes (n ∷ []) (inl refl))
@@ -282,7 +234,7 @@ module _ (env : Env) (mix : ℕ → ℕ → ℕ → ℕ) (words : List ℕ) (G :
       let nodes = (G.bucket j).nodes in
       let first = head_of place (G.bucket j).plain in
       let chained = (whole.buckets j l plain).chained in
-      let among : (m : ℕ) → In m nodes → m < g.nodes = λ m k. seat-among m (first-seat j m k) in
+      let among : (m : ℕ) → In m nodes → m < g.nodes = λ m k. seat-among m (member-seat j m k) in
       let few = length-count_below (λ m. true) g.nodes nodes chained.distinct
       (In-AllByRecursion (λ m. m < g.nodes) nodes among) (λ m k. refl) in
       let most = count_below-most (λ m. true) g.nodes in
@@ -317,7 +269,7 @@ module _ (env : Env) (mix : ℕ → ℕ → ℕ → ℕ) (words : List ℕ) (G :
   abbrev buckets_in : ℕ → ℕ → List ℕ
   buckets_in shape bucket = bucket_nodes g words (bucket_in g words shape bucket)
 
-  table_seats : (τ n : ℕ) → τ < G.attached → In n (table_nodes g words (G.table τ).slot) → HasSeat n
+  table_seats : (τ n : ℕ) → τ < G.attached → In n (table_nodes g words (G.table τ).slot) → HasSeat G n
   unfolding size
   table_seats τ n l i =
       let shape = (G.table τ).shape in
@@ -329,7 +281,7 @@ module _ (env : Env) (mix : ℕ → ℕ → ℕ → ℕ) (words : List ℕ) (G :
       go from.0 below (bucket_in g words shape from.0) refl from.2
     where
       go : (bucket : ℕ) → bucket < size τ → (place : Option ℕ)
-          → bucket_in g words (G.table τ).shape bucket ≡ place → In n (bucket_nodes g words place) → HasSeat n
+          → bucket_in g words (G.table τ).shape bucket ≡ place → In n (bucket_nodes g words place) → HasSeat G n
       go bucket below None is met = absurd met
       go bucket below (Some place) is met =
           let at = bucket_word τ bucket place l below is in
@@ -343,7 +295,7 @@ module _ (env : Env) (mix : ℕ → ℕ → ℕ → ℕ) (words : List ℕ) (G :
       let is = in_force_is env mix words G whole from.0 from.1 in
       let has = table_seats is.table n is.attached
       (subst (λ s. In n (table_nodes g words s)) is.slot_is from.2) in
-      let at = seated_at env mix M G whole n has.0 has.1 in
+      let at = seated_at env mix M G whole n has.bucket has.seat in
       (at.behind, at.bound_to)
 
   -- a node that belongs to a table in force is met there
@@ -371,7 +323,7 @@ module _ (env : Env) (mix : ℕ → ℕ → ℕ → ℕ) (words : List ℕ) (G :
       let τ = table_at G to.bucket in
       let bucket = hash_in env mix G key τ in
       let below : bucket < size τ = hash-below env mix M G whole key τ in
-      let seat = seat_met n to.bucket (home-below key to.bucket at) to.first in (
+      let seat = seat_met n to.bucket (home-within env mix M G whole key (table_at G to.bucket) to.bucket at.attached at.here) to.first in (
         In-flat_map (table_nodes g words) n (G.table τ).slot (in_force g words)
             (table_in_force env mix words G whole τ at.current at.attached)
             (table_met τ bucket to.bucket n at.attached below at.here seat),

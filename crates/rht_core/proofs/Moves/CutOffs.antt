@@ -72,7 +72,6 @@ module _ (env : Env) (mix : ℕ → ℕ → ℕ → ℕ) where
             no_behind = λ n p f e. cc;
             no_seatless = λ n none e. cc;
             other_node = λ c n w ne f e. cc;
-            stale_chain = λ n used other e. cc;
           }
           go (Some p) last write =
               let first = before_first p last in
@@ -98,9 +97,6 @@ module _ (env : Env) (mix : ℕ → ℕ → ℕ → ℕ) where
                 other_node = λ c n w ne f e.
                     let same : n ≡ p = cc in
                     let q : First j ≡ Held c = sym first ∙ ap G.node (sym same) ∙ f in cc;
-                stale_chain = λ n used other e.
-                    let same : n ≡ p = cc in
-                    let q : true ≡ false = sym (ap is_first (ap G.node same ∙ first)) ∙ other in cc;
               }
 
       cut_right : BucketRight env mix M' j rest_bucket

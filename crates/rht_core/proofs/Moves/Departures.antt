@@ -79,9 +79,6 @@ module _ (env : Env) (mix : ℕ → ℕ → ℕ → ℕ) where
         other_node = λ c n w ne f e.
             let same : n ≡ entry = cc in
             let q : First j ≡ Held c = sym first ∙ ap G.node (sym same) ∙ f in cc;
-        stale_chain = λ n used other e.
-            let same : n ≡ entry = cc in
-            let q : true ≡ false = sym (ap is_first (ap gone.node same ∙ put-same G.node entry (Leaving j))) ∙ other in cc;
       }
 
       left_right : BucketRight env mix M' j (left_by (G.bucket j) nodes entry)
@@ -264,7 +261,6 @@ module _ (env : Env) (mix : ℕ → ℕ → ℕ → ℕ) where
       no_behind = λ n p f e. cc;
       no_seatless = λ n none e. cc;
       other_node = λ c n w ne f e. cc;
-      stale_chain = λ n used other e. cc;
     }
 
     joined_right : BucketRight env mix M' i joined_bucket

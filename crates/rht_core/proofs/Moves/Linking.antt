@@ -360,8 +360,6 @@ module _ (env : Env) (mix : ℕ → ℕ → ℕ → ℕ) where
         chains = chains_stay env mix c M M' G (PageWord here) (link_of n) whole write (λ m used e. cc);
         keys = words_stay.keys;
         owners = words_stay.owners;
-        used = λ m used. put-all (λ k o. IsUsed (G.node k) → IsUsed o) G.node n (First here) (λ was. refl) (λ k kn was. was) m used;
-        links = λ m l used none. inl (write.others (Node m ChainLink) l (λ e. cc));
         nodes =
             λ m has. put-other G.node n (First here) m
             (λ e. ne (held_by_one (G.node n) c d (ap G.node (sym e) ∙ has.mine) ready.has.mine))

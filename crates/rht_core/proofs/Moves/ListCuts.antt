@@ -137,7 +137,6 @@ module _ (env : Env) (mix : ℕ → ℕ → ℕ → ℕ) (d port j m q p : ℕ) 
           let same : n ≡ p = cc in ne (sym (bound_key other n i) ∙ ap (key_of M) same ∙ before_key);
       other_node = λ c n w ne held e. let same : n ≡ p = cc in held_not_used (G.node n) c held
           (rw same before_used);
-      stale_chain = λ n used other e. cc;
       stale_list = λ n used other e.
           let same : n ≡ p = cc in
           let q : true ≡ false = sym (ap (λ k. is_listed (cut.node k)) same ∙ before_listed) ∙ other in cc;

@@ -90,8 +90,6 @@ module _ (env : Env) (mix : ℕ → ℕ → ℕ → ℕ) where
         chains = chains_stay env mix c M M' G (PageWord j) v whole write (λ n used e. cc);
         keys = λ n l used. write.others (Node n KeyWord) l (λ e. cc);
         owners = λ n l used. write.others (Node n OwnerWord) l (λ e. cc);
-        used = λ n used. used;
-        links = λ n l used none. inl (write.others (Node n ChainLink) l (λ e. cc));
         nodes = λ n has. has.mine;
         words = λ n has w. write.others (Node n w) has.among (λ e. cc);
         raised = refl;
@@ -263,8 +261,6 @@ module _ (env : Env) (mix : ℕ → ℕ → ℕ → ℕ) where
           chains = λ i n m h k b. refl;
           keys = λ n l used. refl;
           owners = λ n l used. refl;
-          used = λ n used. used;
-          links = λ n l used none. inl refl;
           nodes = λ n has. has.mine;
           words = λ n has w. refl;
           raised = refl;

@@ -45,8 +45,7 @@ module _ (env : Env) (mix : ℕ → ℕ → ℕ → ℕ) (d : ℕ) (change : Cha
     pub no_seatless : (n : ℕ) → seat_of (G'.node n) ≡ None → Node n ChainLink ≢ a
     pub other_list : (n other : ℕ) → other ≢ port → In n (G.bound other) → Node n ListLink ≢ a
     pub other_node : (c n : ℕ) (w : NodeWord) → c ≢ d → G.node n ≡ Held c → Node n w ≢ a
-    -- nor is it the link of a node that is in no chain then, or in no list
-    pub stale_chain : (n : ℕ) → IsUsed (G.node n) → is_first (G'.node n) ≡ false → Node n ChainLink ≢ a
+    -- nor is it the link of a node that is in no list then
     pub stale_list : (n : ℕ) → IsUsed (G.node n) → is_listed (G'.node n) ≡ false → Node n ListLink ≢ a
 
   -- a node that gets another owner is one of the port's, or the caller's that is to be one; and it is a port's then, or was one
@@ -440,9 +439,6 @@ module _ (env : Env) (mix : ℕ → ℕ → ℕ → ℕ) (d : ℕ) (change : Cha
               ]);
           keys = λ n l used. key_stays n l;
           owners = λ n l used. store.write.others (Node n OwnerWord) l (store.no_owner n);
-          used = λ n. owners_all (λ n o. IsUsed (G.node n) → IsUsed o) (λ was. is.one_changed.used) (λ was. is.other_changed.used)
-              (λ n apart other was. was) n;
-          links = λ n l used none. inl (store.write.others (Node n ChainLink) l (store.no_seatless n none));
           nodes = λ n has. kept_owner n (held_kept c n ne has.mine) ∙ has.mine;
           words = λ n has w. store.write.others (Node n w) has.among (store.other_node c n w ne has.mine);
           raised = put-other G.raised d change.raised c ne;
@@ -488,7 +484,7 @@ module _ (env : Env) (mix : ℕ → ℕ → ℕ → ℕ) (d : ℕ) (change : Cha
             used = owners_all (λ k o. IsUsed (G.node k) → IsUsed o) (λ u. is.one_changed.used) (λ u. is.other_changed.used)
                 (λ k one other u. u);
           })
-          store.stale_chain store.stale_list;
+          (λ n used. store.no_seatless n) store.stale_list;
     }
       where
         none_out : (e n : ℕ) (owner : Owner) → IsChanged n owner → G.node n ≡ Taken e → ⊥

@@ -11,7 +11,7 @@ use Rattle.rht_words.specs.Members.{In, NotIn, IsDistinct}
 use Rattle.rht_words.proofs.Memory.{Memory, IsWrite}
 use Rattle.rht_words.proofs.ChainLemmas.{IsSegment-cut, IsSegment-members}
 use Rattle.rht_words.proofs.Members.{not_in_from, in_and_not, in-middle, In-append_left, In-append_right, In-append_cases, NotIn-append, IsDistinct-cut, IsDistinct-without, IsDistinct-with, count_below, count_below-more, count_below-same}
-use Rattle.rht_core.proofs.Theory.Ghosts.{put, put-same, put-other, put-all, Bucket, Owner, Free, Held, First, Leaving, Behind, Taken, Ghost, is_first, is_used, is_taken_by, seat_of, taken_by_one, held_not_used, table_at, none-some}
+use Rattle.rht_core.proofs.Theory.Ghosts.{put, put-same, put-other, put-all, Bucket, Owner, Held, First, Leaving, Behind, Taken, Ghost, is_first, is_used, is_taken_by, seat_of, taken_by_one, held_not_used, table_at, none-some, not_first-seatless}
 use Rattle.rht_core.proofs.Theory.Wholes.{chain_of, list_of, key_of, place_at, stop, MovesNone, none_out, IsHomeOf, BucketRight, IsFirstAt, IsBehindIn, IsBoundTo, IsBuilt, Whole, firsts, raisers}
 use Rattle.rht_core.proofs.Theory.Passed.{home-within, member-no_entry}
 use Rattle.rht_core.proofs.Theory.Knowns.{last_of}
@@ -21,12 +21,7 @@ use Rattle.rht_core.proofs.Theory.Readiness.{Change, changed, IsUnlinking, IsRep
 use Rattle.rht_core.proofs.Moves.Rebinding.{IsStoreFor, IsChanged, IsRebound, rebind}
 use Rattle.rht_core.proofs.Moves.Relinking.{relink_address, relink_value, relinked, relinked_right, last_in}
 
--- who isn't in a chain has no seat
-seatless : (o : Owner) → is_first o ≡ false → seat_of o ≡ None
-seatless (First j) is = absurd (cc)
-seatless (Leaving j) is = absurd (cc)
-seatless _ is = refl
-
+-- the nodes of a bucket behind a relinking
 relinked_row : (place link : ℕ) (b : Bucket) (nodes : List ℕ) (before : Option ℕ) → (relinked place link b nodes before).nodes ≡ nodes
 relinked_row place link b nodes None = refl
 relinked_row place link b nodes (Some before) = refl
@@ -109,11 +104,10 @@ module _ (env : Env) (mix : ℕ → ℕ → ℕ → ℕ) (d port j m : ℕ) (fro
 
     relink_store : (change : Change) (link : ℕ) → change.place ≡ j
         → ((p : ℕ) → In p front → seat_of ((changed G d change).node p) ≢ None)
-        → ((p : ℕ) → In p front → is_first ((changed G d change).node p) ≡ true)
         → IsWrite env.geometry M M' (relink_address j before) (relink_value (place_at env mix j) link before)
         → IsStoreFor env mix d change M M' G (relink_address j before)
         (relink_value (place_at env mix j) link before)
-    relink_store change link here seated kept write = go before found.last write
+    relink_store change link here seated write = go before found.last write
       where
         go : (b : Option ℕ) → b ≡ last_of front
             → IsWrite env.geometry M M' (relink_address j b) (relink_value (place_at env mix j) link b)
@@ -133,7 +127,6 @@ module _ (env : Env) (mix : ℕ → ℕ → ℕ → ℕ) (d port j m : ℕ) (fro
           no_seatless = λ n none e. cc;
           other_list = λ n p ne i e. cc;
           other_node = λ c n w ne held e. cc;
-          stale_chain = λ n used other e. cc;
           stale_list = λ n used other e. cc;
         }
         go (Some p) last write =
@@ -163,10 +156,6 @@ module _ (env : Env) (mix : ℕ → ℕ → ℕ → ℕ) (d port j m : ℕ) (fro
               other_node = λ c n w ne held e.
                   let same : n ≡ p = cc in
                   held_not_used (G.node n) c held (rw same (ap is_used mine));
-              stale_chain = λ n used other e.
-                  let same : n ≡ p = cc in
-                  let q : true ≡ false = sym (ap (λ k. is_first ((changed G d change).node k)) same
-                  ∙ kept p (last_in front p (sym last))) ∙ other in cc;
               stale_list = λ n used other e. cc;
             }
 
@@ -329,9 +318,7 @@ module _ (env : Env) (mix : ℕ → ℕ → ℕ → ℕ) (d port j m : ℕ) (fro
         (relink_store whole [] found (unlinking link) link refl
         (λ p i none. none-some none
         (ap seat_of (unlinked-other p (λ e. in_and_not m front (subst (λ k. In k front) e i) (apart whole [] found).0)
-        ∙ front_first whole [] found p i)))
-        (λ p i. ap is_first (unlinked-other p (λ e. in_and_not m front (subst (λ k. In k front) e i) (apart whole [] found).0)
-        ∙ front_first whole [] found p i)) write) unlinked_bound
+        ∙ front_first whole [] found p i))) write) unlinked_bound
 
   -- ---- another node comes into the place of the first one
 
@@ -649,8 +636,7 @@ module _ (env : Env) (mix : ℕ → ℕ → ℕ → ℕ) (d port j m : ℕ) (fro
     pub replace : Made env mix d M G M' replaced
     replace = rebind env mix d change M M' G a v whole
         (relink_store whole behind found change (link_of x) refl
-        (λ p i none. none-some none (ap seat_of (replaced-stays p (In-append_left p front rear i))))
-        (λ p i. ap is_first (replaced-stays p (In-append_left p front rear i))) write) replaced_bound
+        (λ p i none. none-some none (ap seat_of (replaced-stays p (In-append_left p front rear i)))) write) replaced_bound
 
   -- ---- what is known of these changes
 
@@ -682,7 +668,7 @@ module _ (env : Env) (mix : ℕ → ℕ → ℕ → ℕ) (d port j m : ℕ) (fro
     listed = λ n i. elim (can.listed n i) [ inl old ↦ inl old.0 | inr was ↦ inr was.0 ];
     differs = can.differs;
     owner = refl;
-    gone = seatless owner can.no_first;
+    gone = not_first-seatless owner can.no_first;
     from = elim can.from [ inl held ↦ inl (ap is_used held) | inr i ↦ inr i ];
     among = can.among;
     key_is = can.key_is;

@@ -38,8 +38,6 @@ module _ (env : Env) (mix : ℕ → ℕ → ℕ → ℕ) (d here entry : ℕ) (b
     pub no_behind : (n other : ℕ) → G.node n ≡ Behind other → Node n ChainLink ≢ a
     pub no_seatless : (n : ℕ) → seat_of (G.node n) ≡ None → Node n ChainLink ≢ a
     pub other_node : (c n : ℕ) (w : NodeWord) → c ≢ d → G.node n ≡ Held c → Node n w ≢ a
-    -- nor is it the link of a node that is in no chain then
-    pub stale_chain : (n : ℕ) → IsUsed (G.node n) → is_first (node n) ≡ false → Node n ChainLink ≢ a
 
   -- the entry had a seat, and has one that is no earlier
   pub record IsReseat : Type 0 where
@@ -377,13 +375,6 @@ module _ (env : Env) (mix : ℕ → ℕ → ℕ → ℕ) (d here entry : ℕ) (b
               ]);
           keys = λ n l used. key_stays n l;
           owners = λ n l used. store.write.others (Node n OwnerWord) l (store.no_owner n);
-          used = λ n. owners_all (λ n o. IsUsed (G.node n) → IsUsed o)
-              (λ used. seat-used (node entry) is.reseat.after is.reseat.now) (λ n apart used. used) n;
-          links = λ n l used none. inl (store.write.others (Node n ChainLink) l (store.no_seatless n
-              (elim (cases_eq n entry) [
-                | inl e ↦ absurd (none-some none (ap (λ k. seat_of (node k)) e ∙ is.reseat.now))
-                | inr other ↦ ap seat_of (sym (is.reseat.others n other)) ∙ none
-              ])));
           nodes = λ n has. is.reseat.others n (unseated n (ap seat_of has.mine)) ∙ has.mine;
           words = λ n has w. store.write.others (Node n w) has.among (store.other_node c n w ne has.mine);
           raised = refl;
@@ -409,5 +400,9 @@ module _ (env : Env) (mix : ℕ → ℕ → ℕ → ℕ) (d here entry : ℕ) (b
             used = owners_all (λ k o. IsUsed (G.node k) → IsUsed o) (λ u. seat-used (node entry) is.reseat.after is.reseat.now)
                 (λ k ne u. u);
           })
-          store.stale_chain (λ n u f. store.no_list n);
+          (λ n used none. store.no_seatless n (elim (cases_eq n entry) [
+            | inl e ↦ absurd (none-some none (ap (λ k. seat_of (node k)) e ∙ is.reseat.now))
+            | inr other ↦ ap seat_of (sym (is.reseat.others n other)) ∙ none
+          ]))
+          (λ n u f. store.no_list n);
     }

@@ -262,8 +262,6 @@ module _ (env : Env) (mix : ℕ → ℕ → ℕ → ℕ) where
         chains = chains_stay env mix c M M' G a v whole is.write (λ n used. is.word.no_node n ChainLink);
         keys = words.keys;
         owners = words.owners;
-        used = λ n used. used;
-        links = words.links;
         nodes = λ n has. has.mine;
         words = λ n has w. is.write.others (Node n w) has.among (is.word.no_node n w);
         raised = refl;

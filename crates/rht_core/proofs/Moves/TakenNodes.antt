@@ -5,17 +5,17 @@ use Rattle.std.specs.Int.{bit_at, bit_not, w64}
 use Rattle.std.proofs.lemmas.Bool.{cases_eq}
 use Rattle.rht_words.specs.declared.env.Env.{Env}
 use Rattle.rht_words.specs.Maps.{bit_of, IsBitIn}
-use Rattle.rht_words.specs.Links.{node_of}
 use Rattle.rht_words.specs.Places.{PortCount, Slot, NodeMap, Node, NodeWord, ChainLink, KeyWord, OwnerWord, ListLink, map_words}
 use Rattle.rht_words.proofs.BitChanges.{bit_at-cleared, bit_at-cleared_other, bit_at-set, bit_at-set_other}
 use Rattle.rht_words.proofs.Memory.{Memory, IsWrite}
 use Rattle.rht_words.specs.Members.{In}
 use Rattle.rht_words.proofs.Members.{count_below-same}
-use Rattle.rht_core.proofs.Theory.Ghosts.{put, put-other, put-all, Owner, Free, Held, First, Behind, Ghost, is_first, is_used, is_taken_by, IsUsed, seat_of, seat-used, none-some, behind_one, held_not_used, held_by_one, with_owner, Taken, is_listed, taken_by_one, IsListedNode, unlisted-not_first}
+use Rattle.rht_core.proofs.Theory.Ghosts.{put, put-other, put-all, Owner, Free, Held, First, Behind, Ghost, HasSeat, is_first, is_used, is_taken_by, IsUsed, seat_of, seat-used, none-some, behind_one, held_not_used, held_by_one, with_owner, Taken, is_listed, taken_by_one, IsListedNode, unlisted-not_first}
 use Rattle.rht_core.proofs.Theory.Wholes.{chain_of, key_of, ArenaRight, IsBuilt, Whole, seated_at, firsts as count_firsts, raisers}
+use Rattle.rht_core.proofs.Theory.SeatedLinks.{chain-seated}
 use Rattle.rht_core.proofs.Theory.Knowledge.{HasNode}
-use Rattle.rht_core.proofs.Theory.Reliance.{bound_used, RelyWhere}
-use Rattle.rht_core.proofs.Theory.Frames.{Made, UsedStay, used_stay, chains_stay, holdings_stay, entries_stay, work_stays, tables_stay, same_tables, Rely-same, LeadsToFirst, stale_write, same_owners, reowned_owners}
+use Rattle.rht_core.proofs.Theory.Reliance.{bound_used}
+use Rattle.rht_core.proofs.Theory.Frames.{Made, UsedStay, used_stay, chains_stay, holdings_stay, entries_stay, work_stays, tables_stay, same_tables, Rely-same, Others, stale_write, same_owners, reowned_owners}
 use Rattle.rht_core.proofs.Theory.WholeFrames.{chains_passes, SameChains, same_chains, Whole-frame, locks_stay, arena_stays}
 
 module _ (env : Env) (mix : ℕ → ℕ → ℕ → ℕ) where
@@ -35,7 +35,6 @@ module _ (env : Env) (mix : ℕ → ℕ → ℕ → ℕ) where
         lists = λ m l used. others_node m ListLink l (other m used);
         chains = λ m j seat. others_node m ChainLink (seated_at env mix M G whole m j seat).among
             (other m (seat-used (G.node m) j seat));
-        links = λ m l used none. inl (others_node m ChainLink l (other m used));
       } in
       record {
         whole = Whole-frame env mix M M' G G (Node n w) v whole write
@@ -75,9 +74,9 @@ module _ (env : Env) (mix : ℕ → ℕ → ℕ → ℕ) where
   pub chain_behind : (d n port first j v : ℕ) (behind : List ℕ) (M M' : Memory) (G : Ghost)
       → Whole env mix M G → G.node n ≡ Behind port
       → G.bound port ≡ first ∷ behind → G.node first ≡ First j → (G.bucket j).holder ≡ Some d
-      → In n behind → v ≡ chain_of M first → LeadsToFirst env mix G v
+      → In n behind → v ≡ chain_of M first
       → IsWrite env.geometry M M' (Node n ChainLink) v → Made env mix d M G M' G
-  chain_behind d n port first j v rest M M' G whole behind bound seat holder listed link led write =
+  chain_behind d n port first j v rest M M' G whole behind bound seat holder listed link write =
       let unchained : (m j : ℕ) → seat_of (G.node m) ≡ Some j → m ≢ n =
       λ m j seat e. none-some (ap seat_of (ap G.node e ∙ behind)) seat in
       let words : UsedStay env mix M G M' = record {
@@ -86,19 +85,6 @@ module _ (env : Env) (mix : ℕ → ℕ → ℕ → ℕ) where
         lists = λ m l used. write.others (Node m ListLink) l (λ e. cc);
         chains = λ m j seat. write.others (Node m ChainLink) (seated_at env mix M G whole m j seat).among
             (λ e. unchained m j seat (cc));
-        links = λ m l used none. elim (cases_eq m n) [
-          | inl e ↦ inr (record {
-            port = port;
-            first = first;
-            behind = rest;
-            bound = bound;
-            there = inr (subst (λ k. In k rest) (sym e) listed);
-            bucket = j;
-            seat = ap seat_of seat;
-            link = ap (chain_of M') e ∙ write.same ∙ link;
-          })
-          | inr ne ↦ inl (write.others (Node m ChainLink) l (λ e. ne (cc)))
-        ];
       } in
       record {
         whole = Whole-frame env mix M M' G G (Node n ChainLink) v whole write
@@ -109,9 +95,21 @@ module _ (env : Env) (mix : ℕ → ℕ → ℕ → ℕ) where
             (write.others PortCount tt (λ e. cc) ∙ whole.counted);
         stale = record {
           owners = same_owners env mix G G refl;
-          chains = λ m l used f. elim (cases_eq m n) [
-            | inl e ↦ inr (λ k is. led k (sym (ap (λ w. node_of env.geometry.nodes w)
-                (ap (chain_of M') e ∙ write.same)) ∙ is))
+          chains = λ m l used none. elim (cases_eq m n) [
+            | inl e ↦
+                let now : chain_of M' m ≡ chain_of M first = ap (chain_of M') e ∙ write.same ∙ link in
+                let sits : HasSeat G first = record { bucket = j; seat = ap seat_of seat } in
+                inr (record {
+                  port = port;
+                  first = first;
+                  behind = rest;
+                  bound = bound;
+                  there = inr (subst (λ k. In k rest) (sym e) listed);
+                  bucket = j;
+                  seat = ap seat_of seat;
+                  link = now;
+                  leads = λ z leads. chain-seated env mix M G whole first z sits (sym now ∙ leads);
+                })
             | inr ne ↦ inl (write.others (Node m ChainLink) l (λ e. ne (cc)))
           ];
           lists = λ m l used f. write.others (Node m ListLink) l (λ e. cc);
@@ -283,9 +281,6 @@ module _ (env : Env) (mix : ℕ → ℕ → ℕ → ℕ) where
                 (bit_and (M (NodeMap i)) (bit_not w64 (bit_of b))) whole write (λ m used e. cc);
             keys = stay.keys;
             owners = stay.owners;
-            used = λ m used. put-all (λ k o. IsUsed (G.node k) → IsUsed o) G.node n (Held d)
-                (λ was. absurd (let both = sym was ∙ ap is_used free in cc)) (λ k kn was. was) m used;
-            links = λ m l used none. inl (write.others (Node m ChainLink) l (λ e. cc));
             nodes = λ m has. put-other G.node n (Held d) m (λ e. let q = sym free ∙ ap G.node (sym e)
                 ∙ has.mine in cc) ∙ has.mine;
             words = λ m has w. write.others (Node m w) has.among (λ e. cc);
@@ -337,9 +332,6 @@ module _ (env : Env) (mix : ℕ → ℕ → ℕ → ℕ) where
               write (λ m used e. cc);
           keys = stay.keys;
           owners = stay.owners;
-          used = λ m used. put-all (λ k o. IsUsed (G.node k) → IsUsed o) G.node n Free
-              (λ now. absurd (let both = sym now ∙ ap is_used has.mine in cc)) (λ k kn now. now) m used;
-          links = λ m l used none. inl (write.others (Node m ChainLink) l (λ e. cc));
           nodes = λ m held. put-other G.node n Free m
               (λ e. ne (held_by_one (G.node n) c d (ap G.node (sym e) ∙ held.mine) has.mine)) ∙ held.mine;
           words = λ m held w. write.others (Node m w) held.among (λ e. cc);
@@ -359,11 +351,10 @@ module _ (env : Env) (mix : ℕ → ℕ → ℕ → ℕ) where
         };
       }
 
-  -- The or that sets the bit of a node which a call of the caller has taken out. Others count on all but that this one is or was a port's.
+  -- The or that sets the bit of a node which a call of the caller has taken out. Others know what they knew.
   pub return_node : (d n : ℕ) (M M' : Memory) (G : Ghost) → Whole env mix M G → n < env.geometry.nodes → G.node n ≡ Taken d
       → IsWrite env.geometry M M' (NodeMap (n / 64)) (bit_or (M (NodeMap (n / 64))) (bit_of (n % 64)))
-      → Whole env mix M' (with_owner G n Free)
-      × ((c : ℕ) → c ≢ d → RelyWhere env mix (λ m. IsUsed (G.node m) × (m ≢ n)) c M G M' (with_owner G n Free))
+      → Whole env mix M' (with_owner G n Free) × Others env mix d M G M' (with_owner G n Free)
   return_node d n M M' G whole among mine write =
       let i = n / 64 in
       let b = n % 64 in
@@ -387,8 +378,6 @@ module _ (env : Env) (mix : ℕ → ℕ → ℕ → ℕ) where
               write (λ m used e. cc);
           keys = stay.keys;
           owners = stay.owners;
-          used = λ m lasts. ap is_used (put-other G.node n Free m lasts.1) ∙ lasts.0;
-          links = λ m l used none. inl (write.others (Node m ChainLink) l (λ e. cc));
           nodes = λ m held. put-other G.node n Free m
               (λ e. let q : Held c ≡ Taken d = sym held.mine ∙ ap G.node e ∙ mine in cc) ∙ held.mine;
           words = λ m held w. write.others (Node m w) held.among (λ e. cc);

@@ -1,6 +1,5 @@
 -- What a caller in a read section could reach, by the words, it may still meet.
 use Rattle.std.proofs.Common.{◌≡◌, ℕ, ◌+◌, ◌<◌, ◌≤◌, List, Some, None, Option, zero, suc, ◌-◌, true, false, refl, sym, ◌∙◌, ap, subst, arith, slice_index}
-use Rattle.std.specs.Prelude.{IfSome}
 use Rattle.rht_words.specs.declared.env.Env.{Env}
 use Rattle.rht_words.specs.Links.{head_of, slot_of}
 use Rattle.rht_words.specs.Members.{In}
@@ -12,10 +11,11 @@ use Rattle.rht_core.specs.TablePages.{IsPageOfTable}
 use Rattle.rht_core.proofs.Counting.TablePages.{pages_in_words}
 use Rattle.rht_core.proofs.Theory.Ghosts.{Ghost, Held, PageOf, has_table, is_first, held_not_used, seat-first}
 use Rattle.rht_core.proofs.Theory.Wholes.{place_at, Whole}
+use Rattle.rht_core.proofs.Theory.SeatedLinks.{next_of, link-next_of, head-seated}
 use Rattle.rht_core.proofs.Theory.Steps.{mem}
 use Rattle.rht_core.proofs.Meaning.TablesInForce.{current_slot, future-leads}
-use Rattle.rht_core.proofs.Meaning.BoundPorts.{HasSeat, bucket_leads, bucket-within, first_link}
-use Rattle.rht_core.proofs.Returning.Readers.{Reader, IsOpen, ReaderRight, next_of, not_both}
+use Rattle.rht_core.proofs.Meaning.BoundPorts.{bucket-within, first_link}
+use Rattle.rht_core.proofs.Returning.Readers.{Reader, IsOpen, ReaderRight, not_both}
 
 module _ (env : Env) (mix : ℕ → ℕ → ℕ → ℕ) (words : List ℕ) (G : Ghost) (whole : Whole env mix (mem env mix words) G) (c : ℕ)
     (r : Reader) (right : ReaderRight env mix words G c r) (reads : IsOpen r) where
@@ -68,20 +68,19 @@ module _ (env : Env) (mix : ℕ → ℕ → ℕ → ℕ) (words : List ℕ) (G :
     -- the first link of a bucket of such a table leads to a node in a chain
     bucket-first : (slot bucket place node : ℕ) → MeetsTable slot → bucket < size_of (unpacked (shape_of env.geometry words slot))
         → bucket_in env.geometry words (shape_of env.geometry words slot) bucket ≡ Some place
-        → next_of env mix (head_of place (slice_index words place)) ≡ Some node → is_first (G.node node) ≡ true
+        → next_of env (head_of place (slice_index words place)) ≡ Some node → is_first (G.node node) ≡ true
     bucket-first slot bucket place node meets below there leads =
         let s = (G.table meets.table).slot in
         let is = bucket-within env mix words G whole meets.table bucket place meets.attached
         (subst (λ t. bucket < size_of (unpacked (shape_of env.geometry words t))) meets.slot_is below)
         (subst (λ t. bucket_in env.geometry words (shape_of env.geometry words t) bucket ≡ Some place) meets.slot_is there) in
         let j = is.index in
-        let first : next_of env mix (head_of (place_at env mix j) (G.bucket j).plain) ≡ Some node =
-        ap (next_of env mix) (sym (first_link env mix words G whole j is.within is.plain))
-        ∙ subst (λ p. next_of env mix (head_of p (slice_index words p)) ≡ Some node) is.place_is leads in
-        let has : HasSeat env mix words G whole node =
-        subst (λ o. IfSome o (HasSeat env mix words G whole)) first
-        (bucket_leads env mix words G whole j is.within is.plain).0 in
-        seat-first (G.node node) has.0 has.1
+        let first : next_of env (head_of (place_at env mix j) (G.bucket j).plain) ≡ Some node =
+        ap (next_of env) (sym (first_link env mix words G whole j is.within is.plain))
+        ∙ subst (λ p. next_of env (head_of p (slice_index words p)) ≡ Some node) is.place_is leads in
+        let has = head-seated env mix (mem env mix words) G whole j node (whole.buckets j is.within is.plain).chained
+        (link-next_of env (head_of (place_at env mix j) (G.bucket j).plain) node first) in
+        seat-first (G.node node) has.bucket has.seat
 
     pub reaches-node : (node : ℕ) → ReachesNode env.geometry words at node → r.chains node ≡ true
     reaches-node node (at_node n there) = stands.nodes n there

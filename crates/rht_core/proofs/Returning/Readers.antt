@@ -2,16 +2,16 @@
 -- the section was opened. It never gets less while the section is open, and links lead from it to nothing else. So a node that no open
 -- section may meet can be given back.
 use Rattle.std.proofs.Common.{◌≡◌, ◌⊎◌, ◌↔◌, ℕ, ◌%◌, ◌<◌, ◌≤◌, List, ◌∷◌, Option, Some, None, Bool, true, false, refl, sym, ◌∙◌, ap, subst, inl, inr, arith}
-use Rattle.std.specs.Prelude.{◌||◌, ◌&&◌, IfSome}
+use Rattle.std.specs.Prelude.{◌||◌, ◌&&◌}
 use Rattle.rht_words.specs.declared.env.Env.{Env}
-use Rattle.rht_words.specs.Links.{node_of}
 use Rattle.rht_words.specs.Places.{Section}
 use Rattle.rht_words.proofs.LinksRead.{links_tell_apart}
 use Rattle.rht_words.proofs.Memory.{Memory}
 use Rattle.rht_words.specs.Members.{In}
-use Rattle.rht_core.proofs.Theory.Ghosts.{Owner, Free, Held, First, Leaving, Behind, Taken, Ghost, is_first, is_listed, listed-used, IsUsed, seat_of, seat-first}
+use Rattle.rht_core.proofs.Theory.Ghosts.{Owner, Free, Held, First, Leaving, Behind, Taken, Ghost, is_first, is_listed, listed-used, IsUsed, not_first-seatless, seat-first}
 use Rattle.rht_core.proofs.Theory.Wholes.{chain_of, list_of, key_of, seated_at, Whole}
-use Rattle.rht_core.proofs.Meaning.BoundPorts.{HasSeat, seat_leads}
+use Rattle.rht_core.proofs.Theory.Frames.{LinksStay}
+use Rattle.rht_core.proofs.Theory.SeatedLinks.{next_of, link-next_of, chain-first}
 use Rattle.rht_core.proofs.Theory.Steps.{mem}
 use Rattle.rht_core.proofs.Pieces.Lists.{list_next, list_among}
 
@@ -84,16 +84,7 @@ first-listed (First j) is = refl
 first-listed (Leaving j) is = refl
 first-listed _ is = absurd (cc)
 
-first-seat_of : (o : Owner) → is_first o ≡ true → (j : ℕ) × (seat_of o ≡ Some j)
-first-seat_of (First j) is = (j, refl)
-first-seat_of (Leaving j) is = (j, refl)
-first-seat_of _ is = absurd (cc)
-
 module _ (env : Env) (mix : ℕ → ℕ → ℕ → ℕ) where
-  -- the node to which a link leads
-  abbrev pub next_of : ℕ → Option ℕ
-  next_of link = node_of env.geometry.nodes link
-
   -- ---- what is true of it
 
   pub record ReaderRight (words : List ℕ) (G : Ghost) (c : ℕ) (r : Reader) : Type 0 where
@@ -110,8 +101,8 @@ module _ (env : Env) (mix : ℕ → ℕ → ℕ → ℕ) where
     pub used : (n : ℕ) → r.lists n ≡ true → IsUsed (G.node n)
     pub among : (n : ℕ) → r.lists n ≡ true → n < env.geometry.nodes
     -- and links lead to nothing else
-    pub chain_leads : (n m : ℕ) → r.chains n ≡ true → next_of (chain_of (mem env mix words) n) ≡ Some m → r.chains m ≡ true
-    pub list_leads : (n m : ℕ) → r.lists n ≡ true → next_of (list_of (mem env mix words) n) ≡ Some m → r.lists m ≡ true
+    pub chain_leads : (n m : ℕ) → r.chains n ≡ true → next_of env (chain_of (mem env mix words) n) ≡ Some m → r.chains m ≡ true
+    pub list_leads : (n m : ℕ) → r.lists n ≡ true → next_of env (list_of (mem env mix words) n) ≡ Some m → r.lists m ≡ true
 
   abbrev pub ReadersRight : List ℕ → Ghost → (ℕ → Reader) → Type 0
   ReadersRight words G readers = (c : ℕ) → c < env.geometry.callers → ReaderRight words G c (readers c)
@@ -132,29 +123,21 @@ module _ (env : Env) (mix : ℕ → ℕ → ℕ → ℕ) where
   -- ---- where links of nodes in chains and lists lead
 
   module _ (words : List ℕ) (G : Ghost) (whole : Whole env mix (mem env mix words) G) where
-    pub chain-first : (n m : ℕ) → is_first (G.node n) ≡ true → next_of (chain_of (mem env mix words) n) ≡ Some m
-        → is_first (G.node m) ≡ true
-    chain-first n m is leads =
-        let has : HasSeat env mix words G whole m =
-        subst (λ o. IfSome o (HasSeat env mix words G whole)) leads
-        (seat_leads env mix words G whole n (first-seat_of (G.node n) is)) in
-        seat-first (G.node m) has.0 has.1
-
     list-behind : (port first : ℕ) (behind : List ℕ) → G.bound port ≡ first ∷ behind → (n m : ℕ) → In n (first ∷ behind)
-        → next_of (list_of (mem env mix words) n) ≡ Some m → is_listed (G.node m) ≡ true
+        → next_of env (list_of (mem env mix words) n) ≡ Some m → is_listed (G.node m) ≡ true
     list-behind port first behind b n m there leads =
         elim (list_next env mix (mem env mix words) G whole port first behind b n there) [
-          | inl ends ↦ let none : ◌≡◌ {A = Option ℕ} None (Some m) = sym (ap next_of ends) ∙ leads in absurd (cc)
+          | inl ends ↦ let none : ◌≡◌ {A = Option ℕ} None (Some m) = sym (ap (next_of env) ends) ∙ leads in absurd (cc)
           | inr next ↦
               let among = list_among env mix (mem env mix words) G whole port first behind b next.node (inr next.there) in
               let named : ◌≡◌ {A = Option ℕ} (Some next.node) (Some m) =
-              sym (ap next_of next.link_is ∙ links_tell_apart.link_names env.geometry.nodes next.node among) ∙ leads in
+              sym (ap (next_of env) next.link_is ∙ links_tell_apart.link_names env.geometry.nodes next.node among) ∙ leads in
               let same : next.node ≡ m = cc in
               subst (λ k. is_listed (G.node k) ≡ true) same
               (ap is_listed ((whole.owned.bound_to port first behind b).each next.node next.there))
         ]
 
-    pub list-listed : (n m : ℕ) → is_listed (G.node n) ≡ true → next_of (list_of (mem env mix words) n) ≡ Some m
+    pub list-listed : (n m : ℕ) → is_listed (G.node n) ≡ true → next_of env (list_of (mem env mix words) n) ≡ Some m
         → is_listed (G.node m) ≡ true
     list-listed n m is leads = go (G.node n) refl is
       where
@@ -180,9 +163,7 @@ module _ (env : Env) (mix : ℕ → ℕ → ℕ → ℕ) where
     pub section : mem env mix words' (Section c) ≡ mem env mix words (Section c)
     pub current : G.current ≤ G'.current
     pub used : (n : ℕ) → r.lists n ≡ true → IsUsed (G.node n) → IsUsed (G'.node n)
-    pub chains : (n : ℕ) → n < env.geometry.nodes → IsUsed (G.node n) → is_first (G'.node n) ≡ false
-        → (chain_of (mem env mix words') n ≡ chain_of (mem env mix words) n)
-        ⊎ ((m : ℕ) → next_of (chain_of (mem env mix words') n) ≡ Some m → is_first (G'.node m) ≡ true)
+    pub chains : LinksStay env mix (mem env mix words) G (mem env mix words') G'
     pub lists : (n : ℕ) → n < env.geometry.nodes → IsUsed (G.node n) → is_listed (G'.node n) ≡ false
         → list_of (mem env mix words') n ≡ list_of (mem env mix words) n
 
@@ -227,28 +208,30 @@ module _ (env : Env) (mix : ℕ → ℕ → ℕ → ℕ) where
     still-used : (n : ℕ) → r.lists n ≡ true → IsUsed (G'.node n)
     still-used n is = leaves.used n is (right.used n is)
 
-    chain-leads : (n m : ℕ) → r'.chains n ≡ true → next_of (chain_of (mem env mix words') n) ≡ Some m → r'.chains m ≡ true
+    chain-leads : (n m : ℕ) → r'.chains n ≡ true → next_of env (chain_of (mem env mix words') n) ≡ Some m → r'.chains m ≡ true
     chain-leads n m is leads = elim (true_or_false (is_first (G'.node n))) [
-      | inl first ↦ first-met m (open-chains n is) (chain-first words' G' whole n m first leads)
+      | inl first ↦ first-met m (open-chains n is) (chain-first env mix (mem env mix words') G' whole n m first leads)
       | inr other ↦
           let before = met-before n is other in
           let in_list = right.chained n before in
-          elim (leaves.chains n (right.among n in_list) (right.used n in_list) other) [
+          elim (leaves.chains n (right.among n in_list) (right.used n in_list) (not_first-seatless (G'.node n) other)) [
             | inl same ↦
                 left_true (r.chains m) (is_open r && is_first (G'.node m))
-                (right.chain_leads n m before (sym (ap next_of same) ∙ leads))
-            | inr led ↦ first-met m (open-chains n is) (led m leads)
+                (right.chain_leads n m before (sym (ap (next_of env) same) ∙ leads))
+            | inr led ↦
+                let sits = led.leads m (link-next_of env (chain_of (mem env mix words') n) m leads) in
+                first-met m (open-chains n is) (seat-first (G'.node m) sits.bucket sits.seat)
           ]
     ]
 
-    list-leads : (n m : ℕ) → r'.lists n ≡ true → next_of (list_of (mem env mix words') n) ≡ Some m → r'.lists m ≡ true
+    list-leads : (n m : ℕ) → r'.lists n ≡ true → next_of env (list_of (mem env mix words') n) ≡ Some m → r'.lists m ≡ true
     list-leads n m is leads = elim (true_or_false (is_listed (G'.node n))) [
       | inl listed ↦ listed-met m (open-lists n is) (list-listed words' G' whole n m listed leads)
       | inr other ↦
           let before = listed-before n is other in
           let same = leaves.lists n (right.among n before) (right.used n before) other in
           left_true (r.lists m) (is_open r && is_listed (G'.node m))
-          (right.list_leads n m before (sym (ap next_of same) ∙ leads))
+          (right.list_leads n m before (sym (ap (next_of env) same) ∙ leads))
     ]
 
     -- so it is true of what may be met after the operation
@@ -293,7 +276,7 @@ module _ (env : Env) (mix : ℕ → ℕ → ℕ → ℕ) where
     chained = λ n first. first-listed (G.node n) first;
     used = λ n listed. listed-used (G.node n) listed;
     among = λ n listed. listed-among (mem env mix words) G whole n listed;
-    chain_leads = λ n m first leads. chain-first words G whole n m first leads;
+    chain_leads = λ n m first leads. chain-first env mix (mem env mix words) G whole n m first leads;
     list_leads = λ n m listed leads. list-listed words G whole n m listed leads;
   }
 

@@ -1,14 +1,27 @@
 -- What a step leaves of words and tables, and of what others know, where it writes elsewhere.
-use Rattle.std.proofs.Common.{◌≡◌, ◌≢◌, ℕ, ◌<◌, List, [], ◌∷◌, Some, Bool, refl, sym, ◌∙◌, ap, subst, inl, arith, true, false, ◌⊎◌}
+use Rattle.std.proofs.Common.{◌≡◌, ◌≢◌, ℕ, ◌<◌, List, [], ◌∷◌, Some, None, Bool, refl, sym, ◌∙◌, ap, subst, inl, arith, true, false, ◌⊎◌}
 use Rattle.rht_words.specs.declared.env.Env.{Env}
 use Rattle.rht_words.specs.Places.{Address, CurrentTable, WorkLock, Slot, SlotWord, IsSlotWord, PageMap, Node, NodeWord, ChainLink, KeyWord, OwnerWord, ListLink}
-use Rattle.rht_words.specs.Links.{node_of}
+use Rattle.rht_words.specs.Links.{link_of}
+use Rattle.rht_words.specs.Members.{In}
 use Rattle.rht_words.proofs.Memory.{Memory, IsWrite}
-use Rattle.rht_core.proofs.Theory.Ghosts.{Bucket, Owner, First, Leaving, Ghost, is_taken_by, is_used, IsUsed, SlotOwner, seat_of, seat_in, seat, seat-used, has_table, index_at, Taken, is_first, is_listed, put-other, with_owner, IsListedNode, seat-listed}
+use Rattle.rht_core.proofs.Theory.Ghosts.{Bucket, Owner, First, Leaving, Ghost, is_taken_by, is_used, IsUsed, SlotOwner, seat_of, seat_in, seat, seat-used, has_table, index_at, Taken, HasSeat, is_listed, put-other, with_owner, IsListedNode, seat-listed}
 use Rattle.rht_core.proofs.Theory.Wholes.{chain_of, key_of, Whole, seated_at, out-seated}
 use Rattle.rht_core.proofs.Theory.Passed.{same-TableStays, TablesGrow, PassesStay, Passed-stays}
 use Rattle.rht_core.proofs.Theory.Knowledge.{HasNode, IsEmptied}
-use Rattle.rht_core.proofs.Theory.Reliance.{TablesStay, HoldingsStay, WorkStays, WordStays, ChainsStay, LinksStay, bound_used, Rely}
+use Rattle.rht_core.proofs.Theory.Reliance.{TablesStay, HoldingsStay, WorkStays, WordStays, ChainsStay, bound_used, Rely}
+
+-- a node behind a port's first one gets the link that this one has, which leads to first nodes then
+pub record IsLed (M : Memory) (G : Ghost) (M' : Memory) (G' : Ghost) (n : ℕ) : Type 0 where
+  pub port : ℕ
+  pub first : ℕ
+  pub behind : List ℕ
+  pub bound : G.bound port ≡ first ∷ behind
+  pub there : In n (first ∷ behind)
+  pub bucket : ℕ
+  pub seat : seat_of (G.node first) ≡ Some bucket
+  pub link : chain_of M' n ≡ chain_of M first
+  pub leads : (z : ℕ) → chain_of M' n ≡ link_of z → HasSeat G' z
 
 module _ (env : Env) (mix : ℕ → ℕ → ℕ → ℕ) where
   -- what everybody but this caller can count on
@@ -20,16 +33,16 @@ module _ (env : Env) (mix : ℕ → ℕ → ℕ → ℕ) where
     pub out : (n e : ℕ) → G.node n ≡ Taken e → G'.node n ≡ Taken e
     pub used : (n : ℕ) → IsUsed (G.node n) → IsUsed (G'.node n)
 
-  -- the node to which the link leads, if it leads to one, is in a chain
-  abbrev pub LeadsToFirst : Ghost → ℕ → Type 0
-  LeadsToFirst G link = (m : ℕ) → node_of env.geometry.nodes link ≡ Some m → is_first (G.node m) ≡ true
+  -- the link in chains of each node that is or was a port's, and has no seat then; or it gets that of the port's first node
+  abbrev pub LinksStay : Memory → Ghost → Memory → Ghost → Type 0
+  LinksStay M G M' G' = (n : ℕ) → n < env.geometry.nodes → IsUsed (G.node n) → seat_of (G'.node n) ≡ None
+      → (chain_of M' n ≡ chain_of M n) ⊎ IsLed M G M' G' n
 
-  -- What a step leaves of nodes that are in no chain and of those that are in no list then: the links of such that are or were ports', but that
-  -- one may be led to a node in a chain.
+  -- What a step leaves of nodes that are in no chain then, and of those that are in no list: the links of such that are or were ports', but that
+  -- one may be led to where its port's first node leads.
   pub record StaleStay (M : Memory) (G : Ghost) (M' : Memory) (G' : Ghost) : Type 0 where
     pub owners : OwnersStay G G'
-    pub chains : (n : ℕ) → n < env.geometry.nodes → IsUsed (G.node n) → is_first (G'.node n) ≡ false
-        → (chain_of M' n ≡ chain_of M n) ⊎ LeadsToFirst G' (chain_of M' n)
+    pub chains : LinksStay M G M' G'
     pub lists : (n : ℕ) → n < env.geometry.nodes → IsUsed (G.node n) → is_listed (G'.node n) ≡ false
         → M' (Node n ListLink) ≡ M (Node n ListLink)
 
@@ -50,19 +63,19 @@ module _ (env : Env) (mix : ℕ → ℕ → ℕ → ℕ) where
   }
 
   pub stale_write : (M M' : Memory) (G G' : Ghost) (a : Address) (v : ℕ) → IsWrite env.geometry M M' a v → OwnersStay G G'
-      → ((n : ℕ) → IsUsed (G.node n) → is_first (G'.node n) ≡ false → Node n ChainLink ≢ a)
+      → ((n : ℕ) → IsUsed (G.node n) → seat_of (G'.node n) ≡ None → Node n ChainLink ≢ a)
       → ((n : ℕ) → IsUsed (G.node n) → is_listed (G'.node n) ≡ false → Node n ListLink ≢ a)
       → StaleStay M G M' G'
   stale_write M M' G G' a v write owners chains lists = record {
     owners = owners;
-    chains = λ n l used other. inl (write.others (Node n ChainLink) l (chains n used other));
+    chains = λ n l used none. inl (write.others (Node n ChainLink) l (chains n used none));
     lists = λ n l used other. write.others (Node n ListLink) l (lists n used other);
   }
 
   pub stale_none : (M : Memory) (G G' : Ghost) → OwnersStay G G' → StaleStay M G M G'
   stale_none M G G' owners = record {
     owners = owners;
-    chains = λ n l used other. inl refl;
+    chains = λ n l used none. inl refl;
     lists = λ n l used other. refl;
   }
 
@@ -78,7 +91,6 @@ module _ (env : Env) (mix : ℕ → ℕ → ℕ → ℕ) where
     pub owners : WordStays env mix OwnerWord M G M'
     pub lists : WordStays env mix ListLink M G M'
     pub chains : (n j : ℕ) → seat_of (G.node n) ≡ Some j → chain_of M' n ≡ chain_of M n
-    pub links : LinksStay env mix M G M' G
 
   pub used_stay : (M M' : Memory) (G : Ghost) (a : Address) (v : ℕ) → Whole env mix M G
       → IsWrite env.geometry M M' a v
@@ -89,7 +101,6 @@ module _ (env : Env) (mix : ℕ → ℕ → ℕ → ℕ) where
     lists = λ n l used. write.others (Node n ListLink) l (not_node n ListLink);
     chains = λ n j seat. write.others (Node n ChainLink) (seated_at env mix M G whole n j seat).among
         (not_node n ChainLink);
-    links = λ n l used none. inl (write.others (Node n ChainLink) l (not_node n ChainLink));
   }
 
   -- so each word of a node that has a seat does
@@ -259,8 +270,6 @@ module _ (env : Env) (mix : ℕ → ℕ → ℕ → ℕ) where
     chains = chains;
     keys = words.keys;
     owners = words.owners;
-    used = λ n used. ap (λ o. is_used (o n)) nodes ∙ used;
-    links = λ n l used none. words.links n l used (ap (λ o. seat_of (o n)) (sym nodes) ∙ none);
     nodes = λ n has. ap (λ o. o n) nodes ∙ has.mine;
     words = λ n has w. own n w has;
     raised = raised;
@@ -280,7 +289,6 @@ module _ (env : Env) (mix : ℕ → ℕ → ℕ → ℕ) where
     owners = λ n l used. refl;
     lists = λ n l used. refl;
     chains = λ n j seat. refl;
-    links = λ n l used none. inl refl;
   }
 
   -- nothing was written, and nobody's rights changed

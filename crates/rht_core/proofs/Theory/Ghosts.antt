@@ -257,6 +257,11 @@ table_of_slot (Retired τ) = τ
 abbrev pub index_at : Ghost → ℕ → ℕ
 index_at G slot = table_of_slot (G.slot slot)
 
+-- the node is some port's first
+pub record HasSeat (G : Ghost) (n : ℕ) : Type 0 where
+  pub bucket : ℕ
+  pub seat : seat_of (G.node n) ≡ Some bucket
+
 -- who has a seat stays there, or is on its way out
 abbrev pub IsSeated : Owner → ℕ → Type 0
 IsSeated o j = (o ≡ First j) ⊎ (o ≡ Leaving j)
@@ -300,6 +305,18 @@ pub seat-first : (o : Owner) (j : ℕ) → seat_of o ≡ Some j → is_first o �
 seat-first (First i) j is = refl
 seat-first (Leaving i) j is = refl
 seat-first _ j is = absurd (cc)
+
+-- and who is in a chain has a seat
+pub first-seat : (o : Owner) → is_first o ≡ true → (j : ℕ) × (seat_of o ≡ Some j)
+first-seat (First j) is = (j, refl)
+first-seat (Leaving j) is = (j, refl)
+first-seat o is = absurd (cc)
+
+-- who is in none has no seat
+pub not_first-seatless : (o : Owner) → is_first o ≡ false → seat_of o ≡ None
+not_first-seatless (First j) is = absurd (cc)
+not_first-seatless (Leaving j) is = absurd (cc)
+not_first-seatless o is = refl
 
 -- a node that is no port's is in no chain
 pub unused-not_first : (o : Owner) → is_used o ≡ false → is_first o ≡ false

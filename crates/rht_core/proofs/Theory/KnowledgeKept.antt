@@ -14,7 +14,7 @@ use Rattle.rht_core.proofs.Theory.Wholes.{retired_stay, key_of, word_index, home
 use Rattle.rht_core.proofs.Theory.Passed.{place-table, TableStays, TablesGrow, table_at-grows, home-stays}
 use Rattle.rht_core.proofs.Theory.Knowns.{KnownAim, NoAim, Onward, From, Beyond, KnownRehash, KnownPlace, Follows, Nears, Faces, KnownEntry, InBucket, Bare, AtEntry, AtTail, Aims, Brings, Empties, LeavesBehind, HasBrought, HasMade, HasPages, HasTaken, Known, KnownMaking, KnownWork, MakesNothing, NoWork, Rooted, TakesOut, Works, last_of}
 use Rattle.rht_core.proofs.Theory.Knowledge.{AimMeans, IsWay, IsRooted, IsFollowed, IsNearing, IsFacing, IsLeftBehind, IsNext, IsInBucket, IsBare, IsAim, IsAiming, IsWorking, HasLock, HasOnly, HasSlot, IsBringing, IsBrought, IsEmptying, IsEntry, IsOutOf, IsRoot, IsTail, IsTakenOut, IsTarget, Knowing, MakingMeans, Means, WorkMeans, bucket_at}
-use Rattle.rht_core.proofs.Theory.Reliance.{HoldingsStay, RelyWhere, WordStays, WorkStays, members_used}
+use Rattle.rht_core.proofs.Theory.Reliance.{HoldingsStay, Rely, WordStays, WorkStays, members_used}
 use Rattle.rht_core.proofs.Theory.WaysStay.{IsWay-stay}
 use Rattle.rht_core.proofs.Theory.KnowledgeStays.{BucketMeans-own, NodeMeans-stay, TableMeans-stay}
 
@@ -363,8 +363,7 @@ module _ (env : Env) (mix : ℕ → ℕ → ℕ → ℕ) where
         still-working means (λ works. IsBrought-stay c M M' G G' whole keeps works root at entry)
 
   -- what is known outlives a step of anybody else, and so does that there is nothing more
-  module _ {lasting : ℕ → Type 0} (c : ℕ) (M M' : Memory) (G G' : Ghost) (whole : Whole env mix M G)
-      (rely : RelyWhere env mix lasting c M G M' G') where
+  module _ (c : ℕ) (M M' : Memory) (G G' : Ghost) (whole : Whole env mix M G) (rely : Rely env mix c M G M' G') where
     pub Means-rely : (known : Known) → Means env mix c M G known → Means env mix c M' G' known
     Means-rely known means = record {
       node = NodeMeans-stay env mix c M M' G G' rely.nodes rely.words known.node means.node;
@@ -394,9 +393,9 @@ module _ (env : Env) (mix : ℕ → ℕ → ℕ → ℕ) where
       works = λ works. only.works (rely.no_work works);
     }
 
-  pub Knowing-rely : {A : Type 0} {lasting : ℕ → Type 0} → (c : ℕ) (M M' : Memory) (G G' : Ghost) (h : held.Held A)
+  pub Knowing-rely : {A : Type 0} → (c : ℕ) (M M' : Memory) (G G' : Ghost) (h : held.Held A)
       (known : Known) → Whole env mix M G
-      → RelyWhere env mix lasting c M G M' G' → Knowing env mix c h known M G → Knowing env mix c h known M' G'
+      → Rely env mix c M G M' G' → Knowing env mix c h known M G → Knowing env mix c h known M' G'
   Knowing-rely c M M' G G' h known whole rely knows = record {
     only = Only-rely c M M' G G' whole rely h.node h.lock h.second h.raised h.slot h.pages h.worker knows.only;
     means = Means-rely c M M' G G' whole rely known knows.means;

@@ -1,24 +1,13 @@
 -- What a caller can count on at a step of anybody else.
-use Rattle.std.proofs.Common.{◌≡◌, ◌⊎◌, ℕ, ◌+◌, ◌<◌, List, [], ◌∷◌, Some, None, refl, ap, inl, inr}
+use Rattle.std.proofs.Common.{◌≡◌, ℕ, ◌+◌, ◌<◌, List, [], ◌∷◌, Some, refl, ap, inl, inr}
 use Rattle.rht_words.specs.declared.env.Env.{Env}
 use Rattle.rht_words.specs.Places.{Slot, SlotWord, IsSlotWord, Node, NodeWord, ChainLink, KeyWord, OwnerWord}
 use Rattle.rht_words.proofs.Memory.{Memory}
 use Rattle.rht_words.specs.Members.{In}
-use Rattle.rht_core.proofs.Theory.Ghosts.{Held, Leaving, PageHeld, SlotHeld, Ghost, is_used, is_taken_by, IsUsed, seat_of, seat-used, table_at}
+use Rattle.rht_core.proofs.Theory.Ghosts.{Held, Leaving, PageHeld, SlotHeld, Ghost, is_used, is_taken_by, IsUsed, seat-used, table_at}
 use Rattle.rht_core.proofs.Theory.Wholes.{chain_of, key_of, seated_at, Whole}
 use Rattle.rht_core.proofs.Theory.Passed.{Passed, TablesGrow}
 use Rattle.rht_core.proofs.Theory.Knowledge.{ArmedFor, HasNode, HasSlot, IsEmptied}
-
--- a node behind a port's first one gets the link that this one has
-pub record IsLed (M : Memory) (G : Ghost) (M' : Memory) (n : ℕ) : Type 0 where
-  pub port : ℕ
-  pub first : ℕ
-  pub behind : List ℕ
-  pub bound : G.bound port ≡ first ∷ behind
-  pub there : In n (first ∷ behind)
-  pub bucket : ℕ
-  pub seat : seat_of (G.node first) ≡ Some bucket
-  pub link : chain_of M' n ≡ chain_of M first
 
 module _ (env : Env) (mix : ℕ → ℕ → ℕ → ℕ) where
   -- ---- what a caller can count on at a step of anybody else
@@ -74,13 +63,7 @@ module _ (env : Env) (mix : ℕ → ℕ → ℕ → ℕ) where
   WordStays word M G M' = (node : ℕ) → node < env.geometry.nodes → IsUsed (G.node node)
       → M' (Node node word) ≡ M (Node node word)
 
-  -- the link in chains of each node that is or was a port's, and has no seat then; or it gets that of the port's first node
-  abbrev pub LinksStay : Memory → Ghost → Memory → Ghost → Type 0
-  LinksStay M G M' G' = (n : ℕ) → n < env.geometry.nodes → IsUsed (G.node n) → seat_of (G'.node n) ≡ None
-      → (chain_of M' n ≡ chain_of M n) ⊎ IsLed M G M' n
-
-  -- what a caller can count on at a step of anybody else behind which these nodes are or were ports'
-  pub record RelyWhere (lasting : ℕ → Type 0) (c : ℕ) (M : Memory) (G : Ghost) (M' : Memory) (G' : Ghost) : Type 0 where
+  pub record Rely (c : ℕ) (M : Memory) (G : Ghost) (M' : Memory) (G' : Ghost) : Type 0 where
     pub tables : TablesStay G G'
     -- the buckets that it has locked, and the links of their nodes
     pub locks : (j : ℕ) → (G.bucket j).holder ≡ Some c → G'.bucket j ≡ G.bucket j
@@ -92,9 +75,6 @@ module _ (env : Env) (mix : ℕ → ℕ → ℕ → ℕ) where
     -- the words of nodes that are or were ports', but for their links
     pub keys : WordStays KeyWord M G M'
     pub owners : WordStays OwnerWord M G M'
-    -- which nodes are or were ports', and their links in chains where they have no seat
-    pub used : (n : ℕ) → lasting n → IsUsed (G'.node n)
-    pub links : LinksStay M G M' G'
     -- the nodes that it has, with all their words
     pub nodes : (node : ℕ) → HasNode env mix c G node → G'.node node ≡ Held c
     pub words : (node : ℕ) → HasNode env mix c G node → (word : NodeWord) → M' (Node node word) ≡ M (Node node word)
@@ -111,10 +91,6 @@ module _ (env : Env) (mix : ℕ → ℕ → ℕ → ℕ) where
     pub no_work : G'.worker ≡ Some c → G.worker ≡ Some c
     pub no_node : (node : ℕ) → G'.node node ≡ Held c → G.node node ≡ Held c
     pub no_lock : (j : ℕ) → (G'.bucket j).holder ≡ Some c → (G.bucket j).holder ≡ Some c
-
-  -- and at one that gives back no node which was taken out of a port's list: each that is or was a port's is so behind it
-  abbrev pub Rely : ℕ → Memory → Ghost → Memory → Ghost → Type 0
-  Rely c M G M' G' = RelyWhere (λ n. IsUsed (G.node n)) c M G M' G'
 
   -- each member of a bucket is one of the nodes and a port's, as the whole has it, and so is each to which a port is bound
   abbrev pub IsUsedNode : Ghost → ℕ → Type 0

@@ -316,8 +316,6 @@ module _ (env : Env) (mix : ℕ → ℕ → ℕ → ℕ) where
       chains = chains_stay env mix c M M' G a v whole write (λ n used. apart.nodes n ChainLink);
       keys = λ n l used. node_word n KeyWord l;
       owners = λ n l used. node_word n OwnerWord l;
-      used = λ n used. used;
-      links = λ n l used none. inl (node_word n ChainLink l);
       nodes = λ n has. has.mine;
       words = λ n has w. node_word n w has.among;
       raised = refl;
