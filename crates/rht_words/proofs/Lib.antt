@@ -26,6 +26,8 @@ pub mod Memory
 pub mod EachElement
 -- lists without repeats, and how many numbers below a bound have a property
 pub mod Members
+-- members of lists that pass a test, and of ranges
+pub mod FilteredLists
 -- what is kept step by step holds at a machine's end
 pub mod MachineRuns
 -- what the lowest set bit of a map's word says of the others

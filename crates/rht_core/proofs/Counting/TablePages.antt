@@ -20,7 +20,7 @@ use Rattle.rht_core.proofs.Theory.Ways.{first_page, entries_in, behind_top, Stan
 use Rattle.rht_core.proofs.Theory.Wholes.{pages_of, IsFlat, IsNested, Whole}
 use Rattle.rht_core.proofs.Theory.Entries.{few_entries, some_entries, word_leads, top_leads}
 use Rattle.rht_core.proofs.Theory.PlacesRead.{entry_read}
-use Rattle.rht_core.proofs.Pieces.RunPages.{range_with_len-from}
+use Rattle.rht_words.proofs.FilteredLists.{range_with_len-from}
 use Rattle.rht_core.proofs.Theory.Steps.{mem}
 use Rattle.rht_core.proofs.Undoing.EnteredWords.{entries_read}
 

@@ -24,7 +24,8 @@ use Rattle.rht_core.proofs.Theory.TableFrames.{Knowing-retabled}
 use Rattle.rht_core.proofs.Theory.Steps.{Attaches, Holding, mem, Moved, moved, loads}
 use Rattle.rht_core.proofs.Moves.Slots.{slot_word-apart}
 use Rattle.rht_core.proofs.Moves.Attaching.{is_page-for, attached_kept, attach}
-use Rattle.rht_core.proofs.Pieces.RunPages.{range_with_len-from, given-range}
+use Rattle.rht_words.proofs.FilteredLists.{range_with_len-from}
+use Rattle.rht_core.proofs.Pieces.RunPages.{given-range}
 use Rattle.rht_core.proofs.Pieces.Holdings.{bare_slot, holding, knowing}
 
 module _ (env : Env) (mix : ℕ → ℕ → ℕ → ℕ) (c : ℕ) where

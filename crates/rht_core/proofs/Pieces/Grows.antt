@@ -32,7 +32,8 @@ use Rattle.rht_core.proofs.Theory.TableFrames.{Knowing-retabled}
 use Rattle.rht_core.proofs.Theory.Readiness.{IsEntering, entered}
 use Rattle.rht_core.proofs.Theory.Steps.{Enters, Holding, mem, Moved, moved, moved-map, loads}
 use Rattle.rht_core.proofs.Moves.Entering.{words_apart, entered_kept, leads_to, enter}
-use Rattle.rht_core.proofs.Pieces.RunPages.{filter-none, false_from, is_between, between-is, given-range}
+use Rattle.rht_words.proofs.FilteredLists.{filter-none, false_from}
+use Rattle.rht_core.proofs.Pieces.RunPages.{is_between, between-is, given-range}
 use Rattle.rht_core.proofs.Pieces.Holdings.{holding, knowing}
 use Rattle.rht_core.proofs.Pieces.Runs.{RunMoved, run_step, GiveMoved, give_run_step}
 

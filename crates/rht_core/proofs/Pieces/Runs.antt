@@ -26,7 +26,8 @@ use Rattle.rht_core.proofs.Theory.Wholes.{Whole}
 use Rattle.rht_core.proofs.Theory.Knowns.{Known, KnownSlot}
 use Rattle.rht_core.proofs.Theory.Steps.{Holding, mem, Moved, loads}
 use Rattle.rht_core.proofs.Moves.Pages.{has_bit-is, is_has_bit}
-use Rattle.rht_core.proofs.Pieces.RunPages.{false_from, filter-In, In-filter, below-In, In-below, pages_behind, given_below-pages, cleared-more, given-had, given-less, found_within, given_within}
+use Rattle.rht_words.proofs.FilteredLists.{false_from, filter-In, In-filter, below-In, In-below}
+use Rattle.rht_core.proofs.Pieces.RunPages.{pages_behind, given_below-pages, cleared-more, given-had, given-less, found_within, given_within}
 use Rattle.rht_core.proofs.Pieces.Holdings.{taken_for, slot_for, holding, knowing, take_pages_step, give_pages_step}
 
 -- ---- what an operation does to bits

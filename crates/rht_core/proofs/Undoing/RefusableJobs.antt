@@ -51,7 +51,7 @@ use Rattle.rht_core.proofs.Theory.Ghosts.{Ghost, PageHeld}
 use Rattle.rht_core.proofs.Theory.Knowledge.{IsMade, MakingMeans}
 use Rattle.rht_core.proofs.Theory.Steps.{Holding}
 use Rattle.rht_core.proofs.Pieces.Makes.{known_of_make}
-use Rattle.rht_core.proofs.Pieces.RunPages.{range_with_len-from}
+use Rattle.rht_words.proofs.FilteredLists.{range_with_len-from}
 use Rattle.rht_core.proofs.Machines.JobSteps.{JobKnows}
 use Rattle.rht_core.proofs.Reasons.AttachedTables.{make-none, unmake-none}
 use Rattle.rht_core.proofs.Undoing.UndoneMoves.{MayAttachWith}

@@ -20,7 +20,7 @@ use Rattle.rht_words.specs.Shapes.{unpacked, size_of}
 use Rattle.rht_model.proofs.RisingPorts.{RisesFrom, IsStrictlyIncreasing-from_rises}
 use Rattle.rht_core.specs.StandsFor.{in_force, chain_from, shape_of, bucket_in, bucket_nodes, table_nodes, has_key, first_node}
 use Rattle.rht_core.specs.Closing.{nodes_met, with_port, node_behind, marked, is_marked, marked_below, IsListable}
-use Rattle.rht_core.proofs.Pieces.RunPages.{filter-In, In-filter, range_with_len-from}
+use Rattle.rht_words.proofs.FilteredLists.{filter-In, In-filter, range_with_len-from}
 use Rattle.rht_core.proofs.Meaning.MarkedNodes.{met-marked, marked-met, length-marked}
 use Rattle.rht_core.proofs.closing.first_nodes.Goals as goal
 
