@@ -1,5 +1,5 @@
 -- What the count of ports counts, and what a table is like while nobody is in a call.
-use Rattle.std.specs.Prelude.{◌≡◌, ◌≢◌, ℕ, ◌+◌, ◌/◌, ◌%◌, ◌<◌, ◌≤◌, ◌⊎◌, Bool, true, false, Option, Some, None, List, length, slice_index, sum_by, count_by}
+use Rattle.std.specs.Prelude.{◌≡◌, ◌≢◌, ℕ, ◌+◌, ◌/◌, ◌%◌, ◌<◌, ◌≤◌, ◌⊎◌, Bool, false, Option, Some, None, List, length, slice_index, sum_by, count_by}
 use Rattle.std.specs.List.{AllByRecursion, range_with_len}
 use Rattle.std.specs.Int.{bit_at}
 use Rattle.rht_words.specs.declared.env.Env.{Env}
@@ -8,9 +8,6 @@ use Rattle.rht_words.specs.declared.config.Kind.TheVariants.{Single}
 use Rattle.rht_words.specs.Members.{In, IsDistinct}
 use Rattle.rht_words.specs.Places.{WorkLock, PortCount, Slot, StateWord, NodeMap, PageMap, word_at}
 use Rattle.rht_words.specs.Shapes.{unpacked, size_of}
-use Rattle.rht_model.specs.declared.history.Reply.{Reply}
-use Rattle.rht_model.specs.declared.history.Reply.TheVariants.{Bound, Exists, Found, Missing, Listed, Released, Absent, Rebound, TooBig, Again, Busy, NoTable, NoNode, Pending, Elsewhere, Walked, Moved, Idle, Clear}
-use Rattle.rht_model.specs.declared.history.Reply.TheVariants as replies
 use Rattle.rht_core.specs.declared.event.Event.{Event}
 use Rattle.rht_core.specs.declared.local.Doing.{Doing}
 use Rattle.rht_core.specs.Jobs.{Job, job_of, held_of}
@@ -18,6 +15,7 @@ use Rattle.rht_core.specs.Runs.{Core, World, local_of, run_of, IsAdmitted}
 use Rattle.rht_core.specs.StandsFor.{in_force, shape_of, bucket_in, nodes_of, stands_for, AreAllBound}
 use Rattle.rht_core.specs.TablePages.{IsPageOfTable}
 use Rattle.rht_core.specs.Alone.{IsQuiet}
+pub use Rattle.rht_model.specs.Replies.{takes_out}
 
 -- the job has raised the count for a node that it hasn't linked yet, or has still to lower it for one
 -- that it has taken out
@@ -99,29 +97,6 @@ module _ (g : Geometry) (words : List ℕ) where
         → IsPageOfSlot slot page → ¬ IsPageFree page
     pub attached : (slot : ℕ) → slot < 8 → word_at g words (Slot slot StateWord) ≢ 0
         → (word_at g words (Slot slot StateWord) ≡ 2) ⊎ In slot (in_force g words)
-
--- a call with this reply has taken a node out of a port's list
-abbrev pub takes_out : Reply → Bool
-takes_out (Released kick) = true
-takes_out Rebound = true
-takes_out (Bound kick) = false
-takes_out (Exists owner) = false
-takes_out (Found owner) = false
-takes_out Missing = false
-takes_out (Listed len) = false
-takes_out Absent = false
-takes_out (TooBig count) = false
-takes_out (Again table) = false
-takes_out (Busy root last) = false
-takes_out (NoTable size) = false
-takes_out NoNode = false
-takes_out (Pending caller section) = false
-takes_out Elsewhere = false
-takes_out (Walked len next) = false
-takes_out (Moved again) = false
-takes_out Idle = false
-takes_out (Clear returned) = false
-takes_out (replies.Counted count) = false
 
 -- how many of the calls that have ended did so
 abbrev pub taken_out : {M : Type 0} → World M → ℕ

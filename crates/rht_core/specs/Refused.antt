@@ -10,7 +10,7 @@ use Rattle.rht_words.specs.Links.{table_of, entry_of}
 use Rattle.rht_words.specs.Maps.{bit_of}
 use Rattle.rht_words.specs.Members.{In}
 use Rattle.rht_words.specs.Operations.{op_place, word_after}
-use Rattle.rht_words.specs.Places.{CurrentTable, NextSerial, Slot, SlotWord, ShapeWord, SeedWord, FutureWord, SerialWord, StateWord, LoadedSection, PageMap, PageWord, Node, NodeWord, words_in, place_of, word_at}
+use Rattle.rht_words.specs.Places.{CurrentTable, NextSerial, Slot, SlotWord, ShapeWord, FutureWord, StateWord, PageMap, PageWord, Node, NodeWord, words_in, place_of, word_at}
 use Rattle.rht_words.specs.Shapes.{unpacked, size_of}
 use Rattle.rht_model.specs.declared.history.Call.{Call}
 use Rattle.rht_model.specs.declared.history.Call.TheVariants.{Bind, Rebind}
@@ -28,6 +28,7 @@ use Rattle.rht_core.specs.Traces.{Did, Past, performed_of, traced_of}
 use Rattle.rht_core.specs.Seen.{words_before}
 use Rattle.rht_core.specs.ResizeCauses.{Attaches}
 use Rattle.rht_core.specs.RunHistories.{ChangesBindings}
+pub use Rattle.rht_words.specs.TableWords.{IsTableWord}
 
 -- a call that ends with this reply changes nothing: it was refused, or its port was bound, or it replaced no owner
 abbrev pub changes_nothing : Call → Reply → Bool
@@ -58,15 +59,6 @@ pub record GivesBackNode (g : Geometry) (node : ℕ) (did : Did) : Type 0 where
 pub record GivesBackSlot (g : Geometry) (slot : ℕ) (did : Did) : Type 0 where
   pub gives : did.op ≡ Store (place_of g (Slot slot StateWord)) 0
   pub taken : did.old ≡ 1
-
--- the word is one of a slot's that say something of its table
-abbrev pub IsTableWord : SlotWord → Type 0
-IsTableWord ShapeWord = Unit {0}
-IsTableWord SeedWord = Unit {0}
-IsTableWord FutureWord = Unit {0}
-IsTableWord SerialWord = Unit {0}
-IsTableWord StateWord = ⊥
-IsTableWord (LoadedSection caller) = ⊥
 
 -- a word of a node that these operations gave back
 pub record IsOfNodeGiven (g : Geometry) (steps : List Did) (place : ℕ) : Type 0 where

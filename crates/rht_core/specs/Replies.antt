@@ -1,12 +1,8 @@
 -- What calls are answered, what a caller's book says of the call in progress, and what its rooms have.
-use Rattle.std.specs.Prelude.{◌≡◌, ℕ, if◌then◌else◌, Bool, true, List, [], length, Option, Some, None}
+use Rattle.std.specs.Prelude.{◌≡◌, ℕ, if◌then◌else◌, List, [], Option, Some, None}
 use Rattle.std.specs.List.{AllByRecursion, last_or}
 use Rattle.rht_words.specs.declared.env.Env.{Env}
-use Rattle.rht_model.specs.declared.history.Call.{Call}
-use Rattle.rht_model.specs.declared.history.Call.TheVariants.{Bind, Find, All, Release, Rebind, Walk, Work, Tidy, Count}
-use Rattle.rht_model.specs.declared.history.Reply.{Reply}
-use Rattle.rht_model.specs.declared.history.Reply.TheVariants.{Bound, Exists, Found, Missing, Listed, Released, Absent, Rebound, TooBig, Again, Busy, NoTable, NoNode, Pending, Elsewhere, Walked, Moved, Clear, Counted}
-use Rattle.rht_model.specs.declared.history.Reply.TheVariants as replies
+use Rattle.rht_model.specs.declared.history.Call.TheVariants.{Bind, Find, All, Release, Rebind, Work, Count}
 use Rattle.rht_model.specs.declared.finished.Finished.{Finished}
 use Rattle.rht_find.specs.Find.{FindModel}
 use Rattle.rht_bind.specs.Bind.{BindModel}
@@ -20,84 +16,7 @@ use Rattle.rht_core.specs.declared.count.PortCount.{PortCount}
 use Rattle.rht_core.specs.declared.local.Doing.{Doing}
 use Rattle.rht_core.specs.declared.local.Doing.TheVariants.{Idle, Finding, Binding, Releasing, Rebinding, Listing, Working, Counting}
 use Rattle.rht_core.specs.Locals.{is_idle}
-
--- ---- the replies of each call
-
--- a bind that isn't tried once alone never answers that it has to be made again
-abbrev pub IsBindReply : Bool → Reply → Type 0
-IsBindReply once (Bound kick) = Unit {0}
-IsBindReply once (Exists owner) = Unit {0}
-IsBindReply once (TooBig count) = Unit {0}
-IsBindReply once (Again table) = once ≡ true
-IsBindReply once (Busy root last) = Unit {0}
-IsBindReply once (NoTable size) = Unit {0}
-IsBindReply once NoNode = Unit {0}
-IsBindReply once _ = ⊥
-
-abbrev pub IsFindReply : Reply → Type 0
-IsFindReply (Found owner) = Unit {0}
-IsFindReply Missing = Unit {0}
-IsFindReply _ = ⊥
-
-abbrev pub IsAllReply : Reply → Type 0
-IsAllReply (Listed len) = Unit {0}
-IsAllReply _ = ⊥
-
-abbrev pub IsReleaseReply : Reply → Type 0
-IsReleaseReply (Released kick) = Unit {0}
-IsReleaseReply Absent = Unit {0}
-IsReleaseReply _ = ⊥
-
-abbrev pub IsRebindReply : Reply → Type 0
-IsRebindReply Rebound = Unit {0}
-IsRebindReply Absent = Unit {0}
-IsRebindReply NoNode = Unit {0}
-IsRebindReply _ = ⊥
-
-abbrev pub IsWalkReply : Reply → Type 0
-IsWalkReply (Walked len next) = Unit {0}
-IsWalkReply (Again table) = Unit {0}
-IsWalkReply _ = ⊥
-
-abbrev pub IsWorkReply : Reply → Type 0
-IsWorkReply (Moved again) = Unit {0}
-IsWorkReply replies.Idle = Unit {0}
-IsWorkReply (NoTable size) = Unit {0}
-IsWorkReply Elsewhere = Unit {0}
-IsWorkReply _ = ⊥
-
-abbrev pub IsTidyReply : Reply → Type 0
-IsTidyReply (Clear returned) = Unit {0}
-IsTidyReply (Pending caller section) = Unit {0}
-IsTidyReply _ = ⊥
-
-abbrev pub IsCountReply : Reply → Type 0
-IsCountReply (Counted count) = Unit {0}
-IsCountReply _ = ⊥
-
--- the reply is one of those that the call may have; a call of which there is no machine yet never ends
-abbrev pub IsReplyTo : Call → Reply → Type 0
-IsReplyTo (Bind port owner once) reply = IsBindReply once reply
-IsReplyTo (Find port) reply = IsFindReply reply
-IsReplyTo (All port) reply = IsAllReply reply
-IsReplyTo (Release port owner) reply = IsReleaseReply reply
-IsReplyTo (Rebind port owner new) reply = IsRebindReply reply
-IsReplyTo (Walk from limit) reply = IsWalkReply reply
-IsReplyTo Work reply = IsWorkReply reply
-IsReplyTo Tidy reply = IsTidyReply reply
-IsReplyTo Count reply = IsCountReply reply
-
--- ---- the lists beside them
-
--- these owners come with the reply: as many as Listed says, and none with another one
-abbrev pub AreOwnersWith : Reply → List ℕ → Type 0
-AreOwnersWith (Listed len) owners = length owners ≡ len
-AreOwnersWith _ owners = owners ≡ []
-
--- these pairs come with it: as many as Walked says, and none with another one
-abbrev pub ArePairsWith : Reply → List (ℕ × ℕ) → Type 0
-ArePairsWith (Walked len next) pairs = length pairs ≡ len
-ArePairsWith _ pairs = pairs ≡ []
+pub use Rattle.rht_model.specs.Replies.{IsBindReply, IsFindReply, IsAllReply, IsReleaseReply, IsRebindReply, IsWalkReply, IsWorkReply, IsTidyReply, IsCountReply, IsReplyTo, AreOwnersWith, ArePairsWith}
 
 -- a call that has ended has a reply of its kind, and the lists that come with that
 pub record IsRightlyAnswered (done : Finished) : Type 0 where

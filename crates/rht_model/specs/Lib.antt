@@ -8,6 +8,8 @@ pub mod Heads
 pub mod Pairs
 -- what a call answers on bindings, and what it changes
 pub mod Answers
+-- which replies each call may have
+pub mod Replies
 -- how a call ends
 pub mod Endings
 -- how `Replies` keeps endings

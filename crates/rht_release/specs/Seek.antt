@@ -11,8 +11,6 @@ use Rattle.rht_words.specs.Planned.{IsWord}
 use Rattle.rht_words.specs.Ports.{word_of}
 use Rattle.rht_words.specs.Places.{CurrentTable, Slot, FutureWord, place_of}
 use Rattle.rht_nest.specs.Locate.{LocateModel, locate_new, locate_plan, locate_after, IsLocateIn}
-use Rattle.rht_nest.specs.declared.locate.LocateAt.{LocateAt}
-use Rattle.rht_nest.specs.declared.locate.LocateAt.TheVariants as locates
 use Rattle.rht_nest.specs.declared.locate.Located.{Located}
 use Rattle.rht_nest.specs.declared.locate.LocatedBucket.{LocatedBucket}
 use Rattle.rht_nest.specs.declared.locate.LocatedBucket.TheVariants as buckets
@@ -26,6 +24,7 @@ use Rattle.rht_release.specs.FoundPort.{IsFoundPortIn}
 use Rattle.rht_release.specs.declared.found_port.FoundPort.{FoundPort}
 use Rattle.rht_release.specs.declared.seek.SeekAt.{SeekAt}
 use Rattle.rht_release.specs.declared.seek.SeekAt.TheVariants as at
+pub use Rattle.rht_nest.specs.Early.{answer_unless, early_of_locate}
 
 -- what contracts see of the machine
 pub record SeekModel : Type 0 where
@@ -118,11 +117,6 @@ lock_of_seek (at.Probing table shape probe) = lock_of_probe probe.at
 lock_of_seek (at.Future table bucket) = Some bucket.place
 lock_of_seek (at.Leaving table unlock future) = Some unlock.place
 
--- this answer, where the future leads to no table
-abbrev pub answer_unless : {Answer : Type 0} → Answer → Option ℕ → Option Answer
-answer_unless absent None = Some absent
-answer_unless absent (Some table) = None
-
 -- What a call answers whose port is bound nowhere, once that is known: from the load of a future on
 -- that leads to no table. At that load no table binds the port, and none will while the bucket is
 -- locked. Where the bucket is missing the answer is known at the end alone: no table bound the port at the
@@ -133,14 +127,6 @@ answer_of_seek absent (at.Locating locate) = None
 answer_of_seek absent (at.Probing table shape probe) = None
 answer_of_seek absent (at.Future table bucket) = None
 answer_of_seek absent (at.Leaving table unlock future) = answer_unless absent future
-
--- What it will answer should the bucket be missing, known early: from the load of a future on that leads to no table, before the
--- entries of a nested table are looked at.
-abbrev pub early_of_locate : {Answer : Type 0} → Answer → LocateAt → Option Answer
-early_of_locate absent locates.Shape = None
-early_of_locate absent (locates.Seed shape) = None
-early_of_locate absent (locates.Early shape place) = None
-early_of_locate absent (locates.Entry shape early place) = answer_unless absent early
 
 abbrev pub early_of_seek : {Answer : Type 0} → Answer → SeekAt → Option Answer
 early_of_seek absent at.CurrentTable = None

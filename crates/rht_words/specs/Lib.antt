@@ -10,6 +10,8 @@ pub mod Settled
 pub mod Operations
 -- where each thing stands in the list of words
 pub mod Places
+-- which words of a slot say something of its table
+pub mod TableWords
 -- what is asked of each operation that a machine plans
 pub mod Planned
 -- what the links in words say, and what a bucket's word says
