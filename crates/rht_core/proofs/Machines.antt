@@ -1,3 +1,5 @@
+-- the way to a port
+pub mod Seeks
 -- a look-up, operation by operation
 pub mod FindSteps
 -- a bind, operation by operation

@@ -29,10 +29,10 @@ use Rattle.rht_core.specs.Traces.{Did}
 use Rattle.rht_core.specs.Laws.{IsRecorded}
 use Rattle.rht_core.proofs.Counting.FullTables.{find_raises, front_raises, relinking_raises, rebind_raises, all_raises, work_raises, taken}
 use Rattle.rht_core.proofs.Events.Worlds.{run_of-push}
-use Rattle.rht_core.proofs.Theory.Ghosts.{Ghost, taken_is}
-use Rattle.rht_core.proofs.Theory.Knowns.{KnownList, LeadsTo}
-use Rattle.rht_core.proofs.Theory.Knowledge.{HasTakenOut, BucketMeans}
-use Rattle.rht_core.proofs.Theory.Steps.{mem}
+use Rattle.rht_ghost.proofs.Theory.Ghosts.{Ghost, taken_is}
+use Rattle.rht_ghost.proofs.Theory.Knowns.{KnownList, LeadsTo}
+use Rattle.rht_ghost.proofs.Theory.Knowledge.{HasTakenOut, BucketMeans}
+use Rattle.rht_ghost.proofs.Theory.Steps.{mem}
 use Rattle.rht_core.proofs.Machines.ReleaseSteps.{known_relinking}
 use Rattle.rht_core.proofs.Machines.JobSteps.{JobKnows}
 use Rattle.rht_core.proofs.Events.Invariants.{Knows, Inv}

@@ -45,9 +45,9 @@ use Rattle.rht_core.specs.Laws.{IsRecorded}
 use Rattle.rht_core.specs.Seen.{others_in_call, CountedAt}
 use Rattle.rht_core.specs.Counts.{raised_by}
 use Rattle.rht_core.proofs.Events.JobsOfCallers.{is_no_job, nothing-job}
-use Rattle.rht_core.proofs.Theory.Ghosts.{Ghost}
-use Rattle.rht_core.proofs.Theory.Wholes.{firsts, raisers}
-use Rattle.rht_core.proofs.Theory.Steps.{mem}
+use Rattle.rht_ghost.proofs.Theory.Ghosts.{Ghost}
+use Rattle.rht_ghost.proofs.Theory.Wholes.{firsts, raisers}
+use Rattle.rht_ghost.proofs.Theory.Steps.{mem}
 use Rattle.rht_core.proofs.Events.Invariants.{Knows, step_of}
 use Rattle.rht_core.proofs.Events.InvariantRuns.{has_inv}
 use Rattle.rht_move.specs.WorkHeld.{held_of_work}

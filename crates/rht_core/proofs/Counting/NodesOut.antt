@@ -9,8 +9,8 @@ use Rattle.rht_words.specs.declared.env.Env.{Env}
 use Rattle.rht_words.specs.Members.{In, NotIn, IsDistinct}
 use Rattle.rht_words.proofs.Members.{one_if, count_below, count_below-more, count_below-none, count_by-range}
 use Rattle.rht_words.proofs.EachElement.{AllByRecursion-weaker}
-use Rattle.rht_core.proofs.Theory.Ghosts.{Owner, Free, Held, First, Leaving, Behind, Taken, Ghost, is_taken_by, seat_of}
-use Rattle.rht_core.proofs.Theory.Wholes.{IsBuilt, outs}
+use Rattle.rht_ghost.proofs.Theory.Ghosts.{Owner, Free, Held, First, Leaving, Behind, Taken, Ghost, is_taken_by, seat_of}
+use Rattle.rht_ghost.proofs.Theory.Wholes.{IsBuilt, outs}
 
 -- somebody has taken the node out
 abbrev pub is_out : Owner → Bool

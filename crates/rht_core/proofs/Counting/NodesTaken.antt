@@ -32,9 +32,9 @@ use Rattle.rht_core.specs.Runs.{IsAdmitted, view_of}
 use Rattle.rht_core.specs.Traces.{Did, Traced, traced_of}
 use Rattle.rht_core.specs.Laws.{IsNoTake, IsTakeOf, TakesNone, TakesOne, IsTakenBy, IsTakenIn, TakenAlone}
 use Rattle.rht_core.specs.Refused.{IsTableWord}
-use Rattle.rht_core.proofs.Theory.Wholes.{place_at}
-use Rattle.rht_core.proofs.Theory.Answering.{TellsNode, TellsNode-same, known_so, unknown_before}
-use Rattle.rht_core.proofs.Theory.Steps.{bare, Holding, Move, Quiet, TakesNode, GivesNode, TakesLock, DropsLock, Raises, Links, Lowers, Rebinds, LinksBehind, Arms, TakesSlot, GivesSlot, TakesPages, GivesPages, Attaches, Enters, TakesWork, GivesWork, BeginsMoving, TakesSecond, Leaves, Arrives, CutsOff, Publishes, Retires, Does, IsAside, DoesQuiet}
+use Rattle.rht_ghost.proofs.Theory.Wholes.{place_at}
+use Rattle.rht_ghost.proofs.Theory.Answering.{TellsNode, TellsNode-same, known_so, unknown_before}
+use Rattle.rht_ghost.proofs.Theory.Steps.{bare, Holding, Move, Quiet, TakesNode, GivesNode, TakesLock, DropsLock, Raises, Links, Lowers, Rebinds, LinksBehind, Arms, TakesSlot, GivesSlot, TakesPages, GivesPages, Attaches, Enters, TakesWork, GivesWork, BeginsMoving, TakesSecond, Leaves, Arrives, CutsOff, Publishes, Retires, Does, IsAside, DoesQuiet}
 use Rattle.rht_core.proofs.Events.JobsOfCallers.{same_call, first_unknown, first_without}
 use Rattle.rht_core.proofs.Tracing.TracedJobs.{Performs, LeadsOn, IsKeeping, jobs_keep}
 

@@ -44,8 +44,8 @@ use Rattle.rht_core.specs.Traces.{Did, Past, Traced, traced_of, performed_of}
 use Rattle.rht_core.specs.Laws.{IsRecorded, IsPastCall}
 use Rattle.rht_core.specs.Causes.{CauseOf, HasCause}
 use Rattle.rht_core.specs.NodesUsed.{needs_node, may_take_node, took_node, takers_of, takers, IsForWant, Nodes}
-use Rattle.rht_core.proofs.Theory.Answering.{TellsNode}
-use Rattle.rht_core.proofs.Theory.Steps.{Holding, by_test}
+use Rattle.rht_ghost.proofs.Theory.Answering.{TellsNode}
+use Rattle.rht_ghost.proofs.Theory.Steps.{Holding, by_test}
 use Rattle.rht_core.proofs.Tracing.TracedJobs.{IsAtJob}
 use Rattle.rht_move.specs.WorkHeld.{held_of_work}
 use Rattle.rht_move.specs.declared.work.WorkAt.{WorkAt}

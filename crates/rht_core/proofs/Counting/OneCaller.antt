@@ -61,12 +61,12 @@ use Rattle.rht_core.specs.Runs.{World, View, opening, local_of, planned_in, begi
 use Rattle.rht_core.specs.Seen.{words_before}
 use Rattle.rht_core.specs.StandsFor.{stands_for, AreBound}
 use Rattle.rht_core.specs.Traces.{Did, Traced, traced_of}
-use Rattle.rht_core.proofs.Theory.Ghosts.{Ghost}
-use Rattle.rht_core.proofs.Theory.Knowns.{Shaped}
-use Rattle.rht_core.proofs.Theory.Knowledge.{TableMeans, AimMeans}
-use Rattle.rht_core.proofs.Theory.Wholes.{outs}
-use Rattle.rht_core.proofs.Theory.Steps.{ReadyFor, Does, ghost_after, mem}
-use Rattle.rht_core.proofs.Pieces.Locates.{known_locate}
+use Rattle.rht_ghost.proofs.Theory.Ghosts.{Ghost}
+use Rattle.rht_ghost.proofs.Theory.Knowns.{Shaped}
+use Rattle.rht_ghost.proofs.Theory.Knowledge.{TableMeans, AimMeans}
+use Rattle.rht_ghost.proofs.Theory.Wholes.{outs}
+use Rattle.rht_ghost.proofs.Theory.Steps.{ReadyFor, Does, ghost_after, mem}
+use Rattle.rht_ghost.proofs.Pieces.Locates.{known_locate}
 use Rattle.rht_core.proofs.Machines.JobSteps.{JobIn, JobKnows}
 use Rattle.rht_core.proofs.Machines.WorkMachine.{last_aim}
 use Rattle.rht_core.proofs.Events.BooksInRuns.{BookSays, has_books}

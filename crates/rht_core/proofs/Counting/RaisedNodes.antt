@@ -5,8 +5,8 @@ use Rattle.std.proofs.Common.{◌≡◌, ◌⊎◌, ℕ, zero, suc, ◌+◌, ◌
 use Rattle.std.proofs.lemmas.Bool.Decides.{nat_tests}
 use Rattle.rht_words.proofs.Members.{count_below, one_if, count_below-same, count_below-more, count_below-le, count_below-most}
 use Rattle.rht_words.specs.declared.env.Env.{Env}
-use Rattle.rht_core.proofs.Theory.Ghosts.{put, put-same, put-other, put-all, Owner, Free, Held, First, Leaving, Behind, Taken, Ghost, is_first}
-use Rattle.rht_core.proofs.Theory.Wholes.{firsts, raisers}
+use Rattle.rht_ghost.proofs.Theory.Ghosts.{put, put-same, put-other, put-all, Owner, Free, Held, First, Leaving, Behind, Taken, Ghost, is_first}
+use Rattle.rht_ghost.proofs.Theory.Wholes.{firsts, raisers}
 
 -- the node is in a chain, or a caller below this one has it
 abbrev is_used_below : ℕ → Owner → Bool

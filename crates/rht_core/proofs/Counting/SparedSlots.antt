@@ -49,7 +49,7 @@ use Rattle.rht_release.specs.declared.release.ReleaseAt.TheVariants as releases
 use Rattle.rht_release.specs.Rebind as rebind
 use Rattle.rht_release.specs.declared.rebind.RebindAt.{RebindAt}
 use Rattle.rht_release.specs.declared.rebind.RebindAt.TheVariants as rebinds
-use Rattle.rht_core.proofs.Theory.Steps.{unchanged}
+use Rattle.rht_ghost.proofs.Theory.Steps.{unchanged}
 
 -- the place is that of the work lock, of the count of ports, or of a word behind the slots
 abbrev pub IsBesideSlots : ℕ → Type 0

@@ -15,13 +15,13 @@ use Rattle.rht_nest.specs.Place.{is_deep, top_page, top_entries}
 use Rattle.rht_nest.specs.Tables.{is_nested, run_first, run_pages, pages_of_table}
 use Rattle.rht_core.specs.StandsFor.{page_word}
 use Rattle.rht_core.specs.TablePages.{LeadsOn, IsNestedPage, IsPageOfTable}
-use Rattle.rht_core.proofs.Theory.Ghosts.{Part, Row, Leaf, Middle, Top, has_entries, Table, PageOwner, PageOf, Ghost, entry_word, none-some}
-use Rattle.rht_core.proofs.Theory.Ways.{first_page, entries_in, behind_top, StandsAs}
-use Rattle.rht_core.proofs.Theory.Wholes.{pages_of, IsFlat, IsNested, Whole}
-use Rattle.rht_core.proofs.Theory.Entries.{few_entries, some_entries, word_leads, top_leads}
-use Rattle.rht_core.proofs.Theory.PlacesRead.{entry_read}
+use Rattle.rht_ghost.proofs.Theory.Ghosts.{Part, Row, Leaf, Middle, Top, has_entries, Table, PageOwner, PageOf, Ghost, entry_word, none-some}
+use Rattle.rht_ghost.proofs.Theory.Ways.{first_page, entries_in, behind_top, StandsAs}
+use Rattle.rht_ghost.proofs.Theory.Wholes.{pages_of, IsFlat, IsNested, Whole}
+use Rattle.rht_ghost.proofs.Theory.Entries.{few_entries, some_entries, word_leads, top_leads}
+use Rattle.rht_ghost.proofs.Theory.PlacesRead.{entry_read}
 use Rattle.rht_words.proofs.FilteredLists.{range_with_len-from}
-use Rattle.rht_core.proofs.Theory.Steps.{mem}
+use Rattle.rht_ghost.proofs.Theory.Steps.{mem}
 use Rattle.rht_core.proofs.Undoing.EnteredWords.{entries_read}
 
 module _ (env : Env) (mix : ℕ → ℕ → ℕ → ℕ) (words : List ℕ) where

@@ -25,9 +25,9 @@ use Rattle.rht_core.specs.Jobs.{Job, call_of, job_after, job_of, told, held_of, 
 use Rattle.rht_core.specs.Locals.{is_idle, machine_of, local_after, ending_of}
 use Rattle.rht_core.specs.Runs.{World, View, view_of, local_of, beginning_in, planned_in, book_begun, book_after, finished_with, world_step, run_of, opening, IsAdmitted, IsAdmittedEvent}
 use Rattle.rht_core.specs.Laws.{view_begun, view_stepped}
-use Rattle.rht_core.proofs.Theory.Ghosts.{Ghost, is_taken_by, Free}
-use Rattle.rht_core.proofs.Theory.Wholes.{outs}
-use Rattle.rht_core.proofs.Theory.Answering.{outs_of}
+use Rattle.rht_ghost.proofs.Theory.Ghosts.{Ghost, is_taken_by, Free}
+use Rattle.rht_ghost.proofs.Theory.Wholes.{outs}
+use Rattle.rht_ghost.proofs.Theory.Answering.{outs_of}
 use Rattle.rht_core.proofs.Events.Worlds.{run_keeps_admitted, beginning-some, planned-some, begin_none, begin_self, begin_other, step_none, step_self, step_other}
 use Rattle.rht_core.proofs.Events.SoundRuns.{has_place, made_in}
 use Rattle.rht_core.proofs.Events.RangesInRuns.{AllIn, event-all, opens-all}

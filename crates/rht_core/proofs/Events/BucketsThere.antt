@@ -16,14 +16,14 @@ use Rattle.rht_core.specs.declared.event.Event.TheVariants.{Enroll, Begin, Step}
 use Rattle.rht_core.specs.Runs.{Core, World, planned_in, world_step, run_of, opening, IsAdmitted, IsAdmittedEvent}
 use Rattle.rht_core.specs.Seen.{words_before}
 use Rattle.rht_core.specs.StandsFor.{bucket_in}
-use Rattle.rht_core.proofs.Theory.Ghosts.{Ghost}
-use Rattle.rht_core.proofs.Theory.Wholes.{place_at, index-place_at, Whole}
-use Rattle.rht_core.proofs.Theory.Entries.{one_bucket}
-use Rattle.rht_core.proofs.Theory.Passed.{TablesGrow}
-use Rattle.rht_core.proofs.Theory.PlacesRead.{placed_in_words}
-use Rattle.rht_core.proofs.Theory.WaysRead.{place_of_bucket}
-use Rattle.rht_core.proofs.Theory.Frames.{same_grow}
-use Rattle.rht_core.proofs.Theory.Steps.{mem}
+use Rattle.rht_ghost.proofs.Theory.Ghosts.{Ghost}
+use Rattle.rht_ghost.proofs.Theory.Wholes.{place_at, index-place_at, Whole}
+use Rattle.rht_ghost.proofs.Theory.Entries.{one_bucket}
+use Rattle.rht_ghost.proofs.Theory.Passed.{TablesGrow}
+use Rattle.rht_ghost.proofs.Theory.PlacesRead.{placed_in_words}
+use Rattle.rht_ghost.proofs.Theory.WaysRead.{place_of_bucket}
+use Rattle.rht_ghost.proofs.Theory.Frames.{same_grow}
+use Rattle.rht_ghost.proofs.Theory.Steps.{mem}
 use Rattle.rht_core.proofs.Events.Worlds.{run_from-append, run_keeps_admitted}
 use Rattle.rht_core.proofs.Events.RangesInRuns.{AllIn, event-all, runs-all}
 use Rattle.rht_core.proofs.Events.Invariants.{Inv, GhostKept, kept}

@@ -17,9 +17,9 @@ use Rattle.rht_core.specs.Locals.{fresh}
 use Rattle.rht_core.specs.Runs.{Core, World, local_in, opening, opening_core, run_of, IsAdmitted}
 use Rattle.rht_core.proofs.Events.Worlds.{run_keeps_admitted}
 use Rattle.rht_core.proofs.Events.RangesInRuns.{AllIn, opens-all, event-all}
-use Rattle.rht_core.proofs.Theory.Ghosts.{Free, Ghost, Table, PageOf, SlotFree, Live, is_first, has_table, put, put-same, put-other, blank_bucket, PageOwner, PageFree, PageHeld, SlotHeld, state_word, put-all, Row, is_entry, is_entry_of}
-use Rattle.rht_core.proofs.Theory.Wholes.{Whole, TableRight, PagesRight}
-use Rattle.rht_core.proofs.Theory.Steps.{mem}
+use Rattle.rht_ghost.proofs.Theory.Ghosts.{Free, Ghost, Table, PageOf, SlotFree, Live, is_first, has_table, put, put-same, put-other, blank_bucket, PageOwner, PageFree, PageHeld, SlotHeld, state_word, put-all, Row, is_entry, is_entry_of}
+use Rattle.rht_ghost.proofs.Theory.Wholes.{Whole, TableRight, PagesRight}
+use Rattle.rht_ghost.proofs.Theory.Steps.{mem}
 use Rattle.rht_core.proofs.Events.Invariants.{Inv, kept}
 
 -- the first table, which stands in slot 0 and has its buckets in a row from the first page on

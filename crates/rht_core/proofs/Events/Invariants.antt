@@ -30,15 +30,15 @@ use Rattle.rht_core.proofs.Events.Worlds.{beginning-some, planned-some}
 use Rattle.rht_core.proofs.Events.SoundRuns.{has_place, made_in}
 use Rattle.rht_core.proofs.Events.RangesInRuns.{AllIn}
 use Rattle.rht_core.proofs.Events.JobsOfCallers.{plan-job, left-job, nothing-job, is_no_job}
-use Rattle.rht_core.proofs.Theory.Ghosts.{Ghost, is_taken_by}
-use Rattle.rht_core.proofs.Theory.Wholes.{outs, Whole}
-use Rattle.rht_core.proofs.Theory.Answering.{outs_of}
-use Rattle.rht_core.proofs.Theory.Frames.{StaleStay, stale_write, same_owners}
-use Rattle.rht_core.proofs.Theory.Reliance.{Rely}
-use Rattle.rht_core.proofs.Theory.KnowledgeKept.{Knowing-rely}
-use Rattle.rht_core.proofs.Theory.Steps.{mem, ghost_after}
-use Rattle.rht_core.proofs.Moves.Quiet.{aside}
-use Rattle.rht_core.proofs.Machines.FindSteps.{known_nothing}
+use Rattle.rht_ghost.proofs.Theory.Ghosts.{Ghost, is_taken_by}
+use Rattle.rht_ghost.proofs.Theory.Wholes.{outs, Whole}
+use Rattle.rht_ghost.proofs.Theory.Answering.{outs_of}
+use Rattle.rht_ghost.proofs.Theory.Frames.{StaleStay, stale_write, same_owners}
+use Rattle.rht_ghost.proofs.Theory.Reliance.{Rely}
+use Rattle.rht_ghost.proofs.Theory.KnowledgeKept.{Knowing-rely}
+use Rattle.rht_ghost.proofs.Theory.Steps.{mem, ghost_after}
+use Rattle.rht_ghost.proofs.Moves.Quiet.{aside}
+use Rattle.rht_ghost.proofs.Theory.Knowns.{known_nothing}
 use Rattle.rht_core.proofs.Machines.JobSteps.{JobIn, JobKnows, JobKnows-rely, JobStepOf, KnowsNothing, JobNext, holds_no, job_step}
 
 module _ (env : Env) (mix : ℕ → ℕ → ℕ → ℕ) where

@@ -19,18 +19,18 @@ use Rattle.rht_release.specs.declared.rebind.RebindAt.{RebindAt}
 use Rattle.rht_release.specs.declared.rebind.RebindAt.TheVariants as rebinding
 use Rattle.rht_core.specs.Jobs.{Job, finds, binds, lists, releases, rebinds, works, counts, job_of}
 use Rattle.rht_core.specs.Runs.{Core, local_of, enrolling}
-use Rattle.rht_core.proofs.Theory.Ghosts.{Ghost, index_at}
-use Rattle.rht_core.proofs.Theory.Wholes.{home, Whole}
-use Rattle.rht_core.proofs.Theory.Passed.{home-stays}
-use Rattle.rht_core.proofs.Theory.Knowns.{KnownNode, OnWay}
-use Rattle.rht_core.proofs.Theory.Knowledge.{TableMeans}
-use Rattle.rht_core.proofs.Theory.KnowledgeStays.{TableMeans-stay}
-use Rattle.rht_core.proofs.Theory.WaysRead.{placed-stays}
-use Rattle.rht_core.proofs.Theory.Reliance.{Rely}
-use Rattle.rht_core.proofs.Theory.Steps.{mem}
-use Rattle.rht_core.proofs.Pieces.NewNodes.{filled}
-use Rattle.rht_core.proofs.Pieces.Locates.{known_locate, IsThereAt}
-use Rattle.rht_core.proofs.Pieces.Seeks.{known_of_seek, seek_there}
+use Rattle.rht_ghost.proofs.Theory.Ghosts.{Ghost, index_at}
+use Rattle.rht_ghost.proofs.Theory.Wholes.{home, Whole}
+use Rattle.rht_ghost.proofs.Theory.Passed.{home-stays}
+use Rattle.rht_ghost.proofs.Theory.Knowns.{KnownNode, OnWay}
+use Rattle.rht_ghost.proofs.Theory.Knowledge.{TableMeans}
+use Rattle.rht_ghost.proofs.Theory.KnowledgeStays.{TableMeans-stay}
+use Rattle.rht_ghost.proofs.Theory.WaysRead.{placed-stays}
+use Rattle.rht_ghost.proofs.Theory.Reliance.{Rely}
+use Rattle.rht_ghost.proofs.Theory.Steps.{mem}
+use Rattle.rht_ghost.proofs.Pieces.NewNodes.{filled}
+use Rattle.rht_ghost.proofs.Pieces.Locates.{known_locate, IsThereAt}
+use Rattle.rht_core.proofs.Machines.Seeks.{known_of_seek, seek_there}
 use Rattle.rht_core.proofs.Machines.FindSteps.{known_of_find, find_there}
 use Rattle.rht_core.proofs.Machines.AllSteps.{known_of_all, all_there}
 use Rattle.rht_core.proofs.Machines.ReleaseSteps.{known_of_release, release_there}

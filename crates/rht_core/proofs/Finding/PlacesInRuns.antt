@@ -21,10 +21,10 @@ use Rattle.rht_core.proofs.Events.Worlds.{induct_by_last, run_of-push}
 use Rattle.rht_core.proofs.Events.RangesInRuns.{AllIn, opens-all, event-all}
 use Rattle.rht_core.proofs.Events.Invariants.{Inv, Knows, kept, enrolled}
 use Rattle.rht_core.proofs.Events.InvariantRuns.{opening_ghost, opening_inv}
-use Rattle.rht_core.proofs.Theory.Ghosts.{Ghost, IsUsed, seat_of}
-use Rattle.rht_core.proofs.Theory.Wholes.{key_of, seated_at}
-use Rattle.rht_core.proofs.Theory.Frames.{Made, still}
-use Rattle.rht_core.proofs.Theory.Steps.{Move, Quiet, mem, owners_in, ghost_after, ReadyFor}
+use Rattle.rht_ghost.proofs.Theory.Ghosts.{Ghost, IsUsed, seat_of}
+use Rattle.rht_ghost.proofs.Theory.Wholes.{key_of, seated_at}
+use Rattle.rht_ghost.proofs.Theory.Frames.{Made, still}
+use Rattle.rht_ghost.proofs.Theory.Steps.{Move, Quiet, mem, owners_in, ghost_after, ReadyFor}
 use Rattle.rht_core.proofs.Meaning.BoundPorts.{stands_for_bound}
 use Rattle.rht_core.proofs.Histories.Behind.{behind-all, behind-more}
 use Rattle.rht_core.proofs.Finding.Places.{Places, PlacesRight}

@@ -18,7 +18,7 @@ use Rattle.rht_core.specs.Traces.{Did, Past, behind_call}
 use Rattle.rht_core.specs.Numbered.{Numbered, entries_of, numbered_to}
 use Rattle.rht_core.specs.RunHistories.{IsEntryOf, about_bindings}
 use Rattle.rht_core.proofs.Tracing.TracesAtEvents.{behind_steps-push}
-use Rattle.rht_core.proofs.Theory.Answering.{entry_of, IsLegalOn}
+use Rattle.rht_ghost.proofs.Theory.Answering.{entry_of, IsLegalOn}
 use Rattle.rht_core.proofs.Histories.NumberedEntries.{AllBelow, put_in, put_in-other, put_in-own, CanPutIn, with_reply, replied, replied-other, replied-own, LastHas}
 use Rattle.rht_core.proofs.Histories.GoodHistories.{IsGood, good-put, good-replied}
 use Rattle.rht_core.proofs.Histories.CallerEntries.{behind, IsSaid, IsTail}

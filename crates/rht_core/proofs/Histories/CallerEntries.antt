@@ -20,7 +20,7 @@ use Rattle.rht_core.specs.Traces.{Did}
 use Rattle.rht_core.specs.Numbered.{Numbered, entries_of}
 use Rattle.rht_core.specs.Alone.{bindings_at}
 use Rattle.rht_core.specs.RunHistories.{bindings_behind, ChangesBindings}
-use Rattle.rht_core.proofs.Theory.Answering.{entry_of, IsSameAnswer, IsLegalOn, IsSaidOn, RecallsAnswer, ClaimsAnswer, SaysStill, KnowsEarly, Says}
+use Rattle.rht_ghost.proofs.Theory.Answering.{entry_of, IsSameAnswer, IsLegalOn, IsSaidOn, RecallsAnswer, ClaimsAnswer, SaysStill, KnowsEarly, Says}
 use Rattle.rht_core.proofs.Histories.NumberedEntries.{IsAlike, alike-legal_at, alike-left_by, push-other, push-own}
 use Rattle.rht_core.proofs.Histories.Behind.{Any-push_cases, behind-all, behind-more, behind-last, Changed, Changed-more, Changed-fewer}
 use Rattle.rht_core.proofs.Histories.GoodHistories.{IsGood, good-quiet, good-push}

@@ -20,8 +20,8 @@ use Rattle.rht_core.specs.RunHistories.{about_bindings}
 use Rattle.rht_core.proofs.Events.Worlds.{run_of-push}
 use Rattle.rht_core.proofs.Tracing.TracedRuns.{world-traced_of, traced_of-push}
 use Rattle.rht_core.proofs.Tracing.TracedCallers.{inv_now}
-use Rattle.rht_core.proofs.Theory.Frames.{Made}
-use Rattle.rht_core.proofs.Theory.Steps.{mem, owners-stay}
+use Rattle.rht_ghost.proofs.Theory.Frames.{Made}
+use Rattle.rht_ghost.proofs.Theory.Steps.{mem, owners-stay}
 use Rattle.rht_core.proofs.Machines.EarlyPages.{IsThere}
 use Rattle.rht_core.proofs.Events.Invariants.{enrolled}
 use Rattle.rht_core.proofs.Events.PagesThere.{enrolled-there}

@@ -35,8 +35,8 @@ use Rattle.rht_core.proofs.Tracing.TracedRuns.{count-traced_of, traced_of-push, 
 use Rattle.rht_core.proofs.Tracing.TracedCallers.{inv_now, stays_in}
 use Rattle.rht_core.proofs.Tracing.TracedJobs.{busy-none, IsAtJob}
 use Rattle.rht_core.proofs.Tracing.RepliesInRuns.{Holds, Answered, runs-right}
-use Rattle.rht_core.proofs.Theory.Answering.{KnowsEarly, Says}
-use Rattle.rht_core.proofs.Theory.Steps.{mem, owners, ghost_after}
+use Rattle.rht_ghost.proofs.Theory.Answering.{KnowsEarly, Says}
+use Rattle.rht_ghost.proofs.Theory.Steps.{mem, owners, ghost_after}
 use Rattle.rht_core.proofs.Machines.EarlyPages.{IsThereNext}
 use Rattle.rht_core.proofs.Events.Invariants.{StepOf, step_of}
 use Rattle.rht_core.proofs.Events.PagesThere.{stepped-there}

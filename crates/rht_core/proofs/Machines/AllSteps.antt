@@ -27,17 +27,17 @@ use Rattle.rht_release.specs.Seek.{SeekModel, seek_plan, seek_after}
 use Rattle.rht_release.specs.declared.found_port.FoundPort.{FoundPort}
 use Rattle.rht_release.specs.declared.all.AllAt.{AllAt}
 use Rattle.rht_release.specs.declared.all.AllAt.TheVariants as at
-use Rattle.rht_core.proofs.Theory.Ghosts.{Ghost}
-use Rattle.rht_core.proofs.Theory.Wholes.{list_of, Whole}
-use Rattle.rht_core.proofs.Theory.Knowns.{Nowhere, Locks, Collected, CollectedTo, Known, last_of}
-use Rattle.rht_core.proofs.Theory.Knowledge.{plainly, Knowing}
-use Rattle.rht_core.proofs.Theory.Answering.{IsLegalOn, IsRight, Tells, keeps, learns}
-use Rattle.rht_core.proofs.Theory.Steps.{answered-map, Holding, mem, owners, owners_in, StepWhere, step-map, reads, HoldsNoneEarly, still_has}
-use Rattle.rht_core.proofs.Pieces.Locks.{unlock_step}
-use Rattle.rht_core.proofs.Pieces.Lists.{list_among, list_few, list_rest, found_list}
-use Rattle.rht_core.proofs.Pieces.Seeks as seeks
-use Rattle.rht_core.proofs.Pieces.Seeks.{in_list}
-use Rattle.rht_core.proofs.Machines.FindSteps.{known_nothing}
+use Rattle.rht_ghost.proofs.Theory.Ghosts.{Ghost}
+use Rattle.rht_ghost.proofs.Theory.Wholes.{list_of, Whole}
+use Rattle.rht_ghost.proofs.Theory.Knowns.{Nowhere, Locks, Collected, CollectedTo, Known, last_of}
+use Rattle.rht_ghost.proofs.Theory.Knowledge.{plainly, Knowing}
+use Rattle.rht_ghost.proofs.Theory.Answering.{IsLegalOn, IsRight, Tells, keeps, learns}
+use Rattle.rht_ghost.proofs.Theory.Steps.{answered-map, Holding, mem, owners, owners_in, StepWhere, step-map, reads, HoldsNoneEarly, still_has}
+use Rattle.rht_ghost.proofs.Pieces.Locks.{unlock_step}
+use Rattle.rht_ghost.proofs.Pieces.Lists.{list_among, list_few, list_rest, found_list}
+use Rattle.rht_core.proofs.Machines.Seeks as seeks
+use Rattle.rht_core.proofs.Machines.Seeks.{in_list}
+use Rattle.rht_ghost.proofs.Theory.Knowns.{known_nothing}
 use Rattle.rht_core.proofs.Machines.ReleaseStores.{here}
 
 module _ (port : ℕ) where

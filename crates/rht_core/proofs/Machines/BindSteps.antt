@@ -68,36 +68,36 @@ use Rattle.rht_bind.specs.declared.bind.growth.Refusal.TheVariants as refusals
 use Rattle.rht_bind.specs.declared.bind.FoundList.{FoundList}
 use Rattle.rht_bind.specs.declared.bind.BindAt.{BindAt}
 use Rattle.rht_bind.specs.declared.bind.BindAt.TheVariants as at
-use Rattle.rht_core.proofs.Theory.Ghosts.{put_in, put_in-all, PageOf, PageHeld, SlotHeld, Live, is_page_for, made_table, put, put-same, put-other, put-all, Held, First, Ghost, is_taken_by, index_at, table_at, with_armed, armed_by}
-use Rattle.rht_core.proofs.Theory.Wholes.{chain_of, key_of, place_at, word_index, place_at-index, index-within, Whole}
-use Rattle.rht_core.proofs.Theory.Passed.{home-table, Passed-stays}
-use Rattle.rht_core.proofs.Theory.Knowns.{KnownNode, KnownTable, KnownBucket, KnownList, Known, knows_plain, Nowhere, InSlot, Passes, AtHome, Unlocked, Locks, Missed, Found, Member, InList, FirstLink, Replaces, MakesNothing, HasPages, HasTaken, HasMade, Unlocks, Armed, OnWay}
-use Rattle.rht_core.proofs.Theory.Knowledge.{plainly, HasOnly, HasLock, HoldsLock, IsMember, Knowing, TableMeans, has_lock, idle_moves_none}
-use Rattle.rht_core.proofs.Theory.KnowledgeStays.{TableMeans-stay}
-use Rattle.rht_core.proofs.Theory.Frames.{Made, same_tables, same_grow, tables_stay}
+use Rattle.rht_ghost.proofs.Theory.Ghosts.{put_in, put_in-all, PageOf, PageHeld, SlotHeld, Live, is_page_for, made_table, put, put-same, put-other, put-all, Held, First, Ghost, is_taken_by, index_at, table_at, with_armed, armed_by}
+use Rattle.rht_ghost.proofs.Theory.Wholes.{chain_of, key_of, place_at, word_index, place_at-index, index-within, Whole}
+use Rattle.rht_ghost.proofs.Theory.Passed.{home-table, Passed-stays}
+use Rattle.rht_ghost.proofs.Theory.Knowns.{KnownNode, KnownTable, KnownBucket, KnownList, Known, knows_plain, Nowhere, InSlot, Passes, AtHome, Unlocked, Locks, Missed, Found, Member, InList, FirstLink, Replaces, MakesNothing, HasPages, HasTaken, HasMade, Unlocks, Armed, OnWay}
+use Rattle.rht_ghost.proofs.Theory.Knowledge.{plainly, HasOnly, HasLock, HoldsLock, IsMember, Knowing, TableMeans, has_lock, idle_moves_none}
+use Rattle.rht_ghost.proofs.Theory.KnowledgeStays.{TableMeans-stay}
+use Rattle.rht_ghost.proofs.Theory.Frames.{Made, same_tables, same_grow, tables_stay}
 use Rattle.rht_core.specs.Counts.{takes_out}
 use Rattle.rht_core.specs.Replies.{IsBindReply, AreOwnersWith, ArePairsWith}
-use Rattle.rht_core.proofs.Theory.Answering.{KeepsAnswer, IsLegalOn, IsRight, Tells, keeps, learns}
-use Rattle.rht_core.proofs.Theory.Steps.{answered-map, Attaches, Links, Rebinds, Holding, HoldsNoneEarly, by_test, mem, owners, owners_in, owners-stay, owners_in-stay, ghost_after, Moved, still_has, reowned-outs, Step, answered, reads, Arms, unchanged, moved}
-use Rattle.rht_core.proofs.Theory.Readiness.{IsAttaching, linked_bucket, IsReady, IsArming}
-use Rattle.rht_core.proofs.Moves.Quiet.{armed_passes, arm}
-use Rattle.rht_core.proofs.Moves.Linking.{link_head}
-use Rattle.rht_core.proofs.Moves.Relinking.{relink_address, relink_value}
-use Rattle.rht_core.proofs.Pieces.ListFronts.{lock_left, change, fronted, front_known, front_made, front_only, front_locks, front_outs}
-use Rattle.rht_core.proofs.Pieces.NewNodes as nodes
-use Rattle.rht_core.proofs.Pieces.RunPages.{first_run-none}
-use Rattle.rht_core.proofs.Theory.TableFrames.{Knowing-retabled}
-use Rattle.rht_core.proofs.Moves.Slots.{slot_word-apart}
-use Rattle.rht_core.proofs.Moves.Attaching.{is_page-for, attach, attached_kept}
-use Rattle.rht_core.proofs.Pieces.Holdings.{bare_slot, holding, knowing}
-use Rattle.rht_core.proofs.Pieces.Makes.{known_of_make, known_made, slot_made, made_with, make_step, known_given, slot_given, pages_given, unmake_step}
-use Rattle.rht_core.proofs.Pieces.Locates.{known_locate, first_passed, locate_step, LocateKnows, LocatedKnows, FutureIs, future_is, is_last}
-use Rattle.rht_core.proofs.Pieces.OpenEntries.{known_entered, known_growing, open_on_way, entered_on_way}
-use Rattle.rht_core.proofs.Pieces.Grows.{pages_grown, known_grown, table_of_grow, table_grown, grow_step}
-use Rattle.rht_core.proofs.Pieces.Locks.{unlock_step, unlock_any}
-use Rattle.rht_core.proofs.Pieces.Probes.{known_probe, known_found, place_of_probe, IsProbeFor, probed_by, ProbeKnows, probe_step}
-use Rattle.rht_core.proofs.Pieces.PortCounts.{raise_step}
-use Rattle.rht_core.proofs.Machines.FindSteps.{known_nothing, known_behind}
+use Rattle.rht_ghost.proofs.Theory.Answering.{KeepsAnswer, IsLegalOn, IsRight, Tells, keeps, learns}
+use Rattle.rht_ghost.proofs.Theory.Steps.{answered-map, Attaches, Links, Rebinds, Holding, HoldsNoneEarly, by_test, mem, owners, owners_in, owners-stay, owners_in-stay, ghost_after, Moved, still_has, reowned-outs, Step, answered, reads, Arms, unchanged, moved}
+use Rattle.rht_ghost.proofs.Theory.Readiness.{IsAttaching, linked_bucket, IsReady, IsArming}
+use Rattle.rht_ghost.proofs.Moves.Quiet.{armed_passes, arm}
+use Rattle.rht_ghost.proofs.Moves.Linking.{link_head}
+use Rattle.rht_ghost.proofs.Moves.Relinking.{relink_address, relink_value}
+use Rattle.rht_ghost.proofs.Pieces.ListFronts.{lock_left, change, fronted, front_known, front_made, front_only, front_locks, front_outs}
+use Rattle.rht_ghost.proofs.Pieces.NewNodes as nodes
+use Rattle.rht_ghost.proofs.Pieces.RunPages.{first_run-none}
+use Rattle.rht_ghost.proofs.Theory.TableFrames.{Knowing-retabled}
+use Rattle.rht_ghost.proofs.Moves.Slots.{slot_word-apart}
+use Rattle.rht_ghost.proofs.Moves.Attaching.{is_page-for, attach, attached_kept}
+use Rattle.rht_ghost.proofs.Pieces.Holdings.{bare_slot, holding, knowing}
+use Rattle.rht_ghost.proofs.Pieces.Makes.{known_of_make, known_made, slot_made, made_with, make_step, known_given, slot_given, pages_given, unmake_step}
+use Rattle.rht_ghost.proofs.Pieces.Locates.{known_locate, first_passed, locate_step, LocateKnows, LocatedKnows, FutureIs, future_is, is_last}
+use Rattle.rht_ghost.proofs.Pieces.OpenEntries.{known_entered, known_growing, open_on_way, entered_on_way}
+use Rattle.rht_ghost.proofs.Pieces.Grows.{pages_grown, known_grown, table_of_grow, table_grown, grow_step}
+use Rattle.rht_ghost.proofs.Pieces.Locks.{unlock_step, unlock_any}
+use Rattle.rht_ghost.proofs.Pieces.Probes.{known_probe, known_found, place_of_probe, IsProbeFor, probed_by, ProbeKnows, probe_step}
+use Rattle.rht_ghost.proofs.Pieces.PortCounts.{raise_step}
+use Rattle.rht_ghost.proofs.Theory.Knowns.{known_nothing, known_behind}
 
 -- what a call holds that links its node next
 abbrev holds_publishing : ℕ → ℕ → Holding

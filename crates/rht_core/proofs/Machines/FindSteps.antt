@@ -35,20 +35,17 @@ use Rattle.rht_find.specs.FindHeld as finds
 use Rattle.rht_release.specs.Seek.{early_of_locate}
 use Rattle.rht_find.specs.declared.find.FindAt.{FindAt}
 use Rattle.rht_find.specs.declared.find.FindAt.TheVariants as at
-use Rattle.rht_core.proofs.Theory.Ghosts.{Ghost}
-use Rattle.rht_core.proofs.Theory.Wholes.{word_index, Whole}
-use Rattle.rht_core.proofs.Theory.Knowns.{KnownTable, Nowhere, Passes, AtHome, KnownBucket, Unlocked, Locks, Missed, Member, Listing, Known, knows_plain}
-use Rattle.rht_core.proofs.Theory.Knowledge.{plainly, Knowing}
-use Rattle.rht_core.proofs.Theory.Answering.{KeepsAnswer, IsLegalOn, IsRight, KnowsEarly, TellsOrRecalls, none_early, keeps, learns, recalls}
-use Rattle.rht_core.proofs.Theory.Steps.{answered-map, Holding, mem, owners, owners_in, Moved, moved-map, StepWhere, answered_where, reads, HoldsNoneEarly, still_has}
-use Rattle.rht_core.proofs.Pieces.Locates.{known_locate, IsThereAt, first_passed, locate_step, LocateKnows, LocatedKnows, LocateSays, Recalls, locate_says, FutureIs, future_is}
-use Rattle.rht_core.proofs.Pieces.Locks.{unlock_step}
-use Rattle.rht_core.proofs.Pieces.Lists.{IsNextOf, list_next, list_among}
-use Rattle.rht_core.proofs.Pieces.Probes.{known_probe, known_found, place_of_probe, IsProbeFor, probed_by, ProbeKnows, probe_step}
-
--- what a caller knows in no call
-abbrev pub known_nothing : Known
-known_nothing = knows_plain None Nowhere Unlocked
+use Rattle.rht_ghost.proofs.Theory.Ghosts.{Ghost}
+use Rattle.rht_ghost.proofs.Theory.Wholes.{word_index, Whole}
+use Rattle.rht_ghost.proofs.Theory.Knowns.{KnownTable, Nowhere, Passes, AtHome, KnownBucket, Unlocked, Locks, Missed, Member, Listing, Known, knows_plain}
+use Rattle.rht_ghost.proofs.Theory.Knowledge.{plainly, Knowing}
+use Rattle.rht_ghost.proofs.Theory.Answering.{KeepsAnswer, IsLegalOn, IsRight, KnowsEarly, TellsOrRecalls, none_early, keeps, learns, recalls}
+use Rattle.rht_ghost.proofs.Theory.Steps.{answered-map, Holding, mem, owners, owners_in, Moved, moved-map, StepWhere, answered_where, reads, HoldsNoneEarly, still_has}
+use Rattle.rht_ghost.proofs.Pieces.Locates.{known_locate, IsThereAt, first_passed, locate_step, LocateKnows, LocatedKnows, LocateSays, Recalls, locate_says, FutureIs, future_is}
+use Rattle.rht_ghost.proofs.Pieces.Locks.{unlock_step}
+use Rattle.rht_ghost.proofs.Pieces.Lists.{IsNextOf, list_next, list_among}
+use Rattle.rht_ghost.proofs.Pieces.Probes.{known_probe, known_found, place_of_probe, IsProbeFor, probed_by, ProbeKnows, probe_step}
+use Rattle.rht_ghost.proofs.Theory.Knowns.{known_nothing, known_behind}
 
 -- what a call holds that has nothing but this lock
 abbrev at_lock : Option ℕ → Holding
@@ -77,11 +74,6 @@ find_there_next (at, Done reply) M = ⊥
 early_is : (at : LocateAt) → finds.early_of_locate at ≡ early_of_locate (plain Missing) at
 early_is (locates.Entry shape None place) = refl
 early_is _ = refl
-
--- where the call goes on behind an unlocking, the port has been passed there
-abbrev pub known_behind : ℕ → Then Reply → KnownTable
-known_behind port (Table table) = Passes port table
-known_behind port (Answer reply) = Nowhere
 
 module _ (port : ℕ) where
   abbrev at_home : ℕ → Locked → KnownTable

@@ -37,15 +37,16 @@ use Rattle.rht_release.specs.declared.rebind.RebindAt.{RebindAt}
 use Rattle.rht_move.specs.Work.{IsWorkAtIn}
 use Rattle.rht_move.specs.Work as work_at
 use Rattle.rht_move.specs.declared.work.WorkAt.{WorkAt}
-use Rattle.rht_core.proofs.Theory.Ghosts.{Ghost}
-use Rattle.rht_core.proofs.Theory.Wholes.{Whole}
-use Rattle.rht_core.proofs.Theory.Knowns.{Known}
-use Rattle.rht_core.proofs.Theory.Knowledge.{Knowing}
-use Rattle.rht_core.proofs.Theory.Reliance.{Rely}
-use Rattle.rht_core.proofs.Theory.KnowledgeKept.{Knowing-rely}
-use Rattle.rht_core.proofs.Theory.Steps.{mem, Holding, Step, StepWhere, step-map, reads}
+use Rattle.rht_ghost.proofs.Theory.Ghosts.{Ghost}
+use Rattle.rht_ghost.proofs.Theory.Wholes.{Whole}
+use Rattle.rht_ghost.proofs.Theory.Knowns.{Known}
+use Rattle.rht_ghost.proofs.Theory.Knowledge.{Knowing}
+use Rattle.rht_ghost.proofs.Theory.Reliance.{Rely}
+use Rattle.rht_ghost.proofs.Theory.KnowledgeKept.{Knowing-rely}
+use Rattle.rht_ghost.proofs.Theory.Steps.{mem, Holding, Step, StepWhere, step-map, reads}
 use Rattle.rht_core.proofs.Machines.EarlyPages.{IsThere, IsThereNext}
-use Rattle.rht_core.proofs.Machines.FindSteps.{known_nothing, known_of_find, fits_find, find_there, find_there_next, find_holds, FindNext, find_step}
+use Rattle.rht_ghost.proofs.Theory.Knowns.{known_nothing}
+use Rattle.rht_core.proofs.Machines.FindSteps.{known_of_find, fits_find, find_there, find_there_next, find_holds, FindNext, find_step}
 use Rattle.rht_core.proofs.Machines.BindSteps.{known_of_bind, fits_bind, bind_holds, BindNext, bind_step}
 use Rattle.rht_core.proofs.Machines.AllSteps.{known_of_all, fits_all, all_there, all_there_next, all_holds, AllNext, all_step}
 use Rattle.rht_core.proofs.Machines.ReleaseSteps.{known_of_release, fits_release, release_there, release_there_next, release_holds, ReleaseNext, nothing_known, release_step}

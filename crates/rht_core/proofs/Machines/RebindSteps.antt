@@ -36,25 +36,25 @@ use Rattle.rht_release.specs.declared.found_port.FoundPort.{FoundPort}
 use Rattle.rht_release.specs.declared.rebind.RebindAt.{RebindAt}
 use Rattle.rht_release.specs.declared.rebind.RebindAt.TheVariants as at
 use Rattle.rht_core.specs.Replies.{IsRebindReply, AreOwnersWith, ArePairsWith}
-use Rattle.rht_core.proofs.Theory.Ghosts.{put-same, put-other, First, Taken, Ghost, is_taken_by, held_not_first, taken_by_one, index_at}
-use Rattle.rht_core.proofs.Theory.Wholes.{word_index, place_at, place_at-index, outs, Whole, MovesNone}
-use Rattle.rht_core.proofs.Theory.Passed.{stays_in}
-use Rattle.rht_core.proofs.Theory.Knowns.{KnownNode, Nowhere, KnownBucket, Unlocked, Locks, Leads, LeadsTo, Succeeds, Known, first_of_list, knows_plain, KnownList}
-use Rattle.rht_core.proofs.Theory.Knowledge.{plainly, HasOnly, HoldsLock, HasTakenOut, Knowing, idle_moves_none, IsAtHome}
-use Rattle.rht_core.proofs.Theory.Frames.{Made}
-use Rattle.rht_core.proofs.Theory.Readiness.{Change, changed}
-use Rattle.rht_core.proofs.Theory.Answering.{KeepsAnswer, IsLegalOn, IsRight, Stills, ChangesBindings, Says, Tells, keeps, learns}
-use Rattle.rht_core.proofs.Theory.Steps.{answered-map, Rebinds, Holding, HoldsNoneEarly, by_test, mem, owners, owners_in, owners-stay, Moved, StepWhere, Step, step-map, with_answer, reads, HasNodeInTime, still_has}
-use Rattle.rht_core.proofs.Moves.Relinking.{relink_address, relink_value}
-use Rattle.rht_core.proofs.Moves.Removing as removing
-use Rattle.rht_core.proofs.Moves.Removing.{IsFoundIn, CanReplace}
-use Rattle.rht_core.proofs.Pieces.NewNodes as nodes
-use Rattle.rht_core.proofs.Pieces.Locks.{unlock_step, unlock_taken}
-use Rattle.rht_core.proofs.Pieces.Lists.{list_among, found_list}
-use Rattle.rht_core.proofs.Pieces.Seeks as seeks
-use Rattle.rht_core.proofs.Pieces.Seeks.{in_list}
-use Rattle.rht_core.proofs.Pieces.Rebounds.{IsTakenWith, taken_then, taken_more, only_left}
-use Rattle.rht_core.proofs.Pieces.Relinks.{relinking, unstored, relinking_so, lock_left, first_store, relink_write, relink_behind_maps, relink_leaves, holder_left, lock_kept}
+use Rattle.rht_ghost.proofs.Theory.Ghosts.{put-same, put-other, First, Taken, Ghost, is_taken_by, held_not_first, taken_by_one, index_at}
+use Rattle.rht_ghost.proofs.Theory.Wholes.{word_index, place_at, place_at-index, outs, Whole, MovesNone}
+use Rattle.rht_ghost.proofs.Theory.Passed.{stays_in}
+use Rattle.rht_ghost.proofs.Theory.Knowns.{KnownNode, Nowhere, KnownBucket, Unlocked, Locks, Leads, LeadsTo, Succeeds, Known, first_of_list, knows_plain, KnownList}
+use Rattle.rht_ghost.proofs.Theory.Knowledge.{plainly, HasOnly, HoldsLock, HasTakenOut, Knowing, idle_moves_none, IsAtHome}
+use Rattle.rht_ghost.proofs.Theory.Frames.{Made}
+use Rattle.rht_ghost.proofs.Theory.Readiness.{Change, changed}
+use Rattle.rht_ghost.proofs.Theory.Answering.{KeepsAnswer, IsLegalOn, IsRight, Stills, ChangesBindings, Says, Tells, keeps, learns}
+use Rattle.rht_ghost.proofs.Theory.Steps.{answered-map, Rebinds, Holding, HoldsNoneEarly, by_test, mem, owners, owners_in, owners-stay, Moved, StepWhere, Step, step-map, with_answer, reads, HasNodeInTime, still_has}
+use Rattle.rht_ghost.proofs.Moves.Relinking.{relink_address, relink_value}
+use Rattle.rht_ghost.proofs.Moves.Removing as removing
+use Rattle.rht_ghost.proofs.Moves.Removing.{IsFoundIn, CanReplace}
+use Rattle.rht_ghost.proofs.Pieces.NewNodes as nodes
+use Rattle.rht_ghost.proofs.Pieces.Locks.{unlock_step, unlock_taken}
+use Rattle.rht_ghost.proofs.Pieces.Lists.{list_among, found_list}
+use Rattle.rht_core.proofs.Machines.Seeks as seeks
+use Rattle.rht_core.proofs.Machines.Seeks.{in_list}
+use Rattle.rht_ghost.proofs.Pieces.Rebounds.{IsTakenWith, taken_then, taken_more, only_left}
+use Rattle.rht_ghost.proofs.Pieces.Relinks.{relinking, unstored, relinking_so, lock_left, first_store, relink_write, relink_behind_maps, relink_leaves, holder_left, lock_kept}
 use Rattle.rht_core.proofs.Machines.ReleaseStores.{here, locks_taken}
 use Rattle.rht_core.proofs.Machines.ReleaseSteps.{known_removed}
 

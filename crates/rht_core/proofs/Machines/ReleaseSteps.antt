@@ -37,22 +37,22 @@ use Rattle.rht_release.specs.Seek.{SeekModel, seek_plan, seek_after}
 use Rattle.rht_release.specs.declared.found_port.FoundPort.{FoundPort}
 use Rattle.rht_release.specs.declared.release.ReleaseAt.{ReleaseAt}
 use Rattle.rht_release.specs.declared.release.ReleaseAt.TheVariants as at
-use Rattle.rht_core.proofs.Theory.Ghosts.{is_first, put-same, First, Behind, Ghost}
-use Rattle.rht_core.proofs.Theory.Wholes.{chain_of, list_of, word_index, Whole}
-use Rattle.rht_core.proofs.Theory.Knowns.{Nowhere, KnownBucket, Locks, TakenOut, LocksTakenOut, KnownList, AtNode, Differing, Matching, CutsOut, Leads, LeadsTo, Promotes, Known, NoOwner, list_link, first_of_list}
-use Rattle.rht_core.proofs.Theory.Knowledge.{plainly, Knowing, ListMeans}
-use Rattle.rht_core.proofs.Theory.Answering.{KeepsAnswer, IsLegalOn, IsRight, keeps, learns}
-use Rattle.rht_core.proofs.Theory.Steps.{answered-map, Lowers, LinksBehind, Holding, HoldsNoneEarly, by_test, mem, owners, owners_in, moved, StepWhere, Step, step-map, answered, reads, still_has}
-use Rattle.rht_core.proofs.Moves.Quiet.{count_down}
-use Rattle.rht_core.proofs.Moves.TakenNodes.{chain_behind}
-use Rattle.rht_core.proofs.Moves.Relinking.{last_none, last_of-more}
-use Rattle.rht_core.proofs.Pieces.Locks.{unlock_step, unlock_taken}
-use Rattle.rht_core.proofs.Pieces.Lists.{segment_link, list_link-names, list_among, list_rest, found_list}
-use Rattle.rht_core.proofs.Pieces.Rebounds.{found_kept}
-use Rattle.rht_core.proofs.Pieces.Relinks.{relinking, unstored, relinking_so}
-use Rattle.rht_core.proofs.Pieces.Seeks.{in_list}
-use Rattle.rht_core.proofs.Pieces.Seeks as seeks
-use Rattle.rht_core.proofs.Machines.FindSteps.{known_nothing}
+use Rattle.rht_ghost.proofs.Theory.Ghosts.{is_first, put-same, First, Behind, Ghost}
+use Rattle.rht_ghost.proofs.Theory.Wholes.{chain_of, list_of, word_index, Whole}
+use Rattle.rht_ghost.proofs.Theory.Knowns.{Nowhere, KnownBucket, Locks, TakenOut, LocksTakenOut, KnownList, AtNode, Differing, Matching, CutsOut, Leads, LeadsTo, Promotes, Known, NoOwner, list_link, first_of_list}
+use Rattle.rht_ghost.proofs.Theory.Knowledge.{plainly, Knowing, ListMeans}
+use Rattle.rht_ghost.proofs.Theory.Answering.{KeepsAnswer, IsLegalOn, IsRight, keeps, learns}
+use Rattle.rht_ghost.proofs.Theory.Steps.{answered-map, Lowers, LinksBehind, Holding, HoldsNoneEarly, by_test, mem, owners, owners_in, moved, StepWhere, Step, step-map, answered, reads, still_has}
+use Rattle.rht_ghost.proofs.Moves.Quiet.{count_down}
+use Rattle.rht_ghost.proofs.Moves.TakenNodes.{chain_behind}
+use Rattle.rht_ghost.proofs.Moves.Relinking.{last_none, last_of-more}
+use Rattle.rht_ghost.proofs.Pieces.Locks.{unlock_step, unlock_taken}
+use Rattle.rht_ghost.proofs.Pieces.Lists.{segment_link, list_link-names, list_among, list_rest, found_list}
+use Rattle.rht_ghost.proofs.Pieces.Rebounds.{found_kept}
+use Rattle.rht_ghost.proofs.Pieces.Relinks.{relinking, unstored, relinking_so}
+use Rattle.rht_core.proofs.Machines.Seeks.{in_list}
+use Rattle.rht_core.proofs.Machines.Seeks as seeks
+use Rattle.rht_ghost.proofs.Theory.Knowns.{known_nothing}
 use Rattle.rht_core.proofs.Machines.ReleaseStores.{here, listed, locks_taken, known_left, holds_left}
 use Rattle.rht_core.proofs.Machines.ReleaseStores as stores
 

@@ -26,22 +26,22 @@ use Rattle.rht_model.proofs.ReleasedOwners.{release_reply-there, owners_released
 use Rattle.rht_release.specs.ReleaseHeld.{holds_bucket, holds_removed}
 use Rattle.rht_release.specs.FoundPort.{relink_of}
 use Rattle.rht_release.specs.declared.found_port.FoundPort.{FoundPort}
-use Rattle.rht_core.proofs.Theory.Ghosts.{index_at, put-same, put-other, Bucket, Owner, Held, First, Taken, Ghost, is_taken_by, taken_by_one}
-use Rattle.rht_core.proofs.Theory.Wholes.{list_of, place_at, word_index, place_at-index, MovesNone, Whole, outs as count_outs}
-use Rattle.rht_core.proofs.Theory.Knowns.{knows_plain, Nowhere, KnownBucket, TakenOut, LocksTakenOut, KnownList, CutsOut, LeadsTo, Promotes, Known, NoOwner, last_of, first_of_list}
-use Rattle.rht_core.proofs.Theory.Knowledge.{plainly, HasOnly, idle_moves_none, HoldsLock, IsAtHome, HasTakenOut, Knowing, IsFound, BucketMeans}
-use Rattle.rht_core.proofs.Theory.Passed.{stays_in}
-use Rattle.rht_core.proofs.Theory.Frames.{Made}
-use Rattle.rht_core.proofs.Theory.Readiness.{Change, changed, IsRebinding}
-use Rattle.rht_core.proofs.Theory.Answering.{IsRight, ChangesBindings}
-use Rattle.rht_core.proofs.Theory.Steps.{Rebinds, Holding, mem, owners, owners_in, owners-stay, Step, still_has}
-use Rattle.rht_core.proofs.Moves.Relinking.{relink_address, relink_value, relinked, last_in}
-use Rattle.rht_core.proofs.Moves.Removing.{IsFoundIn, CanReplace, unlink, replace, unlinking_known, replacing_known}
-use Rattle.rht_core.proofs.Moves.ListCuts.{cut_list, cutting_known}
-use Rattle.rht_core.proofs.Pieces.Lists.{segment_link, list_among, list_rest}
-use Rattle.rht_core.proofs.Pieces.Rebounds.{IsTakenWith, taken_then, taken_more, only_rebound, owners_kept, node_behind_maps}
-use Rattle.rht_core.proofs.Pieces.Seeks.{home_of, in_list}
-use Rattle.rht_core.proofs.Pieces.Relinks.{lock_left, relink_write, relink_behind_maps, holder_left, lock_kept}
+use Rattle.rht_ghost.proofs.Theory.Ghosts.{index_at, put-same, put-other, Bucket, Owner, Held, First, Taken, Ghost, is_taken_by, taken_by_one}
+use Rattle.rht_ghost.proofs.Theory.Wholes.{list_of, place_at, word_index, place_at-index, MovesNone, Whole, outs as count_outs}
+use Rattle.rht_ghost.proofs.Theory.Knowns.{knows_plain, Nowhere, KnownBucket, TakenOut, LocksTakenOut, KnownList, CutsOut, LeadsTo, Promotes, Known, NoOwner, last_of, first_of_list}
+use Rattle.rht_ghost.proofs.Theory.Knowledge.{plainly, HasOnly, idle_moves_none, HoldsLock, IsAtHome, HasTakenOut, Knowing, IsFound, BucketMeans}
+use Rattle.rht_ghost.proofs.Theory.Passed.{stays_in}
+use Rattle.rht_ghost.proofs.Theory.Frames.{Made}
+use Rattle.rht_ghost.proofs.Theory.Readiness.{Change, changed, IsRebinding}
+use Rattle.rht_ghost.proofs.Theory.Answering.{IsRight, ChangesBindings}
+use Rattle.rht_ghost.proofs.Theory.Steps.{Rebinds, Holding, mem, owners, owners_in, owners-stay, Step, still_has}
+use Rattle.rht_ghost.proofs.Moves.Relinking.{relink_address, relink_value, relinked, last_in}
+use Rattle.rht_ghost.proofs.Moves.Removing.{IsFoundIn, CanReplace, unlink, replace, unlinking_known, replacing_known}
+use Rattle.rht_ghost.proofs.Moves.ListCuts.{cut_list, cutting_known}
+use Rattle.rht_ghost.proofs.Pieces.Lists.{segment_link, list_among, list_rest}
+use Rattle.rht_ghost.proofs.Pieces.Rebounds.{IsTakenWith, taken_then, taken_more, only_rebound, owners_kept, node_behind_maps}
+use Rattle.rht_core.proofs.Machines.Seeks.{home_of, in_list}
+use Rattle.rht_ghost.proofs.Pieces.Relinks.{lock_left, relink_write, relink_behind_maps, holder_left, lock_kept}
 
 -- what is known of the bucket alone
 abbrev pub here : KnownBucket → Known

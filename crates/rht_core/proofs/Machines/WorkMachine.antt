@@ -54,19 +54,19 @@ use Rattle.rht_move.specs.Work.{plan_at, after_at, begun, made, not_made, unmade
 use Rattle.rht_move.specs.WorkHeld.{holds_work, holds_table, holds_moving, has_moved, held_of_work}
 use Rattle.rht_core.specs.Counts.{takes_out}
 use Rattle.rht_core.specs.Replies.{IsWorkReply, AreOwnersWith, ArePairsWith}
-use Rattle.rht_core.proofs.Theory.Ghosts.{Ghost}
-use Rattle.rht_core.proofs.Theory.Wholes.{place_at-index, Whole}
-use Rattle.rht_core.proofs.Theory.Knowns.{Known, KnownMaking, MakesNothing, HasTaken, HasMade, KnownAim, NoAim, Onward, From, Beyond, KnownRehash, KnownPlace, KnownEntry, KnownWork, NoWork, Works, Rooted, Follows, Empties, LeavesBehind, Nears, Faces, InBucket, Bare, AtEntry, AtTail, Aims, Brings, TakesOut, HasBrought}
-use Rattle.rht_core.proofs.Theory.Knowledge.{WorkMeans, Means, Only, Knowing}
-use Rattle.rht_core.proofs.Theory.Answering.{Tells, keeps}
-use Rattle.rht_core.proofs.Theory.Steps.{answered-map, Holding, mem, owners, Moved, moved-map, with_knowledge, with_answer, Step, still_has}
-use Rattle.rht_core.proofs.Pieces.Holdings.{bare_slot}
-use Rattle.rht_core.proofs.Pieces.Makes.{known_of_make, slot_made, made_with, known_made, make_step, slot_given, pages_given, known_given, unmake_step}
-use Rattle.rht_core.proofs.Pieces.Attaches.{attach_step, lose_attach_step}
-use Rattle.rht_core.proofs.Pieces.WorkLoads.{last_sought, aim_sought, first_known, next_known, root_seen, from_root, root_alone, other_behind, future_behind, last_seen, future_seen, shape_seen, faces_seen, nears_seen, led_by, passed_by, nears_on, faces_behind, from_current, aim_seen, aim_shape, aim_seed, word_seen, first_seen, next_seen, key_seen}
-use Rattle.rht_core.proofs.Pieces.WorkSteps.{knows_work, locked_by, LockWorks, work_loads, lock_work_step, unlock_work_step}
-use Rattle.rht_core.proofs.Pieces.WorkStores.{second_by, SecondWorks, take_work_step, lose_work_step, give_work_step, begin_moving_step, stop_step, lock_second_step, leave_step, arrive_step, cut_step, publish_step, retire_step}
-use Rattle.rht_core.proofs.Machines.FindSteps.{known_nothing}
+use Rattle.rht_ghost.proofs.Theory.Ghosts.{Ghost}
+use Rattle.rht_ghost.proofs.Theory.Wholes.{place_at-index, Whole}
+use Rattle.rht_ghost.proofs.Theory.Knowns.{Known, KnownMaking, MakesNothing, HasTaken, HasMade, KnownAim, NoAim, Onward, From, Beyond, KnownRehash, KnownPlace, KnownEntry, KnownWork, NoWork, Works, Rooted, Follows, Empties, LeavesBehind, Nears, Faces, InBucket, Bare, AtEntry, AtTail, Aims, Brings, TakesOut, HasBrought}
+use Rattle.rht_ghost.proofs.Theory.Knowledge.{WorkMeans, Means, Only, Knowing}
+use Rattle.rht_ghost.proofs.Theory.Answering.{Tells, keeps}
+use Rattle.rht_ghost.proofs.Theory.Steps.{answered-map, Holding, mem, owners, Moved, moved-map, with_knowledge, with_answer, Step, still_has}
+use Rattle.rht_ghost.proofs.Pieces.Holdings.{bare_slot}
+use Rattle.rht_ghost.proofs.Pieces.Makes.{known_of_make, slot_made, made_with, known_made, make_step, slot_given, pages_given, known_given, unmake_step}
+use Rattle.rht_ghost.proofs.Pieces.Attaches.{attach_step, lose_attach_step}
+use Rattle.rht_ghost.proofs.Pieces.WorkLoads.{last_sought, aim_sought, first_known, next_known, root_seen, from_root, root_alone, other_behind, future_behind, last_seen, future_seen, shape_seen, faces_seen, nears_seen, led_by, passed_by, nears_on, faces_behind, from_current, aim_seen, aim_shape, aim_seed, word_seen, first_seen, next_seen, key_seen}
+use Rattle.rht_ghost.proofs.Pieces.WorkSteps.{knows_work, locked_by, LockWorks, work_loads, lock_work_step, unlock_work_step}
+use Rattle.rht_ghost.proofs.Pieces.WorkStores.{second_by, SecondWorks, take_work_step, lose_work_step, give_work_step, begin_moving_step, stop_step, lock_second_step, leave_step, arrive_step, cut_step, publish_step, retire_step}
+use Rattle.rht_ghost.proofs.Theory.Knowns.{known_nothing}
 
 -- ---- what is known
 

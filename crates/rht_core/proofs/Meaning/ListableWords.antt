@@ -8,10 +8,10 @@ use Rattle.rht_core.specs.declared.event.Event.{Event}
 use Rattle.rht_core.specs.Runs.{run_of, IsAdmitted}
 use Rattle.rht_core.specs.StandsFor.{nodes_of}
 use Rattle.rht_core.specs.Closing.{IsListable}
-use Rattle.rht_core.proofs.Theory.Ghosts.{Owner, Free, Held, First, Leaving, Behind, Taken, Ghost, seat_of}
-use Rattle.rht_core.proofs.Theory.Wholes.{key_of, Whole}
-use Rattle.rht_core.proofs.Theory.Steps.{mem}
-use Rattle.rht_core.proofs.Pieces.Lists.{list_among}
+use Rattle.rht_ghost.proofs.Theory.Ghosts.{Owner, Free, Held, First, Leaving, Behind, Taken, Ghost, seat_of}
+use Rattle.rht_ghost.proofs.Theory.Wholes.{key_of, Whole}
+use Rattle.rht_ghost.proofs.Theory.Steps.{mem}
+use Rattle.rht_ghost.proofs.Pieces.Lists.{list_among}
 use Rattle.rht_core.proofs.Meaning.BoundPorts.{met_bound, first_bound, listed_bound}
 use Rattle.rht_core.proofs.Events.InvariantRuns.{has_inv}
 

@@ -11,9 +11,9 @@ use Rattle.rht_words.proofs.LinksRead.{entries_come_back}
 use Rattle.rht_words.specs.Members.{In, IsDistinct, NotIn}
 use Rattle.rht_words.proofs.Members.{count_below-most, length-count_below}
 use Rattle.rht_core.specs.StandsFor.{in_force, tables_from}
-use Rattle.rht_core.proofs.Theory.Ghosts.{Ghost, index_at}
-use Rattle.rht_core.proofs.Theory.Wholes.{Whole}
-use Rattle.rht_core.proofs.Theory.Steps.{mem}
+use Rattle.rht_ghost.proofs.Theory.Ghosts.{Ghost, index_at}
+use Rattle.rht_ghost.proofs.Theory.Wholes.{Whole}
+use Rattle.rht_ghost.proofs.Theory.Steps.{mem}
 
 module _ (env : Env) (mix : ℕ → ℕ → ℕ → ℕ) (words : List ℕ) (G : Ghost)
     (whole : Whole env mix (mem env mix words) G) where

@@ -75,7 +75,7 @@ use Rattle.rht_bind.specs.declared.bind.BindAt.{BindAt}
 use Rattle.rht_bind.specs.declared.bind.BindAt.TheVariants as at
 use Rattle.rht_core.specs.Traces.{Did}
 use Rattle.rht_core.specs.ResizeCauses.{AttachesSome}
-use Rattle.rht_core.proofs.Theory.Steps.{by_test}
+use Rattle.rht_ghost.proofs.Theory.Steps.{by_test}
 
 -- whether a bind in this state has attached a table, where it is still to say so
 abbrev pub attached_at : BindAt → Option Bool

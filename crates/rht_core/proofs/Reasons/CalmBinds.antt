@@ -44,7 +44,7 @@ use Rattle.rht_core.specs.Jobs.{binds}
 use Rattle.rht_core.specs.ResizeCauses.{AreCounted}
 use Rattle.rht_core.specs.StandsFor.{stands_for, AreBound}
 use Rattle.rht_core.specs.Traces.{Did}
-use Rattle.rht_core.proofs.Theory.Steps.{by_test}
+use Rattle.rht_ghost.proofs.Theory.Steps.{by_test}
 use Rattle.rht_core.proofs.Tracing.TracedJobs.{Performs}
 use Rattle.rht_core.proofs.Reasons.CausesInRuns.{SawAt}
 use Rattle.rht_core.proofs.Counting.SparedSlots.{SparesSlots, by_load, at_node, new_node-spares, give_node-spares, locate-spares, probe-spares, relink-spares, unlock-spares}

@@ -47,7 +47,7 @@ use Rattle.rht_core.specs.Jobs.{Job, binds, works}
 use Rattle.rht_core.specs.FewPorts.{IsNoTableMade, IsCallTaken}
 use Rattle.rht_core.specs.StandsFor.{stands_for, AreBound}
 use Rattle.rht_core.specs.Traces.{Did}
-use Rattle.rht_core.proofs.Theory.Steps.{by_test}
+use Rattle.rht_ghost.proofs.Theory.Steps.{by_test}
 use Rattle.rht_core.proofs.Tracing.TracedJobs.{Performs}
 use Rattle.rht_core.proofs.Reasons.CalmBinds.{CalmBind, IsCalmAt}
 use Rattle.rht_bind.specs.Bind.{plan_at, IsBindAtIn}

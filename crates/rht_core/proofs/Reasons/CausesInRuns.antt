@@ -110,11 +110,11 @@ use Rattle.rht_release.specs.declared.rebind.RebindAt.TheVariants as rebinds_at
 use Rattle.rht_words.specs.Ports.{owner_of}
 use Rattle.rht_words.specs.Machines.{GoesOrEnds}
 use Rattle.rht_core.proofs.Tracing.RepliesInRuns.{Holds, Answered, runs-right}
-use Rattle.rht_core.proofs.Theory.Ghosts.{Ghost, has_table, index_at}
-use Rattle.rht_core.proofs.Theory.Wholes.{future_in, Whole}
-use Rattle.rht_core.proofs.Theory.Knowledge.{TableMeans}
-use Rattle.rht_core.proofs.Theory.Knowns.{OnWay}
-use Rattle.rht_core.proofs.Pieces.Locates.{known_locate}
+use Rattle.rht_ghost.proofs.Theory.Ghosts.{Ghost, has_table, index_at}
+use Rattle.rht_ghost.proofs.Theory.Wholes.{future_in, Whole}
+use Rattle.rht_ghost.proofs.Theory.Knowledge.{TableMeans}
+use Rattle.rht_ghost.proofs.Theory.Knowns.{OnWay}
+use Rattle.rht_ghost.proofs.Pieces.Locates.{known_locate}
 use Rattle.rht_core.proofs.Reasons.PagesMissed.{SawGrowing, SawGrown, grow-saw, SeesNoFuture, SeesMissing, begins-missing, missing-early, SeesMissing-push, SawNoPage-push, misses-page}
 use Rattle.rht_core.proofs.Tracing.TracesAtEvents.{at_events}
 use Rattle.rht_core.proofs.Tracing.TracedJobs.{Performs, StandsIn, LeadsOn, IsEndedSo, jobs_keep_standing}
@@ -130,7 +130,7 @@ use Rattle.rht_core.proofs.Reasons.UnraisedBinds.{grow-none, SawUnraised, unrais
 use Rattle.rht_core.proofs.Reasons.RefusedBinds.{no_slot, no_key-future, Behind, Behind-push, SawWhy, SawWhy-push, SawRoot, SawOther, SawRefusal, SawToMake, SawFullUp, refusal-why, Settled, IsFollowing, FollowedSeen, FollowedSeen-push, BusySeen, BusySeen-push, NoTableSeen, NoTableSeen-push, above-why, root-saw, begins-making, other-saw, making-saw, no_room-saw, busy-saw, no_table-saw, followed-saw}
 use Rattle.rht_core.proofs.Counting.CountedNodes.{raise_few, load_few, lower_few}
 use Rattle.rht_core.proofs.Reasons.ReleaseKicks.{SawRelease, SawForRelease, release-saw, kicks_right}
-use Rattle.rht_core.proofs.Theory.Steps.{mem, by_test}
+use Rattle.rht_ghost.proofs.Theory.Steps.{mem, by_test}
 
 -- ---- what a bind has seen
 

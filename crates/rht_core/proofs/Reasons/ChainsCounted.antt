@@ -36,12 +36,12 @@ use Rattle.rht_chain.specs.declared.probe.Probed.{Probed}
 use Rattle.rht_core.specs.Traces.{Did}
 use Rattle.rht_core.specs.StandsFor.{bucket_in, bucket_nodes, stands_for, AreBound}
 use Rattle.rht_core.specs.ResizeCauses.{IsNoKeyLoad, CountsNode, AreCounted, FindsBucketAt, SawLongChain}
-use Rattle.rht_core.proofs.Theory.Ghosts.{Ghost, index_at}
-use Rattle.rht_core.proofs.Theory.Wholes.{word_index, hash_in, place_at-index, index-within, Whole}
-use Rattle.rht_core.proofs.Theory.Passed.{hash-below, held-no_entry}
-use Rattle.rht_core.proofs.Theory.Knowledge.{IsAtHome, IsReaching, BucketMeans}
-use Rattle.rht_core.proofs.Theory.Steps.{mem, by_test}
-use Rattle.rht_core.proofs.Pieces.Probes.{place_of_probe, known_walk, known_probe, one_more-counted}
+use Rattle.rht_ghost.proofs.Theory.Ghosts.{Ghost, index_at}
+use Rattle.rht_ghost.proofs.Theory.Wholes.{word_index, hash_in, place_at-index, index-within, Whole}
+use Rattle.rht_ghost.proofs.Theory.Passed.{hash-below, held-no_entry}
+use Rattle.rht_ghost.proofs.Theory.Knowledge.{IsAtHome, IsReaching, BucketMeans}
+use Rattle.rht_ghost.proofs.Theory.Steps.{mem, by_test}
+use Rattle.rht_ghost.proofs.Pieces.Probes.{place_of_probe, known_walk, known_probe, one_more-counted}
 use Rattle.rht_core.proofs.Events.BucketsThere.{StaysAt, BucketsStay}
 use Rattle.rht_core.proofs.Meaning.BoundPorts.{still_met}
 use Rattle.rht_core.proofs.Counting.CountedPorts.{members-AreBound}

@@ -55,7 +55,7 @@ use Rattle.rht_core.specs.Locals.{room_for_nodes}
 use Rattle.rht_core.specs.Jobs.{Job, finds, binds, lists, releases, rebinds, works, counts, call_of, first_rebind, first_job, job_next, job_after, listing_ending, node_ending}
 use Rattle.rht_core.specs.Traces.{Did}
 use Rattle.rht_core.specs.ListedOwners.{is_owner_word, loads_owner, owner_loaded, owners_loaded, ListedOwners}
-use Rattle.rht_core.proofs.Theory.Steps.{mem}
+use Rattle.rht_ghost.proofs.Theory.Steps.{mem}
 use Rattle.rht_core.proofs.Machines.AllSteps.{AllKnows, kept}
 use Rattle.rht_core.proofs.Tracing.TracedJobs.{Performs, LeadsOn, jobs_keep}
 

@@ -51,8 +51,8 @@ use Rattle.rht_move.specs.LastEntry.{LastEntryModel, last_entry_after}
 use Rattle.rht_move.specs.Work.{plan_at, after_at, lock_seen, last_seen, begun, made, not_made, attached, future_or_idle, bucket_of_root, next_bucket, entry_passed, locked, unlocking, entry_table_seen, with_word, entry_or_empty, walked, second_locked, cut_off, unlocked_bucket, retiring, reply_of}
 use Rattle.rht_core.specs.Jobs.{works}
 use Rattle.rht_core.specs.Traces.{Did}
-use Rattle.rht_core.proofs.Theory.Ghosts.{has_table, index_at}
-use Rattle.rht_core.proofs.Theory.Steps.{mem, by_test}
+use Rattle.rht_ghost.proofs.Theory.Ghosts.{has_table, index_at}
+use Rattle.rht_ghost.proofs.Theory.Steps.{mem, by_test}
 use Rattle.rht_core.proofs.Tracing.TracedJobs.{Performs}
 use Rattle.rht_core.proofs.Reasons.AttachedTables.{IsNoFutureExchange, lock-none, make-none}
 use Rattle.rht_core.proofs.Reasons.MadeSizes.{made_flat}

@@ -30,14 +30,14 @@ use Rattle.rht_core.specs.ResizeCauses.{Loaded, IsNoKeyLoad, AreRunsTaken, Misse
 use Rattle.rht_core.specs.StandsFor.{page_word}
 use Rattle.rht_core.specs.Seen.{IsNoShapeLoad}
 use Rattle.rht_core.specs.Traces.{Did, performed_of}
-use Rattle.rht_core.proofs.Theory.Ghosts.{Ghost, index_at}
-use Rattle.rht_core.proofs.Theory.Wholes.{hash_in, Whole}
-use Rattle.rht_core.proofs.Theory.Passed.{hash-below}
-use Rattle.rht_core.proofs.Theory.PlacesRead.{middle_behind, entries_in_words}
-use Rattle.rht_core.proofs.Theory.WaysRead.{words_of_pages, nested_placed}
-use Rattle.rht_core.proofs.Theory.Knowledge.{IsWay, IsOnWay}
-use Rattle.rht_core.proofs.Theory.Steps.{mem}
-use Rattle.rht_core.proofs.Pieces.OpenEntries.{open_on_way}
+use Rattle.rht_ghost.proofs.Theory.Ghosts.{Ghost, index_at}
+use Rattle.rht_ghost.proofs.Theory.Wholes.{hash_in, Whole}
+use Rattle.rht_ghost.proofs.Theory.Passed.{hash-below}
+use Rattle.rht_ghost.proofs.Theory.PlacesRead.{middle_behind, entries_in_words}
+use Rattle.rht_ghost.proofs.Theory.WaysRead.{words_of_pages, nested_placed}
+use Rattle.rht_ghost.proofs.Theory.Knowledge.{IsWay, IsOnWay}
+use Rattle.rht_ghost.proofs.Theory.Steps.{mem}
+use Rattle.rht_ghost.proofs.Pieces.OpenEntries.{open_on_way}
 use Rattle.rht_core.proofs.Reasons.TablesWalked.{LastWalked-push, LoadedEarly}
 use Rattle.rht_core.proofs.Reasons.MakesSeen.{SawRun, SawTaking, taken-saw, runs_taken-stay}
 use Rattle.rht_core.proofs.Reasons.PagesTaken.{passes_in}

@@ -40,7 +40,7 @@ use Rattle.rht_core.proofs.Reasons.KeyLoads.{no_key-before, no_key-make}
 use Rattle.rht_core.proofs.Reasons.ChainsCounted.{SawLongChain-push}
 use Rattle.rht_core.proofs.Reasons.MakesSeen.{SawMade, saw_nothing, make-saw}
 use Rattle.rht_core.proofs.Reasons.MadeSizes.{nests-wanted}
-use Rattle.rht_core.proofs.Theory.Steps.{by_test}
+use Rattle.rht_ghost.proofs.Theory.Steps.{by_test}
 
 -- a word of a future that names no slot is 0
 pub no_slot : (word : ℕ) → word ≤ 8 → slot_of word ≡ None → word ≡ 0

@@ -64,11 +64,11 @@ use Rattle.rht_core.specs.Traces.{Did, performed_of}
 use Rattle.rht_core.specs.Seen.{LoadsWord}
 use Rattle.rht_core.specs.ResizeCauses.{Loaded, Attaches, FindsSlotsTaken, AreSlotsTaken, AreRunsTaken, SawNoRoom}
 use Rattle.rht_core.specs.WorkCauses.{TakesWorkLock, SawElsewhere, ReadsFuture, AreFuturesRead, HasChosen, HasPublished, IsSized, HasAttached, IsUnattached, SawNoTableDue, SawNothingDue, TriesToAttach, HasTried, HasTriedIfNeeded, StoresOther, SawPublished, SawStopped}
-use Rattle.rht_core.proofs.Theory.Ghosts.{index_at}
-use Rattle.rht_core.proofs.Theory.Steps.{mem, by_test}
-use Rattle.rht_core.proofs.Theory.Knowns.{Onward, Rooted}
-use Rattle.rht_core.proofs.Theory.Knowledge.{WorkMeans}
-use Rattle.rht_core.proofs.Pieces.WorkLoads.{has_future, future_seen, nested_size}
+use Rattle.rht_ghost.proofs.Theory.Ghosts.{index_at}
+use Rattle.rht_ghost.proofs.Theory.Steps.{mem, by_test}
+use Rattle.rht_ghost.proofs.Theory.Knowns.{Onward, Rooted}
+use Rattle.rht_ghost.proofs.Theory.Knowledge.{WorkMeans}
+use Rattle.rht_ghost.proofs.Pieces.WorkLoads.{has_future, future_seen, nested_size}
 use Rattle.rht_core.proofs.Tracing.TracedJobs.{Performs}
 use Rattle.rht_core.proofs.Tracing.LoneCalls.{Spares}
 use Rattle.rht_core.proofs.Reasons.AttachedTables.{IsNoFutureExchange, IsNoAttach, no_attach, lock-none, make-none, unmake-none}

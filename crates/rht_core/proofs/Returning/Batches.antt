@@ -5,8 +5,8 @@ use Rattle.std.specs.Prelude.{◌||◌, ◌&&◌}
 use Rattle.rht_words.specs.declared.env.Env.{Env}
 use Rattle.rht_words.specs.Members.{In}
 use Rattle.rht_words.specs.Places.{Section}
-use Rattle.rht_core.proofs.Theory.Ghosts.{Owner, Taken, Ghost, is_listed}
-use Rattle.rht_core.proofs.Theory.Steps.{mem}
+use Rattle.rht_ghost.proofs.Theory.Ghosts.{Owner, Taken, Ghost, is_listed}
+use Rattle.rht_ghost.proofs.Theory.Steps.{mem}
 use Rattle.rht_core.proofs.Returning.Readers.{Reader, is_open, meets_too, opens, reads_nothing, ReaderRight, LeavesStale}
 use Rattle.rht_core.proofs.Returning.GracePeriods as grace
 

@@ -5,9 +5,9 @@ use Rattle.std.proofs.lemmas.Bool.{cases_lt}
 use Rattle.rht_words.specs.declared.env.Env.{Env}
 use Rattle.rht_words.proofs.Memory.{Memory}
 use Rattle.rht_policy.specs.Mix.{bucket_of}
-use Rattle.rht_core.proofs.Theory.Ghosts.{Table, blank_bucket, Ghost, PageOwner, PageFree, PageHeld, PageOf, table_of_page, table_at, none-some}
-use Rattle.rht_core.proofs.Theory.Wholes.{home, hash_in, Whole}
-use Rattle.rht_core.proofs.Theory.Passed.{Passed, PassesStay, home-table}
+use Rattle.rht_ghost.proofs.Theory.Ghosts.{Table, blank_bucket, Ghost, PageOwner, PageFree, PageHeld, PageOf, table_of_page, table_at, none-some}
+use Rattle.rht_ghost.proofs.Theory.Wholes.{home, hash_in, Whole}
+use Rattle.rht_ghost.proofs.Theory.Passed.{Passed, PassesStay, home-table}
 
 -- which table it is
 pub record IsSameTable (table table' : Table) : Type 0 where

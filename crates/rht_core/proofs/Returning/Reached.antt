@@ -9,10 +9,10 @@ use Rattle.rht_core.specs.Reach.{Standing, ReachesTable, at_table, at_current, b
 use Rattle.rht_core.specs.StandsFor.{shape_of, bucket_in}
 use Rattle.rht_core.specs.TablePages.{IsPageOfTable}
 use Rattle.rht_core.proofs.Counting.TablePages.{pages_in_words}
-use Rattle.rht_core.proofs.Theory.Ghosts.{Ghost, Held, PageOf, has_table, is_first, held_not_used, seat-first}
-use Rattle.rht_core.proofs.Theory.Wholes.{place_at, Whole}
-use Rattle.rht_core.proofs.Theory.SeatedLinks.{next_of, link-next_of, head-seated}
-use Rattle.rht_core.proofs.Theory.Steps.{mem}
+use Rattle.rht_ghost.proofs.Theory.Ghosts.{Ghost, Held, PageOf, has_table, is_first, held_not_used, seat-first}
+use Rattle.rht_ghost.proofs.Theory.Wholes.{place_at, Whole}
+use Rattle.rht_ghost.proofs.Theory.SeatedLinks.{next_of, link-next_of, head-seated}
+use Rattle.rht_ghost.proofs.Theory.Steps.{mem}
 use Rattle.rht_core.proofs.Meaning.TablesInForce.{current_slot, future-leads}
 use Rattle.rht_core.proofs.Meaning.BoundPorts.{bucket-within, first_link}
 use Rattle.rht_core.proofs.Returning.Readers.{Reader, IsOpen, ReaderRight, not_both}

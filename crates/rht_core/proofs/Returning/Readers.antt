@@ -8,12 +8,12 @@ use Rattle.rht_words.specs.Places.{Section}
 use Rattle.rht_words.proofs.LinksRead.{links_tell_apart}
 use Rattle.rht_words.proofs.Memory.{Memory}
 use Rattle.rht_words.specs.Members.{In}
-use Rattle.rht_core.proofs.Theory.Ghosts.{Owner, Free, Held, First, Leaving, Behind, Taken, Ghost, is_first, is_listed, listed-used, IsUsed, not_first-seatless, seat-first}
-use Rattle.rht_core.proofs.Theory.Wholes.{chain_of, list_of, key_of, seated_at, Whole}
-use Rattle.rht_core.proofs.Theory.Frames.{LinksStay}
-use Rattle.rht_core.proofs.Theory.SeatedLinks.{next_of, link-next_of, chain-first}
-use Rattle.rht_core.proofs.Theory.Steps.{mem}
-use Rattle.rht_core.proofs.Pieces.Lists.{list_next, list_among}
+use Rattle.rht_ghost.proofs.Theory.Ghosts.{Owner, Free, Held, First, Leaving, Behind, Taken, Ghost, is_first, is_listed, listed-used, IsUsed, not_first-seatless, seat-first}
+use Rattle.rht_ghost.proofs.Theory.Wholes.{chain_of, list_of, key_of, seated_at, Whole}
+use Rattle.rht_ghost.proofs.Theory.Frames.{LinksStay}
+use Rattle.rht_ghost.proofs.Theory.SeatedLinks.{next_of, link-next_of, chain-first}
+use Rattle.rht_ghost.proofs.Theory.Steps.{mem}
+use Rattle.rht_ghost.proofs.Pieces.Lists.{list_next, list_among}
 
 -- ---- the ghost
 

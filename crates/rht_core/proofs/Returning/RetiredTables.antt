@@ -10,11 +10,11 @@ use Rattle.rht_words.specs.Members.{In}
 use Rattle.rht_words.specs.Places.{Section, Node, ChainLink}
 use Rattle.rht_words.specs.Shapes.{unpacked, size_of}
 use Rattle.rht_words.proofs.Memory.{Memory}
-use Rattle.rht_core.proofs.Theory.Ghosts.{Bucket, blank_bucket, Ghost, table_at}
-use Rattle.rht_core.proofs.Theory.Wholes.{place_at, stop, Whole}
-use Rattle.rht_core.proofs.Theory.Passed.{place-table, place-word, place-bucket}
-use Rattle.rht_core.proofs.Theory.Entries.{bucket-no_entry}
-use Rattle.rht_core.proofs.Theory.Steps.{mem}
+use Rattle.rht_ghost.proofs.Theory.Ghosts.{Bucket, blank_bucket, Ghost, table_at}
+use Rattle.rht_ghost.proofs.Theory.Wholes.{place_at, stop, Whole}
+use Rattle.rht_ghost.proofs.Theory.Passed.{place-table, place-word, place-bucket}
+use Rattle.rht_ghost.proofs.Theory.Entries.{bucket-no_entry}
+use Rattle.rht_ghost.proofs.Theory.Steps.{mem}
 use Rattle.rht_core.proofs.Returning.Readers.{Reader, is_open, opens, reads_nothing, ReaderRight}
 use Rattle.rht_core.proofs.Returning.GracePeriods as grace
 

@@ -4,9 +4,9 @@ use Rattle.std.proofs.Common.{◌≡◌, ℕ, suc, ◌<◌, List, true, false, �
 use Rattle.rht_words.specs.declared.env.Env.{Env}
 use Rattle.rht_words.specs.Places.{Section, Node, NodeMap, ChainLink, ListLink}
 use Rattle.rht_words.proofs.Memory.{IsWrite}
-use Rattle.rht_core.proofs.Theory.Ghosts.{put-other, Free, Ghost, is_used, with_owner}
-use Rattle.rht_core.proofs.Theory.Frames.{Made}
-use Rattle.rht_core.proofs.Theory.Steps.{mem}
+use Rattle.rht_ghost.proofs.Theory.Ghosts.{put-other, Free, Ghost, is_used, with_owner}
+use Rattle.rht_ghost.proofs.Theory.Frames.{Made}
+use Rattle.rht_ghost.proofs.Theory.Steps.{mem}
 use Rattle.rht_core.proofs.Returning.Readers.{Reader, ReaderRight, LeavesStale, meets_too, reader-stays, not_both}
 
 module _ (env : Env) (mix : ℕ → ℕ → ℕ → ℕ) where

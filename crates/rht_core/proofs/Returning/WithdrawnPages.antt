@@ -4,11 +4,11 @@ use Rattle.std.proofs.lemmas.Bool.{cases_eq}
 use Rattle.std.proofs.lemmas.Nat.{mod_below}
 use Rattle.rht_words.specs.declared.env.Env.{Env}
 use Rattle.rht_nest.specs.Place.{is_deep}
-use Rattle.rht_core.proofs.Theory.Ghosts.{put, put-same, put-other, Part, Row, Leaf, Middle, Top, has_entries, Table, PageOwner, PageOf, none-some, some-same}
-use Rattle.rht_core.proofs.Theory.LowBits.{low_of, high_of}
-use Rattle.rht_core.proofs.Theory.Ways.{first_page, entries_in, child, behind_top, leaf_page, followed, StandsAs}
-use Rattle.rht_core.proofs.Theory.Wholes.{IsNested, IsBehind}
-use Rattle.rht_core.proofs.Theory.Entries.{some_entries, few_entries}
+use Rattle.rht_ghost.proofs.Theory.Ghosts.{put, put-same, put-other, Part, Row, Leaf, Middle, Top, has_entries, Table, PageOwner, PageOf, none-some, some-same}
+use Rattle.rht_ghost.proofs.Theory.LowBits.{low_of, high_of}
+use Rattle.rht_ghost.proofs.Theory.Ways.{first_page, entries_in, child, behind_top, leaf_page, followed, StandsAs}
+use Rattle.rht_ghost.proofs.Theory.Wholes.{IsNested, IsBehind}
+use Rattle.rht_ghost.proofs.Theory.Entries.{some_entries, few_entries}
 
 -- the table with this entry leading to none; its buckets are where the ways lead from then on
 abbrev without_entry : Table → ℕ → Table

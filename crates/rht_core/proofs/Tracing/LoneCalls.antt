@@ -25,7 +25,7 @@ use Rattle.rht_core.specs.Traces.{Did, Past, traced_of, IsRising, behind_steps, 
 use Rattle.rht_core.specs.Laws.{IsRecorded, IsPastCall}
 use Rattle.rht_core.specs.ResizeCauses.{Loaded}
 use Rattle.rht_core.specs.Worked.{IsAloneDuring}
-use Rattle.rht_core.proofs.Theory.Steps.{unchanged}
+use Rattle.rht_ghost.proofs.Theory.Steps.{unchanged}
 use Rattle.rht_core.proofs.Events.Worlds.{planned-some, run_of-next, step_none, step_self, step_words}
 use Rattle.rht_core.proofs.Events.CallBeginnings.{idle_plans}
 use Rattle.rht_core.proofs.Events.BusyCallers.{ends}

@@ -26,7 +26,7 @@ use Rattle.rht_core.specs.Runs.{World, IsAdmitted, view_of, local_of}
 use Rattle.rht_core.specs.Traces.{Did, Past, Traced, traced_of}
 use Rattle.rht_core.specs.Replies.{ArePairsWith, IsRightlyAnswered, IsBookOf, AnswersIn}
 use Rattle.rht_core.specs.Laws.{IsDoingIn, IsLocalIn, Replies}
-use Rattle.rht_core.proofs.Theory.Answering.{IsReplied, IsReplied-same, known_so}
+use Rattle.rht_ghost.proofs.Theory.Answering.{IsReplied, IsReplied-same, known_so}
 use Rattle.rht_core.proofs.Events.JobsOfCallers.{same_call, first_unknown}
 use Rattle.rht_core.proofs.Events.RangesInRuns.{runs-all}
 use Rattle.rht_core.proofs.Tracing.TracedJobs.{Performs, LeadsOn, IsEndedSo, IsAtJob, IsKeeping, jobs_keep}

@@ -26,7 +26,7 @@ use Rattle.rht_core.specs.Runs.{World, local_of, beginning_in, planned_in, run_o
 use Rattle.rht_core.specs.Traces.{Did, Past, Trace, Traced, trace_begun, trace_did, traces_after, traced_of, steps_by_call, IsStepOf, IsRising, behind_steps, behind_call, behind_calls, AreInOrder}
 use Rattle.rht_core.specs.Replies.{IsBookOfIdle}
 use Rattle.rht_core.specs.Laws.{IsInProgress, IsRecorded, calls_ended, AllStepsTraced}
-use Rattle.rht_core.proofs.Theory.Ghosts.{some-same}
+use Rattle.rht_ghost.proofs.Theory.Ghosts.{some-same}
 use Rattle.rht_core.proofs.Events.Worlds.{induct_by_last, take-push, take-push_all, beginning-some, planned-some}
 use Rattle.rht_core.proofs.Events.CallBeginnings.{idle_plans}
 use Rattle.rht_core.proofs.Events.JobsOfCallers.{is_no_job, nothing-job}

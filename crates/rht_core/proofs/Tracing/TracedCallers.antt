@@ -22,7 +22,7 @@ use Rattle.rht_core.specs.Traces.{Did, Trace, Traced, trace_begun, trace_did, tr
 use Rattle.rht_core.specs.Laws.{IsRecorded, view_begun, view_stepped}
 use Rattle.rht_core.proofs.Events.Worlds.{induct_by_last, take-push_all, beginning-some, planned-some, begin_none, begin_self, begin_other, step_none, step_self, step_other}
 use Rattle.rht_core.proofs.Events.SoundRuns.{StaysIn, runs-in, made_in, has_place}
-use Rattle.rht_core.proofs.Theory.Ghosts.{Ghost}
+use Rattle.rht_ghost.proofs.Theory.Ghosts.{Ghost}
 use Rattle.rht_core.proofs.Events.Invariants.{Inv, StepOf, step_of}
 use Rattle.rht_core.proofs.Events.InvariantRuns.{HasInv, has_inv}
 use Rattle.rht_core.proofs.Tracing.TracedRuns.{no_trace, traced_of-push, world-traced_of, count-traced_of, trace_with, trace_begin_none, trace_begin_self, trace_begin_other, trace_step_none, trace_step_self, trace_step_other}

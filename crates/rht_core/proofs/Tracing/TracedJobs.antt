@@ -37,9 +37,9 @@ use Rattle.rht_core.proofs.Events.JobsOfCallers.{is_no_job, has_ended, HasNoList
 use Rattle.rht_core.proofs.Events.RoomsOfCallers.{owners_beside-none, owners_after-stay}
 use Rattle.rht_core.proofs.Events.Invariants.{Inv}
 use Rattle.rht_core.proofs.Events.BucketsThere.{BucketsStay, buckets-stay}
-use Rattle.rht_core.proofs.Theory.Ghosts.{Ghost}
-use Rattle.rht_core.proofs.Theory.Wholes.{Whole}
-use Rattle.rht_core.proofs.Theory.Steps.{mem}
+use Rattle.rht_ghost.proofs.Theory.Ghosts.{Ghost}
+use Rattle.rht_ghost.proofs.Theory.Wholes.{Whole}
+use Rattle.rht_ghost.proofs.Theory.Steps.{mem}
 use Rattle.rht_core.proofs.Machines.JobSteps.{JobIn, JobKnows, JobStepOf}
 use Rattle.rht_core.proofs.Tracing.TracedCallers.{IsMade, IsKeptTraced, traced_callers_keep}
 

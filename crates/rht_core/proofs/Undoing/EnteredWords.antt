@@ -9,12 +9,12 @@ use Rattle.rht_words.proofs.Memory.{Memory}
 use Rattle.rht_nest.specs.Place.{nested_place, missing_at}
 use Rattle.rht_nest.specs.Tables.{is_nested}
 use Rattle.rht_core.specs.Refused.{IsMissingEntry}
-use Rattle.rht_core.proofs.Theory.Ghosts.{PageOf, has_entries, SlotOwner, SlotFree, SlotHeld, Live, Retired, Ghost, has_table, index_at, state_word, is_entry, is_entry_of, entry_word, table_of_page, table_at}
-use Rattle.rht_core.proofs.Theory.Wholes.{IsNested, Whole}
-use Rattle.rht_core.proofs.Theory.Entries.{page_within, entry_in, entry_nested}
-use Rattle.rht_core.proofs.Theory.MissingEntries.{missed_at, ends_at_entry}
-use Rattle.rht_core.proofs.Theory.Readiness.{IsEntering}
-use Rattle.rht_core.proofs.Theory.Steps.{mem}
+use Rattle.rht_ghost.proofs.Theory.Ghosts.{PageOf, has_entries, SlotOwner, SlotFree, SlotHeld, Live, Retired, Ghost, has_table, index_at, state_word, is_entry, is_entry_of, entry_word, table_of_page, table_at}
+use Rattle.rht_ghost.proofs.Theory.Wholes.{IsNested, Whole}
+use Rattle.rht_ghost.proofs.Theory.Entries.{page_within, entry_in, entry_nested}
+use Rattle.rht_ghost.proofs.Theory.MissingEntries.{missed_at, ends_at_entry}
+use Rattle.rht_ghost.proofs.Theory.Readiness.{IsEntering}
+use Rattle.rht_ghost.proofs.Theory.Steps.{mem}
 use Rattle.rht_core.proofs.Meaning.TablesInForce.{table_in_force, leads_to_current}
 
 module _ (env : Env) (mix : ℕ → ℕ → ℕ → ℕ) where

@@ -47,10 +47,10 @@ use Rattle.rht_move.specs.declared.work.WorkAt.TheVariants as working
 use Rattle.rht_core.specs.Jobs.{Job, finds, binds, lists, releases, rebinds, works, counts, call_of, job_plan, job_after, held_of, held_next}
 use Rattle.rht_core.specs.Traces.{Did}
 use Rattle.rht_core.specs.Refused.{StoresLast, MayAttach}
-use Rattle.rht_core.proofs.Theory.Ghosts.{Ghost, PageHeld}
-use Rattle.rht_core.proofs.Theory.Knowledge.{IsMade, MakingMeans}
-use Rattle.rht_core.proofs.Theory.Steps.{Holding}
-use Rattle.rht_core.proofs.Pieces.Makes.{known_of_make}
+use Rattle.rht_ghost.proofs.Theory.Ghosts.{Ghost, PageHeld}
+use Rattle.rht_ghost.proofs.Theory.Knowledge.{IsMade, MakingMeans}
+use Rattle.rht_ghost.proofs.Theory.Steps.{Holding}
+use Rattle.rht_ghost.proofs.Pieces.Makes.{known_of_make}
 use Rattle.rht_words.proofs.FilteredLists.{range_with_len-from}
 use Rattle.rht_core.proofs.Machines.JobSteps.{JobKnows}
 use Rattle.rht_core.proofs.Reasons.AttachedTables.{make-none, unmake-none}

@@ -48,8 +48,8 @@ use Rattle.rht_core.specs.RunHistories.{ChangesBindings}
 use Rattle.rht_core.specs.Replies.{IsReplyTo, IsFindReply, IsAllReply, IsReleaseReply, IsCountReply}
 use Rattle.rht_core.specs.Laws.{IsRecorded, IsPastCall}
 use Rattle.rht_core.specs.Refused.{changes_nothing, turns, IsExcepted, IsUndone, Refused}
-use Rattle.rht_core.proofs.Theory.Answering.{entry_of, same_reply, known_so, unknown_before, Says, ChangesBindings as ChangesThem}
-use Rattle.rht_core.proofs.Theory.Steps.{Holding, mem, ghost_after, Does, SaysChange}
+use Rattle.rht_ghost.proofs.Theory.Answering.{entry_of, same_reply, known_so, unknown_before, Says, ChangesBindings as ChangesThem}
+use Rattle.rht_ghost.proofs.Theory.Steps.{Holding, mem, ghost_after, Does, SaysChange}
 use Rattle.rht_core.proofs.Meaning.BoundPorts.{stands_for_bound}
 use Rattle.rht_core.proofs.Events.Worlds.{run_of-next, step_words}
 use Rattle.rht_core.proofs.Events.JobsOfCallers.{same_call}

@@ -13,7 +13,7 @@ use Rattle.rht_words.proofs.Members.{one_if}
 use Rattle.rht_arena.specs.Laws.{map_place, map_bit}
 use Rattle.rht_core.specs.Traces.{Did}
 use Rattle.rht_core.specs.Refused.{turned, turns}
-use Rattle.rht_core.proofs.Theory.Steps.{Holding, LeavesBits}
+use Rattle.rht_ghost.proofs.Theory.Steps.{Holding, LeavesBits}
 
 -- ---- one bit
 

@@ -27,11 +27,11 @@ use Rattle.rht_arena.specs.RunLaws.{page_place, TakesPage, GivesPage}
 use Rattle.rht_nest.specs.Tables.{pages_of_shape}
 use Rattle.rht_core.specs.Traces.{Did, performed_of}
 use Rattle.rht_core.specs.Refused.{turned, turns, IsTableWord, GivesBackNode, GivesBackSlot, IsOfNodeGiven, IsOfSlotGiven, StoresLast, AttachedWith, IsOfSlot, IsOfPages, IsOfAttached, IsMissingEntry, EntersPage, HasTaken, EnteredWhenTaken, IsOfEntered, MayAttach, IsExcepted}
-use Rattle.rht_core.proofs.Theory.Ghosts.{Ghost, Held, SlotHeld, PageFree, PageHeld, lock_bit, state_word, has_bit}
-use Rattle.rht_core.proofs.Theory.Wholes.{place_at, Whole}
-use Rattle.rht_core.proofs.Theory.Steps.{bare, Holding, Move, Quiet, TakesNode, GivesNode, TakesLock, DropsLock, Raises, Links, Lowers, Rebinds, LinksBehind, Arms, TakesSlot, GivesSlot, TakesPages, GivesPages, TakesWork, GivesWork, BeginsMoving, TakesSecond, Leaves, Arrives, CutsOff, Publishes, Retires, mem, Does, ReadyFor, SaysChange, IsAside, DoesQuiet, DoesTakeNode, DoesGiveNode, DoesTakeLock, DoesDropLock, DoesTakeSlot, DoesGiveSlot, DoesTakePages, DoesGivePages, DoesAttach, DoesEnter, DoesTakeWork, DoesGiveWork}
-use Rattle.rht_core.proofs.Theory.Steps as moves
-use Rattle.rht_core.proofs.Theory.Readiness.{ArePagesOf, IsEntering}
+use Rattle.rht_ghost.proofs.Theory.Ghosts.{Ghost, Held, SlotHeld, PageFree, PageHeld, lock_bit, state_word, has_bit}
+use Rattle.rht_ghost.proofs.Theory.Wholes.{place_at, Whole}
+use Rattle.rht_ghost.proofs.Theory.Steps.{bare, Holding, Move, Quiet, TakesNode, GivesNode, TakesLock, DropsLock, Raises, Links, Lowers, Rebinds, LinksBehind, Arms, TakesSlot, GivesSlot, TakesPages, GivesPages, TakesWork, GivesWork, BeginsMoving, TakesSecond, Leaves, Arrives, CutsOff, Publishes, Retires, mem, Does, ReadyFor, SaysChange, IsAside, DoesQuiet, DoesTakeNode, DoesGiveNode, DoesTakeLock, DoesDropLock, DoesTakeSlot, DoesGiveSlot, DoesTakePages, DoesGivePages, DoesAttach, DoesEnter, DoesTakeWork, DoesGiveWork}
+use Rattle.rht_ghost.proofs.Theory.Steps as moves
+use Rattle.rht_ghost.proofs.Theory.Readiness.{ArePagesOf, IsEntering}
 use Rattle.rht_core.proofs.Undoing.EnteredWords.{entering_missing}
 use Rattle.rht_core.proofs.Undoing.TurnedBits.{one_bit, one_bit-there, turned-far, turned-here, turned-same, turned-none, TurnsOne, turned-one, sets_lowest, clears_lowest, turns-push, node_bit, locked_bit, work_bit, slot_bit, pages_bit, held_bits, IsPageAt, page_or_none, page_at}
 

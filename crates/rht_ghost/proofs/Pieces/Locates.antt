@@ -1,0 +1,448 @@
+-- The operations on the way to a port's bucket: the current table, a table's shape and seed, and its future; and in a nested table the
+-- future once more, before the entries. Where that leads to no table, what follows if the bucket is missing is known early: the port is bound
+-- nowhere then, unless the bucket is there.
+use Rattle.std.proofs.Common.{◌≡◌, ℕ, ◌+◌, ◌<◌, List, [], Option, Some, None, true, cond, refl, sym, ◌∙◌, ap, subst, inl, inr, arith}
+use Rattle.std.specs.Option.{option_map}
+use Rattle.std.proofs.lemmas.Bool.{lt-ltb, cases_lt, le-ltb}
+use Rattle.std.proofs.lemmas.Bool.Decides.{nat_tests}
+use Rattle.rht_words.specs.declared.env.Env.{Env}
+use Rattle.rht_words.specs.declared.geometry.Geometry.{Geometry}
+use Rattle.rht_words.specs.declared.machine.Next.{Next}
+use Rattle.rht_words.specs.declared.machine.Next.TheVariants.{Go, Done}
+use Rattle.rht_words.specs.declared.machine.Start.{Start}
+use Rattle.rht_words.specs.declared.machine.Start.TheVariants as starts
+use Rattle.rht_words.specs.declared.op.Op.TheVariants.{Load}
+use Rattle.rht_words.specs.Links.{table_of, slot_of, future_of, page_of}
+use Rattle.rht_words.specs.Operations.{old_of, applied}
+use Rattle.rht_words.specs.Places.{CurrentTable, Slot, SlotWord, ShapeWord, SeedWord, FutureWord, PageWord, place_of}
+use Rattle.rht_words.proofs.Memory.{Memory}
+use Rattle.rht_policy.specs.Mix.{bucket_of}
+use Rattle.rht_model.specs.declared.history.Call.{Call}
+use Rattle.rht_model.specs.Multimap.{Multimap}
+use Rattle.rht_model.specs.Answers.{Answer}
+use Rattle.rht_nest.specs.Tables.{is_nested}
+use Rattle.rht_nest.specs.Place.{PlaceModel, flat_place, nested_place, place_plan, entered, went_behind, entry_seen, behind_entry, place_or_last, read_place}
+use Rattle.rht_nest.specs.Locate.{LocateModel, locate_plan, locate_after, located_at, entry_followed, IsLocateAtIn, IsLocateIn}
+use Rattle.rht_nest.specs.declared.locate.LocateAt.{LocateAt}
+use Rattle.rht_nest.specs.declared.locate.LocateAt.TheVariants as locates
+use Rattle.rht_nest.specs.declared.locate.Located.{Located}
+use Rattle.rht_nest.specs.declared.locate.LocatedBucket.{LocatedBucket}
+use Rattle.rht_nest.specs.declared.locate.LocatedBucket.TheVariants as buckets
+use Rattle.rht_nest.specs.Early.{early_of_locate, answer_unless}
+use Rattle.rht_ghost.proofs.Theory.Ghosts.{Ghost, has_table, index_at, none-some}
+use Rattle.rht_ghost.proofs.Theory.Wholes.{TableRight, Whole, hash_in, home, place_at, word_index, future_in}
+use Rattle.rht_ghost.proofs.Theory.Passed.{hash-below, passed_first, unbound_at_last, unbound_missing, go_on, go_beyond}
+use Rattle.rht_ghost.proofs.Theory.Knowns.{KnownNode, KnownTable, Passes, Shaped, OnWay, AtHome, KnownBucket, knows_plain}
+use Rattle.rht_ghost.proofs.Theory.Knowledge.{plainly, TableMeans, IsPassing, IsShaped, IsRightBehind, IsOnWay, IsMissed, Knowing}
+use Rattle.rht_ghost.proofs.Theory.WaysRead.{IsPlaced, words_of_pages, read_by_entry, flat_read, on_way_read, on_way_next, at_home, missing_home}
+use Rattle.rht_ghost.proofs.Theory.Answering.{IsLegalOn, KnowsEarly, none_early, foresees, stays_early}
+use Rattle.rht_ghost.proofs.Theory.Steps.{Holding, by_test, mem, owners, owners_in, unchanged, Moved, loads}
+
+-- what is known on the way to the bucket of a port
+abbrev pub known_locate : ℕ → ℕ → LocateAt → KnownTable
+known_locate port slot locates.Shape = Passes port slot
+known_locate port slot (locates.Seed shape) = Shaped port slot shape
+known_locate port slot (locates.Early shape place) = OnWay port slot shape place None
+known_locate port slot (locates.Entry shape early place) = OnWay port slot shape place early
+
+-- the bucket that it may find missing is there, once it has loaded the future before the entries
+abbrev pub IsThereAt : LocateAt → Memory → Type 0
+IsThereAt locates.Shape M = ⊥
+IsThereAt (locates.Seed shape) M = ⊥
+IsThereAt (locates.Early shape place) M = ⊥
+IsThereAt (locates.Entry shape early place) M = IsPlaced M place
+
+module _ (env : Env) (mix : ℕ → ℕ → ℕ → ℕ) (c : ℕ) (h : Holding) (node : Option KnownNode)
+    (bucket : KnownBucket) where
+  abbrev pub knowing : KnownTable → Memory → Ghost → Type 0
+  knowing table M G = Knowing env mix c h (knows_plain node table bucket) M G
+
+  -- What is known once the bucket was looked for: its place; or, where it is missing, no more than before, but that the port was passed in the
+  -- table behind, where one was.
+  abbrev pub LocatedKnows : ℕ → ℕ → ℕ → LocatedBucket → Memory → Ghost → Type 0
+  LocatedKnows port slot shape (buckets.At place) M G = knowing (AtHome port slot (Some shape) place) M G
+  LocatedKnows port slot shape (buckets.Missing place None) M G = knowing (OnWay port slot shape place None) M G
+  LocatedKnows port slot shape (buckets.Missing place (Some next)) M G = knowing (Passes port next) M G
+
+  abbrev pub LocateKnows : ℕ → LocateModel × Next Located → Memory → Ghost → Type 0
+  LocateKnows port (m, Go) M G = knowing (known_locate port m.table m.at) M G
+  LocateKnows port (m, Done located) M G = LocatedKnows port m.table located.shape located.bucket M G
+
+  module _ (words : List ℕ) (G : Ghost) (whole : Whole env mix (mem env mix words) G) where
+    abbrev M : Memory
+    M = mem env mix words
+
+    -- the same with something else known of the table
+    with_table : (table more : KnownTable) → knowing table M G → TableMeans env mix G more → knowing more M G
+    with_table table more knows means = plainly env mix knows.only knows.means.node means knows.means.bucket
+
+    -- the table in a slot, and what its words say
+    table-right : (slot : ℕ) → has_table (G.slot slot) ≡ true → TableRight env mix M G (index_at G slot)
+    table-right slot has = whole.tables.each (index_at G slot) (whole.tables.slots slot has).attached
+
+    slot-word : (slot : ℕ) (w : SlotWord) → has_table (G.slot slot) ≡ true
+        → M (Slot slot w) ≡ M (Slot (G.table (index_at G slot)).slot w)
+    slot-word slot w has = ap (λ s. M (Slot s w)) (sym (whole.tables.slots slot has).slot)
+
+    -- the slot of the current table has a table, and nothing was passed there
+    pub first_passed : (port : ℕ) → IsPassing env mix G port (table_of (M CurrentTable))
+    first_passed port =
+        let right = whole.tables.each G.current whole.tables.current_in in
+        let slot = (G.table G.current).slot in
+        let is : table_of (M CurrentTable) ≡ slot = (let word = whole.tables.current_is in omega
+        (arith, right.slot_in, word)) in
+        rw is (record {
+          table = right.has_slot;
+          passed = rw right.index
+              (passed_first env mix M G whole port);
+        })
+
+    -- ---- the future of a table
+
+    slot-named : (next : ℕ) → next < 8 → slot_of (future_of next) ≡ Some next
+    slot-named next l = grind (arith, nat_tests)
+
+    -- it leads to no table, which is the last one then, or to the table right behind
+    abbrev Leads : ℕ → Option ℕ → Type 0
+    Leads slot None = index_at G slot + 1 ≡ G.attached
+    Leads slot (Some next) = IsRightBehind env mix G slot next
+
+    future_leads : (slot : ℕ) → has_table (G.slot slot) ≡ true → Leads slot (slot_of (M (Slot slot FutureWord)))
+    future_leads slot has =
+        let τ = index_at G slot in
+        let future : M (Slot slot FutureWord) ≡ future_in env mix G τ =
+        slot-word slot FutureWord has ∙ (table-right slot has).future_is in
+        rw future (elim (cases_lt (τ + 1) G.attached) [
+          | inl more ↦
+              let right = whole.tables.each (τ + 1) more in
+              let next = (G.table (τ + 1)).slot in
+              let is : slot_of (future_in env mix G τ) ≡ Some next =
+              ap (λ t. slot_of (cond t (future_of next) 0)) (lt-ltb (τ + 1) G.attached more)
+              ∙ slot-named next right.slot_in in
+              subst (Leads slot) (sym is) (record { table = right.has_slot; index = right.index })
+          | inr last ↦
+              let is : slot_of (future_in env mix G τ) ≡ None =
+              ap (λ t. slot_of (cond t (future_of (G.table (τ + 1)).slot) 0)) (le-ltb (τ + 1) G.attached last) in
+              let attached = (whole.tables.slots slot has).attached in
+              subst (Leads slot) (sym is) (omega (arith, attached, last))
+        ])
+
+    -- a table right behind another one was attached
+    behind_attached : (slot next : ℕ) → IsRightBehind env mix G slot next → index_at G slot + 1 < G.attached
+    behind_attached slot next behind =
+        let attached = (whole.tables.slots next behind.table).attached in omega (arith, attached, behind.index)
+
+    -- What the future of a table is read as, in which the port was looked for in vain: no table, and the port is bound nowhere; or the
+    -- table behind it, and the port has been passed there too.
+    abbrev pub FutureIs : ℕ → Option ℕ → Type 0
+    FutureIs port None = G.bound port ≡ []
+    FutureIs port (Some next) = IsPassing env mix G port next
+
+    pub future_is : (port slot place word : ℕ) (shape : Option ℕ)
+        → Knowing env mix c h (knows_plain node (AtHome port slot shape place) bucket) M G
+        → IsMissed env mix c M G place word port
+        → FutureIs port (slot_of (M (Slot slot FutureWord)))
+    future_is port slot place word shape knows missed =
+        go (slot_of (M (Slot slot FutureWord))) (future_leads slot knows.means.table.passing.table)
+      where
+        go : (future : Option ℕ) → Leads slot future → FutureIs port future
+        go None last =
+            let at = knows.means.table in
+            unbound_at_last env mix M G whole port (index_at G slot) (word_index env mix place) at.passing.passed at.here
+            missed.none missed.lock.still last
+        go (Some next) behind =
+            let at = knows.means.table in
+            record {
+              table = behind.table;
+              passed = rw behind.index (go_on env mix M G whole port (index_at G slot) (word_index env mix place)
+                  at.passing.passed at.here missed.none missed.lock.still missed.lock.unarmed
+                  (behind_attached slot next behind));
+            }
+
+    -- where it is read as none, the table is the last one
+    pub is_last : (port slot place : ℕ) (shape : Option ℕ)
+        → Knowing env mix c h (knows_plain node (AtHome port slot shape place) bucket) M G
+        → slot_of (M (Slot slot FutureWord)) ≡ None → index_at G slot + 1 ≡ G.attached
+    is_last port slot place shape knows none =
+        subst (Leads slot) none (future_leads slot knows.means.table.passing.table)
+
+    -- ---- the entries of a nested table
+
+    -- the entry at which the way stands, as it is loaded
+    abbrev led_by : PlaceModel → Option ℕ
+    led_by place = page_of place.geometry.pages (old_of words (place_plan place))
+
+    loaded : (place : PlaceModel) → place.geometry ≡ env.geometry
+        → led_by place ≡ page_of env.geometry.pages (M (PageWord place.entry))
+    loaded place same =
+        ap (λ (g : Geometry). page_of g.pages (old_of words (Load (place_of g (PageWord place.entry))))) same
+
+    -- and as it is read
+    read_behind : (place : PlaceModel) → place.geometry ≡ env.geometry → (entry : Option ℕ) → led_by place ≡ entry
+        → read_place (words_of_pages M) place ≡ behind_entry (place_or_last (words_of_pages M)) place entry
+    read_behind place same entry is =
+        read_by_entry (words_of_pages M) place env.geometry entry same (sym (loaded place same) ∙ is)
+
+    -- where it leads to no page the bucket is missing
+    gone : (port slot shape : ℕ) (place : PlaceModel) (early : Option ℕ) → place.geometry ≡ env.geometry
+        → IsOnWay env mix G port slot shape place early → led_by place ≡ None
+        → home env mix G port (index_at G slot) ≡ None
+    gone port slot shape place early same on is =
+        missing_home env mix (home env mix G port (index_at G slot))
+        (sym (on_way_read env mix M G whole port slot shape place early on) ∙ read_behind place same None is)
+
+    missing_knows : (port slot shape : ℕ) (place : PlaceModel) (early : Option ℕ) → place.geometry ≡ env.geometry
+        → knowing (OnWay port slot shape place early) M G → led_by place ≡ None
+        → LocatedKnows port slot shape (buckets.Missing place early) M G
+    missing_knows port slot shape place None same knows is = knows
+    missing_knows port slot shape place (Some next) same knows is =
+        let on = knows.means.table in
+        let behind = on.behind in
+        with_table (OnWay port slot shape place (Some next)) (Passes port next) knows (record {
+          table = behind.table;
+          passed = rw behind.index (go_beyond env mix M G whole port (index_at G slot) on.shaped.passing.passed
+              (gone port slot shape place (Some next) same on is) (behind_attached slot next behind));
+        })
+
+    -- where it leads to one, there is the next entry, or the bucket
+    entered_knows : (port : ℕ) (m : LocateModel) (shape : ℕ) (early : Option ℕ) (place : PlaceModel) (page : ℕ)
+        → place.geometry ≡ env.geometry → knowing (OnWay port m.table shape place early) M G → led_by place ≡ Some page
+        → (start : Start PlaceModel ℕ) → entered place page ≡ start
+        → let next = went_behind place start in LocateKnows port (entry_followed m shape early next.0 next.1) M G
+    entered_knows port m shape early place page same knows is (starts.Running next) e =
+        with_table (OnWay port m.table shape place early) (OnWay port m.table shape next early) knows
+        (on_way_next env mix M G whole port m.table shape place early knows.means.table next page
+        (sym (loaded place same) ∙ is) e)
+    entered_knows port m shape early place page same knows is (starts.Done there) e =
+        let on = knows.means.table in
+        with_table (OnWay port m.table shape place early) (AtHome port m.table (Some shape) there) knows
+        (at_home env mix M G whole port m.table shape there on.shaped.passing on.shaped.shape_is
+        (sym (on_way_read env mix M G whole port m.table shape place early on)
+        ∙ read_behind place same (Some page) is ∙ ap (place_or_last (words_of_pages M)) e))
+
+    entry_knows : (port : ℕ) (m : LocateModel) (shape : ℕ) (early : Option ℕ) (place : PlaceModel)
+        → place.geometry ≡ env.geometry → knowing (OnWay port m.table shape place early) M G
+        → (entry : Option ℕ) → led_by place ≡ entry
+        → let next = entry_seen place entry in LocateKnows port (entry_followed m shape early next.0 next.1) M G
+    entry_knows port m shape early place same knows None is =
+        missing_knows port m.table shape place early same knows is
+    entry_knows port m shape early place same knows (Some page) is =
+        entered_knows port m shape early place page same knows is (entered place page) refl
+
+    -- ---- the operations of the way
+
+    -- the number of the bucket
+    hashed_is : (port slot shape : ℕ) → IsShaped env mix G port slot shape
+        → bucket_of mix port shape (M (Slot slot SeedWord)) ≡ hash_in env mix G port (index_at G slot)
+    hashed_is port slot shape shaped =
+        let has = shaped.passing.table in
+        ap (λ s. bucket_of mix port s (M (Slot slot SeedWord))) (sym shaped.shape_is)
+        ∙ ap (bucket_of mix port (G.table (index_at G slot)).shape) (slot-word slot SeedWord has
+        ∙ (table-right slot has).seed_is)
+
+    seed_knows : (port slot shape : ℕ) → knowing (Shaped port slot shape) M G
+        → let m : LocateModel = record { geometry = env.geometry; table = slot; at = locates.Seed shape } in
+        LocateKnows port (locate_after mix port m (M (Slot slot SeedWord))) M G
+    seed_knows port slot shape knows =
+        let m : LocateModel = record { geometry = env.geometry; table = slot; at = locates.Seed shape } in
+        let shaped = knows.means.table in
+        let number = bucket_of mix port shape (M (Slot slot SeedWord)) in
+        let is = hashed_is port slot shape shaped in
+        let τ = index_at G slot in
+        by_test (λ t. LocateKnows port (cond {A = LocateModel × Next Located} t
+        (record m { at = locates.Early shape (nested_place env.geometry shape number) }, Go)
+        (m, Done (located_at shape (flat_place env.geometry shape number)))) M G)
+        (is_nested shape)
+        (λ nested. with_table (Shaped port slot shape) (OnWay port slot shape (nested_place env.geometry shape number) None)
+        knows (record { shaped = shaped; nested = nested; way = inl (ap (nested_place env.geometry shape) is); behind = tt }))
+        (λ flat. with_table (Shaped port slot shape) (AtHome port slot (Some shape) (flat_place env.geometry shape number))
+        knows (at_home env mix M G whole port slot shape (flat_place env.geometry shape number) shaped.passing shaped.shape_is
+        (flat_read env mix M G whole τ (hash_in env mix G port τ) shaped.passing.passed.attached
+        (hash-below env mix M G whole port τ) (ap is_nested shaped.shape_is ∙ flat)
+        ∙ ap (λ s. Some (flat_place env.geometry s (hash_in env mix G port τ))) shaped.shape_is
+        ∙ ap (λ b. Some (flat_place env.geometry shape b)) (sym is))))
+
+    early_knows : (port slot shape : ℕ) (place : PlaceModel) → knowing (OnWay port slot shape place None) M G
+        → (future : Option ℕ) → Leads slot future → knowing (OnWay port slot shape place future) M G
+    early_knows port slot shape place knows None last = knows
+    early_knows port slot shape place knows (Some next) behind =
+        let on = knows.means.table in
+        with_table (OnWay port slot shape place None) (OnWay port slot shape place (Some next)) knows
+        (record { shaped = on.shaped; nested = on.nested; way = on.way; behind = behind })
+
+    -- what is known after an operation
+    step_knows : (port slot : ℕ) (at : LocateAt) → IsLocateAtIn env.geometry at → knowing (known_locate port slot at) M G
+        → let m : LocateModel = record { geometry = env.geometry; table = slot; at = at } in
+        LocateKnows port (locate_after mix port m (old_of words (locate_plan m))) M G
+    step_knows port slot locates.Shape within knows =
+        let has = knows.means.table.table in
+        with_table (Passes port slot) (Shaped port slot (M (Slot slot ShapeWord))) knows (record {
+          passing = knows.means.table;
+          shape_is = sym (slot-word slot ShapeWord has ∙ (table-right slot has).shape_is);
+        })
+    step_knows port slot (locates.Seed shape) within knows = seed_knows port slot shape knows
+    step_knows port slot (locates.Early shape place) within knows =
+        early_knows port slot shape place knows (slot_of (M (Slot slot FutureWord)))
+        (future_leads slot knows.means.table.shaped.passing.table)
+    step_knows port slot (locates.Entry shape early place) within knows =
+        let m : LocateModel = record { geometry = env.geometry; table = slot; at = locates.Entry shape early place } in
+        entry_knows port m shape early place within.nested_in.place_in.geometry_same knows (led_by place) refl
+
+    -- each state loads a word
+    locate_loads : (port slot : ℕ) (at : LocateAt)
+        → let m : LocateModel = record { geometry = env.geometry; table = slot; at = at } in
+        applied words (locate_plan m) ≡ words
+    locate_loads port slot locates.Shape = unchanged words (Load (place_of env.geometry (Slot slot ShapeWord))) refl
+    locate_loads port slot (locates.Seed shape) =
+        unchanged words (Load (place_of env.geometry (Slot slot SeedWord))) refl
+    locate_loads port slot (locates.Early shape place) =
+        unchanged words (Load (place_of env.geometry (Slot slot FutureWord))) refl
+    locate_loads port slot (locates.Entry shape early place) = unchanged words (place_plan place) refl
+
+    locate_step_at : (port slot : ℕ) (at : LocateAt) → IsLocateAtIn env.geometry at
+        → knowing (known_locate port slot at) M G
+        → let m : LocateModel = record { geometry = env.geometry; table = slot; at = at } in
+        Moved env mix c words G (locate_plan m) h h (LocateKnows port
+        (locate_after mix port m (old_of words (locate_plan m))))
+    locate_step_at port slot locates.Shape within knows =
+        loads env mix c words G _ h h _ whole refl refl (step_knows port slot locates.Shape within knows)
+    locate_step_at port slot (locates.Seed shape) within knows =
+        loads env mix c words G _ h h _ whole refl refl (step_knows port slot (locates.Seed shape) within knows)
+    locate_step_at port slot (locates.Early shape place) within knows =
+        loads env mix c words G _ h h _ whole refl refl (step_knows port slot (locates.Early shape place) within knows)
+    locate_step_at port slot (locates.Entry shape early place) within knows =
+        loads env mix c words G _ h h _ whole refl refl
+        (step_knows port slot (locates.Entry shape early place) within knows)
+
+    pub locate_step : (port : ℕ) (m : LocateModel) → IsLocateIn env.geometry m
+        → knowing (known_locate port m.table m.at) M G
+        → Moved env mix c words G (locate_plan m) h h
+        (LocateKnows port (locate_after mix port m (old_of words (locate_plan m))))
+    locate_step port m is knows =
+        subst (λ g. let here : LocateModel = record { geometry = g; table = m.table; at = m.at } in
+        Moved env mix c words G (locate_plan here) h h
+        (LocateKnows port (locate_after mix port here (old_of words (locate_plan here)))))
+        (sym is.geometry_same) (locate_step_at port m.table m.at is.at_in knows)
+
+    -- ---- what is known early
+
+    -- what a call answers whose port is bound nowhere
+    module _ (port : ℕ) (call : Call) (absent : Answer)
+        (legal : owners env mix M G port ≡ [] → IsLegalOn env.config.kind c call (owners env mix M G) absent) where
+      abbrev now : Multimap
+      now = owners env mix M G
+
+      abbrev KnowsFrom : LocateAt → LocateAt → List ℕ → Type 0
+      KnowsFrom at next after =
+          KnowsEarly env.config.kind c call (IsThereAt at M) (IsThereAt next (mem env mix after)) now
+          (early_of_locate absent at) (early_of_locate absent next)
+
+      -- where the bucket turns out to be missing the answer was known early, if no table was behind
+      pub record IsRecalled (at : LocateAt) : Type 0 where
+        pub known_early : early_of_locate absent at ≡ Some absent
+        pub missing : ¬ IsThereAt at M
+
+      abbrev pub Recalls : LocateAt → LocatedBucket → Type 0
+      Recalls at (buckets.At place) = Unit {0}
+      Recalls at (buckets.Missing place None) = IsRecalled at
+      Recalls at (buckets.Missing place (Some next)) = Unit {0}
+
+      -- what an operation says early, which leaves these words
+      abbrev pub LocateSays : LocateAt → List ℕ → LocateModel × Next Located → Type 0
+      LocateSays at after (m, Go) = KnowsFrom at m.at after
+      LocateSays at after (m, Done located) = Recalls at located.bucket
+
+      -- nothing is known early after it
+      says_none : (at next : LocateAt) (after : List ℕ) → early_of_locate absent next ≡ None → KnowsFrom at next after
+      says_none at next after none =
+          none_early env.config.kind c call (IsThereAt at M) (IsThereAt next (mem env mix after)) now
+          (early_of_locate absent at) (early_of_locate absent next) none
+
+      -- at the load of a future that leads to no table the port is bound nowhere, or its bucket is there
+      foresees_now : (slot shape : ℕ) (place : PlaceModel) → IsOnWay env mix G port slot shape place None
+          → (future : Option ℕ) → Leads slot future
+          → KnowsFrom (locates.Early shape place) (locates.Entry shape future place) words
+      foresees_now slot shape place on (Some next) behind =
+          says_none (locates.Early shape place) (locates.Entry shape (Some next) place) words refl
+      foresees_now slot shape place on None last = go (home env mix G port (index_at G slot)) refl
+        where
+          read : read_place (words_of_pages M) place ≡ option_map (place_at env mix) (home env mix G port (index_at G slot))
+          read = on_way_read env mix M G whole port slot shape place None on
+
+          go : (word : Option ℕ) → home env mix G port (index_at G slot) ≡ word
+              → KnowsFrom (locates.Early shape place) (locates.Entry shape None place) words
+          go None here =
+              foresees env.config.kind c call ⊥ (IsPlaced M place) now None absent (legal (ap (owners_in env mix M)
+              (unbound_missing env mix M G whole port (index_at G slot) on.shaped.passing.passed here last)))
+          go (Some j) here = λ answer known. inr (inr (λ none.
+              none-some none (read ∙ ap (option_map (place_at env mix)) here)))
+
+      -- an entry that leads to another one leads where the bucket is, or isn't
+      stays_now : (slot shape : ℕ) (early : Option ℕ) (place next : PlaceModel)
+          → IsOnWay env mix G port slot shape place early → IsOnWay env mix G port slot shape next early
+          → KnowsFrom (locates.Entry shape early place) (locates.Entry shape early next) words
+      stays_now slot shape early place next on further =
+          stays_early env.config.kind c call (IsPlaced M place) (IsPlaced M next) now (answer_unless absent early)
+          (λ there none. there (on_way_read env mix M G whole port slot shape place early on
+          ∙ sym (on_way_read env mix M G whole port slot shape next early further) ∙ none))
+
+      missing_says : (shape : ℕ) (early : Option ℕ) (place : PlaceModel) → place.geometry ≡ env.geometry
+          → led_by place ≡ None → Recalls (locates.Entry shape early place) (buckets.Missing place early)
+      missing_says shape (Some next) place same is = tt
+      missing_says shape None place same is =
+          record { known_early = refl; missing = λ there. there (read_behind place same None is) }
+
+      entered_says : (m : LocateModel) (shape : ℕ) (early : Option ℕ) (place : PlaceModel) (page : ℕ)
+          → place.geometry ≡ env.geometry → knowing (OnWay port m.table shape place early) M G
+          → led_by place ≡ Some page → (start : Start PlaceModel ℕ) → entered place page ≡ start
+          → let next = went_behind place start in
+          LocateSays (locates.Entry shape early place) words (entry_followed m shape early next.0 next.1)
+      entered_says m shape early place page same knows is (starts.Running next) e =
+          let further = entered_knows port m shape early place page same knows is (starts.Running next) e in
+          stays_now m.table shape early place next knows.means.table further.means.table
+      entered_says m shape early place page same knows is (starts.Done there) e = tt
+
+      entry_says : (m : LocateModel) (shape : ℕ) (early : Option ℕ) (place : PlaceModel)
+          → place.geometry ≡ env.geometry → knowing (OnWay port m.table shape place early) M G
+          → (entry : Option ℕ) → led_by place ≡ entry
+          → let next = entry_seen place entry in
+          LocateSays (locates.Entry shape early place) words (entry_followed m shape early next.0 next.1)
+      entry_says m shape early place same knows None is = missing_says shape early place same is
+      entry_says m shape early place same knows (Some page) is =
+          entered_says m shape early place page same knows is (entered place page) refl
+
+      says_at : (slot : ℕ) (at : LocateAt) → IsLocateAtIn env.geometry at → knowing (known_locate port slot at) M G
+          → let m : LocateModel = record { geometry = env.geometry; table = slot; at = at } in
+          LocateSays at words (locate_after mix port m (old_of words (locate_plan m)))
+      says_at slot locates.Shape within knows =
+          says_none locates.Shape (locates.Seed (M (Slot slot ShapeWord))) words refl
+      says_at slot (locates.Seed shape) within knows =
+          let m : LocateModel = record { geometry = env.geometry; table = slot; at = locates.Seed shape } in
+          let place = nested_place env.geometry shape (bucket_of mix port shape (M (Slot slot SeedWord))) in
+          by_test (λ t. LocateSays (locates.Seed shape) words (cond {A = LocateModel × Next Located} t
+          (record m { at = locates.Early shape place }, Go) (
+            m,
+            Done (located_at shape (flat_place env.geometry shape
+                (bucket_of mix port shape (M (Slot slot SeedWord))))),
+          )))
+          (is_nested shape)
+          (λ nested. says_none (locates.Seed shape) (locates.Early shape place) words refl) (λ flat. tt)
+      says_at slot (locates.Early shape place) within knows =
+          let on = knows.means.table in
+          foresees_now slot shape place on (slot_of (M (Slot slot FutureWord)))
+          (future_leads slot on.shaped.passing.table)
+      says_at slot (locates.Entry shape early place) within knows =
+          let m : LocateModel = record { geometry = env.geometry; table = slot; at = locates.Entry shape early place } in
+          entry_says m shape early place within.nested_in.place_in.geometry_same knows (led_by place) refl
+
+      pub locate_says : (m : LocateModel) → IsLocateIn env.geometry m → knowing (known_locate port m.table m.at) M G
+          → LocateSays m.at (applied words (locate_plan m))
+          (locate_after mix port m (old_of words (locate_plan m)))
+      locate_says m is knows =
+          subst (λ g. let here : LocateModel = record { geometry = g; table = m.table; at = m.at } in
+          LocateSays m.at (applied words (locate_plan here)) (locate_after mix port here (old_of words (locate_plan here))))
+          (sym is.geometry_same)
+          (let here : LocateModel = record { geometry = env.geometry; table = m.table; at = m.at } in
+          subst (λ after. LocateSays m.at after (locate_after mix port here (old_of words (locate_plan here))))
+          (sym (locate_loads port m.table m.at))
+          (says_at m.table m.at is.at_in knows))

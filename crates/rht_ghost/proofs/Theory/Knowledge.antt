@@ -1,0 +1,504 @@
+-- What a caller knows in each state: what that means of the words and the ghost, and that it has nothing more.
+-- It speaks of words and ghosts on which the caller holds the right, or which nobody changes.
+use Rattle.std.proofs.Common.{◌≡◌, ◌≢◌, ◌⊎◌, ℕ, ◌+◌, ◌%◌, ◌<◌, ◌≤◌, List, [], ◌∷◌, length, Option, Some, None, Bool, true, false}
+use Rattle.std.specs.Prelude.{IfSome}
+use Rattle.rht_words.specs.declared.env.Env.{Env}
+use Rattle.rht_words.specs.Places.{Slot, ShapeWord, SeedWord, FutureWord, SerialWord, Node, ChainLink, KeyWord, OwnerWord, ListLink, IsBucketPlace}
+use Rattle.rht_words.specs.Shapes.{unpacked, size_of}
+use Rattle.rht_words.specs.Ports.{owner_of}
+use Rattle.rht_words.specs.Links.{head_of}
+use Rattle.rht_words.specs.Held as held
+use Rattle.rht_words.proofs.Memory.{Memory}
+use Rattle.rht_words.specs.Members.{In}
+use Rattle.rht_words.specs.declared.machine.Start.TheVariants as starts
+use Rattle.rht_nest.specs.Tables.{is_nested, table_pages}
+use Rattle.rht_nest.specs.Place.{PlaceModel, nested_place, entered}
+use Rattle.rht_ghost.proofs.Theory.Ghosts.{Bucket, Held, Leaving, Middle, PageHeld, PageOf, SlotHeld, Ghost, is_taken_by, has_table, index_at}
+use Rattle.rht_ghost.proofs.Theory.Wholes.{AreRetired, chain_of, key_of, place_at, word_index, hash_in, home, pages_of, MovesNone, moves_none, IsFurther, Whole}
+use Rattle.rht_ghost.proofs.Theory.Passed.{NoKey, Passed}
+use Rattle.rht_ghost.proofs.Theory.Knowns.{knows_plain, Armed, KnownAim, NoAim, Onward, From, Beyond, KnownRehash, KnownPlace, Follows, Nears, Faces, InBucket, Bare, Aims, LeavesBehind, AtEntry, AtHome, AtNode, AtTail, Brings, Collected, CollectedTo, CutsOut, Differing, Differs, Empties, FirstLink, Found, HasBrought, HasMade, HasPages, HasTaken, InList, InSlot, IsAmong, IsCollected, IsCollectedTo, IsCutOut, IsLeading, IsLeadingTo, IsOtherOwner, IsOwnersNode, IsPromoting, Known, KnownBucket, KnownEntry, KnownList, KnownMaking, KnownNode, KnownSlot, KnownTable, KnownWork, Leads, LeadsTo, Listing, Locks, LocksTakenOut, MakesNothing, Matching, Member, Missed, NoWork, Nowhere, OnWay, Passes, Promotes, Replaces, Rooted, Shaped, Stands, StandsAt, StandsInList, Succeeds, TakenOut, TakesOut, Unlocked, Unlocks, WithShape, Works, last_of}
+use Rattle.rht_ghost.proofs.Theory.Ways.{first_page, entries_in, IsNestedShape}
+
+-- the caller does the work, and each table before the current one is retired, but for the one in this slot
+abbrev pub DoesWork : ℕ → Ghost → Option ℕ → Type 0
+DoesWork c G slot = (G.worker ≡ Some c) × AreRetired G slot
+
+module _ (env : Env) (mix : ℕ → ℕ → ℕ → ℕ) where
+  -- ---- what it means
+
+  -- the bucket whose word has this place
+  abbrev pub bucket_at : Ghost → ℕ → Bucket
+  bucket_at G place = G.bucket (word_index env mix place)
+
+  pub record HasNode (c : ℕ) (G : Ghost) (node : ℕ) : Type 0 where
+    pub mine : G.node node ≡ Held c
+    pub among : node < env.geometry.nodes
+
+  pub record NodeMeans (c : ℕ) (M : Memory) (G : Ghost) (known : KnownNode) : Type 0 where
+    pub has : HasNode c G known.node
+    pub chain : IfSome known.chain (λ value. M (Node known.node ChainLink) ≡ value)
+    pub key : IfSome known.key (λ value. M (Node known.node KeyWord) ≡ value)
+    pub owner : IfSome known.owner (λ value. M (Node known.node OwnerWord) ≡ value)
+    pub list : IfSome known.list (λ value. M (Node known.node ListLink) ≡ value)
+
+  -- a table has this slot, and none of those before it binds the port
+  pub record IsPassing (G : Ghost) (port slot : ℕ) : Type 0 where
+    pub table : has_table (G.slot slot) ≡ true
+    pub passed : Passed env mix G port (index_at G slot)
+
+  pub record IsShaped (G : Ghost) (port slot shape : ℕ) : Type 0 where
+    pub passing : IsPassing G port slot
+    pub shape_is : (G.table (index_at G slot)).shape ≡ shape
+
+  -- behind the entry with which the way to the bucket with this number begins is a page of entries, and the way stands at one of these
+  pub record IsSecondEntry (G : Ghost) (number τ shape : ℕ) (place : PlaceModel) : Type 0 where
+    pub page : ℕ
+    pub of : G.page page ≡ PageOf τ
+    pub part_is : (G.table τ).part page ≡ Middle (number % entries_in shape)
+    pub place_is : entered (nested_place env.geometry shape number) page ≡ starts.Running place
+
+  -- the entries on the way to the bucket with this number in a table of this shape: the first, or the second one
+  abbrev pub IsWay : Ghost → ℕ → ℕ → ℕ → PlaceModel → Type 0
+  IsWay G number τ shape place =
+      (place ≡ nested_place env.geometry shape number) ⊎ IsSecondEntry G number τ shape place
+
+  -- the table in one slot is right behind that in another
+  pub record IsRightBehind (G : Ghost) (slot next : ℕ) : Type 0 where
+    pub table : has_table (G.slot next) ≡ true
+    pub index : index_at G next ≡ index_at G slot + 1
+
+  -- the table is nested, so that the way to the port's bucket leads over entries, at one of which it stands
+  pub record IsOnWay (G : Ghost) (port slot shape : ℕ) (place : PlaceModel) (early : Option ℕ) : Type 0 where
+    pub shaped : IsShaped G port slot shape
+    pub nested : is_nested shape ≡ true
+    pub way : IsWay G (hash_in env mix G port (index_at G slot)) (index_at G slot) shape place
+    pub behind : IfSome early (IsRightBehind G slot)
+
+  pub record IsAtHome (G : Ghost) (port slot : ℕ) (shape : Option ℕ) (place : ℕ) : Type 0 where
+    pub passing : IsPassing G port slot
+    pub shape_is : IfSome shape (λ s. (G.table (index_at G slot)).shape ≡ s)
+    pub bucket : IsBucketPlace env.geometry place
+    pub here : home env mix G port (index_at G slot) ≡ Some (word_index env mix place)
+
+  -- a table has this slot, and this shape
+  pub record HasShape (G : Ghost) (slot shape : ℕ) : Type 0 where
+    pub table : has_table (G.slot slot) ≡ true
+    pub attached : index_at G slot < G.attached
+    pub shape_is : (G.table (index_at G slot)).shape ≡ shape
+
+  abbrev pub TableMeans : Ghost → KnownTable → Type 0
+  TableMeans G Nowhere = Unit {0}
+  TableMeans G (InSlot slot) = has_table (G.slot slot) ≡ true
+  TableMeans G (WithShape slot shape) = HasShape G slot shape
+  TableMeans G (Passes port slot) = IsPassing G port slot
+  TableMeans G (Shaped port slot shape) = IsShaped G port slot shape
+  TableMeans G (OnWay port slot shape place early) = IsOnWay G port slot shape place early
+  TableMeans G (AtHome port slot shape place) = IsAtHome G port slot shape place
+
+  -- the caller has locked the bucket, in which it may be armed, and out of which an entry may be on its way; or neither is so
+  pub record HasLock (c : ℕ) (G : Ghost) (place word : ℕ) : Type 0 where
+    pub bucket : IsBucketPlace env.geometry place
+    pub holder : (bucket_at G place).holder ≡ Some c
+    pub plain : (bucket_at G place).plain ≡ word
+
+  pub record HoldsLock (c : ℕ) (G : Ghost) (place word : ℕ) : Type 0 where
+    pub bucket : IsBucketPlace env.geometry place
+    pub holder : (bucket_at G place).holder ≡ Some c
+    pub plain : (bucket_at G place).plain ≡ word
+    pub unarmed : (bucket_at G place).armed ≡ None
+    pub still : (bucket_at G place).out ≡ None
+
+  pub has_lock : (c : ℕ) (G : Ghost) (place word : ℕ) → HoldsLock c G place word → HasLock c G place word
+  has_lock c G place word lock = record { bucket = lock.bucket; holder = lock.holder; plain = lock.plain }
+
+  -- The caller has found in the port's bucket in this table that the port isn't bound there, nor in an earlier table, and that no table is
+  -- behind it.
+  pub record ArmedFor (G : Ghost) (c port τ j : ℕ) : Type 0 where
+    pub passed : Passed env mix G port τ
+    pub here : home env mix G port τ ≡ Some j
+    pub armed : (G.bucket j).armed ≡ Some c
+    pub unbound : G.bound port ≡ []
+
+  pub record IsArmed (c : ℕ) (G : Ghost) (place word port : ℕ) : Type 0 where
+    pub lock : HasLock c G place word
+    pub table : ℕ
+    pub armed : ArmedFor G c port table (word_index env mix place)
+
+  pub record IsStanding (c : ℕ) (M : Memory) (G : Ghost) (place word key node : ℕ) (before : Option ℕ) :
+      Type 0 where
+    pub lock : HoldsLock c G place word
+    pub stands : StandsAt M (bucket_at G place).nodes key node before
+
+  -- and as many keys were loaded as there are nodes before it; once its own key is loaded, one more
+  pub record IsReaching (c : ℕ) (M : Memory) (G : Ghost) (place word key node : ℕ) (before : Option ℕ) (count : ℕ) :
+      Type 0 where
+    pub standing : IsStanding c M G place word key node before
+    pub counted : count ≡ length standing.stands.front
+
+  pub record IsDiffering (c : ℕ) (M : Memory) (G : Ghost) (place word key node : ℕ) (before : Option ℕ) (count : ℕ) :
+      Type 0 where
+    pub standing : IsStanding c M G place word key node before
+    pub differs : key_of M node ≢ key
+    pub counted : count ≡ length standing.stands.front + 1
+
+  pub record IsMissed (c : ℕ) (M : Memory) (G : Ghost) (place word key : ℕ) : Type 0 where
+    pub lock : HoldsLock c G place word
+    pub none : NoKey M key (bucket_at G place).nodes
+
+  pub record IsFound (c : ℕ) (M : Memory) (G : Ghost) (place word key node : ℕ) (before : Option ℕ) :
+      Type 0 where
+    pub standing : IsStanding c M G place word key node before
+    pub key_is : key_of M node ≡ key
+
+  pub record IsMember (c : ℕ) (M : Memory) (G : Ghost) (place word key node : ℕ) : Type 0 where
+    pub lock : HoldsLock c G place word
+    pub there : In node (bucket_at G place).nodes
+    pub key_is : key_of M node ≡ key
+
+  -- the node is one of those to which the port is bound whose first one the bucket has, and whose owner is this
+  pub record IsListing (c : ℕ) (M : Memory) (G : Ghost) (place word key node owner : ℕ) : Type 0 where
+    pub first : ℕ
+    pub behind : List ℕ
+    pub member : IsMember c M G place word key first
+    pub bound_to : G.bound key ≡ first ∷ behind
+    pub listed : In node (first ∷ behind)
+    pub owner_is : owner_of (M (Node first OwnerWord)) ≡ owner
+
+  -- the caller's own node leads on as the first one does
+  pub record IsReplacing (c : ℕ) (M : Memory) (G : Ghost) (first node : ℕ) : Type 0 where
+    pub has : HasNode c G node
+    pub alike : chain_of M node ≡ chain_of M first
+
+  -- and the first one has this owner, and is the only one
+  pub record IsSucceeding (c : ℕ) (M : Memory) (G : Ghost) (first : ℕ) (behind : List ℕ) (node owner : ℕ) : Type 0 where
+    pub leads : IsLeading M first behind None owner
+    pub replaces : IsReplacing c M G first node
+
+  abbrev pub ListMeans : ℕ → Memory → Ghost → ℕ → List ℕ → KnownList → Type 0
+  ListMeans c M G first behind (AtNode node before owner) = StandsInList M (first ∷ behind) node before owner
+  ListMeans c M G first behind (Differing node owner) = IsOtherOwner M (first ∷ behind) node owner
+  ListMeans c M G first behind (Matching node before owner) = IsOwnersNode M (first ∷ behind) node before
+      owner
+  ListMeans c M G first behind (CutsOut node before link owner) = IsCutOut M (first ∷ behind) node before
+      link owner
+  ListMeans c M G first behind (Leads second owner) = IsLeading M first behind second owner
+  ListMeans c M G first behind (LeadsTo second link owner) = IsLeadingTo M first behind second link owner
+  ListMeans c M G first behind (Promotes second owner) = IsPromoting M first behind second owner
+  ListMeans c M G first behind (FirstLink link) = chain_of M first ≡ link
+  ListMeans c M G first behind (Replaces node) = IsReplacing c M G first node
+  ListMeans c M G first behind (Succeeds node owner) = IsSucceeding c M G first behind node owner
+  ListMeans c M G first behind (Collected node owners) = IsCollected M (first ∷ behind) node owners
+  ListMeans c M G first behind (CollectedTo node owners) = IsCollectedTo M (first ∷ behind) node owners
+
+  -- the first node that has the key was found, and the key's port is bound to it and to these behind it
+  pub record IsInList (c : ℕ) (M : Memory) (G : Ghost) (place word key first : ℕ) (before : Option ℕ)
+      (known : KnownList) : Type 0 where
+    pub found : IsFound c M G place word key first before
+    pub behind : List ℕ
+    pub bound_to : G.bound key ≡ first ∷ behind
+    pub means : ListMeans c M G first behind known
+
+  -- the caller has taken the node out of a list
+  pub record HasTakenOut (c : ℕ) (G : Ghost) (node : ℕ) : Type 0 where
+    pub among : node < env.geometry.nodes
+    pub taken : is_taken_by c (G.node node) ≡ true
+
+  pub record LocksAndTook (c : ℕ) (G : Ghost) (place word node : ℕ) : Type 0 where
+    pub lock : HoldsLock c G place word
+    pub took : HasTakenOut c G node
+
+  abbrev pub BucketMeans : ℕ → Memory → Ghost → KnownBucket → Type 0
+  BucketMeans c M G Unlocked = Unit {0}
+  BucketMeans c M G (Unlocks place word) = HasLock c G place word
+  BucketMeans c M G (Armed place word port) = IsArmed c G place word port
+  BucketMeans c M G (Locks place word) = HoldsLock c G place word
+  BucketMeans c M G (Stands place word key node before count) = IsReaching c M G place word key node before count
+  BucketMeans c M G (Differs place word key node before count) = IsDiffering c M G place word key node before count
+  BucketMeans c M G (Missed place word key) = IsMissed c M G place word key
+  BucketMeans c M G (Found place word key node before) = IsFound c M G place word key node before
+  BucketMeans c M G (Member place word key node) = IsMember c M G place word key node
+  BucketMeans c M G (Listing place word key node owner) = IsListing c M G place word key node owner
+  BucketMeans c M G (InList place word key first before known) = IsInList c M G place word key first
+      before known
+  BucketMeans c M G (TakenOut node) = HasTakenOut c G node
+  BucketMeans c M G (LocksTakenOut place word node) = LocksAndTook c G place word node
+
+  -- what is known of a list doesn't speak of the caller's own node
+  abbrev pub IsPlainList : KnownList → Type 0
+  IsPlainList (AtNode node before owner) = Unit {0}
+  IsPlainList (Differing node owner) = Unit {0}
+  IsPlainList (Matching node before owner) = Unit {0}
+  IsPlainList (CutsOut node before link owner) = Unit {0}
+  IsPlainList (Leads second owner) = Unit {0}
+  IsPlainList (LeadsTo second link owner) = Unit {0}
+  IsPlainList (Promotes second owner) = Unit {0}
+  IsPlainList (FirstLink link) = Unit {0}
+  IsPlainList (Replaces node) = ⊥
+  IsPlainList (Succeeds node owner) = ⊥
+  IsPlainList (Collected node owners) = Unit {0}
+  IsPlainList (CollectedTo node owners) = Unit {0}
+
+  abbrev pub IsPlain : KnownBucket → Type 0
+  IsPlain Unlocked = Unit {0}
+  IsPlain (Unlocks place word) = Unit {0}
+  IsPlain (Armed place word port) = Unit {0}
+  IsPlain (Locks place word) = Unit {0}
+  IsPlain (Stands place word key node before count) = Unit {0}
+  IsPlain (Differs place word key node before count) = Unit {0}
+  IsPlain (Missed place word key) = Unit {0}
+  IsPlain (Found place word key node before) = Unit {0}
+  IsPlain (Member place word key node) = Unit {0}
+  IsPlain (Listing place word key node owner) = Unit {0}
+  IsPlain (InList place word key first before known) = IsPlainList known
+  IsPlain (TakenOut node) = Unit {0}
+  IsPlain (LocksTakenOut place word node) = Unit {0}
+
+  -- ---- tables that callers make
+
+  pub record HasSlot (c : ℕ) (G : Ghost) (slot : ℕ) : Type 0 where
+    pub within : slot < 8
+    pub mine : G.slot slot ≡ SlotHeld c
+
+  pub record SlotMeans (c : ℕ) (M : Memory) (G : Ghost) (known : KnownSlot) : Type 0 where
+    pub has : HasSlot c G known.slot
+    pub shape : IfSome known.shape (λ value. M (Slot known.slot ShapeWord) ≡ value)
+    pub seed : IfSome known.seed (λ value. M (Slot known.slot SeedWord) ≡ value)
+    pub future : IfSome known.future (λ value. M (Slot known.slot FutureWord) ≡ value)
+    pub serial : IfSome known.serial (λ value. M (Slot known.slot SerialWord) ≡ value)
+
+  abbrev pub ArePagesMine : ℕ → Ghost → List ℕ → Type 0
+  ArePagesMine c G pages = (p : ℕ) → In p pages → G.page p ≡ PageHeld c
+
+  pub record IsTaken (c : ℕ) (M : Memory) (G : Ghost) (known : KnownSlot) (pages : List ℕ) : Type 0 where
+    pub slot : SlotMeans c M G known
+    pub mine : ArePagesMine c G pages
+
+  -- a flat table is made with the pages of all its buckets, and a nested one with its top page
+  pub record IsFlatMade (shape : ℕ) : Type 0 where
+    pub flat : (unpacked shape).nest ≡ 0
+    pub many : table_pages (unpacked shape) ≡ pages_of env mix shape
+
+  pub record IsNestedMade (shape : ℕ) : Type 0 where
+    pub shaped : IsNestedShape shape
+    pub one : table_pages (unpacked shape) ≡ 1
+
+  -- the slot's words are those of such a table that nothing follows, and the caller has all these pages
+  pub record IsMade (c : ℕ) (M : Memory) (G : Ghost) (slot shape : ℕ) : Type 0 where
+    pub has : HasSlot c G slot
+    pub shape_is : M (Slot slot ShapeWord) ≡ shape
+    pub future_is : M (Slot slot FutureWord) ≡ 0
+    pub kind : IsFlatMade shape ⊎ IsNestedMade shape
+    pub fits : first_page shape + table_pages (unpacked shape) ≤ env.geometry.pages
+    pub run : (p : ℕ) → first_page shape ≤ p → p < first_page shape + table_pages (unpacked shape)
+        → G.page p ≡ PageHeld c
+
+  abbrev pub MakingMeans : ℕ → Memory → Ghost → KnownMaking → Type 0
+  MakingMeans c M G MakesNothing = Unit {0}
+  MakingMeans c M G (HasPages pages) = ArePagesMine c G pages
+  MakingMeans c M G (HasTaken slot pages) = IsTaken c M G slot pages
+  MakingMeans c M G (HasMade slot shape) = IsMade c M G slot shape
+
+  -- ---- the work
+
+  abbrev pub IsRoot : Ghost → ℕ → Type 0
+  IsRoot G root = (G.table G.current).slot ≡ root
+
+  -- a bucket of which every entry has been moved
+  pub record IsEmptied (b : Bucket) : Type 0 where
+    pub nodes : b.nodes ≡ []
+    pub out : b.out ≡ None
+    pub armed : b.armed ≡ None
+
+  -- a table is behind the current one, and these are their slots
+  pub record IsFollowed (G : Ghost) (root future : ℕ) : Type 0 where
+    pub root_is : IsRoot G root
+    pub future_is : (G.table (G.current + 1)).slot ≡ future
+    pub more : G.current + 1 < G.attached
+
+  -- and the buckets of the current one with smaller numbers are emptied
+  pub record IsEmptying (G : Ghost) (root : KnownRehash) (count : ℕ) : Type 0 where
+    pub followed : IsFollowed G root.root root.future
+    pub shape_is : (G.table G.current).shape ≡ root.shape
+    pub within : count ≤ size_of (unpacked (G.table G.current).shape)
+    pub each : (b j : ℕ) → b < count → (G.table G.current).place b ≡ Some j → IsEmptied (G.bucket j)
+
+  -- a table that isn't before the current one, or one behind it, which isn't nested where its shape is known
+  pub record IsFrom (G : Ghost) (slot : ℕ) : Type 0 where
+    pub table : has_table (G.slot slot) ≡ true
+    pub from : G.current ≤ index_at G slot
+
+  pub record IsBeyond (G : Ghost) (slot : ℕ) (shape seed : Option ℕ) : Type 0 where
+    pub table : has_table (G.slot slot) ≡ true
+    pub later : G.current < index_at G slot
+    pub shape_is : IfSome shape (λ s. (G.table (index_at G slot)).shape ≡ s)
+    pub flat : IfSome shape (λ s. is_nested s ≡ false)
+    pub seed_is : IfSome seed (λ s. (G.table (index_at G slot)).seed ≡ s)
+
+  abbrev pub AimMeans : Ghost → KnownAim → Type 0
+  AimMeans G NoAim = Unit {0}
+  AimMeans G Onward = G.current + 1 < G.attached
+  AimMeans G (From slot) = IsFrom G slot
+  AimMeans G (Beyond slot shape seed) = IsBeyond G slot shape seed
+
+  pub record IsRooted (G : Ghost) (root : ℕ) (aim : KnownAim) : Type 0 where
+    pub root_is : IsRoot G root
+    pub aim_is : AimMeans G aim
+
+  -- a table was left behind by the current one
+  pub record IsLeftBehind (G : Ghost) (slot : ℕ) : Type 0 where
+    pub table : has_table (G.slot slot) ≡ true
+    pub earlier : index_at G slot < G.current
+
+  -- the bucket of the current table that is to be emptied next, to which the way leads over entries, since that table is nested; and the
+  -- entry at which it stands
+  pub record IsNearing (G : Ghost) (root : KnownRehash) (number : ℕ) (place : PlaceModel) : Type 0 where
+    pub empties : IsEmptying G root number
+    pub below : number < size_of (unpacked (G.table G.current).shape)
+    pub nested : is_nested root.shape ≡ true
+    pub way : IsWay G number G.current root.shape place
+
+  -- the place of the bucket of the current table that is to be emptied next
+  pub record IsFacing (G : Ghost) (root : KnownRehash) (number place : ℕ) : Type 0 where
+    pub empties : IsEmptying G root number
+    pub below : number < size_of (unpacked (G.table G.current).shape)
+    pub bucket : IsBucketPlace env.geometry place
+    pub here : (G.table G.current).place number ≡ Some (word_index env mix place)
+
+  -- and it is locked
+  pub record IsNext (c : ℕ) (G : Ghost) (root : KnownRehash) (at : KnownPlace) : Type 0 where
+    pub empties : IsEmptying G root at.number
+    pub below : at.number < size_of (unpacked (G.table G.current).shape)
+    pub lock : HasLock c G at.place at.word
+    pub here : (G.table G.current).place at.number ≡ Some (word_index env mix at.place)
+
+  -- and nothing is on its way out of it
+  pub record IsInBucket (c : ℕ) (G : Ghost) (root : KnownRehash) (at : KnownPlace) (aim : KnownAim) : Type 0 where
+    pub next : IsNext c G root at
+    pub out : (bucket_at G at.place).out ≡ None
+    pub aim_is : AimMeans G aim
+
+  -- it has no entry
+  pub record IsBare (c : ℕ) (G : Ghost) (root : KnownRehash) (at : KnownPlace) : Type 0 where
+    pub bucket : IsInBucket c G root at NoAim
+    pub none : (bucket_at G at.place).nodes ≡ []
+
+  -- an entry is in it
+  pub record IsEntry (c : ℕ) (G : Ghost) (root : KnownRehash) (at : KnownPlace) (entry : KnownEntry) (aim : KnownAim) :
+      Type 0 where
+    pub bucket : IsInBucket c G root at aim
+    pub among : IsAmong (bucket_at G at.place).nodes entry.node entry.before
+
+  -- and is the last one there
+  pub record IsTail (c : ℕ) (G : Ghost) (root : KnownRehash) (at : KnownPlace) (entry : KnownEntry) (aim : KnownAim) :
+      Type 0 where
+    pub stands : IsEntry c G root at entry aim
+    pub last : stands.among.rear ≡ []
+
+  -- the place to which an entry goes, in a table behind the current one
+  pub record IsAim (M : Memory) (G : Ghost) (entry place : ℕ) : Type 0 where
+    pub bucket : IsBucketPlace env.geometry place
+    pub table : ℕ
+    pub later : G.current < table
+    pub attached : table < G.attached
+    pub here : home env mix G (key_of M entry) table ≡ Some (word_index env mix place)
+
+  pub record IsAiming (c : ℕ) (M : Memory) (G : Ghost) (root : KnownRehash) (at : KnownPlace) (entry : KnownEntry)
+      (place : ℕ) : Type 0 where
+    pub tail : IsTail c G root at entry NoAim
+    pub aim : IsAim M G entry.node place
+
+  -- and it is locked
+  pub record IsTarget (c : ℕ) (M : Memory) (G : Ghost) (entry place word : ℕ) : Type 0 where
+    pub lock : HasLock c G place word
+    pub aim : IsAim M G entry place
+
+  pub record IsBringing (c : ℕ) (M : Memory) (G : Ghost) (root : KnownRehash) (at : KnownPlace) (entry : KnownEntry)
+      (place word : ℕ) : Type 0 where
+    pub tail : IsTail c G root at entry NoAim
+    pub target : IsTarget c M G entry.node place word
+
+  -- the entry is on its way out of the bucket, and was behind this one
+  pub record IsOutOf (c : ℕ) (G : Ghost) (root : KnownRehash) (at : KnownPlace) (entry : KnownEntry) : Type 0 where
+    pub next : IsNext c G root at
+    pub out : (bucket_at G at.place).out ≡ Some entry.node
+    pub last : entry.before ≡ last_of (bucket_at G at.place).nodes
+
+  pub record IsTakenOut (c : ℕ) (M : Memory) (G : Ghost) (root : KnownRehash) (at : KnownPlace) (entry : KnownEntry)
+      (place word : ℕ) : Type 0 where
+    pub out : IsOutOf c G root at entry
+    pub leaving : G.node entry.node ≡ Leaving (word_index env mix at.place)
+    pub target : IsTarget c M G entry.node place word
+    pub chain : chain_of M entry.node ≡ head_of place word
+
+  pub record IsBrought (c : ℕ) (G : Ghost) (root : KnownRehash) (at : KnownPlace) (entry : KnownEntry) : Type 0 where
+    pub out : IsOutOf c G root at entry
+    pub further : IsFurther env mix G entry.node
+
+  -- what is known while the caller does the work
+  pub record IsWorking (c : ℕ) (G : Ghost) (slot : Option ℕ) (More : Type 0) : Type 0 where
+    pub works : DoesWork c G slot
+    pub more : More
+
+  abbrev pub WorkMeans : ℕ → Memory → Ghost → KnownWork → Type 0
+  WorkMeans c M G NoWork = Unit {0}
+  WorkMeans c M G Works = IsWorking c G None (Unit {0})
+  WorkMeans c M G (Rooted root aim) = IsWorking c G None (IsRooted G root aim)
+  WorkMeans c M G (Follows root future) = IsWorking c G None (IsFollowed G root future)
+  WorkMeans c M G (Empties root count) = IsWorking c G None (IsEmptying G root count)
+  WorkMeans c M G (LeavesBehind slot) = IsWorking c G (Some slot) (IsLeftBehind G slot)
+  WorkMeans c M G (Nears root number place) = IsWorking c G None (IsNearing G root number place)
+  WorkMeans c M G (Faces root number place) = IsWorking c G None (IsFacing G root number place)
+  WorkMeans c M G (InBucket root at aim) = IsWorking c G None (IsInBucket c G root at aim)
+  WorkMeans c M G (Bare root at) = IsWorking c G None (IsBare c G root at)
+  WorkMeans c M G (AtEntry root at entry aim) = IsWorking c G None (IsEntry c G root at entry aim)
+  WorkMeans c M G (AtTail root at entry aim) = IsWorking c G None (IsTail c G root at entry aim)
+  WorkMeans c M G (Aims root at entry place) = IsWorking c G None (IsAiming c M G root at entry place)
+  WorkMeans c M G (Brings root at entry place word) = IsWorking c G None (IsBringing c M G root at entry place word)
+  WorkMeans c M G (TakesOut root at entry place word) = IsWorking c G None (IsTakenOut c M G root at entry place word)
+  WorkMeans c M G (HasBrought root at entry) = IsWorking c G None (IsBrought c G root at entry)
+
+  pub record Means (c : ℕ) (M : Memory) (G : Ghost) (known : Known) : Type 0 where
+    pub node : IfSome known.node (NodeMeans c M G)
+    pub table : TableMeans G known.table
+    pub bucket : BucketMeans c M G known.bucket
+    pub making : MakingMeans c M G known.making
+    pub work : WorkMeans c M G known.work
+
+  -- ---- what it has, and nothing more
+
+  -- The caller has no other node than this, has locked no other bucket than these, and has raised the count where this says so. It has no
+  -- other slot and pages than these, and does the work only where this says so.
+  pub record HasOnly (c : ℕ) (G : Ghost) (node lock second : Option ℕ) (raised : Bool) (slot : Option ℕ)
+      (pages : List ℕ) (worker : Bool) : Type 0 where
+    pub nodes : (n : ℕ) → G.node n ≡ Held c → node ≡ Some n
+    pub locks : (j : ℕ) → (G.bucket j).holder ≡ Some c
+        → (lock ≡ Some (place_at env mix j)) ⊎ (second ≡ Some (place_at env mix j))
+    pub raising : G.raised c ≡ raised
+    pub slots : (s : ℕ) → G.slot s ≡ SlotHeld c → slot ≡ Some s
+    pub pages_in : (p : ℕ) → G.page p ≡ PageHeld c → In p pages
+    pub works : G.worker ≡ Some c → worker ≡ true
+
+  abbrev pub Only : {A : Type 0} → ℕ → Ghost → held.Held A → Type 0
+  Only c G h = HasOnly c G h.node h.lock h.second h.raised h.slot h.pages h.worker
+
+  -- so one that doesn't do the work has no entry on its way
+  pub idle_moves_none : (M : Memory) (G : Ghost) → Whole env mix M G → (c : ℕ) {has lock second : Option ℕ}
+      {raised : Bool} {slot : Option ℕ} {pages : List ℕ}
+      → HasOnly c G has lock second raised slot pages false → MovesNone env mix G c
+  idle_moves_none M G whole c only =
+      moves_none env mix M G whole c (λ works. let both = only.works works in cc)
+
+  -- ---- a caller that has this and no more, and knows that
+
+  pub record Knowing {A : Type 0} (c : ℕ) (h : held.Held A) (known : Known) (M : Memory) (G : Ghost) :
+      Type 0 where
+    pub only : Only c G h
+    pub means : Means c M G known
+
+  -- what is known of a call that makes no table and doesn't do the work
+  pub plainly : {A : Type 0} {c : ℕ} {h : held.Held A} {node : Option KnownNode} {table : KnownTable} {bucket : KnownBucket}
+      {M : Memory} {G : Ghost}
+      → Only c G h → IfSome node (NodeMeans c M G) → TableMeans G table → BucketMeans c M G bucket
+      → Knowing c h (knows_plain node table bucket) M G
+  plainly only node table bucket =
+      record { only = only; means = record { node = node; table = table; bucket = bucket; making = tt; work = tt } }

@@ -1,0 +1,495 @@
+-- What is known of nodes, tables and buckets outlives a step that leaves what it speaks of.
+use Rattle.std.proofs.Common.{◌≡◌, ℕ, ◌<◌, ◌≤◌, List, [], ◌∷◌, ◌++◌, Option, Some, None, true, refl, sym, ◌∙◌, ap, subst, inl, inr, arith}
+use Rattle.std.specs.Prelude.{IfSome}
+use Rattle.rht_words.specs.declared.env.Env.{Env}
+use Rattle.rht_words.specs.Places.{Node, NodeWord, ChainLink, KeyWord, OwnerWord, ListLink}
+use Rattle.rht_words.specs.Ports.{owner_of}
+use Rattle.rht_words.proofs.Memory.{Memory}
+use Rattle.rht_words.specs.Members.{In}
+use Rattle.rht_words.proofs.Members.{In-append_left, In-append_cases, in-middle}
+use Rattle.rht_ghost.proofs.Theory.Ghosts.{Held, Ghost, is_taken_by, has_table, index_at}
+use Rattle.rht_ghost.proofs.Theory.Wholes.{chain_of, key_of, word_index, hash_in, home}
+use Rattle.rht_ghost.proofs.Theory.Passed.{NoKey, NoKey-same, hash-stays, home-stays}
+use Rattle.rht_ghost.proofs.Theory.Knowns.{Armed, AtHome, AtNode, Collected, CollectedTo, CutsOut, Differing, Differs, FirstLink, Found, InList, InSlot, IsAmong, IsLeading, IsOwnersNode, KnownBucket, KnownList, KnownNode, KnownTable, Leads, LeadsTo, Listing, Locks, LocksTakenOut, Matching, Member, Missed, NoOwner, Nowhere, OnWay, Passes, Promotes, Replaces, Shaped, Stands, StandsInList, Succeeds, TakenOut, Unlocked, Unlocks, WithShape, first_of_list, owners_of}
+use Rattle.rht_ghost.proofs.Theory.Knowledge.{ArmedFor, BucketMeans, HasLock, HasNode, HasTakenOut, HoldsLock, IsArmed, IsDiffering, IsFound, IsInList, IsMember, IsPassing, IsPlain, IsPlainList, IsReaching, IsShaped, IsStanding, ListMeans, NodeMeans, TableMeans, bucket_at}
+use Rattle.rht_ghost.proofs.Theory.WaysStay.{IsWay-stay, IsRightBehind-stay}
+use Rattle.rht_ghost.proofs.Theory.Reliance.{ChainsStay, MembersUsed, TablesStay, WordStays}
+
+module _ (env : Env) (mix : ℕ → ℕ → ℕ → ℕ) where
+  -- ---- what is known outlives a step that leaves what it speaks of
+
+  module _ (c : ℕ) (M M' : Memory) (G G' : Ghost) where
+    -- of nodes: where the caller's stay its own, with their words
+    module _ (mine : (node : ℕ) → HasNode env mix c G node → G'.node node ≡ Held c)
+        (words : (node : ℕ) → HasNode env mix c G node → (word : NodeWord)
+        → M' (Node node word) ≡ M (Node node word)) where
+      known-stays : (node : ℕ) (word : NodeWord) (known : Option ℕ) → HasNode env mix c G node
+          → IfSome known (λ value. M (Node node word) ≡ value)
+          → IfSome known (λ value. M' (Node node word) ≡ value)
+      known-stays node word None has is = tt
+      known-stays node word (Some value) has is = words node has word ∙ is
+
+      pub NodeMeans-stay : (known : Option KnownNode) → IfSome known (NodeMeans env mix c M G)
+          → IfSome known (NodeMeans env mix c M' G')
+      NodeMeans-stay None means = tt
+      NodeMeans-stay (Some known) means = record {
+        has = record { mine = mine known.node means.has; among = means.has.among };
+        chain = known-stays known.node ChainLink known.chain means.has means.chain;
+        key = known-stays known.node KeyWord known.key means.has means.key;
+        owner = known-stays known.node OwnerWord known.owner means.has means.owner;
+        list = known-stays known.node ListLink known.list means.has means.list;
+      }
+
+    -- of tables: where these stay
+    module _ (stay : TablesStay env mix G G') where
+      less : {a b d : ℕ} → a < b → b ≤ d → a < d
+      less l m = omega (arith, l, m)
+
+      IsPassing-stay : (port slot : ℕ) → IsPassing env mix G port slot → IsPassing env mix G' port slot
+      IsPassing-stay port slot means = record {
+        table = stay.grow.slots slot means.table;
+        passed = rw (stay.grow.indices slot means.table) (stay.passed port (index_at G slot) means.passed);
+      }
+
+      shape-stays : (slot : ℕ) (shape : Option ℕ) → has_table (G.slot slot) ≡ true
+          → index_at G slot < G.attached
+          → IfSome shape (λ s. (G.table (index_at G slot)).shape ≡ s)
+          → IfSome shape (λ s. (G'.table (index_at G' slot)).shape ≡ s)
+      shape-stays slot None has attached is = tt
+      shape-stays slot (Some s) has attached is =
+          ap (λ τ. (G'.table τ).shape) (stay.grow.indices slot has)
+          ∙ (stay.grow.tables (index_at G slot) attached).shape ∙ is
+
+      IsShaped-stay : (port slot shape : ℕ) → IsShaped env mix G port slot shape → IsShaped env mix G' port slot shape
+      IsShaped-stay port slot shape means = record {
+        passing = IsPassing-stay port slot means.passing;
+        shape_is = shape-stays slot (Some shape) means.passing.table means.passing.passed.attached means.shape_is;
+      }
+
+      pub TableMeans-stay : (known : KnownTable) → TableMeans env mix G known → TableMeans env mix G' known
+      TableMeans-stay Nowhere means = tt
+      TableMeans-stay (InSlot slot) means = stay.grow.slots slot means
+      TableMeans-stay (WithShape slot shape) means = record {
+        table = stay.grow.slots slot means.table;
+        attached = rw (stay.grow.indices slot means.table) (less means.attached stay.grow.attached);
+        shape_is = shape-stays slot (Some shape) means.table means.attached means.shape_is;
+      }
+      TableMeans-stay (Passes port slot) means = IsPassing-stay port slot means
+      TableMeans-stay (Shaped port slot shape) means = IsShaped-stay port slot shape means
+      TableMeans-stay (OnWay port slot shape place early) means =
+          let passing = means.shaped.passing in
+          record {
+            shaped = IsShaped-stay port slot shape means.shaped;
+            nested = means.nested;
+            way = rw (stay.grow.indices slot passing.table)
+                (rw (hash-stays env mix G G' stay.grow port (index_at G slot) passing.passed.attached)
+                (IsWay-stay env mix G G' stay.grow (hash_in env mix G port (index_at G slot)) (index_at G slot) shape place
+                passing.passed.attached means.way));
+            behind = IsRightBehind-stay env mix G G' stay.grow slot early passing.table means.behind;
+          }
+      TableMeans-stay (AtHome port slot shape place) means =
+          let passing = means.passing in
+          record {
+            passing = IsPassing-stay port slot passing;
+            shape_is = shape-stays slot shape passing.table passing.passed.attached means.shape_is;
+            bucket = means.bucket;
+            here =
+                ap (home env mix G' port) (stay.grow.indices slot passing.table)
+                ∙ home-stays env mix G G' stay.grow port (index_at G slot) (word_index env mix place)
+                passing.passed.attached means.here;
+          }
+
+    -- of buckets: where those that it has locked stay, and the keys of nodes in chains
+    module _ (members : MembersUsed env mix G) (locks : (j : ℕ) → (G.bucket j).holder ≡ Some c
+        → G'.bucket j ≡ G.bucket j)
+        (lists : (j node : ℕ) → (G.bucket j).holder ≡ Some c → In node (G.bucket j).nodes
+        → G'.bound (key_of M node) ≡ G.bound (key_of M node))
+        (chains : ChainsStay env mix c M G M') (keys : WordStays env mix KeyWord M G M') (owners : WordStays env mix OwnerWord M G M')
+        (taken : (node : ℕ) → is_taken_by c (G'.node node) ≡ is_taken_by c (G.node node))
+        (stay : TablesStay env mix G G') (unbound : (port τ j : ℕ) → ArmedFor env mix G c port τ j → G'.bound port ≡ []) where
+      key-stays_in : (j node : ℕ) → In node (G.bucket j).nodes → key_of M' node ≡ key_of M node
+      key-stays_in j node i = let is = members.member j node i in keys node is.0 is.1
+
+      HoldsLock-stay : (place word : ℕ) → HoldsLock env mix c G place word → HoldsLock env mix c G' place word
+      HoldsLock-stay place word holds =
+          let same = locks (word_index env mix place) holds.holder in
+          record {
+            bucket = holds.bucket;
+            holder = ap (λ b. b.holder) same
+                ∙ holds.holder;
+            plain = ap (λ b. b.plain) same ∙ holds.plain;
+            unarmed = ap (λ b. b.armed) same ∙ holds.unarmed;
+            still = ap (λ b. b.out) same ∙ holds.still;
+          }
+
+      HasLock-stay : (place word : ℕ) → HasLock env mix c G place word → HasLock env mix c G' place word
+      HasLock-stay place word holds =
+          let same = locks (word_index env mix place) holds.holder in
+          record {
+            bucket = holds.bucket;
+            holder = ap (λ b. b.holder) same ∙ holds.holder;
+            plain = ap (λ b. b.plain) same ∙ holds.plain;
+          }
+
+      IsArmed-stay : (place word port : ℕ) → IsArmed env mix c G place word port → IsArmed env mix c G' place word port
+      IsArmed-stay place word port is =
+          let j = word_index env mix place in
+          let armed = is.armed in
+          record {
+            lock = HasLock-stay place word is.lock;
+            table = is.table;
+            armed = record {
+              passed = stay.passed port is.table armed.passed;
+              here = home-stays env mix G G' stay.grow port is.table j armed.passed.attached armed.here;
+              armed = ap (λ b. b.armed) (locks j is.lock.holder) ∙ armed.armed;
+              unbound = unbound port is.table j armed;
+            };
+          }
+
+      nodes-stay : (place word : ℕ) → HoldsLock env mix c G place word
+          → (bucket_at env mix G' place).nodes ≡ (bucket_at env mix G place).nodes
+      nodes-stay place word holds = ap (λ b. b.nodes) (locks (word_index env mix place) holds.holder)
+
+      NoKey-stay : (key j : ℕ) (nodes : List ℕ) → ((node : ℕ) → In node nodes → In node (G.bucket j).nodes)
+          → NoKey M key nodes → NoKey M' key nodes
+      NoKey-stay key j nodes all none = NoKey-same M M' key nodes
+          (λ node i. key-stays_in j node (all node i)) none
+
+      IsStanding-stay : (place word key node : ℕ) (before : Option ℕ)
+          → IsStanding env mix c M G place word key node before
+          → IsStanding env mix c M' G' place word key node before
+      IsStanding-stay place word key node before means =
+          let s = means.stands in
+          let j = word_index env mix place in
+          record {
+            lock = HoldsLock-stay place word means.lock;
+            stands = record {
+              front = s.front;
+              rear = s.rear;
+              split = nodes-stay place word means.lock ∙ s.split;
+              passed = NoKey-stay key j s.front
+                  (λ other i. rw s.split (In-append_left other s.front (node ∷ s.rear) i)) s.passed;
+              last = s.last;
+            };
+          }
+
+      IsReaching-stay : (place word key node : ℕ) (before : Option ℕ) (count : ℕ)
+          → IsReaching env mix c M G place word key node before count
+          → IsReaching env mix c M' G' place word key node before count
+      unfolding IsStanding-stay
+      IsReaching-stay place word key node before count means = record {
+        standing = IsStanding-stay place word key node before means.standing;
+        counted = means.counted;
+      }
+
+      -- the key of the node at which it stands stays
+      key-stays : (place word key node : ℕ) (before : Option ℕ) → IsStanding env mix c M G place word key node before
+          → key_of M' node ≡ key_of M node
+      key-stays place word key node before means =
+          let j = word_index env mix place in
+          key-stays_in j node (rw means.stands.split (in-middle node means.stands.front means.stands.rear))
+
+      IsDiffering-stay : (place word key node : ℕ) (before : Option ℕ) (count : ℕ)
+          → IsDiffering env mix c M G place word key node before count
+          → IsDiffering env mix c M' G' place word key node before count
+      unfolding IsStanding-stay
+      IsDiffering-stay place word key node before count means = record {
+        standing = IsStanding-stay place word key node before means.standing;
+        differs = λ same. means.differs (sym (key-stays place word key node before means.standing) ∙ same);
+        counted = means.counted;
+      }
+
+      IsMember-stay : (place word key node : ℕ) → IsMember env mix c M G place word key node
+          → IsMember env mix c M' G' place word key node
+      IsMember-stay place word key node means =
+          let j = word_index env mix place in
+          record {
+            lock = HoldsLock-stay place word means.lock;
+            there = rw (nodes-stay place word means.lock) means.there;
+            key_is = key-stays_in j node means.there ∙ means.key_is;
+          }
+
+      NoOwner-stay : (owner : ℕ) (nodes : List ℕ) → ((node : ℕ) → In node nodes
+          → M' (Node node OwnerWord) ≡ M (Node node OwnerWord))
+          → NoOwner M owner nodes → NoOwner M' owner nodes
+      NoOwner-stay owner [] same none = tt
+      NoOwner-stay owner (node ∷ nodes) same none = (
+        (λ is. none.0 (ap owner_of (sym (same node (inl refl))) ∙ is)),
+        NoOwner-stay owner nodes
+            (λ other i. same other (inr i)) none.1,
+      )
+
+      owners_of-stay : (nodes : List ℕ) → ((node : ℕ) → In node nodes
+          → M' (Node node OwnerWord) ≡ M (Node node OwnerWord))
+          → owners_of M' nodes ≡ owners_of M nodes
+      owners_of-stay [] same = refl
+      owners_of-stay (node ∷ nodes) same =
+          ap (λ w. owner_of w ∷ owners_of M' nodes) (same node (inl refl))
+          ∙ ap (λ rest. owner_of (M (Node node OwnerWord)) ∷ rest)
+          (owners_of-stay nodes (λ other i. same other (inr i)))
+
+      -- of a list: where the owners of its nodes stay, and their links in chains
+      module _ (first : ℕ) (behind : List ℕ)
+          (owner_words : (node : ℕ) → In node (first ∷ behind)
+          → M' (Node node OwnerWord) ≡ M (Node node OwnerWord))
+          (links : (node : ℕ) → In node (first ∷ behind) → chain_of M' node ≡ chain_of M node) where
+        none-stays : (node : ℕ) (before : Option ℕ) (owner : ℕ)
+            → (is : StandsInList M (first ∷ behind) node before owner)
+            → NoOwner M' owner is.among.front
+        none-stays node before owner is = NoOwner-stay owner is.among.front
+            (λ n i. owner_words n (subst (In n) (sym is.among.split)
+            (In-append_left n is.among.front (node ∷ is.among.rear) i))) is.none
+
+        Stands-stay : (node : ℕ) (before : Option ℕ) (owner : ℕ)
+            → StandsInList M (first ∷ behind) node before owner
+            → StandsInList M' (first ∷ behind) node before owner
+        Stands-stay node before owner is = record { among = is.among; none = none-stays node before owner is }
+
+        owner-stays : (node : ℕ) (before : Option ℕ) → (among : IsAmong (first ∷ behind) node before)
+            → owner_of (M' (Node node OwnerWord)) ≡ owner_of (M (Node node OwnerWord))
+        owner-stays node before among =
+            ap owner_of (owner_words node (subst (In node) (sym among.split)
+            (in-middle node among.front among.rear)))
+
+        Matching-stay : (node : ℕ) (before : Option ℕ) (owner : ℕ)
+            → IsOwnersNode M (first ∷ behind) node before owner
+            → IsOwnersNode M' (first ∷ behind) node before owner
+        Matching-stay node before owner is = record {
+          stands = Stands-stay node before owner is.stands;
+          owner_is = owner-stays node before is.stands.among ∙ is.owner_is;
+        }
+
+        Leads-stay : (second : Option ℕ) (owner : ℕ) → IsLeading M first behind second owner
+            → IsLeading M' first behind second owner
+        Leads-stay second owner is =
+            record {
+              owner_is = ap owner_of (owner_words first (inl refl))
+                  ∙ is.owner_is;
+              second_is = is.second_is;
+            }
+
+        -- the second node is one of the list
+        second_in : (second : ℕ) (rest : List ℕ) → Some second ≡ first_of_list rest → In second rest
+        second_in second [] is = absurd (cc)
+        second_in second (node ∷ rest) is = inl (let same : second ≡ node = cc in same)
+
+        ListMeans-stay : (known : KnownList) → IsPlainList env mix known → ListMeans env mix c M G first behind known
+            → ListMeans env mix c M' G' first behind known
+        ListMeans-stay (AtNode node before owner) plain is = Stands-stay node before owner is
+        ListMeans-stay (Differing node owner) plain is = record {
+          before = is.before;
+          stands = Stands-stay node is.before owner is.stands;
+          differs = λ e. is.differs (sym (owner-stays node is.before is.stands.among) ∙ e);
+        }
+        ListMeans-stay (Matching node before owner) plain is = Matching-stay node before owner is
+        ListMeans-stay (CutsOut node before link owner) plain is =
+            let stays = Matching-stay node (Some before) owner is.is in
+            record {
+              is = record {
+                stands = record {
+                  among = is.is.stands.among;
+                  none = none-stays node
+                      (Some before) owner is.is.stands;
+                };
+                owner_is = stays.owner_is;
+              };
+              link_is = is.link_is;
+            }
+        ListMeans-stay (Leads second owner) plain is = Leads-stay second owner is
+        ListMeans-stay (LeadsTo second link owner) plain is =
+            record { leads = Leads-stay second owner is.leads; link_is = links first (inl refl) ∙ is.link_is }
+        ListMeans-stay (Promotes second owner) plain is = record {
+          leads = Leads-stay (Some second) owner is.leads;
+          alike = links second (inr (second_in second behind is.leads.second_is)) ∙ is.alike
+              ∙ sym (links first (inl refl));
+        }
+        ListMeans-stay (FirstLink link) plain is = links first (inl refl) ∙ is
+        ListMeans-stay (Replaces node) plain is = absurd plain
+        ListMeans-stay (Succeeds node owner) plain is = absurd plain
+        ListMeans-stay (Collected node owners) plain is = record {
+          before = is.before;
+          among = is.among;
+          owners_are = is.owners_are ∙ sym (owners_of-stay is.among.front
+              (λ n i. owner_words n (subst (In n) (sym is.among.split)
+              (In-append_left n is.among.front (node ∷ is.among.rear) i))));
+        }
+        ListMeans-stay (CollectedTo node owners) plain is = record {
+          before = is.before;
+          among = is.among;
+          owners_are = is.owners_are ∙ sym (owners_of-stay (is.among.front ++ node ∷ []) (λ n i.
+              owner_words n (subst (In n) (sym is.among.split)
+              (elim (In-append_cases n is.among.front (node ∷ []) i) [
+                | inl l ↦ In-append_left n is.among.front (node ∷ is.among.rear) l
+                | inr r ↦ elim r [
+                  | inl e ↦ rw e (in-middle node is.among.front is.among.rear)
+                  | inr
+                      none ↦ absurd none
+                ]
+              ]))));
+        }
+
+      IsFound-stay : (place word key node : ℕ) (before : Option ℕ) → IsFound env mix c M G place word key node before
+          → IsFound env mix c M' G' place word key node before
+      IsFound-stay place word key node before means = record {
+        standing = IsStanding-stay place word key node before means.standing;
+        key_is = key-stays place word key node before means.standing ∙ means.key_is;
+      }
+
+      -- the first node of a list that was found is in its bucket
+      found_there : (place word key node : ℕ) (before : Option ℕ) → IsFound env mix c M G place word key node before
+          → In node (bucket_at env mix G place).nodes
+      found_there place word key node before means =
+          let s = means.standing.stands in rw s.split (in-middle node s.front s.rear)
+
+      bound-stays : (place word key first : ℕ) (before : Option ℕ) → IsFound env mix c M G place word key first before
+          → G'.bound key ≡ G.bound key
+      bound-stays place word key first before found =
+          ap G'.bound (sym found.key_is)
+          ∙ lists (word_index env mix place) first found.standing.lock.holder
+          (found_there place word key first before found)
+          ∙ ap G.bound found.key_is
+
+      list_links : (place word key first : ℕ) (before : Option ℕ) (behind : List ℕ)
+          → IsFound env mix c M G place word key first before
+          → G.bound key ≡ first ∷ behind → (node : ℕ) → In node (first ∷ behind)
+          → chain_of M' node ≡ chain_of M node
+      list_links place word key first before behind found bound node i =
+          chains (word_index env mix place) first node found.standing.lock.holder
+          (found_there place word key first before found)
+          (rw found.key_is (rw bound i))
+
+      list_owners : (key first : ℕ) (behind : List ℕ) → G.bound key ≡ first ∷ behind → (node : ℕ)
+          → In node (first ∷ behind)
+          → M' (Node node OwnerWord) ≡ M (Node node OwnerWord)
+      list_owners key first behind bound node i = let is = members.bound key node (rw bound i) in owners
+          node is.0 is.1
+
+      InList-stay : (place word key first : ℕ) (before : Option ℕ) (known : KnownList) → IsPlainList env mix known
+          → IsInList env mix c M G place word key first before known
+          → IsInList env mix c M' G' place word key first before known
+      InList-stay place word key first before known plain means = record {
+        found = IsFound-stay place word key first before means.found;
+        behind = means.behind;
+        bound_to = bound-stays place word key first before means.found ∙ means.bound_to;
+        means = ListMeans-stay first means.behind (list_owners key first means.behind means.bound_to)
+            (list_links place word key first before means.behind means.found means.bound_to) known plain
+            means.means;
+      }
+
+      -- the caller's own node leads on as the first one does, where it has the node still, with its link
+      Replaces-stay : (place word key first : ℕ) (before : Option ℕ) (node : ℕ)
+          → (HasNode env mix c G node → HasNode env mix c G' node × (chain_of M' node ≡ chain_of M node))
+          → IsInList env mix c M G place word key first before (Replaces node)
+          → IsInList env mix c M' G' place word key first before (Replaces node)
+      Replaces-stay place word key first before node own means =
+          let mine = own means.means.has in
+          record {
+            found = IsFound-stay place word key first before means.found;
+            behind = means.behind;
+            bound_to = bound-stays place word key first before means.found ∙ means.bound_to;
+            means = record {
+              has = mine.0;
+              alike = mine.1 ∙ means.means.alike
+                  ∙ sym (list_links place word key first before means.behind means.found means.bound_to
+                  first (inl refl));
+            };
+          }
+
+      -- and the first one keeps its owner, and is the only one still
+      Succeeds-stay : (place word key first : ℕ) (before : Option ℕ) (node owner : ℕ)
+          → (HasNode env mix c G node → HasNode env mix c G' node × (chain_of M' node ≡ chain_of M node))
+          → IsInList env mix c M G place word key first before (Succeeds node owner) → IsInList env mix c M' G' place word key first before (Succeeds node owner)
+      Succeeds-stay place word key first before node owner own means =
+          let leads = InList-stay place word key first before (Leads None owner) tt
+          (record { found = means.found; behind = means.behind; bound_to = means.bound_to; means = means.means.leads }) in
+          let replaces = Replaces-stay place word key first before node own
+          (record { found = means.found; behind = means.behind; bound_to = means.bound_to; means = means.means.replaces }) in
+          record {
+            found = leads.found;
+            behind = leads.behind;
+            bound_to = leads.bound_to;
+            means = record { leads = leads.means; replaces = replaces.means };
+          }
+
+      TakenOut-stay : (node : ℕ) → HasTakenOut env mix c G node → HasTakenOut env mix c G' node
+      TakenOut-stay node means = record { among = means.among; taken = taken node ∙ means.taken }
+
+      pub BucketMeans-stay : (known : KnownBucket) → IsPlain env mix known → BucketMeans env mix c M G known
+          → BucketMeans env mix c M' G' known
+      BucketMeans-stay Unlocked plain means = tt
+      BucketMeans-stay (Unlocks place word) plain means = HasLock-stay place word means
+      BucketMeans-stay (Armed place word port) plain means = IsArmed-stay place word port means
+      BucketMeans-stay (Locks place word) plain means = HoldsLock-stay place word means
+      BucketMeans-stay (Stands place word key node before count) plain means = IsReaching-stay place word key
+          node before count means
+      BucketMeans-stay (Differs place word key node before count) plain means = IsDiffering-stay place word key
+          node before count means
+      BucketMeans-stay (Missed place word key) plain means = record {
+        lock = HoldsLock-stay place word means.lock;
+        none = rw (nodes-stay place word means.lock)
+            (NoKey-stay key (word_index env mix place) (bucket_at env mix G place).nodes (λ node i. i) means.none);
+      }
+      BucketMeans-stay (Found place word key node before) plain means = IsFound-stay place word key node
+          before means
+      BucketMeans-stay (Member place word key node) plain means = IsMember-stay place word key node means
+      BucketMeans-stay (Listing place word key node owner) plain means =
+          let j = word_index env mix place in
+          let is = members.member j means.first means.member.there in
+          record {
+            first = means.first;
+            behind = means.behind;
+            member = IsMember-stay place word key means.first means.member;
+            bound_to =
+                ap G'.bound (sym means.member.key_is)
+                ∙ lists j means.first means.member.lock.holder means.member.there
+                ∙ ap G.bound means.member.key_is ∙ means.bound_to;
+            listed = means.listed;
+            owner_is = ap owner_of (owners means.first is.0 is.1) ∙ means.owner_is;
+          }
+      BucketMeans-stay (InList place word key first before known) plain means = InList-stay place word
+          key first before known plain means
+      BucketMeans-stay (TakenOut node) plain means = TakenOut-stay node means
+      BucketMeans-stay (LocksTakenOut place word node) plain means =
+          record { lock = HoldsLock-stay place word means.lock; took = TakenOut-stay node means.took }
+
+      -- the same of what speaks of the caller's own node, where it has that still, with its link
+      pub BucketMeans-own : (known : KnownBucket)
+          → ((node : ℕ) → HasNode env mix c G node → HasNode env mix c G' node × (chain_of M' node ≡ chain_of M node))
+          → BucketMeans env mix c M G known → BucketMeans env mix c M' G' known
+      BucketMeans-own Unlocked own means = tt
+      BucketMeans-own (Unlocks place word) own means = BucketMeans-stay (Unlocks place word) tt means
+      BucketMeans-own (Armed place word port) own means = BucketMeans-stay (Armed place word port) tt means
+      BucketMeans-own (Locks place word) own means = BucketMeans-stay (Locks place word) tt means
+      BucketMeans-own (Stands place word key node before count) own means = BucketMeans-stay
+          (Stands place word key node before count) tt means
+      BucketMeans-own (Differs place word key node before count) own means = BucketMeans-stay
+          (Differs place word key node before count) tt means
+      BucketMeans-own (Missed place word key) own means = BucketMeans-stay (Missed place word key) tt means
+      BucketMeans-own (Found place word key node before) own means = BucketMeans-stay
+          (Found place word key node before) tt means
+      BucketMeans-own (Member place word key node) own means = BucketMeans-stay
+          (Member place word key node) tt means
+      BucketMeans-own (Listing place word key node owner) own means = BucketMeans-stay
+          (Listing place word key node owner) tt means
+      BucketMeans-own (InList place word key first before known) own means = go known means
+        where
+          go : (known : KnownList) → IsInList env mix c M G place word key first before known
+              → IsInList env mix c M' G' place word key first before known
+          go (AtNode node b owner) m = InList-stay place word key first before (AtNode node b owner) tt m
+          go (Differing node owner) m = InList-stay place word key first before (Differing node owner) tt m
+          go (Matching node b owner) m = InList-stay place word key first before (Matching node b owner) tt m
+          go (CutsOut node b link owner) m = InList-stay place word key first before
+              (CutsOut node b link owner) tt m
+          go (Leads second owner) m = InList-stay place word key first before (Leads second owner) tt m
+          go (LeadsTo second link owner) m = InList-stay place word key first before
+              (LeadsTo second link owner) tt m
+          go (Promotes second owner) m = InList-stay place word key first before (Promotes second owner) tt m
+          go (FirstLink link) m = InList-stay place word key first before (FirstLink link) tt m
+          go (Replaces node) m = Replaces-stay place word key first before node (own node) m
+          go (Succeeds node owner) m = Succeeds-stay place word key first before node owner (own node) m
+          go (Collected node owners) m = InList-stay place word key first before (Collected node owners) tt m
+          go (CollectedTo node owners) m = InList-stay place word key first before
+              (CollectedTo node owners) tt m
+      BucketMeans-own (TakenOut node) own means = BucketMeans-stay (TakenOut node) tt means
+      BucketMeans-own (LocksTakenOut place word node) own means = BucketMeans-stay
+          (LocksTakenOut place word node) tt means

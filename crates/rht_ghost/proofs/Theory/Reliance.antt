@@ -1,0 +1,109 @@
+-- What a caller can count on at a step of anybody else.
+use Rattle.std.proofs.Common.{◌≡◌, ℕ, ◌+◌, ◌<◌, List, [], ◌∷◌, Some, refl, ap, inl, inr}
+use Rattle.rht_words.specs.declared.env.Env.{Env}
+use Rattle.rht_words.specs.Places.{Slot, SlotWord, IsSlotWord, Node, NodeWord, ChainLink, KeyWord, OwnerWord}
+use Rattle.rht_words.proofs.Memory.{Memory}
+use Rattle.rht_words.specs.Members.{In}
+use Rattle.rht_ghost.proofs.Theory.Ghosts.{Held, Leaving, PageHeld, SlotHeld, Ghost, is_used, is_taken_by, IsUsed, seat-used, table_at}
+use Rattle.rht_ghost.proofs.Theory.Wholes.{chain_of, key_of, seated_at, Whole}
+use Rattle.rht_ghost.proofs.Theory.Passed.{Passed, TablesGrow}
+use Rattle.rht_ghost.proofs.Theory.Knowledge.{ArmedFor, HasNode, HasSlot, IsEmptied}
+
+module _ (env : Env) (mix : ℕ → ℕ → ℕ → ℕ) where
+  -- ---- what a caller can count on at a step of anybody else
+
+  -- the tables that there are stay what they are, others may come, and what was passed stays passed
+  pub record TablesStay (G G' : Ghost) : Type 0 where
+    pub grow : TablesGrow env mix G G'
+    pub passed : (port τ : ℕ) → Passed env mix G port τ → Passed env mix G' port τ
+
+  -- the slots and the pages that it has, with the words of the slots; and nobody gives it any
+  pub record HoldingsStay (c : ℕ) (M : Memory) (G : Ghost) (M' : Memory) (G' : Ghost) : Type 0 where
+    pub slots : (s : ℕ) → G.slot s ≡ SlotHeld c → G'.slot s ≡ SlotHeld c
+    pub slot_words : (s : ℕ) (word : SlotWord) → HasSlot env mix c G s → IsSlotWord word
+        → M' (Slot s word) ≡ M (Slot s word)
+    pub no_slot : (s : ℕ) → G'.slot s ≡ SlotHeld c → G.slot s ≡ SlotHeld c
+    pub pages : (p : ℕ) → G.page p ≡ PageHeld c → G'.page p ≡ PageHeld c
+    pub no_page : (p : ℕ) → G'.page p ≡ PageHeld c → G.page p ≡ PageHeld c
+
+  -- what a caller that does the work can count on: nobody else makes another table the current one, puts anything into a bucket that it
+  -- has emptied, or touches an entry that is on its way
+  pub record WorkStays (c : ℕ) (M : Memory) (G : Ghost) (M' : Memory) (G' : Ghost) : Type 0 where
+    pub worker : G'.worker ≡ Some c
+    pub current : G'.current ≡ G.current
+    pub emptied : G.current + 1 < G.attached → (j : ℕ) → table_at G j ≡ G.current → IsEmptied env mix (G.bucket j)
+        → IsEmptied env mix (G'.bucket j)
+    pub entries : (j entry : ℕ) → (G.bucket j).out ≡ Some entry → G'.node entry ≡ G.node entry
+    pub chains : (n j : ℕ) → G.node n ≡ Leaving j → chain_of M' n ≡ chain_of M n
+
+  -- nodes to which a port is bound are or were ports'
+  pub bound_used : (M : Memory) (G : Ghost) → Whole env mix M G → (port : ℕ) (bound : List ℕ)
+      → G.bound port ≡ bound
+      → (n : ℕ) → In n bound → (n < env.geometry.nodes) × IsUsed (G.node n)
+  bound_used M G whole port [] b n i = absurd i
+  bound_used M G whole port (first ∷ behind) b n (inl e) =
+      let to = whole.owned.bound_to port first behind b in
+      rw e (
+        (seated_at env mix M G whole first to.bucket to.first).among,
+        seat-used (G.node first) to.bucket
+            to.first,
+      )
+  bound_used M G whole port (first ∷ behind) b n (inr i) =
+      let is = (whole.owned.bound_to port first behind b).each n i in
+      ((whole.owned.behind_in n port is).among, ap is_used is)
+
+  -- the links in chains of all nodes to which the ports of the nodes in buckets that the caller has locked are bound
+  abbrev pub ChainsStay : ℕ → Memory → Ghost → Memory → Type 0
+  ChainsStay c M G M' = (j node other : ℕ) → (G.bucket j).holder ≡ Some c → In node (G.bucket j).nodes
+      → In other (G.bound (key_of M node))
+      → M' (Node other ChainLink) ≡ M (Node other ChainLink)
+
+  -- this word of each node that is or was a port's
+  abbrev pub WordStays : NodeWord → Memory → Ghost → Memory → Type 0
+  WordStays word M G M' = (node : ℕ) → node < env.geometry.nodes → IsUsed (G.node node)
+      → M' (Node node word) ≡ M (Node node word)
+
+  pub record Rely (c : ℕ) (M : Memory) (G : Ghost) (M' : Memory) (G' : Ghost) : Type 0 where
+    pub tables : TablesStay G G'
+    -- the buckets that it has locked, and the links of their nodes
+    pub locks : (j : ℕ) → (G.bucket j).holder ≡ Some c → G'.bucket j ≡ G.bucket j
+    -- what the ports of their nodes are bound to
+    pub lists : (j node : ℕ) → (G.bucket j).holder ≡ Some c → In node (G.bucket j).nodes
+        → G'.bound (key_of M node) ≡ G.bound (key_of M node)
+    -- the links in chains of the nodes to which these are bound
+    pub chains : ChainsStay c M G M'
+    -- the words of nodes that are or were ports', but for their links
+    pub keys : WordStays KeyWord M G M'
+    pub owners : WordStays OwnerWord M G M'
+    -- the nodes that it has, with all their words
+    pub nodes : (node : ℕ) → HasNode env mix c G node → G'.node node ≡ Held c
+    pub words : (node : ℕ) → HasNode env mix c G node → (word : NodeWord) → M' (Node node word) ≡ M (Node node word)
+    -- whether it has raised the count
+    pub raised : G'.raised c ≡ G.raised c
+    -- which nodes it has taken out of lists
+    pub taken : (node : ℕ) → is_taken_by c (G'.node node) ≡ is_taken_by c (G.node node)
+    -- the port for which it is armed is bound nowhere
+    pub unbound : (port τ j : ℕ) → ArmedFor env mix G c port τ j → G'.bound port ≡ []
+    -- its slots and pages, and the work
+    pub holdings : HoldingsStay c M G M' G'
+    pub work : G.worker ≡ Some c → WorkStays c M G M' G'
+    -- nobody gives it a node, a lock or the work
+    pub no_work : G'.worker ≡ Some c → G.worker ≡ Some c
+    pub no_node : (node : ℕ) → G'.node node ≡ Held c → G.node node ≡ Held c
+    pub no_lock : (j : ℕ) → (G'.bucket j).holder ≡ Some c → (G.bucket j).holder ≡ Some c
+
+  -- each member of a bucket is one of the nodes and a port's, as the whole has it, and so is each to which a port is bound
+  abbrev pub IsUsedNode : Ghost → ℕ → Type 0
+  IsUsedNode G node = (node < env.geometry.nodes) × IsUsed (G.node node)
+
+  pub record MembersUsed (G : Ghost) : Type 0 where
+    pub member : (j node : ℕ) → In node (G.bucket j).nodes → IsUsedNode G node
+    pub bound : (port node : ℕ) → In node (G.bound port) → IsUsedNode G node
+
+  pub members_used : (M : Memory) (G : Ghost) → Whole env mix M G → MembersUsed G
+  members_used M G whole = record {
+    member = λ j node i.
+        let first = whole.owned.member j node i in
+        ((whole.owned.first_at node j first).among, ap is_used first);
+    bound = λ port node i. bound_used M G whole port (G.bound port) refl node i;
+  }
