@@ -2,3 +2,5 @@
 pub mod BindStays
 -- on which words a bind works
 pub mod BindPlanned
+-- a bind, operation by operation
+pub mod BindSteps

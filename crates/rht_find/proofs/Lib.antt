@@ -2,3 +2,5 @@
 pub mod FindStays
 -- on which words a look-up works
 pub mod FindPlanned
+-- a look-up, operation by operation
+pub mod FindSteps

@@ -10,3 +10,5 @@ pub mod HeldTables
 pub mod WorkStays
 -- on which words a worker works
 pub mod WorkPlanned
+-- the work, operation by operation
+pub mod WorkMachine

@@ -14,3 +14,13 @@ pub mod RebindPlanned
 pub mod AllStays
 -- on which words a listing works
 pub mod AllPlanned
+-- the way to a port
+pub mod Seeks
+-- the stores of a release that take a node out
+pub mod ReleaseStores
+-- a release, operation by operation
+pub mod ReleaseSteps
+-- a rebind, operation by operation
+pub mod RebindSteps
+-- a listing of owners, operation by operation
+pub mod AllSteps

@@ -30,11 +30,11 @@ use Rattle.rht_ghost.proofs.Theory.Reliance.{Rely}
 use Rattle.rht_ghost.proofs.Theory.Steps.{mem}
 use Rattle.rht_ghost.proofs.Pieces.NewNodes.{filled}
 use Rattle.rht_ghost.proofs.Pieces.Locates.{known_locate, IsThereAt}
-use Rattle.rht_core.proofs.Machines.Seeks.{known_of_seek, seek_there}
-use Rattle.rht_core.proofs.Machines.FindSteps.{known_of_find, find_there}
-use Rattle.rht_core.proofs.Machines.AllSteps.{known_of_all, all_there}
-use Rattle.rht_core.proofs.Machines.ReleaseSteps.{known_of_release, release_there}
-use Rattle.rht_core.proofs.Machines.RebindSteps.{known_of_rebind, rebind_there}
+use Rattle.rht_release.proofs.Seeks.{known_of_seek, seek_there}
+use Rattle.rht_find.proofs.FindSteps.{known_of_find, find_there}
+use Rattle.rht_release.proofs.AllSteps.{known_of_all, all_there}
+use Rattle.rht_release.proofs.ReleaseSteps.{known_of_release, release_there}
+use Rattle.rht_release.proofs.RebindSteps.{known_of_rebind, rebind_there}
 use Rattle.rht_core.proofs.Machines.EarlyPages.{IsThere}
 use Rattle.rht_core.proofs.Machines.JobSteps.{JobKnows}
 use Rattle.rht_core.proofs.Events.RangesInRuns.{AllIn}

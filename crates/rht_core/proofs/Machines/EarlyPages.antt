@@ -7,10 +7,10 @@ use Rattle.rht_words.specs.declared.machine.Next.TheVariants.{Go, Done}
 use Rattle.rht_words.proofs.Memory.{Memory}
 use Rattle.rht_model.specs.Endings.{Ending}
 use Rattle.rht_core.specs.Jobs.{Job, finds, binds, lists, releases, rebinds, works, counts}
-use Rattle.rht_core.proofs.Machines.FindSteps.{find_there}
-use Rattle.rht_core.proofs.Machines.AllSteps.{all_there}
-use Rattle.rht_core.proofs.Machines.ReleaseSteps.{release_there}
-use Rattle.rht_core.proofs.Machines.RebindSteps.{rebind_there}
+use Rattle.rht_find.proofs.FindSteps.{find_there}
+use Rattle.rht_release.proofs.AllSteps.{all_there}
+use Rattle.rht_release.proofs.ReleaseSteps.{release_there}
+use Rattle.rht_release.proofs.RebindSteps.{rebind_there}
 
 -- the page that the job may miss is there in these words
 abbrev pub IsThere : Env → (ℕ → ℕ → ℕ → ℕ) → Job → Memory → Type 0

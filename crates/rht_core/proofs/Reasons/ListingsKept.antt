@@ -56,7 +56,7 @@ use Rattle.rht_core.specs.Jobs.{Job, finds, binds, lists, releases, rebinds, wor
 use Rattle.rht_core.specs.Traces.{Did}
 use Rattle.rht_core.specs.ListedOwners.{is_owner_word, loads_owner, owner_loaded, owners_loaded, ListedOwners}
 use Rattle.rht_ghost.proofs.Theory.Steps.{mem}
-use Rattle.rht_core.proofs.Machines.AllSteps.{AllKnows, kept}
+use Rattle.rht_release.proofs.AllSteps.{AllKnows, kept}
 use Rattle.rht_core.proofs.Tracing.TracedJobs.{Performs, LeadsOn, jobs_keep}
 
 -- ---- one operation more

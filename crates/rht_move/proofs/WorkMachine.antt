@@ -52,8 +52,8 @@ use Rattle.rht_move.specs.LastTable.{last_table_new, next_or_shape}
 use Rattle.rht_move.specs.LastEntry.{LastEntryModel, followed}
 use Rattle.rht_move.specs.Work.{plan_at, after_at, begun, made, not_made, unmade, future_or_idle, is_later, unlocking, entry_or_empty, with_word, walked, retiring, entry_passed, locked, second_locked, next_bucket, bucket_of_root, reply_of, IsWorkAtIn}
 use Rattle.rht_move.specs.WorkHeld.{holds_work, holds_table, holds_moving, has_moved, held_of_work}
-use Rattle.rht_core.specs.Counts.{takes_out}
-use Rattle.rht_core.specs.Replies.{IsWorkReply, AreOwnersWith, ArePairsWith}
+use Rattle.rht_model.specs.Replies.{takes_out}
+use Rattle.rht_model.specs.Replies.{IsWorkReply, AreOwnersWith, ArePairsWith}
 use Rattle.rht_ghost.proofs.Theory.Ghosts.{Ghost}
 use Rattle.rht_ghost.proofs.Theory.Wholes.{place_at-index, Whole}
 use Rattle.rht_ghost.proofs.Theory.Knowns.{Known, KnownMaking, MakesNothing, HasTaken, HasMade, KnownAim, NoAim, Onward, From, Beyond, KnownRehash, KnownPlace, KnownEntry, KnownWork, NoWork, Works, Rooted, Follows, Empties, LeavesBehind, Nears, Faces, InBucket, Bare, AtEntry, AtTail, Aims, Brings, TakesOut, HasBrought}

@@ -35,10 +35,10 @@ use Rattle.rht_ghost.proofs.Theory.Answering.{IsLegalOn, IsRight, Tells, keeps, 
 use Rattle.rht_ghost.proofs.Theory.Steps.{answered-map, Holding, mem, owners, owners_in, StepWhere, step-map, reads, HoldsNoneEarly, still_has}
 use Rattle.rht_ghost.proofs.Pieces.Locks.{unlock_step}
 use Rattle.rht_ghost.proofs.Pieces.Lists.{list_among, list_few, list_rest, found_list}
-use Rattle.rht_core.proofs.Machines.Seeks as seeks
-use Rattle.rht_core.proofs.Machines.Seeks.{in_list}
+use Rattle.rht_release.proofs.Seeks as seeks
+use Rattle.rht_release.proofs.Seeks.{in_list}
 use Rattle.rht_ghost.proofs.Theory.Knowns.{known_nothing}
-use Rattle.rht_core.proofs.Machines.ReleaseStores.{here}
+use Rattle.rht_release.proofs.ReleaseStores.{here}
 
 module _ (port : ℕ) where
   -- what a listing that has kept these owners knows in a state

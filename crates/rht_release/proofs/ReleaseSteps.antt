@@ -50,11 +50,11 @@ use Rattle.rht_ghost.proofs.Pieces.Locks.{unlock_step, unlock_taken}
 use Rattle.rht_ghost.proofs.Pieces.Lists.{segment_link, list_link-names, list_among, list_rest, found_list}
 use Rattle.rht_ghost.proofs.Pieces.Rebounds.{found_kept}
 use Rattle.rht_ghost.proofs.Pieces.Relinks.{relinking, unstored, relinking_so}
-use Rattle.rht_core.proofs.Machines.Seeks.{in_list}
-use Rattle.rht_core.proofs.Machines.Seeks as seeks
+use Rattle.rht_release.proofs.Seeks.{in_list}
+use Rattle.rht_release.proofs.Seeks as seeks
 use Rattle.rht_ghost.proofs.Theory.Knowns.{known_nothing}
-use Rattle.rht_core.proofs.Machines.ReleaseStores.{here, listed, locks_taken, known_left, holds_left}
-use Rattle.rht_core.proofs.Machines.ReleaseStores as stores
+use Rattle.rht_release.proofs.ReleaseStores.{here, listed, locks_taken, known_left, holds_left}
+use Rattle.rht_release.proofs.ReleaseStores as stores
 
 -- the node to which a link leads
 abbrev led_to : ℕ → ℕ

@@ -75,8 +75,8 @@ use Rattle.rht_ghost.proofs.Theory.Knowns.{KnownNode, KnownTable, KnownBucket, K
 use Rattle.rht_ghost.proofs.Theory.Knowledge.{plainly, HasOnly, HasLock, HoldsLock, IsMember, Knowing, TableMeans, has_lock, idle_moves_none}
 use Rattle.rht_ghost.proofs.Theory.KnowledgeStays.{TableMeans-stay}
 use Rattle.rht_ghost.proofs.Theory.Frames.{Made, same_tables, same_grow, tables_stay}
-use Rattle.rht_core.specs.Counts.{takes_out}
-use Rattle.rht_core.specs.Replies.{IsBindReply, AreOwnersWith, ArePairsWith}
+use Rattle.rht_model.specs.Replies.{takes_out}
+use Rattle.rht_model.specs.Replies.{IsBindReply, AreOwnersWith, ArePairsWith}
 use Rattle.rht_ghost.proofs.Theory.Answering.{KeepsAnswer, IsLegalOn, IsRight, Tells, keeps, learns}
 use Rattle.rht_ghost.proofs.Theory.Steps.{answered-map, Attaches, Links, Rebinds, Holding, HoldsNoneEarly, by_test, mem, owners, owners_in, owners-stay, owners_in-stay, ghost_after, Moved, still_has, reowned-outs, Step, answered, reads, Arms, unchanged, moved}
 use Rattle.rht_ghost.proofs.Theory.Readiness.{IsAttaching, linked_bucket, IsReady, IsArming}

@@ -25,7 +25,7 @@ use Rattle.rht_release.specs.Seek.{SeekModel, seek_plan_at, seek_after_at, seek_
 use Rattle.rht_release.specs.declared.found_port.FoundPort.{FoundPort}
 use Rattle.rht_release.specs.declared.seek.SeekAt.{SeekAt}
 use Rattle.rht_release.specs.declared.seek.SeekAt.TheVariants as at
-use Rattle.rht_core.specs.Counts.{takes_out}
+use Rattle.rht_model.specs.Replies.{takes_out}
 use Rattle.rht_ghost.proofs.Theory.Ghosts.{Ghost}
 use Rattle.rht_ghost.proofs.Theory.Wholes.{Whole}
 use Rattle.rht_ghost.proofs.Theory.Knowns.{KnownNode, KnownTable, Nowhere, Passes, AtHome, KnownBucket, Unlocked, Locks, Missed, Found, InList, KnownList, Known, knows_plain}

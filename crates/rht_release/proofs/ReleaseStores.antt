@@ -40,7 +40,7 @@ use Rattle.rht_ghost.proofs.Moves.Removing.{IsFoundIn, CanReplace, unlink, repla
 use Rattle.rht_ghost.proofs.Moves.ListCuts.{cut_list, cutting_known}
 use Rattle.rht_ghost.proofs.Pieces.Lists.{segment_link, list_among, list_rest}
 use Rattle.rht_ghost.proofs.Pieces.Rebounds.{IsTakenWith, taken_then, taken_more, only_rebound, owners_kept, node_behind_maps}
-use Rattle.rht_core.proofs.Machines.Seeks.{home_of, in_list}
+use Rattle.rht_release.proofs.Seeks.{home_of, in_list}
 use Rattle.rht_ghost.proofs.Pieces.Relinks.{lock_left, relink_write, relink_behind_maps, holder_left, lock_kept}
 
 -- what is known of the bucket alone

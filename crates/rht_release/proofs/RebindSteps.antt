@@ -35,7 +35,7 @@ use Rattle.rht_release.specs.Seek.{SeekModel, seek_new, seek_plan, seek_after}
 use Rattle.rht_release.specs.declared.found_port.FoundPort.{FoundPort}
 use Rattle.rht_release.specs.declared.rebind.RebindAt.{RebindAt}
 use Rattle.rht_release.specs.declared.rebind.RebindAt.TheVariants as at
-use Rattle.rht_core.specs.Replies.{IsRebindReply, AreOwnersWith, ArePairsWith}
+use Rattle.rht_model.specs.Replies.{IsRebindReply, AreOwnersWith, ArePairsWith}
 use Rattle.rht_ghost.proofs.Theory.Ghosts.{put-same, put-other, First, Taken, Ghost, is_taken_by, held_not_first, taken_by_one, index_at}
 use Rattle.rht_ghost.proofs.Theory.Wholes.{word_index, place_at, place_at-index, outs, Whole, MovesNone}
 use Rattle.rht_ghost.proofs.Theory.Passed.{stays_in}
@@ -51,12 +51,12 @@ use Rattle.rht_ghost.proofs.Moves.Removing.{IsFoundIn, CanReplace}
 use Rattle.rht_ghost.proofs.Pieces.NewNodes as nodes
 use Rattle.rht_ghost.proofs.Pieces.Locks.{unlock_step, unlock_taken}
 use Rattle.rht_ghost.proofs.Pieces.Lists.{list_among, found_list}
-use Rattle.rht_core.proofs.Machines.Seeks as seeks
-use Rattle.rht_core.proofs.Machines.Seeks.{in_list}
+use Rattle.rht_release.proofs.Seeks as seeks
+use Rattle.rht_release.proofs.Seeks.{in_list}
 use Rattle.rht_ghost.proofs.Pieces.Rebounds.{IsTakenWith, taken_then, taken_more, only_left}
 use Rattle.rht_ghost.proofs.Pieces.Relinks.{relinking, unstored, relinking_so, lock_left, first_store, relink_write, relink_behind_maps, relink_leaves, holder_left, lock_kept}
-use Rattle.rht_core.proofs.Machines.ReleaseStores.{here, locks_taken}
-use Rattle.rht_core.proofs.Machines.ReleaseSteps.{known_removed}
+use Rattle.rht_release.proofs.ReleaseStores.{here, locks_taken}
+use Rattle.rht_release.proofs.ReleaseSteps.{known_removed}
 
 module _ (port owner new : ℕ) where
   -- the node with all its words, but for its link in a chain

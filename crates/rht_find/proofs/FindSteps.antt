@@ -32,7 +32,7 @@ use Rattle.rht_model.specs.Answers as answers
 use Rattle.rht_find.specs.Find.{plan_at, after_at, located, locating, bucket_or_early, found_or_not, probed, unlocking, next_table, list_followed, IsFindAtIn}
 use Rattle.rht_find.specs.FindHeld.{held_of_find}
 use Rattle.rht_find.specs.FindHeld as finds
-use Rattle.rht_release.specs.Seek.{early_of_locate}
+use Rattle.rht_nest.specs.Early.{early_of_locate}
 use Rattle.rht_find.specs.declared.find.FindAt.{FindAt}
 use Rattle.rht_find.specs.declared.find.FindAt.TheVariants as at
 use Rattle.rht_ghost.proofs.Theory.Ghosts.{Ghost}
