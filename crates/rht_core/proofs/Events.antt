@@ -6,14 +6,8 @@ pub mod SoundRuns
 pub mod RangesInRuns
 -- in every run a caller that isn't enrolled has done nothing
 pub mod CallersNotEnrolled
--- how a call begins, and that who is in no call plans no operation
-pub mod CallBeginnings
 -- who is in a call plans an operation, and leaves the call with its reply
 pub mod BusyCallers
--- what is so of a machine that goes on is so of what its caller does next
-pub mod NextDoings
--- the room of owners lies with its caller or in a listing, and has a place for each node
-pub mod RoomsOfCallers
 -- a caller in a call does what its job says
 pub mod JobsOfCallers
 -- the words of a state that is being opened

@@ -10,10 +10,10 @@ use Rattle.rht_model.specs.Answers.{port_of}
 use Rattle.rht_model.specs.Histories.{IsLegalAt, left_by}
 use Rattle.rht_core.specs.declared.event.Event.{Event}
 use Rattle.rht_core.specs.declared.event.Event.TheVariants.{Begin, Step}
-use Rattle.rht_core.specs.Locals.{is_idle}
+use Rattle.rht_callers.specs.Locals.{is_idle}
 use Rattle.rht_core.specs.Runs.{local_of, run_of, IsAdmitted}
 use Rattle.rht_core.specs.Traces.{Past, traced_of}
-use Rattle.rht_core.specs.StandsFor.{stands_for}
+use Rattle.rht_stands.specs.StandsFor.{stands_for}
 use Rattle.rht_core.specs.Causes.{HasCause}
 
 -- the entry of a caller's call that has ended

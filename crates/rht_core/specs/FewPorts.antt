@@ -15,7 +15,7 @@ use Rattle.rht_model.specs.declared.history.Reply.TheVariants.{NoNode, Elsewhere
 use Rattle.rht_core.specs.declared.book.Book.{Book}
 use Rattle.rht_core.specs.declared.event.Event.{Event}
 use Rattle.rht_core.specs.Runs.{World, run_of, IsAdmitted}
-use Rattle.rht_core.specs.StandsFor.{AreBound}
+use Rattle.rht_stands.specs.StandsFor.{AreBound}
 use Rattle.rht_core.specs.RunHistories.{bindings_behind}
 
 -- a bind binds one of these ports; any other call binds none that isn't bound

@@ -22,10 +22,10 @@ use Rattle.rht_model.specs.declared.history.Reply.TheVariants.{NoNode}
 use Rattle.rht_core.specs.declared.book.Book.{Book}
 use Rattle.rht_core.specs.declared.event.Event.{Event}
 use Rattle.rht_core.specs.declared.event.Event.TheVariants.{Enroll, Begin, Step}
-use Rattle.rht_core.specs.declared.local.Local.{Local}
-use Rattle.rht_core.specs.declared.local.Doing.{Doing}
-use Rattle.rht_core.specs.declared.local.Doing.TheVariants.{Idle, Finding, Binding, Releasing, Rebinding, Listing, Working, Counting}
-use Rattle.rht_core.specs.Locals.{fresh, owners_room, begin_with, plan_of, local_after, ending_of}
+use Rattle.rht_callers.specs.declared.local.Local.{Local}
+use Rattle.rht_callers.specs.declared.local.Doing.{Doing}
+use Rattle.rht_callers.specs.declared.local.Doing.TheVariants.{Idle, Finding, Binding, Releasing, Rebinding, Listing, Working, Counting}
+use Rattle.rht_callers.specs.Locals.{fresh, owners_room, begin_with, plan_of, local_after, ending_of}
 use Rattle.rht_core.specs.Runs.{Core, World, View, core_step, world_step, run_of, local_of, planned_in, view_of, new_book, book_begun, book_after, IsSound, IsAdmitted, IsAdmittedEvent}
 use Rattle.rht_core.specs.Replies.{AnswersIn}
 use Rattle.rht_core.specs.Traces.{Did, Past, Trace, Traced, traced_of, IsStepOfOne, behind_calls, IsRising, AreInOrder}

@@ -1,17 +1,13 @@
--- the reading of how many ports are bound
-pub mod PortCounts
--- what a caller is doing
-pub mod Locals
+pub use Rattle.rht_stands.specs.StandsFor
+pub use Rattle.rht_stands.specs.Closing
+pub use Rattle.rht_callers.specs.Locals
+pub use Rattle.rht_callers.specs.PortCounts
 -- what a caller does, said without its table
 pub mod Jobs
 -- what events make of words and callers
 pub mod Runs
 -- each call's operations, with the numbers of their events
 pub mod Traces
--- what the words stand for
-pub mod StandsFor
--- what the words say at a table's closing
-pub mod Closing
 -- what calls are answered
 pub mod Replies
 -- what holds of every run

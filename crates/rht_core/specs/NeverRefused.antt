@@ -15,7 +15,7 @@ use Rattle.rht_model.specs.Listing.{Lists}
 use Rattle.rht_core.specs.FewPorts.{BindsAmong}
 use Rattle.rht_core.specs.NodesUsed.{needs_node}
 use Rattle.rht_core.specs.Serving.{calls_of, IsServedRun}
-use Rattle.rht_core.specs.StandsFor.{AreBound}
+use Rattle.rht_stands.specs.StandsFor.{AreBound}
 use Rattle.rht_core.specs.ToldHistories.{endings_by}
 
 -- ---- any number of workers

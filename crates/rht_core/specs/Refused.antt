@@ -23,7 +23,7 @@ use Rattle.rht_nest.specs.Place.{nested_place, missing_at}
 use Rattle.rht_nest.specs.Tables.{is_nested, pages_of_shape}
 use Rattle.rht_core.specs.declared.event.Event.{Event}
 use Rattle.rht_core.specs.Runs.{IsAdmitted}
-use Rattle.rht_core.specs.StandsFor.{tables_from, in_force, page_word, shape_of}
+use Rattle.rht_stands.specs.StandsFor.{tables_from, in_force, page_word, shape_of}
 use Rattle.rht_core.specs.Traces.{Did, Past, performed_of, traced_of}
 use Rattle.rht_core.specs.Seen.{words_before}
 use Rattle.rht_core.specs.ResizeCauses.{Attaches}

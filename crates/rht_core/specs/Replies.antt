@@ -8,14 +8,14 @@ use Rattle.rht_find.specs.Find.{FindModel}
 use Rattle.rht_bind.specs.Bind.{BindModel}
 use Rattle.rht_release.specs.All.{AllModel}
 use Rattle.rht_core.specs.declared.book.Book.{Book}
-use Rattle.rht_core.specs.declared.local.Local.{Local}
+use Rattle.rht_callers.specs.declared.local.Local.{Local}
 use Rattle.rht_release.specs.Release.{ReleaseModel}
 use Rattle.rht_release.specs.Rebind.{RebindModel}
 use Rattle.rht_move.specs.Work.{WorkModel}
-use Rattle.rht_core.specs.declared.count.PortCount.{PortCount}
-use Rattle.rht_core.specs.declared.local.Doing.{Doing}
-use Rattle.rht_core.specs.declared.local.Doing.TheVariants.{Idle, Finding, Binding, Releasing, Rebinding, Listing, Working, Counting}
-use Rattle.rht_core.specs.Locals.{is_idle}
+use Rattle.rht_callers.specs.declared.count.PortCount.{PortCount}
+use Rattle.rht_callers.specs.declared.local.Doing.{Doing}
+use Rattle.rht_callers.specs.declared.local.Doing.TheVariants.{Idle, Finding, Binding, Releasing, Rebinding, Listing, Working, Counting}
+use Rattle.rht_callers.specs.Locals.{is_idle}
 pub use Rattle.rht_model.specs.Replies.{IsBindReply, IsFindReply, IsAllReply, IsReleaseReply, IsRebindReply, IsWalkReply, IsWorkReply, IsTidyReply, IsCountReply, IsReplyTo, AreOwnersWith, ArePairsWith}
 
 -- a call that has ended has a reply of its kind, and the lists that come with that

@@ -19,7 +19,7 @@ use Rattle.rht_nest.specs.Place.{nested_place, missing_at}
 use Rattle.rht_nest.specs.Tables.{is_nested}
 use Rattle.rht_nest.specs.MakeLaws.{pages_for, SeesSlotTaken, AreSlotsSeenTaken}
 use Rattle.rht_core.specs.declared.event.Event.{Event}
-use Rattle.rht_core.specs.StandsFor.{page_word, bucket_in, bucket_nodes, stands_for, AreBound}
+use Rattle.rht_stands.specs.StandsFor.{page_word, bucket_in, bucket_nodes, stands_for, AreBound}
 use Rattle.rht_core.specs.Traces.{Did, performed_of}
 use Rattle.rht_core.specs.Seen.{LoadsWord, LoadsCurrent, LastWalked, SawCount, words_before}
 

@@ -19,9 +19,9 @@ use Rattle.rht_core.specs.declared.event.Event.{Event}
 use Rattle.rht_core.specs.declared.event.Event.TheVariants.{Enroll, Begin, Step}
 use Rattle.rht_core.specs.declared.event.Stepped.{Stepped}
 use Rattle.rht_core.specs.declared.book.Book.{Book}
-use Rattle.rht_core.specs.declared.local.Local.{Local}
-use Rattle.rht_core.specs.declared.local.Doing.{Doing}
-use Rattle.rht_core.specs.Locals.{fresh, is_idle, machine_of, begin_with, plan_of, local_after, ending_of, IsLocalOf}
+use Rattle.rht_callers.specs.declared.local.Local.{Local}
+use Rattle.rht_callers.specs.declared.local.Doing.{Doing}
+use Rattle.rht_callers.specs.Locals.{fresh, is_idle, machine_of, begin_with, plan_of, local_after, ending_of, IsLocalOf}
 
 -- what the program keeps of a run: the words, how many callers have enrolled, and what each is doing
 pub record Core (M : Type 0) : Type 0 where

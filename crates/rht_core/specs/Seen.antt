@@ -7,10 +7,10 @@ use Rattle.rht_words.specs.declared.geometry.Geometry.{Geometry}
 use Rattle.rht_words.specs.Links.{table_of, slot_of}
 use Rattle.rht_words.specs.Places.{Address, CurrentTable, PortCount, Slot, ShapeWord, FutureWord, IsAddress, place_of}
 use Rattle.rht_core.specs.declared.event.Event.{Event}
-use Rattle.rht_core.specs.Locals.{is_idle}
+use Rattle.rht_callers.specs.Locals.{is_idle}
 use Rattle.rht_core.specs.Runs.{Core, local_of, run_of}
 use Rattle.rht_core.specs.Traces.{Did}
-use Rattle.rht_core.specs.StandsFor.{stands_for, AreBound}
+use Rattle.rht_stands.specs.StandsFor.{stands_for, AreBound}
 
 -- how many callers but this one are in the middle of a call
 abbrev pub others_in_call : {M : Type 0} → Core M → ℕ → ℕ

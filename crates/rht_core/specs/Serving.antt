@@ -11,9 +11,9 @@ use Rattle.rht_model.specs.declared.history.Reply.TheVariants.{Bound, Exists, Fo
 use Rattle.rht_model.specs.declared.finished.Finished.{Finished}
 use Rattle.rht_model.specs.Endings.{Ending, ended_with}
 use Rattle.rht_core.specs.declared.event.Event.{Event}
-use Rattle.rht_core.specs.Locals.{is_idle}
+use Rattle.rht_callers.specs.Locals.{is_idle}
 use Rattle.rht_core.specs.Runs.{World, run_of, local_of, IsAdmitted}
-use Rattle.rht_core.specs.Closing.{IsClosedOf}
+use Rattle.rht_stands.specs.Closing.{IsClosedOf}
 
 -- ---- one worker
 

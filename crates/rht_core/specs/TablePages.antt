@@ -6,7 +6,7 @@ use Rattle.rht_words.specs.Links.{page_of}
 use Rattle.rht_words.specs.Members.{In}
 use Rattle.rht_nest.specs.Place.{top_page, top_entries, is_deep}
 use Rattle.rht_nest.specs.Tables.{is_nested, pages_of_table}
-use Rattle.rht_core.specs.StandsFor.{page_word}
+use Rattle.rht_stands.specs.StandsFor.{page_word}
 
 module _ (g : Geometry) (words : List ℕ) where
   -- one of the first entries of a page, of which there are so many, leads to another page

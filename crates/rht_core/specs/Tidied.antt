@@ -14,7 +14,7 @@ use Rattle.rht_core.specs.Counts.{IsPlaced}
 use Rattle.rht_core.specs.Runs.{Core, run_of, IsAdmitted}
 use Rattle.rht_core.specs.Reach.{SetsBit}
 use Rattle.rht_core.specs.Seen.{LoadsWord}
-use Rattle.rht_core.specs.StandsFor.{shape_of}
+use Rattle.rht_stands.specs.StandsFor.{shape_of}
 use Rattle.rht_core.specs.TablePages.{IsPageOfTable}
 use Rattle.rht_core.specs.Traces.{Did, Past, traced_of, behind_call}
 

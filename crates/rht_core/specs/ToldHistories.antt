@@ -19,7 +19,7 @@ use Rattle.rht_core.specs.NodesUsed.{needs_node}
 use Rattle.rht_core.specs.Numbered.{Numbered, history_of}
 use Rattle.rht_core.specs.RunHistories.{Fits}
 use Rattle.rht_core.specs.Serving.{calls_of, IsServedRun}
-use Rattle.rht_core.specs.StandsFor.{AreBound}
+use Rattle.rht_stands.specs.StandsFor.{AreBound}
 
 -- the entries of a caller whose calls ended so: one for each call about bindings, in the order of the calls
 abbrev pub entries_told : ℕ → List Call → List Ending → List Entry

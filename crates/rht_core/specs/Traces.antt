@@ -10,8 +10,8 @@ use Rattle.rht_model.specs.declared.finished.Finished.{Finished}
 use Rattle.rht_model.specs.Endings.{Ending}
 use Rattle.rht_core.specs.declared.event.Event.{Event}
 use Rattle.rht_core.specs.declared.event.Event.TheVariants.{Enroll, Begin, Step}
-use Rattle.rht_core.specs.declared.local.Doing.{Doing}
-use Rattle.rht_core.specs.Locals.{local_after, ending_of}
+use Rattle.rht_callers.specs.declared.local.Doing.{Doing}
+use Rattle.rht_callers.specs.Locals.{local_after, ending_of}
 use Rattle.rht_core.specs.Runs.{World, opening, world_step, local_of, beginning_in, planned_in, finished_with}
 
 -- an operation of a run: the number of its event, counted from 0, and the word before it

@@ -12,10 +12,10 @@ use Rattle.rht_model.specs.declared.history.Reply.TheVariants.{Moved, Idle}
 use Rattle.rht_nest.specs.Tables.{is_nested}
 use Rattle.rht_move.specs.Choice.{is_sparse}
 use Rattle.rht_core.specs.declared.event.Event.{Event}
-use Rattle.rht_core.specs.Locals.{is_idle}
+use Rattle.rht_callers.specs.Locals.{is_idle}
 use Rattle.rht_core.specs.Runs.{local_of, run_of, IsAdmitted}
 use Rattle.rht_core.specs.Traces.{Did, Past, traced_of, behind_call}
-use Rattle.rht_core.specs.StandsFor.{in_force, shape_of, stands_for, AreAllBound}
+use Rattle.rht_stands.specs.StandsFor.{in_force, shape_of, stands_for, AreAllBound}
 use Rattle.rht_core.specs.WorkCauses.{StoresCurrent}
 
 -- Nothing is due: one table is in force, and it is flat; the ports bound are neither too many for its size, where it may grow,

@@ -6,20 +6,14 @@
 #![tactic(auto)]
 
 mod book;
-mod bound;
-mod closing;
-mod count;
 mod event;
 pub mod laws;
-mod local;
 mod state;
 
 pub use book::Book;
-pub use bound::owners_of;
-pub use closing::ClosingRoom;
-pub use count::PortCount;
+pub use rht_callers::{PortCount, Doing, Local};
+pub use rht_stands::{owners_of, ClosingRoom};
 pub use event::{Event, Stepped};
-pub use local::{Doing, Local};
 pub use state::State;
 
 #[cfg(test)]

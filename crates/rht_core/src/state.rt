@@ -7,12 +7,12 @@ ghost use Rattle.rht_words.specs.Opening.{opening_words};
 ghost use Rattle.rht_words.specs.Places.{words_in};
 ghost use Rattle.rht_words.specs.Settled.{IsSettled};
 ghost use Rattle.rht_core.specs.Runs.{core_of, core_step, local_of, begun, planned, with_step, enrolling, enrolled_after, has_done, IsSound, IsBuiltEvent, IsOpened};
-ghost use Rattle.rht_core.specs.Locals.{fresh, is_idle, IsLocalOf};
-ghost use Rattle.rht_core.specs.Closing.{current_size, IsClosedOf};
+ghost use Rattle.rht_callers.specs.Locals.{fresh, is_idle, IsLocalOf};
+ghost use Rattle.rht_stands.specs.Closing.{current_size, IsClosedOf};
 
-use crate::closing::{ClosingRoom, current_size};
+use rht_stands::{ClosingRoom, current_size};
 use crate::event::{Event, Stepped};
-use crate::local::Local;
+use rht_callers::Local;
 use rht_model::{Call, Closed};
 use rht_policy::Mix;
 use rht_words::{Config, Env, Op, apply, opening_word, places};

@@ -12,7 +12,7 @@ use Rattle.rht_core.specs.Locals.{is_idle}
 use Rattle.rht_core.specs.Runs.{Core, local_of, core_step, IsBuiltFor}
 use Rattle.rht_core.specs.Serving.{calls_of}
 use Rattle.rht_registry.specs.declared.replaying.player.Player.{Player}
-use Rattle.rht_core.specs.declared.local.Local.{Local}
+use Rattle.rht_callers.specs.declared.local.Local.{Local}
 use Rattle.rht_registry.specs.Replays.{most_events, Playing, left_at, has_none, is_through, event_text, still_to_end, given, readied, turn_of, event_of, stepping, event_with, finishing}
 use Rattle.rht_registry.specs.Players.{playing_of, CanPlay, Takes}
 use Rattle.rht_registry.proofs.NextCommands.{calls_of-own, calls_of-past, has_none-past, has_none-some, left_by, left_by-moved, left_by-taken, playing_of-parts}

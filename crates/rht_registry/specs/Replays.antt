@@ -13,7 +13,7 @@ use Rattle.rht_model.specs.Multimap.{Port}
 use Rattle.rht_model.specs.Listing.{listing_of}
 use Rattle.rht_core.specs.declared.event.Event.TheVariants.{Enroll, Begin, Step}
 use Rattle.rht_core.specs.declared.event.Stepped.{Stepped}
-use Rattle.rht_core.specs.declared.local.Local.{Local}
+use Rattle.rht_callers.specs.declared.local.Local.{Local}
 use Rattle.rht_core.specs.Locals.{is_idle}
 use Rattle.rht_core.specs.Runs.{Core, local_of, core_step, run_of}
 use Rattle.rht_core.specs.StandsFor.{stands_for}

@@ -11,8 +11,8 @@ use Rattle.rht_model.specs.declared.history.Call.TheVariants.{Rebind}
 use Rattle.rht_model.specs.declared.history.Reply.{Reply}
 use Rattle.rht_model.specs.declared.finished.Finished.{Finished}
 use Rattle.rht_core.specs.declared.book.Book.{Book}
-use Rattle.rht_core.specs.declared.local.Local.{Local}
-use Rattle.rht_core.specs.declared.local.Doing.TheVariants.{Rebinding}
+use Rattle.rht_callers.specs.declared.local.Local.{Local}
+use Rattle.rht_callers.specs.declared.local.Doing.TheVariants.{Rebinding}
 use Rattle.rht_core.specs.Locals.{is_idle, rebinding_of, local_after, ending_of}
 use Rattle.rht_core.specs.Runs.{View, book_after}
 use Rattle.rht_core.specs.Replies.{IsRightlyAnswered, AnswersIn, owners_with}

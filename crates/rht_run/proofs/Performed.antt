@@ -16,15 +16,15 @@ use Rattle.rht_model.specs.declared.history.Reply.{Reply}
 use Rattle.rht_core.specs.declared.event.Event.{Event}
 use Rattle.rht_core.specs.declared.event.Event.TheVariants.{Begin}
 use Rattle.rht_core.specs.declared.book.Book.{Book}
-use Rattle.rht_core.specs.declared.local.Local.{Local}
-use Rattle.rht_core.specs.declared.local.Doing.{Doing}
+use Rattle.rht_callers.specs.declared.local.Local.{Local}
+use Rattle.rht_callers.specs.declared.local.Doing.{Doing}
 use Rattle.rht_core.specs.Locals.{is_idle, begun_with, plan_of, local_after}
 use Rattle.rht_core.specs.Runs.{World, View, local_of, run_of, IsAdmitted}
 use Rattle.rht_core.specs.Laws.{view_stepped, IsLocalIn}
 use Rattle.rht_core.proofs.Events.Worlds.{run_of-push}
 use Rattle.rht_core.proofs.Events.BusyCallers.{busy_plans, begun_busy}
 use Rattle.rht_core.proofs.Events.RangesInRuns.{in_range}
-use Rattle.rht_core.proofs.Events.RoomsOfCallers.{idle-limit}
+use Rattle.rht_callers.proofs.RoomsOfCallers.{idle-limit}
 use Rattle.rht_run.specs.declared.seats.Held.{Held}
 use Rattle.rht_run.specs.declared.seats.SeatView.{SeatView}
 use Rattle.rht_run.specs.declared.table.Table.{Table}

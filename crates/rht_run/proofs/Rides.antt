@@ -12,9 +12,9 @@ use Rattle.rht_model.specs.declared.finished.Finished.{Finished}
 use Rattle.rht_model.specs.Rooms.{Kept, emptied}
 use Rattle.rht_model.specs.Endings.{Ending}
 use Rattle.rht_core.specs.declared.book.Book.{Book}
-use Rattle.rht_core.specs.declared.local.Local.{Local}
-use Rattle.rht_core.specs.declared.local.Doing.{Doing}
-use Rattle.rht_core.specs.declared.local.Doing.TheVariants.{Idle, Finding, Binding, Listing, Releasing, Rebinding, Working, Counting}
+use Rattle.rht_callers.specs.declared.local.Local.{Local}
+use Rattle.rht_callers.specs.declared.local.Doing.{Doing}
+use Rattle.rht_callers.specs.declared.local.Doing.TheVariants.{Idle, Finding, Binding, Listing, Releasing, Rebinding, Working, Counting}
 use Rattle.rht_core.specs.Locals.{does_nothing, is_idle, machine_of, doing_plan, plan_of, doing_after, owners_beside, owners_after, begin_with, begun_with, local_after, ending_of}
 use Rattle.rht_core.specs.Runs.{View, book_begun, book_after, finished_with, IsAdmittedCall, IsBuiltFor}
 use Rattle.rht_core.specs.Laws.{IsDoingIn}

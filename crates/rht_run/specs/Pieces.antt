@@ -11,7 +11,7 @@ use Rattle.rht_chain.specs.declared.probe.ProbeAt.{ProbeAt}
 use Rattle.rht_nest.specs.Locate.{LocateModel, locate_after}
 use Rattle.rht_nest.specs.declared.locate.Located.{Located}
 use Rattle.rht_model.specs.declared.history.Reply.{Reply}
-use Rattle.rht_core.specs.declared.local.Doing.{Doing}
+use Rattle.rht_callers.specs.declared.local.Doing.{Doing}
 use Rattle.rht_run.specs.declared.pieces.PortLocate.{PortLocate}
 use Rattle.rht_run.specs.declared.pieces.PortLocated.{PortLocated}
 

@@ -8,9 +8,9 @@ use Rattle.rht_model.specs.declared.history.Call.TheVariants.{Count}
 use Rattle.rht_model.specs.declared.history.Reply.{Reply}
 use Rattle.rht_model.specs.declared.finished.Finished.{Finished}
 use Rattle.rht_model.specs.Rooms.{Kept, emptied, no_room}
-use Rattle.rht_core.specs.declared.local.Local.{Local}
-use Rattle.rht_core.specs.declared.local.Doing.{Doing}
-use Rattle.rht_core.specs.declared.local.Doing.TheVariants.{Idle}
+use Rattle.rht_callers.specs.declared.local.Local.{Local}
+use Rattle.rht_callers.specs.declared.local.Doing.{Doing}
+use Rattle.rht_callers.specs.declared.local.Doing.TheVariants.{Idle}
 use Rattle.rht_core.specs.Locals.{is_idle}
 use Rattle.rht_core.specs.Laws.{IsDoingIn}
 use Rattle.rht_run.specs.declared.seats.Held.{Held}

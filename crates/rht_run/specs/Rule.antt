@@ -9,8 +9,8 @@ use Rattle.rht_words.specs.Places.{EnrolledCallers, word_at}
 use Rattle.rht_model.specs.declared.history.Call.{Call}
 use Rattle.rht_core.specs.declared.event.Event.{Event}
 use Rattle.rht_core.specs.declared.book.Book.{Book}
-use Rattle.rht_core.specs.declared.local.Local.{Local}
-use Rattle.rht_core.specs.declared.local.Doing.{Doing}
+use Rattle.rht_callers.specs.declared.local.Local.{Local}
+use Rattle.rht_callers.specs.declared.local.Doing.{Doing}
 use Rattle.rht_core.specs.Locals.{fresh, is_idle, machine_of, begun_with}
 use Rattle.rht_core.specs.Runs.{World, View, view_of, new_book, book_begun, run_of, IsAdmittedCall, IsBuiltFor, IsAdmitted}
 use Rattle.rht_core.specs.Laws.{view_stepped}

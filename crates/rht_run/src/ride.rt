@@ -7,7 +7,7 @@
 ghost use Rattle.std.specs.Prelude.{◌≡◌, Option, None, Some};
 ghost use Rattle.rht_model.specs.Rooms.{emptied};
 ghost use Rattle.rht_model.specs.declared.history.Reply.{Reply as ReplyOf};
-ghost use Rattle.rht_core.specs.declared.local.Doing.TheVariants.{Idle};
+ghost use Rattle.rht_callers.specs.declared.local.Doing.TheVariants.{Idle};
 ghost use Rattle.rht_core.specs.Locals.{machine_of, doing_after};
 ghost use Rattle.rht_core.specs.Runs.{IsAdmittedCall, IsBuiltFor};
 ghost use Rattle.rht_run.specs.Rides.{Riding, any_riding, IsBefore, IsRiding, HasEnded, Stepped, piece_next};

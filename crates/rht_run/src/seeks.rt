@@ -9,7 +9,7 @@ ghost use Rattle.rht_release.specs.Release.{release_plan, IsReleaseAtIn};
 ghost use Rattle.rht_release.specs.declared.release.ReleaseAt.TheVariants as releases;
 ghost use Rattle.rht_release.specs.Rebind.{rebind_plan, IsRebindAtIn};
 ghost use Rattle.rht_release.specs.declared.rebind.RebindAt.TheVariants as rebinds;
-ghost use Rattle.rht_core.specs.declared.local.Doing.TheVariants.{Idle, Releasing, Rebinding};
+ghost use Rattle.rht_callers.specs.declared.local.Doing.TheVariants.{Idle, Releasing, Rebinding};
 ghost use Rattle.rht_core.specs.Locals.{without_node};
 ghost use Rattle.rht_run.specs.Frames.{doing_piece};
 ghost use Rattle.rht_release.specs.declared.seek.SeekAt.TheVariants as seeks;

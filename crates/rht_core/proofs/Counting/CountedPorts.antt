@@ -10,7 +10,7 @@ use Rattle.rht_words.specs.Members.{In, NotIn, IsDistinct}
 use Rattle.rht_words.proofs.Members.{count_below, one_if, not_in_from, AllByRecursion-In, In-AllByRecursion, length-count_below}
 use Rattle.rht_words.proofs.EachElement.{AllByRecursion-weaker}
 use Rattle.rht_model.specs.Multimap.{Multimap}
-use Rattle.rht_core.specs.StandsFor.{stands_for, AreBound, AreAllBound}
+use Rattle.rht_stands.specs.StandsFor.{stands_for, AreBound, AreAllBound}
 use Rattle.rht_ghost.proofs.Theory.Ghosts.{Owner, Free, Held, First, Leaving, Behind, Taken, Ghost, is_first, seat-first, seat_of, is_entry}
 use Rattle.rht_ghost.proofs.Theory.Wholes.{key_of, firsts, Whole, seated_at}
 use Rattle.rht_ghost.proofs.Theory.Steps.{mem, owners_in}

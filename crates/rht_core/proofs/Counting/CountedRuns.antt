@@ -12,7 +12,7 @@ use Rattle.rht_words.specs.Members.{In}
 use Rattle.rht_words.proofs.Members.{count_by-range, count_below-same, count_below-none}
 use Rattle.rht_core.specs.Jobs.{job_of}
 use Rattle.rht_core.specs.Runs.{Core, World, local_of, view_of, run_of}
-use Rattle.rht_core.specs.StandsFor.{in_force, nodes_of}
+use Rattle.rht_stands.specs.StandsFor.{in_force, nodes_of}
 use Rattle.rht_core.specs.Counts.{is_raising, raising, IsListed, IsPlaced, IsPageFree, IsPageOfSlot, IsPageInSlot, AreNoneHeld, taken_out, Counted, AtRest}
 use Rattle.rht_core.specs.TablePages.{IsPageOfTable}
 use Rattle.rht_ghost.proofs.Theory.Ghosts.{Owner, Free, Held, First, Leaving, Behind, Taken, PageOwner, PageFree, PageHeld, PageOf, SlotOwner, SlotFree, SlotHeld, Live, Retired, Ghost, has_table, index_at, state_word, is_used, IsUsed, lock_bit, seat-used}

@@ -13,7 +13,7 @@ use Rattle.rht_words.proofs.Members.{In-range_with_len, range_with_len-In}
 use Rattle.rht_words.proofs.ShapeSizes.{IsSizeUpTo-size_of}
 use Rattle.rht_nest.specs.Place.{is_deep, top_page, top_entries}
 use Rattle.rht_nest.specs.Tables.{is_nested, run_first, run_pages, pages_of_table}
-use Rattle.rht_core.specs.StandsFor.{page_word}
+use Rattle.rht_stands.specs.StandsFor.{page_word}
 use Rattle.rht_core.specs.TablePages.{LeadsOn, IsNestedPage, IsPageOfTable}
 use Rattle.rht_ghost.proofs.Theory.Ghosts.{Part, Row, Leaf, Middle, Top, has_entries, Table, PageOwner, PageOf, Ghost, entry_word, none-some}
 use Rattle.rht_ghost.proofs.Theory.Ways.{first_page, entries_in, behind_top, StandsAs}

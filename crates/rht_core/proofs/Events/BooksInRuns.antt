@@ -18,11 +18,11 @@ use Rattle.rht_core.specs.declared.book.Book.{Book}
 use Rattle.rht_core.specs.declared.event.Event.{Event}
 use Rattle.rht_core.specs.declared.event.Event.TheVariants.{Enroll, Begin}
 use Rattle.rht_core.specs.declared.event.Event.TheVariants as events
-use Rattle.rht_core.specs.declared.local.Doing.{Doing}
-use Rattle.rht_core.specs.declared.local.Local.{Local}
+use Rattle.rht_callers.specs.declared.local.Doing.{Doing}
+use Rattle.rht_callers.specs.declared.local.Local.{Local}
 use Rattle.rht_core.specs.Counts.{takes_out}
 use Rattle.rht_core.specs.Jobs.{Job, call_of, job_after, job_of, told, held_of, held_next}
-use Rattle.rht_core.specs.Locals.{is_idle, machine_of, local_after, ending_of}
+use Rattle.rht_callers.specs.Locals.{is_idle, machine_of, local_after, ending_of}
 use Rattle.rht_core.specs.Runs.{World, View, view_of, local_of, beginning_in, planned_in, book_begun, book_after, finished_with, world_step, run_of, opening, IsAdmitted, IsAdmittedEvent}
 use Rattle.rht_core.specs.Laws.{view_begun, view_stepped}
 use Rattle.rht_ghost.proofs.Theory.Ghosts.{Ghost, is_taken_by, Free}

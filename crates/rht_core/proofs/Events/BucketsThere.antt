@@ -15,7 +15,7 @@ use Rattle.rht_core.specs.declared.event.Event.{Event}
 use Rattle.rht_core.specs.declared.event.Event.TheVariants.{Enroll, Begin, Step}
 use Rattle.rht_core.specs.Runs.{Core, World, planned_in, world_step, run_of, opening, IsAdmitted, IsAdmittedEvent}
 use Rattle.rht_core.specs.Seen.{words_before}
-use Rattle.rht_core.specs.StandsFor.{bucket_in}
+use Rattle.rht_stands.specs.StandsFor.{bucket_in}
 use Rattle.rht_ghost.proofs.Theory.Ghosts.{Ghost}
 use Rattle.rht_ghost.proofs.Theory.Wholes.{place_at, index-place_at, Whole}
 use Rattle.rht_ghost.proofs.Theory.Entries.{one_bucket}

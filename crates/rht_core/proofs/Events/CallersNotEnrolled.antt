@@ -10,9 +10,9 @@ use Rattle.rht_words.proofs.EachElement.{each_replicate}
 use Rattle.rht_model.specs.declared.history.Call.{Call}
 use Rattle.rht_core.specs.declared.event.Event.{Event}
 use Rattle.rht_core.specs.declared.event.Event.TheVariants.{Enroll, Begin, Step}
-use Rattle.rht_core.specs.declared.local.Local.{Local}
-use Rattle.rht_core.specs.declared.local.Doing.{Doing}
-use Rattle.rht_core.specs.Locals.{fresh}
+use Rattle.rht_callers.specs.declared.local.Local.{Local}
+use Rattle.rht_callers.specs.declared.local.Doing.{Doing}
+use Rattle.rht_callers.specs.Locals.{fresh}
 use Rattle.rht_core.specs.Runs.{World, View, view_of, new_book, beginning_in, planned_in, enrolling, enrolled_after, world_step, run_of, opening}
 use Rattle.rht_core.specs.Laws.{NotEnrolled}
 use Rattle.rht_core.proofs.Events.Worlds.{beginning-some, planned-some, begin_none, begin_other, step_none, step_other, run_keeps}

@@ -12,8 +12,8 @@ use Rattle.rht_words.proofs.OpeningLaws.{stand_in_place, opens_flat, opens_free}
 use Rattle.rht_words.proofs.Members.{count_below-none}
 use Rattle.rht_words.proofs.EachElement.{each_replicate}
 use Rattle.rht_core.specs.declared.event.Event.{Event}
-use Rattle.rht_core.specs.declared.local.Local.{Local}
-use Rattle.rht_core.specs.Locals.{fresh}
+use Rattle.rht_callers.specs.declared.local.Local.{Local}
+use Rattle.rht_callers.specs.Locals.{fresh}
 use Rattle.rht_core.specs.Runs.{Core, World, local_in, opening, opening_core, run_of, IsAdmitted}
 use Rattle.rht_core.proofs.Events.Worlds.{run_keeps_admitted}
 use Rattle.rht_core.proofs.Events.RangesInRuns.{AllIn, opens-all, event-all}

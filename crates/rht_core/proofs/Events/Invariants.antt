@@ -19,13 +19,13 @@ use Rattle.rht_model.specs.Endings.{Ending}
 use Rattle.rht_core.specs.declared.event.Event.{Event}
 use Rattle.rht_core.specs.declared.event.Event.TheVariants.{Enroll, Begin}
 use Rattle.rht_core.specs.declared.event.Event.TheVariants as events
-use Rattle.rht_core.specs.declared.local.Doing.{Doing}
-use Rattle.rht_core.specs.declared.local.Doing.TheVariants.{Idle, Finding, Binding, Releasing, Rebinding, Listing, Working, Counting}
-use Rattle.rht_core.specs.Locals.{fresh, owners_room, does_nothing, machine_of, begin_with, local_after}
+use Rattle.rht_callers.specs.declared.local.Doing.{Doing}
+use Rattle.rht_callers.specs.declared.local.Doing.TheVariants.{Idle, Finding, Binding, Releasing, Rebinding, Listing, Working, Counting}
+use Rattle.rht_callers.specs.Locals.{fresh, owners_room, does_nothing, machine_of, begin_with, local_after}
 use Rattle.rht_core.specs.Runs.{Core, local_of, beginning_in, planned_in, enrolling, core_step}
 use Rattle.rht_core.specs.Jobs.{Job, finds, binds, releases, rebinds, lists, works, counts, job_plan, job_after, job_of, told, held_of, held_next}
 use Rattle.rht_core.specs.Laws.{IsDoingIn}
-use Rattle.rht_core.proofs.Events.CallBeginnings.{begins_so}
+use Rattle.rht_callers.proofs.CallBeginnings.{begins_so}
 use Rattle.rht_core.proofs.Events.Worlds.{beginning-some, planned-some}
 use Rattle.rht_core.proofs.Events.SoundRuns.{has_place, made_in}
 use Rattle.rht_core.proofs.Events.RangesInRuns.{AllIn}

@@ -26,11 +26,11 @@ use Rattle.rht_release.specs.All.{AllModel, moved}
 use Rattle.rht_release.specs.AllHeld.{listing_of}
 use Rattle.rht_release.specs.declared.all.AllAt.{AllAt}
 use Rattle.rht_release.specs.declared.all.AllAt.TheVariants as alls
-use Rattle.rht_core.specs.PortCounts.{count_plan_in}
-use Rattle.rht_core.specs.declared.local.Local.{Local}
-use Rattle.rht_core.specs.declared.local.Doing.{Doing}
-use Rattle.rht_core.specs.declared.local.Doing.TheVariants.{Idle, Finding, Binding, Releasing, Rebinding, Listing, Working, Counting}
-use Rattle.rht_core.specs.Locals.{fresh, room_for_nodes, does_nothing, machine_of, doing_plan, doing_after, owners_after, room_given, local_after, ending_of, doing_next, without_node, IsDoingOf, IsLocalOf}
+use Rattle.rht_callers.specs.PortCounts.{count_plan_in}
+use Rattle.rht_callers.specs.declared.local.Local.{Local}
+use Rattle.rht_callers.specs.declared.local.Doing.{Doing}
+use Rattle.rht_callers.specs.declared.local.Doing.TheVariants.{Idle, Finding, Binding, Releasing, Rebinding, Listing, Working, Counting}
+use Rattle.rht_callers.specs.Locals.{fresh, room_for_nodes, does_nothing, machine_of, doing_plan, doing_after, owners_after, room_given, local_after, ending_of, doing_next, without_node, IsDoingOf, IsLocalOf}
 use Rattle.rht_core.specs.Jobs.{listing_ending, node_ending, Job, finds, binds, releases, rebinds, lists, works, counts, call_of, first_job, first_rebind, job_plan, job_after, job_next, job_of, told, held_of}
 use Rattle.rht_words.specs.declared.config.Kind.{Kind}
 use Rattle.rht_words.specs.declared.config.Kind.TheVariants.{Single, Listed}
@@ -42,7 +42,7 @@ use Rattle.rht_release.specs.Rebind.{RebindModel}
 use Rattle.rht_move.specs.Work as work
 use Rattle.rht_move.specs.Work.{WorkModel}
 use Rattle.rht_move.specs.declared.work.WorkAt.TheVariants as works_at
-use Rattle.rht_core.proofs.Events.CallBeginnings.{begins_so}
+use Rattle.rht_callers.proofs.CallBeginnings.{begins_so}
 
 -- there is no job
 abbrev pub is_no_job : Option Job → Bool

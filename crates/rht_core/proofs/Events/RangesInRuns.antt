@@ -43,16 +43,16 @@ use Rattle.rht_move.proofs.WorkStays.{work_stays}
 use Rattle.rht_move.proofs.WorkPlanned.{planned_work}
 use Rattle.rht_core.specs.declared.event.Event.{Event}
 use Rattle.rht_core.specs.declared.event.Event.TheVariants.{Enroll, Begin, Step}
-use Rattle.rht_core.specs.PortCounts.{count_plan_in}
-use Rattle.rht_core.specs.declared.local.Local.{Local}
-use Rattle.rht_core.specs.declared.local.Doing.{Doing}
-use Rattle.rht_core.specs.declared.local.Doing.TheVariants.{Idle, Finding, Binding, Releasing, Rebinding, Listing, Working, Counting}
-use Rattle.rht_core.specs.Locals.{fresh, machine_of, begin_with, doing_plan, plan_of, doing_after, local_after, without_node}
+use Rattle.rht_callers.specs.PortCounts.{count_plan_in}
+use Rattle.rht_callers.specs.declared.local.Local.{Local}
+use Rattle.rht_callers.specs.declared.local.Doing.{Doing}
+use Rattle.rht_callers.specs.declared.local.Doing.TheVariants.{Idle, Finding, Binding, Releasing, Rebinding, Listing, Working, Counting}
+use Rattle.rht_callers.specs.Locals.{fresh, machine_of, begin_with, doing_plan, plan_of, doing_after, local_after, without_node}
 use Rattle.rht_core.specs.Runs.{Core, World, local_of, beginning_in, with_machine, planned_in, with_step, enrolling, world_step, run_of, opening, IsAdmitted, IsAdmittedCall, IsAdmittedEvent}
 use Rattle.rht_core.specs.Laws.{IsDoingIn, IsLocalIn, InRange, WordsFit, IsOfCaller, IsEnrolledKept, Enrolled}
-use Rattle.rht_core.proofs.Events.CallBeginnings.{begins_so}
-use Rattle.rht_core.proofs.Events.NextDoings.{next_so}
-use Rattle.rht_core.proofs.Events.RoomsOfCallers.{idle-limit, begun-limit, owners_after-limit}
+use Rattle.rht_callers.proofs.CallBeginnings.{begins_so}
+use Rattle.rht_callers.proofs.NextDoings.{next_so}
+use Rattle.rht_callers.proofs.RoomsOfCallers.{idle-limit, begun-limit, owners_after-limit}
 use Rattle.rht_core.proofs.Events.Worlds.{beginning-some, planned-some, run_of-push, run_keeps_admitted}
 use Rattle.rht_core.proofs.Events.SoundRuns.{StaysIn, opens-in, stays-in, has_place, made_in, step-count, IsSound-stays}
 

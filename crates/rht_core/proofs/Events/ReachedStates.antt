@@ -10,8 +10,8 @@ use Rattle.rht_words.proofs.EachElement.{AllByRecursion-append}
 use Rattle.rht_core.specs.declared.event.Event.{Event}
 use Rattle.rht_core.specs.declared.event.Event.TheVariants.{Enroll, Begin, Step}
 use Rattle.rht_core.specs.declared.event.Stepped.{Stepped}
-use Rattle.rht_core.specs.declared.local.Local.{Local}
-use Rattle.rht_core.specs.Locals.{fresh, is_idle}
+use Rattle.rht_callers.specs.declared.local.Local.{Local}
+use Rattle.rht_callers.specs.Locals.{fresh, is_idle}
 use Rattle.rht_core.specs.Runs.{Core, World, View, local_of, planned_in, with_step, core_step, run_of, IsSound, IsAdmittedEvent, IsReached}
 use Rattle.rht_core.proofs.Events.Worlds.{run_of-push}
 use Rattle.rht_core.proofs.Events.SoundRuns.{runs-in, IsSound-stays}

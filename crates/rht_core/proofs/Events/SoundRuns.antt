@@ -22,14 +22,14 @@ use Rattle.rht_release.specs.Rebind.{rebind_after}
 use Rattle.rht_move.specs.Work.{work_after}
 use Rattle.rht_core.specs.declared.event.Event.{Event}
 use Rattle.rht_core.specs.declared.event.Event.TheVariants.{Enroll, Begin, Step}
-use Rattle.rht_core.specs.declared.local.Local.{Local}
-use Rattle.rht_core.specs.declared.local.Doing.{Doing}
-use Rattle.rht_core.specs.declared.local.Doing.TheVariants.{Idle, Finding, Binding, Releasing, Rebinding, Listing, Working, Counting}
-use Rattle.rht_core.specs.Locals.{fresh, machine_of, begin_with, doing_after, local_after, without_node, IsDoingOf, IsLocalOf}
+use Rattle.rht_callers.specs.declared.local.Local.{Local}
+use Rattle.rht_callers.specs.declared.local.Doing.{Doing}
+use Rattle.rht_callers.specs.declared.local.Doing.TheVariants.{Idle, Finding, Binding, Releasing, Rebinding, Listing, Working, Counting}
+use Rattle.rht_callers.specs.Locals.{fresh, machine_of, begin_with, doing_after, local_after, without_node, IsDoingOf, IsLocalOf}
 use Rattle.rht_core.specs.Runs.{Core, World, local_of, beginning_in, with_machine, planned_in, with_step, enrolling, enrolled_after, world_step, run_of, opening, opening_core, IsSound}
-use Rattle.rht_core.proofs.Events.CallBeginnings.{begins_so}
-use Rattle.rht_core.proofs.Events.NextDoings.{next_so}
-use Rattle.rht_core.proofs.Events.RoomsOfCallers.{idle-limit, begun-limit, owners_after-limit}
+use Rattle.rht_callers.proofs.CallBeginnings.{begins_so}
+use Rattle.rht_callers.proofs.NextDoings.{next_so}
+use Rattle.rht_callers.proofs.RoomsOfCallers.{idle-limit, begun-limit, owners_after-limit}
 use Rattle.rht_core.proofs.Events.Worlds.{CanBegin, beginning-some, planned-some, run_keeps}
 
 -- ---- what a caller does

@@ -17,9 +17,9 @@ use Rattle.rht_model.specs.declared.history.Call.{Call}
 use Rattle.rht_core.specs.declared.event.Event.{Event}
 use Rattle.rht_core.specs.declared.event.Event.TheVariants.{Begin, Step}
 use Rattle.rht_core.specs.declared.book.Book.{Book}
-use Rattle.rht_core.specs.declared.local.Local.{Local}
-use Rattle.rht_core.specs.declared.local.Doing.{Doing}
-use Rattle.rht_core.specs.Locals.{fresh, is_idle, machine_of, begin_with, plan_of, local_after, ending_of}
+use Rattle.rht_callers.specs.declared.local.Local.{Local}
+use Rattle.rht_callers.specs.declared.local.Doing.{Doing}
+use Rattle.rht_callers.specs.Locals.{fresh, is_idle, machine_of, begin_with, plan_of, local_after, ending_of}
 use Rattle.rht_core.specs.Runs.{World, View, view_of, local_in, local_of, beginning, beginning_in, with_machine, planned, planned_in, with_step, book_at, book_begun, book_after, books_begun, books_stepped, world_step, run_from, run_of, opening, IsAdmitted, IsAdmittedEvent}
 use Rattle.rht_core.specs.Laws.{view_begun, view_stepped, Extends}
 

@@ -14,7 +14,7 @@ use Rattle.rht_core.specs.declared.event.Event.{Event}
 use Rattle.rht_core.specs.declared.event.Event.TheVariants.{Enroll, Begin, Step}
 use Rattle.rht_core.specs.Jobs.{job_of}
 use Rattle.rht_core.specs.Runs.{Core, World, opening_core, core_step, with_step, world_step, run_of, local_of, planned_in, IsAdmitted, IsAdmittedEvent}
-use Rattle.rht_core.specs.StandsFor.{stands_for}
+use Rattle.rht_stands.specs.StandsFor.{stands_for}
 use Rattle.rht_core.specs.Alone.{bindings_at}
 use Rattle.rht_core.specs.RunHistories.{bindings_behind}
 use Rattle.rht_core.proofs.Events.Worlds.{induct_by_last, run_of-push}

@@ -14,8 +14,8 @@ use Rattle.rht_model.specs.Answers.{port_of}
 use Rattle.rht_core.specs.declared.event.Event.{Event}
 use Rattle.rht_core.specs.declared.event.Event.TheVariants.{Begin, Step}
 use Rattle.rht_core.specs.declared.book.Book.{Book}
-use Rattle.rht_core.specs.declared.local.Doing.{Doing}
-use Rattle.rht_core.specs.Locals.{local_after, ending_of}
+use Rattle.rht_callers.specs.declared.local.Doing.{Doing}
+use Rattle.rht_callers.specs.Locals.{local_after, ending_of}
 use Rattle.rht_core.specs.Runs.{View, local_of, beginning_in, planned_in, books_begun, books_stepped, book_after}
 use Rattle.rht_core.specs.Traces.{Did, Past, Trace, Traced, trace_did, traces_begun, traces_stepped, traced_step, traced_from, traced_of, behind_call}
 use Rattle.rht_core.specs.Numbered.{Numbered, NeverFalls, entries_of}

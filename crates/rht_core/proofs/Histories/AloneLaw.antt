@@ -18,7 +18,7 @@ use Rattle.rht_model.proofs.Agreements.{answer_of-Agree, left_by-Agree, IsLegalA
 use Rattle.rht_model.proofs.LongerHistories.{bindings_left-append, IsLegalFrom-push}
 use Rattle.rht_core.specs.declared.event.Event.{Event}
 use Rattle.rht_core.specs.declared.book.Book.{Book}
-use Rattle.rht_core.specs.Locals.{is_idle}
+use Rattle.rht_callers.specs.Locals.{is_idle}
 use Rattle.rht_core.specs.Runs.{World, IsAdmitted, IsAdmittedEvent, local_of}
 use Rattle.rht_core.specs.Traces.{Past, Trace, Traced, traced_of, behind_call}
 use Rattle.rht_core.specs.Laws.{IsPastCall}

@@ -25,7 +25,7 @@ use Rattle.rht_core.specs.FewPorts.{BindsAmong, AreCallsAmong}
 use Rattle.rht_core.specs.Numbered.{Numbered, entries_of, numbered_to}
 use Rattle.rht_core.specs.RunHistories.{AreOfCalls, about_bindings, bindings_behind, Fits}
 use Rattle.rht_core.specs.Runs.{Core, World, local_of, run_of, IsAdmitted}
-use Rattle.rht_core.specs.StandsFor.{stands_for, AreBound}
+use Rattle.rht_stands.specs.StandsFor.{stands_for, AreBound}
 use Rattle.rht_core.specs.Traces.{Past, Traced, traced_of}
 use Rattle.rht_core.proofs.Events.InvariantRuns.{has_inv}
 use Rattle.rht_ghost.proofs.Theory.Steps.{by_test}

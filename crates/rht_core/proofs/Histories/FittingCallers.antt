@@ -13,7 +13,7 @@ use Rattle.rht_core.specs.declared.event.Event.TheVariants.{Enroll}
 use Rattle.rht_core.specs.Jobs.{Job, call_of, job_of, held_of}
 use Rattle.rht_core.specs.Runs.{World, IsAdmitted, local_of, enrolling, world_step}
 use Rattle.rht_core.specs.Traces.{Did, Trace, Traced, traces_after, traced_step, traced_of}
-use Rattle.rht_core.specs.StandsFor.{stands_for}
+use Rattle.rht_stands.specs.StandsFor.{stands_for}
 use Rattle.rht_core.specs.Numbered.{Numbered, entries_of}
 use Rattle.rht_core.specs.Alone.{bindings_at}
 use Rattle.rht_core.specs.RunHistories.{about_bindings}

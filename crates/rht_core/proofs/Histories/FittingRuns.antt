@@ -18,13 +18,13 @@ use Rattle.rht_model.specs.Multimap.{Multimap, Agree, unbound}
 use Rattle.rht_core.specs.declared.event.Event.{Event}
 use Rattle.rht_core.specs.declared.event.Event.TheVariants.{Enroll, Begin, Step}
 use Rattle.rht_core.specs.declared.book.Book.{Book}
-use Rattle.rht_core.specs.declared.local.Local.{Local}
-use Rattle.rht_core.specs.declared.local.Doing.{Doing}
-use Rattle.rht_core.specs.Locals.{fresh, local_after, ending_of}
+use Rattle.rht_callers.specs.declared.local.Local.{Local}
+use Rattle.rht_callers.specs.declared.local.Doing.{Doing}
+use Rattle.rht_callers.specs.Locals.{fresh, local_after, ending_of}
 use Rattle.rht_core.specs.Jobs.{Job, call_of, job_of, job_after, told, held_of, held_next}
 use Rattle.rht_core.specs.Runs.{World, View, IsAdmitted, IsAdmittedEvent, local_of, planned_in, beginning_in}
 use Rattle.rht_core.specs.Traces.{Did, Past, Trace, Traced, trace_begun, trace_did, traces_after, traced_step, traced_of}
-use Rattle.rht_core.specs.StandsFor.{stands_for}
+use Rattle.rht_stands.specs.StandsFor.{stands_for}
 use Rattle.rht_core.specs.Numbered.{Numbered, entries_of}
 use Rattle.rht_core.specs.Alone.{bindings_at}
 use Rattle.rht_core.specs.RunHistories.{ChangesBindings, AreInProgress, AreOfCalls, about_bindings, HasFittingHistory}

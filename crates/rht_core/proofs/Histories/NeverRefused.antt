@@ -37,7 +37,7 @@ use Rattle.rht_model.specs.Listing.{Lists}
 use Rattle.rht_core.specs.declared.event.Event.{Event}
 use Rattle.rht_core.specs.Alone.{bindings_at}
 use Rattle.rht_core.specs.Runs.{World, run_of, IsAdmitted, IsAdmittedEvent}
-use Rattle.rht_core.specs.Closing.{IsClosedOf, current_size}
+use Rattle.rht_stands.specs.Closing.{IsClosedOf, current_size}
 use Rattle.rht_core.specs.FewPorts.{BindsAmong, HasFewPorts, IsNoTableMade, IsBindTaken, IsCallTaken, IsForOne}
 use Rattle.rht_core.specs.Laws.{IsPastCall}
 use Rattle.rht_core.specs.NeverRefused.{IsRoomyFor, NoneRefused, AreAllTaken, bindings_after_all, IsSmallFor, AreAsModel, RoomyTakesAll, OneWorkerAsModel}
@@ -46,7 +46,7 @@ use Rattle.rht_core.specs.Numbered.{Numbered, history_of}
 use Rattle.rht_core.specs.Replies.{IsRightlyAnswered}
 use Rattle.rht_core.specs.RunHistories.{bindings_behind, about_bindings, Fits}
 use Rattle.rht_core.specs.Serving.{asks_for_work, calls_of, AreBehind, Serves, IsServing, IsServedRun}
-use Rattle.rht_core.specs.StandsFor.{AreBound}
+use Rattle.rht_stands.specs.StandsFor.{AreBound}
 use Rattle.rht_core.specs.ToldHistories.{entries_told, endings_by, IsOutnumbered, IsTold}
 use Rattle.rht_core.specs.Traces.{Past, Traced, traced_of, behind_call}
 use Rattle.rht_core.proofs.Counting.FewPorts.{few_ports}

@@ -23,9 +23,9 @@ use Rattle.rht_move.specs.Choice.{chosen, is_sparse}
 use Rattle.rht_move.specs.declared.work.choice.Choice.{Choice}
 use Rattle.rht_move.specs.declared.work.choice.Choice.TheVariants as choices
 use Rattle.rht_core.specs.declared.event.Event.{Event}
-use Rattle.rht_core.specs.Locals.{is_idle}
+use Rattle.rht_callers.specs.Locals.{is_idle}
 use Rattle.rht_core.specs.Alone.{IsQuiet}
-use Rattle.rht_core.specs.StandsFor.{shape_of, tables_from}
+use Rattle.rht_stands.specs.StandsFor.{shape_of, tables_from}
 use Rattle.rht_core.specs.Runs.{local_of, run_of, IsAdmitted, IsAdmittedEvent}
 use Rattle.rht_core.specs.Traces.{Did, Past, traced_of, IsRising, behind_call}
 use Rattle.rht_core.specs.Seen.{words_before}

@@ -24,18 +24,18 @@ use Rattle.rht_model.specs.Multimap.{Multimap, Agree, unbound}
 use Rattle.rht_model.specs.Endings.{Ending}
 use Rattle.rht_model.specs.Histories.{bindings_left}
 use Rattle.rht_core.specs.declared.event.Event.{Event}
-use Rattle.rht_core.specs.Locals.{is_idle}
+use Rattle.rht_callers.specs.Locals.{is_idle}
 use Rattle.rht_core.specs.Runs.{Core, World, View, run_of, local_of, IsAdmitted}
 use Rattle.rht_core.specs.Traces.{Past, Traced, traced_of, behind_call}
 use Rattle.rht_core.specs.Laws.{IsPastCall}
 use Rattle.rht_core.specs.Seen.{others_in_call}
 use Rattle.rht_core.specs.Causes.{CauseOf, HasCause, SawFull}
-use Rattle.rht_core.specs.Closing.{IsClosedOf}
+use Rattle.rht_stands.specs.Closing.{IsClosedOf}
 use Rattle.rht_core.specs.NodesUsed.{needs_node, is_no_node, took_node, may_take_node, takers_of, takers, IsForWant}
 use Rattle.rht_core.specs.Numbered.{Numbered, history_of, entries_of}
 use Rattle.rht_core.specs.RunHistories.{bindings_behind, ChangesBindings, about_bindings, Fits}
 use Rattle.rht_core.specs.Serving.{Serves, calls_of, IsServing}
-use Rattle.rht_core.specs.StandsFor.{stands_for, AreBound}
+use Rattle.rht_stands.specs.StandsFor.{stands_for, AreBound}
 use Rattle.rht_core.specs.ToldHistories.{entries_told, entries_by, endings_by, IsOutnumbered, WasFull, IsTold, HasToldHistory}
 use Rattle.rht_core.proofs.Events.CallersNotEnrolled.{not_enrolled}
 use Rattle.rht_core.proofs.Events.SoundRuns.{runs-in, StaysIn}

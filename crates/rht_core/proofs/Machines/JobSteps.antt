@@ -25,7 +25,7 @@ use Rattle.rht_release.specs.All.{IsAllAtIn}
 use Rattle.rht_release.specs.All as all_at
 use Rattle.rht_release.specs.AllHeld.{held_of_all}
 use Rattle.rht_release.specs.declared.all.AllAt.{AllAt}
-use Rattle.rht_core.specs.PortCounts.{count_plan_in}
+use Rattle.rht_callers.specs.PortCounts.{count_plan_in}
 use Rattle.rht_core.specs.Jobs.{listing_ending, node_ending, Job, finds, binds, releases, rebinds, lists, works, counts, call_of, job_plan, job_next, job_after, held_of, held_next}
 use Rattle.rht_words.specs.declared.config.Kind.TheVariants.{Single}
 use Rattle.rht_release.specs.Release.{IsReleaseAtIn}

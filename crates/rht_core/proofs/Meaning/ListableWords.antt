@@ -6,8 +6,8 @@ use Rattle.rht_words.specs.Members.{In, IsDistinct}
 use Rattle.rht_words.proofs.Members.{In-AllByRecursion, not_in_from, in_and_not, NotIn-append, flat_map-In, count_below-most, length-count_below}
 use Rattle.rht_core.specs.declared.event.Event.{Event}
 use Rattle.rht_core.specs.Runs.{run_of, IsAdmitted}
-use Rattle.rht_core.specs.StandsFor.{nodes_of}
-use Rattle.rht_core.specs.Closing.{IsListable}
+use Rattle.rht_stands.specs.StandsFor.{nodes_of}
+use Rattle.rht_stands.specs.Closing.{IsListable}
 use Rattle.rht_ghost.proofs.Theory.Ghosts.{Owner, Free, Held, First, Leaving, Behind, Taken, Ghost, seat_of}
 use Rattle.rht_ghost.proofs.Theory.Wholes.{key_of, Whole}
 use Rattle.rht_ghost.proofs.Theory.Steps.{mem}

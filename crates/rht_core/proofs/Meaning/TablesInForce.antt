@@ -10,7 +10,7 @@ use Rattle.rht_words.specs.Places.{CurrentTable, Slot, FutureWord}
 use Rattle.rht_words.proofs.LinksRead.{entries_come_back}
 use Rattle.rht_words.specs.Members.{In, IsDistinct, NotIn}
 use Rattle.rht_words.proofs.Members.{count_below-most, length-count_below}
-use Rattle.rht_core.specs.StandsFor.{in_force, tables_from}
+use Rattle.rht_stands.specs.StandsFor.{in_force, tables_from}
 use Rattle.rht_ghost.proofs.Theory.Ghosts.{Ghost, index_at}
 use Rattle.rht_ghost.proofs.Theory.Wholes.{Whole}
 use Rattle.rht_ghost.proofs.Theory.Steps.{mem}

@@ -45,7 +45,7 @@ use Rattle.rht_move.specs.declared.work.WorkAt.TheVariants as work_at
 use Rattle.rht_move.specs.Work as work
 use Rattle.rht_core.specs.Jobs.{Job, binds, works}
 use Rattle.rht_core.specs.FewPorts.{IsNoTableMade, IsCallTaken}
-use Rattle.rht_core.specs.StandsFor.{stands_for, AreBound}
+use Rattle.rht_stands.specs.StandsFor.{stands_for, AreBound}
 use Rattle.rht_core.specs.Traces.{Did}
 use Rattle.rht_ghost.proofs.Theory.Steps.{by_test}
 use Rattle.rht_core.proofs.Tracing.TracedJobs.{Performs}

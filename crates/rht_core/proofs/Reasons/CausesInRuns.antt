@@ -92,7 +92,7 @@ use Rattle.rht_release.specs.Seek.{SeekModel, seek_new, seek_after}
 use Rattle.rht_release.specs.All as all
 use Rattle.rht_release.specs.declared.all.AllAt.TheVariants as alls
 use Rattle.rht_core.specs.declared.event.Event.{Event}
-use Rattle.rht_core.specs.Locals.{room_for_nodes}
+use Rattle.rht_callers.specs.Locals.{room_for_nodes}
 use Rattle.rht_core.specs.Jobs.{listing_ending, node_ending, call_of, Job, finds, binds, releases, rebinds, lists, works, counts, first_job, first_rebind, job_next, job_after}
 use Rattle.rht_core.specs.Replies.{IsFindReply, IsReleaseReply, IsRebindReply, IsAllReply, IsWorkReply, IsReplyTo}
 use Rattle.rht_core.specs.Traces.{Did, Past, performed_of, traced_of}

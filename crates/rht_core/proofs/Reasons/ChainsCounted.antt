@@ -34,7 +34,7 @@ use Rattle.rht_chain.specs.declared.probe.ProbeAt.{ProbeAt}
 use Rattle.rht_chain.specs.declared.probe.ProbeAt.TheVariants as probes
 use Rattle.rht_chain.specs.declared.probe.Probed.{Probed}
 use Rattle.rht_core.specs.Traces.{Did}
-use Rattle.rht_core.specs.StandsFor.{bucket_in, bucket_nodes, stands_for, AreBound}
+use Rattle.rht_stands.specs.StandsFor.{bucket_in, bucket_nodes, stands_for, AreBound}
 use Rattle.rht_core.specs.ResizeCauses.{IsNoKeyLoad, CountsNode, AreCounted, FindsBucketAt, SawLongChain}
 use Rattle.rht_ghost.proofs.Theory.Ghosts.{Ghost, index_at}
 use Rattle.rht_ghost.proofs.Theory.Wholes.{word_index, hash_in, place_at-index, index-within, Whole}

@@ -27,7 +27,7 @@ use Rattle.rht_nest.specs.Grow.{grow_plan_at, grow_after_at, page_taken, page_en
 use Rattle.rht_nest.specs.declared.grow.GrowAt.{GrowAt}
 use Rattle.rht_nest.specs.declared.grow.GrowAt.TheVariants as grows
 use Rattle.rht_core.specs.ResizeCauses.{Loaded, IsNoKeyLoad, AreRunsTaken, MissesPage, SawNoPage}
-use Rattle.rht_core.specs.StandsFor.{page_word}
+use Rattle.rht_stands.specs.StandsFor.{page_word}
 use Rattle.rht_core.specs.Seen.{IsNoShapeLoad}
 use Rattle.rht_core.specs.Traces.{Did, performed_of}
 use Rattle.rht_ghost.proofs.Theory.Ghosts.{Ghost, index_at}

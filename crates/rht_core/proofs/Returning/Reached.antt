@@ -6,7 +6,7 @@ use Rattle.rht_words.specs.Members.{In}
 use Rattle.rht_words.specs.Places.{Slot, FutureWord}
 use Rattle.rht_words.specs.Shapes.{unpacked, size_of}
 use Rattle.rht_core.specs.Reach.{Standing, ReachesTable, at_table, at_current, by_future, ReachesNode, at_node, in_bucket, by_chain, ReachesPage, ReachesListed, in_chain, at_listed, by_list}
-use Rattle.rht_core.specs.StandsFor.{shape_of, bucket_in}
+use Rattle.rht_stands.specs.StandsFor.{shape_of, bucket_in}
 use Rattle.rht_core.specs.TablePages.{IsPageOfTable}
 use Rattle.rht_core.proofs.Counting.TablePages.{pages_in_words}
 use Rattle.rht_ghost.proofs.Theory.Ghosts.{Ghost, Held, PageOf, has_table, is_first, held_not_used, seat-first}

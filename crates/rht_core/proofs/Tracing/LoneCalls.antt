@@ -18,8 +18,8 @@ use Rattle.rht_words.proofs.PlacesApart.{place_of-apart, place_of-below}
 use Rattle.rht_words.proofs.WordChanges.{applied-same, applied-other}
 use Rattle.rht_core.specs.declared.event.Event.{Event}
 use Rattle.rht_core.specs.declared.event.Event.TheVariants.{Enroll, Begin, Step}
-use Rattle.rht_core.specs.declared.local.Local.{Local}
-use Rattle.rht_core.specs.Locals.{is_idle, plan_of, local_after}
+use Rattle.rht_callers.specs.declared.local.Local.{Local}
+use Rattle.rht_callers.specs.Locals.{is_idle, plan_of, local_after}
 use Rattle.rht_core.specs.Runs.{Core, World, View, local_of, planned_in, with_step, enrolling, world_step, run_of, IsAdmitted}
 use Rattle.rht_core.specs.Traces.{Did, Past, traced_of, IsRising, behind_steps, behind_call}
 use Rattle.rht_core.specs.Laws.{IsRecorded, IsPastCall}
@@ -27,7 +27,7 @@ use Rattle.rht_core.specs.ResizeCauses.{Loaded}
 use Rattle.rht_core.specs.Worked.{IsAloneDuring}
 use Rattle.rht_ghost.proofs.Theory.Steps.{unchanged}
 use Rattle.rht_core.proofs.Events.Worlds.{planned-some, run_of-next, step_none, step_self, step_words}
-use Rattle.rht_core.proofs.Events.CallBeginnings.{idle_plans}
+use Rattle.rht_callers.proofs.CallBeginnings.{idle_plans}
 use Rattle.rht_core.proofs.Events.BusyCallers.{ends}
 use Rattle.rht_core.proofs.Events.SoundRuns.{runs-in, has_place}
 use Rattle.rht_core.proofs.Tracing.TracesAtEvents.{behind_steps-push, at_events, past-ends}

@@ -18,9 +18,9 @@ use Rattle.rht_model.specs.Endings.{Ending, ended_with}
 use Rattle.rht_core.specs.declared.book.Book.{Book}
 use Rattle.rht_core.specs.declared.event.Event.{Event}
 use Rattle.rht_core.specs.declared.event.Event.TheVariants.{Enroll, Begin, Step}
-use Rattle.rht_core.specs.declared.local.Local.{Local}
-use Rattle.rht_core.specs.declared.local.Doing.{Doing}
-use Rattle.rht_core.specs.Locals.{is_idle, plan_of, local_after, ending_of}
+use Rattle.rht_callers.specs.declared.local.Local.{Local}
+use Rattle.rht_callers.specs.declared.local.Doing.{Doing}
+use Rattle.rht_callers.specs.Locals.{is_idle, plan_of, local_after, ending_of}
 use Rattle.rht_core.specs.Jobs.{Job, call_of, job_of}
 use Rattle.rht_core.specs.Runs.{World, local_of, beginning_in, planned_in, run_of, IsAdmitted, IsAdmittedEvent}
 use Rattle.rht_core.specs.Traces.{Did, Past, Trace, Traced, trace_begun, trace_did, traces_after, traced_of, steps_by_call, IsStepOf, IsRising, behind_steps, behind_call, behind_calls, AreInOrder}
@@ -28,7 +28,7 @@ use Rattle.rht_core.specs.Replies.{IsBookOfIdle}
 use Rattle.rht_core.specs.Laws.{IsInProgress, IsRecorded, calls_ended, AllStepsTraced}
 use Rattle.rht_ghost.proofs.Theory.Ghosts.{some-same}
 use Rattle.rht_core.proofs.Events.Worlds.{induct_by_last, take-push, take-push_all, beginning-some, planned-some}
-use Rattle.rht_core.proofs.Events.CallBeginnings.{idle_plans}
+use Rattle.rht_callers.proofs.CallBeginnings.{idle_plans}
 use Rattle.rht_core.proofs.Events.JobsOfCallers.{is_no_job, nothing-job}
 use Rattle.rht_core.proofs.Tracing.TracedJobs.{IsAtJob}
 use Rattle.rht_core.proofs.Tracing.RepliesInRuns.{Holds, Answered, runs-right}

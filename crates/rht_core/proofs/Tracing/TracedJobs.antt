@@ -24,9 +24,9 @@ use Rattle.rht_model.specs.Endings.{Ending, ended_with, ending_in}
 use Rattle.rht_core.specs.declared.event.Event.{Event}
 use Rattle.rht_core.specs.declared.event.Event.TheVariants.{Begin, Step as Steps}
 use Rattle.rht_core.specs.declared.book.Book.{Book}
-use Rattle.rht_core.specs.declared.local.Local.{Local}
-use Rattle.rht_core.specs.declared.local.Doing.{Doing}
-use Rattle.rht_core.specs.Locals.{is_idle, machine_of, local_after, ending_of}
+use Rattle.rht_callers.specs.declared.local.Local.{Local}
+use Rattle.rht_callers.specs.declared.local.Doing.{Doing}
+use Rattle.rht_callers.specs.Locals.{is_idle, machine_of, local_after, ending_of}
 use Rattle.rht_core.specs.Jobs.{Job, call_of, first_job, job_plan, job_after, job_of, told}
 use Rattle.rht_core.specs.Runs.{Core, View, IsAdmitted, view_of, run_of, book_begun, book_after, finished_with}
 use Rattle.rht_core.specs.Traces.{Did, Past, Trace, Traced, trace_begun, trace_did, traced_of}
@@ -34,7 +34,7 @@ use Rattle.rht_core.specs.Seen.{words_before}
 use Rattle.rht_core.specs.Replies.{IsBookOfIdle, owners_with, pairs_with, HasLists}
 use Rattle.rht_core.specs.Laws.{view_begun, view_stepped}
 use Rattle.rht_core.proofs.Events.JobsOfCallers.{is_no_job, has_ended, HasNoLists, same_call, left-told, nothing-job, first_job-machine, local_after-job}
-use Rattle.rht_core.proofs.Events.RoomsOfCallers.{owners_beside-none, owners_after-stay}
+use Rattle.rht_callers.proofs.RoomsOfCallers.{owners_beside-none, owners_after-stay}
 use Rattle.rht_core.proofs.Events.Invariants.{Inv}
 use Rattle.rht_core.proofs.Events.BucketsThere.{BucketsStay, buckets-stay}
 use Rattle.rht_ghost.proofs.Theory.Ghosts.{Ghost}

@@ -9,8 +9,8 @@ use Rattle.rht_words.specs.Operations.{old_of}
 use Rattle.rht_model.specs.declared.history.Call.{Call}
 use Rattle.rht_core.specs.declared.event.Event.{Event}
 use Rattle.rht_core.specs.declared.event.Event.TheVariants.{Begin, Step}
-use Rattle.rht_core.specs.declared.local.Doing.{Doing}
-use Rattle.rht_core.specs.Locals.{local_after, ending_of}
+use Rattle.rht_callers.specs.declared.local.Doing.{Doing}
+use Rattle.rht_callers.specs.Locals.{local_after, ending_of}
 use Rattle.rht_core.specs.Runs.{World, local_of, beginning_in, planned_in, run_from, run_of, opening}
 use Rattle.rht_core.specs.Traces.{Trace, Traced, trace_begun, trace_did, traces_begun, traces_stepped, traces_after, traced_step, traced_from, traced_of}
 use Rattle.rht_core.proofs.Events.Worlds.{induct_by_last, changed-same, changed-other}

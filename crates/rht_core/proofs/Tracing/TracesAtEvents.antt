@@ -15,8 +15,8 @@ use Rattle.rht_model.specs.declared.history.Reply.{Reply}
 use Rattle.rht_core.specs.declared.event.Event.{Event}
 use Rattle.rht_core.specs.declared.event.Event.TheVariants.{Begin, Step}
 use Rattle.rht_core.specs.declared.book.Book.{Book}
-use Rattle.rht_core.specs.declared.local.Local.{Local}
-use Rattle.rht_core.specs.Locals.{local_after, ending_of}
+use Rattle.rht_callers.specs.declared.local.Local.{Local}
+use Rattle.rht_callers.specs.Locals.{local_after, ending_of}
 use Rattle.rht_core.specs.Runs.{World, IsAdmitted, planned_in, book_after, run_of}
 use Rattle.rht_core.specs.Traces.{Did, Past, Trace, Traced, trace_begun, trace_did, traced_of, IsRising, behind_steps, behind_call, behind_calls, AreInOrder}
 use Rattle.rht_core.specs.Laws.{IsInProgress, IsRecorded, IsAnsweredAt, IsPastCall, AtEvents}

@@ -43,7 +43,7 @@ use Rattle.rht_core.specs.Jobs.{Job, finds, binds, lists, releases, rebinds, wor
 use Rattle.rht_core.specs.Runs.{World, run_of}
 use Rattle.rht_core.specs.Traces.{Did, Past, traced_of}
 use Rattle.rht_core.specs.Seen.{words_before}
-use Rattle.rht_core.specs.StandsFor.{stands_for}
+use Rattle.rht_stands.specs.StandsFor.{stands_for}
 use Rattle.rht_core.specs.RunHistories.{ChangesBindings}
 use Rattle.rht_core.specs.Replies.{IsReplyTo, IsFindReply, IsAllReply, IsReleaseReply, IsCountReply}
 use Rattle.rht_core.specs.Laws.{IsRecorded, IsPastCall}

@@ -1,5 +1,5 @@
 use Rattle.std.proofs.Common.{◌≡◌, replicate}
-use Rattle.rht_core.specs.Locals.{fresh}
+use Rattle.rht_callers.specs.Locals.{fresh}
 use Rattle.rht_core.proofs.state.fresh_locals.Given as goal
 
 -- so many have been made

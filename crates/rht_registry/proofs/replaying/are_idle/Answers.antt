@@ -3,7 +3,7 @@ use Rattle.std.specs.Prelude.{Bool, ◌&&◌}
 use Rattle.std.specs.List.{list_all, range_with_len}
 use Rattle.rht_core.specs.Locals.{is_idle}
 use Rattle.rht_core.specs.Runs.{local_of}
-use Rattle.rht_core.specs.declared.local.Local.{Local}
+use Rattle.rht_callers.specs.declared.local.Local.{Local}
 use Rattle.rht_registry.proofs.PlayedParts.{range-next}
 use Rattle.rht_registry.proofs.replaying.are_idle.Goals as goal
 

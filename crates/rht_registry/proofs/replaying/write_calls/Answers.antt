@@ -1,7 +1,7 @@
 use Rattle.std.proofs.Common.{◌≡◌, ℕ, ◌+◌, ◌-◌, Bool, List, [], if◌then◌else◌, sym, ◌∙◌, ap, arith}
 use Rattle.std.specs.List.{flat_map, range_with_len}
 use Rattle.rht_core.specs.Locals.{is_idle}
-use Rattle.rht_core.specs.declared.local.Local.{Local}
+use Rattle.rht_callers.specs.declared.local.Local.{Local}
 use Rattle.rht_script.specs.OperationText.{open_line}
 use Rattle.rht_registry.specs.Replays.{and_then, callers_of, open_text}
 use Rattle.rht_registry.proofs.PlayedParts.{range-next, to_play-all, to_play-as, to_play-next, to_play-failed, to_play-none}

@@ -1,7 +1,7 @@
 use Rattle.std.proofs.Common.{ℕ, ap, ◌∙◌, sym, subst}
 use Rattle.std.specs.Prelude.{length}
 use Rattle.rht_core.specs.Runs.{Core, IsReached}
-use Rattle.rht_core.specs.Closing.{IsListable}
+use Rattle.rht_stands.specs.Closing.{IsListable}
 use Rattle.rht_core.proofs.Events.ReachedStates.{IsSound-reached}
 use Rattle.rht_core.proofs.Meaning.ListableWords.{run_listable}
 use Rattle.rht_core.proofs.state.State.closed.Goals as goal

@@ -1,5 +1,5 @@
 use Rattle.std.proofs.Common.{◌<◌, ◌≤◌, ap, ◌∙◌, arith, subst, sym}
-use Rattle.rht_core.specs.Locals.{is_idle}
+use Rattle.rht_callers.specs.Locals.{is_idle}
 use Rattle.rht_core.specs.Runs.{Core, local_of}
 use Rattle.rht_core.proofs.Events.ReachedStates.{place-reached, read-reached, idle-reached}
 use Rattle.rht_core.proofs.state.State.local.Goals as goal

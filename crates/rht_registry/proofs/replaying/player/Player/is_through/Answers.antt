@@ -4,7 +4,7 @@ use Rattle.std.specs.Prelude.{length}
 use Rattle.rht_model.specs.declared.history.Call.TheVariants.{Bind}
 use Rattle.rht_core.specs.Locals.{is_idle}
 use Rattle.rht_core.specs.Runs.{Core}
-use Rattle.rht_core.specs.declared.local.Local.{Local}
+use Rattle.rht_callers.specs.declared.local.Local.{Local}
 use Rattle.rht_registry.specs.Replays.{has_none}
 use Rattle.rht_registry.specs.Players.{playing_of}
 use Rattle.rht_registry.proofs.PlayedEvents.{CanPlay-stays, is_through-idle, past-has_none}

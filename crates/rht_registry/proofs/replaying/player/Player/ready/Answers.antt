@@ -1,6 +1,6 @@
 use Rattle.std.proofs.Common.{refl, sym, ◌∙◌, ap}
 use Rattle.rht_core.specs.Locals.{is_idle}
-use Rattle.rht_core.specs.declared.local.Local.{Local}
+use Rattle.rht_callers.specs.declared.local.Local.{Local}
 use Rattle.rht_registry.specs.declared.replaying.player.Player.{Player}
 use Rattle.rht_registry.proofs.PlayedEvents.{CanPlay-stays, readied-player}
 use Rattle.rht_registry.proofs.replaying.player.Player.ready.Goals as goal

@@ -1,0 +1,63 @@
+-- How a call begins, and that who is in no call plans no operation.
+-- These go by cases on calls and machines, so that nothing above them has to.
+use Rattle.std.proofs.Common.{◌≡◌, ℕ, Bool, true, refl, subst}
+use Rattle.std.specs.Prelude.{Option, Some, None}
+use Rattle.rht_words.specs.declared.env.Env.{Env}
+use Rattle.rht_model.specs.declared.history.Call.{Call}
+use Rattle.rht_model.specs.declared.history.Call.TheVariants.{Bind, Find, Release, Rebind, All, Work, Count}
+use Rattle.rht_find.specs.Find.{find_new}
+use Rattle.rht_words.specs.declared.config.Kind.{Kind}
+use Rattle.rht_words.specs.declared.config.Kind.TheVariants.{Single, Listed}
+use Rattle.rht_bind.specs.Bind.{bind_new}
+use Rattle.rht_release.specs.All.{all_new}
+use Rattle.rht_callers.specs.declared.local.Local.{Local}
+use Rattle.rht_callers.specs.declared.local.Doing.{Doing}
+use Rattle.rht_callers.specs.declared.local.Doing.TheVariants.{Idle, Finding, Binding, Releasing, Rebinding, Listing, Working, Counting}
+use Rattle.rht_callers.specs.Locals.{room_for_nodes, does_nothing, is_idle, machine_of, rebinding_of, doing_plan, plan_of}
+use Rattle.rht_release.specs.Release.{release_new}
+use Rattle.rht_release.specs.Rebind.{rebind_new}
+use Rattle.rht_move.specs.Work.{work_new}
+
+module _ (M : Type 0) where
+  -- A call begins as a look-up, a bind, a listing, a release, a rebind, a resizing or a reading of the count. What
+  -- is so of these is so of whatever begins.
+  module _ (env : Env) (c : ℕ) (So : Call → Doing M → Type 0)
+      (find : (port : ℕ) → So (Find port) (Finding (find_new env c port)))
+      (bind : (port owner : ℕ) (once : Bool) → So (Bind port owner once) (Binding (bind_new env c port owner once)))
+      (list : (port : ℕ) → So (All port) (Listing (all_new env c port (room_for_nodes env))))
+      (release : (port owner : ℕ) → So (Release port owner) (Releasing (release_new env c port owner)))
+      (rebind : (port owner new : ℕ) → env.config.kind ≡ Single
+      → So (Rebind port owner new) (Rebinding (rebind_new env c port owner new)))
+      (work : So Work (Working (work_new env c)))
+      (count : So Count (Counting (record { env = env })))
+    where
+      abbrev BeginsSo : Call → Option (Doing M) → Type 0
+      BeginsSo call None = Unit {0}
+      BeginsSo call (Some machine) = So call machine
+
+      rebinding-so : (port owner new : ℕ) (kind : Kind) → env.config.kind ≡ kind
+          → BeginsSo (Rebind port owner new) (rebinding_of env c port owner new kind)
+      rebinding-so port owner new Single is = rebind port owner new is
+      rebinding-so port owner new Listed is = tt
+
+      machine-so : (call : Call) → BeginsSo call (machine_of env c call)
+      machine-so (Find port) = find port
+      machine-so (Bind port owner once) = bind port owner once
+      machine-so (All port) = list port
+      machine-so (Release port owner) = release port owner
+      machine-so (Rebind port owner new) = rebinding-so port owner new env.config.kind refl
+      machine-so Work = work
+      machine-so Count = count
+      machine-so _ = tt
+
+      pub begins_so : (call : Call) (machine : Doing M) → machine_of env c call ≡ Some machine
+          → So call machine
+      begins_so call machine is = subst (BeginsSo call) is (machine-so call)
+
+  -- who is in no call plans none
+  nothing_plans : (doing : Doing M) → does_nothing doing ≡ true → doing_plan doing ≡ None
+  nothing_plans Idle idle = refl
+  nothing_plans _ idle = absurd (cc)
+
+  pub idle_plans : (local : Local M) → is_idle local ≡ true → plan_of local ≡ None
+  idle_plans local idle = nothing_plans local.doing idle

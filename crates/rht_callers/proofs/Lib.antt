@@ -1,0 +1,6 @@
+-- how a call begins, and that who is in no call plans no operation
+pub mod CallBeginnings
+-- what is so of a machine that goes on is so of what its caller does next
+pub mod NextDoings
+-- the room of owners lies with its caller or in a listing, and has a place for each node
+pub mod RoomsOfCallers

@@ -1,0 +1,116 @@
+-- The room of owners has a place for each node, wherever it lies: with its caller, or in a listing, which
+-- takes it as it begins and gives it back as it ends. And while a call goes on nothing comes into the room
+-- of its caller.
+use Rattle.std.proofs.Common.{◌≡◌, ℕ, true, ◌++◌, ◌∷◌, [], length, nat_lt, refl, ◌∙◌}
+use Rattle.std.specs.Prelude.{Some, None}
+use Rattle.std.proofs.lemmas.Bool.{cond_both}
+use Rattle.rht_words.specs.declared.env.Env.{Env}
+use Rattle.rht_words.specs.declared.machine.Next.{Next}
+use Rattle.rht_words.specs.declared.machine.Next.TheVariants.{Go, Done}
+use Rattle.rht_words.specs.Ports.{owner_of}
+use Rattle.rht_model.specs.declared.history.Call.{Call}
+use Rattle.rht_model.specs.Rooms.{Kept}
+use Rattle.rht_find.specs.Find.{find_after}
+use Rattle.rht_bind.specs.Bind.{bind_after}
+use Rattle.rht_release.specs.Release.{release_after}
+use Rattle.rht_release.specs.Rebind.{rebind_after}
+use Rattle.rht_move.specs.Work.{work_after}
+use Rattle.rht_release.specs.All.{AllModel, after_at, room_after, moved}
+use Rattle.rht_release.specs.declared.all.AllAt.{AllAt}
+use Rattle.rht_release.specs.declared.all.AllAt.TheVariants as alls
+use Rattle.rht_callers.specs.declared.local.Local.{Local}
+use Rattle.rht_callers.specs.declared.local.Doing.{Doing}
+use Rattle.rht_callers.specs.declared.local.Doing.TheVariants.{Idle, Finding, Binding, Listing, Releasing, Rebinding, Working, Counting}
+use Rattle.rht_callers.specs.Locals.{does_nothing, is_idle, machine_of, doing_after, doing_next, without_node, owners_room, owners_beside, owners_after, room_given}
+use Rattle.rht_callers.proofs.NextDoings.{next_so}
+use Rattle.rht_callers.proofs.CallBeginnings.{begins_so}
+
+-- an operation of a listing leaves its room's limit
+room_after-limit : (state : AllAt) (room : Kept ℕ) (word : ℕ)
+    → (room_after state room word).limit ≡ room.limit
+room_after-limit (alls.Owner found node) room word =
+    cond_both (nat_lt (length room.items) room.limit)
+    (record { items = room.items ++ owner_of word ∷ []; limit = room.limit }) room
+    (λ (after : Kept ℕ). after.limit ≡ room.limit) (λ t. refl) (λ f. refl)
+room_after-limit _ room word = refl
+
+module _ (M : Type 0) where
+  -- ---- the beginning of a call
+
+  -- who is in no call has the room
+  pub idle-limit : (local : Local M) (limit : ℕ) → is_idle local ≡ true
+      → (owners_room local.doing local.owners).limit ≡ limit → local.owners.limit ≡ limit
+  idle-limit local limit idle is = go local.doing idle is
+    where
+      go : (doing : Doing M) → does_nothing doing ≡ true → (owners_room doing local.owners).limit ≡ limit
+          → local.owners.limit ≡ limit
+      go Idle idle is = is
+      go (Finding m) idle is = absurd (cc)
+      go (Binding m) idle is = absurd (cc)
+      go (Listing m) idle is = absurd (cc)
+      go (Releasing m) idle is = absurd (cc)
+      go (Rebinding m) idle is = absurd (cc)
+      go (Working m) idle is = absurd (cc)
+      go (Counting m) idle is = absurd (cc)
+
+  -- who has begun has it as well, or its listing
+  pub begun-limit : (env : Env) (c : ℕ) (call : Call) (machine : Doing M)
+      → machine_of env c call ≡ Some machine → (room : Kept ℕ) → room.limit ≡ env.geometry.nodes
+      → (owners_room machine (owners_beside machine room)).limit ≡ env.geometry.nodes
+  begun-limit env c =
+      begins_so M env c
+      (λ call machine. (room : Kept ℕ) → room.limit ≡ env.geometry.nodes
+      → (owners_room machine (owners_beside machine room)).limit ≡ env.geometry.nodes)
+      (λ port room is. is) (λ port owner once room is. is) (λ port room is. refl) (λ port owner room is. is)
+      (λ port owner new single room is. is) (λ room is. is) (λ room is. is)
+
+  -- whose own room is empty then
+  pub owners_beside-none : (doing : Doing M) (room : Kept ℕ) → (owners_beside doing room).items ≡ []
+  owners_beside-none Idle room = refl
+  owners_beside-none _ room = refl
+
+  -- ---- an operation
+
+  -- a listing goes on with its room, or gives it back
+  listed_next-limit : (m : AllModel) (after room : Kept ℕ) (next : AllAt × Next (Unit {0}))
+      → let r = moved m after next in
+      (owners_room (doing_next {M = M} Listing r).0 (room_given r room)).limit ≡ after.limit
+  listed_next-limit m after room (state, Go) = refl
+  listed_next-limit m after room (state, Done done) = refl
+
+  -- an operation leaves the room's limit
+  pub owners_after-limit : (mix : ℕ → ℕ → ℕ → ℕ) (doing : Doing M) (room : Kept ℕ) (old : ℕ)
+      → (owners_room (doing_after mix doing old).0 (owners_after mix doing room old)).limit
+      ≡ (owners_room doing room).limit
+  owners_after-limit mix Idle room old = refl
+  owners_after-limit mix (Finding m) room old =
+      next_so (λ doing. (owners_room doing room).limit ≡ room.limit) Finding refl (find_after mix m old).0
+      (find_after mix m old).1 refl
+  owners_after-limit mix (Binding m) room old =
+      next_so (λ doing. (owners_room doing room).limit ≡ room.limit) Binding refl (bind_after mix m old).0
+      (bind_after mix m old).1 refl
+  owners_after-limit mix (Listing m) room old =
+      listed_next-limit m (room_after m.at m.room old) room (after_at mix m.env m.port m.at old)
+      ∙ room_after-limit m.at m.room old
+  owners_after-limit mix (Releasing m) room old =
+      next_so (λ doing. (owners_room doing room).limit ≡ room.limit) Releasing refl (release_after mix m old).0
+      (without_node (release_after mix m old).1) refl
+  owners_after-limit mix (Rebinding m) room old =
+      next_so (λ doing. (owners_room doing room).limit ≡ room.limit) Rebinding refl (rebind_after mix m old).0
+      (without_node (rebind_after mix m old).1) refl
+  owners_after-limit mix (Working m) room old =
+      next_so (λ doing. (owners_room doing room).limit ≡ room.limit) Working refl (work_after mix m old).0
+      (work_after mix m old).1 refl
+  owners_after-limit mix (Counting m) room old = refl
+
+  listed_next-stays : (m : AllModel) (after room : Kept ℕ) (next : AllAt × Next (Unit {0}))
+      → let r = moved m after next in (doing_next {M = M} Listing r).1 ≡ None → room_given r room ≡ room
+  listed_next-stays m after room (state, Go) is = refl
+  listed_next-stays m after room (state, Done done) is = absurd (cc)
+
+  -- and while the call goes on the room of its caller stays as it is
+  pub owners_after-stay : (mix : ℕ → ℕ → ℕ → ℕ) (doing : Doing M) (room : Kept ℕ) (old : ℕ)
+      → (doing_after mix doing old).1 ≡ None → owners_after mix doing room old ≡ room
+  owners_after-stay mix (Listing m) room old is =
+      listed_next-stays m (room_after m.at m.room old) room (after_at mix m.env m.port m.at old) is
+  owners_after-stay mix _ room old is = refl

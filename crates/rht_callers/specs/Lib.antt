@@ -1,0 +1,4 @@
+-- what a caller is doing
+pub mod Locals
+-- the reading of how many ports are bound
+pub mod PortCounts

@@ -1,0 +1,11 @@
+//! One caller: what it is doing, which is nothing or one of the machines, and its rooms.
+//!
+//! Stands on all machines. `rht_core` runs callers beside one another, and `rht_run` in threads.
+//! Read `specs/Locals.antt` first.
+#![tactic(auto)]
+
+mod local;
+mod count;
+
+pub use count::{PortCount};
+pub use local::{Doing, Local};

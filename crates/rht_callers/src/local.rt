@@ -1,0 +1,203 @@
+//! One caller: what it is doing, and its rooms.
+
+ghost use Rattle.std.specs.Prelude.{◌≡◌, ◌<◌, IfSome, IfOk};
+ghost use Rattle.rht_words.specs.Operations.{op_place};
+ghost use Rattle.rht_words.specs.Places.{words_in};
+ghost use Rattle.rht_words.specs.declared.env.Env.{Env};
+ghost use Rattle.rht_callers.specs.Locals.{does_nothing, is_idle, machine_of, doing_plan, plan_of, doing_after, without_node, owners_after, local_after, begun_with, fresh, IsDoingOf, IsLocalOf};
+
+use crate::count::PortCount;
+use rht_bind::Bind;
+use rht_find::Find;
+use rht_model::{Call, Reply, Room};
+use rht_move::Work;
+use rht_policy::Mix;
+use rht_release::{All, Rebind, Release};
+use rht_words::{Env, Kind, Next, Op, Port};
+use std::alloc::{AllocError, Global};
+
+/// What a caller is doing: nothing, or one of the machines.
+#[derive(Drop)]
+pub enum Doing<M: Mix> {
+    /// It is in no call.
+    Idle,
+    /// It looks a port up.
+    Finding(Find<M>),
+    /// It binds a port.
+    Binding(Bind<M>),
+    /// It lists the owners of a port. Until it ends it has its caller's room of owners.
+    Listing(All<M>),
+    /// It takes a binding out.
+    Releasing(Release<M>),
+    /// It puts another owner in one's place.
+    Rebinding(Rebind<M>),
+    /// It resizes the table, where that is due.
+    Working(Work<M>),
+    /// It reads how many ports are bound.
+    Counting(PortCount),
+}
+
+impl<M: Mix> Doing<M> {
+    /// Whether this is nothing.
+    pub fn is_idle(&self) -> bool
+        ensures { result ≡ does_nothing self.now }
+    {
+        match self {
+            Doing::Idle => true,
+            Doing::Finding(_)
+            | Doing::Binding(_)
+            | Doing::Listing(_)
+            | Doing::Releasing(_)
+            | Doing::Rebinding(_)
+            | Doing::Working(_)
+            | Doing::Counting(_) => false,
+        }
+    }
+
+    /// The next operation. `None` where nothing is done.
+    pub fn plan(&self) -> Option<Op>
+        ensures plan { result ≡ doing_plan self.now }
+        ensures place { (env : Env) → IsDoingOf env self.now → IfSome result (λ op. op_place op < words_in env.geometry) }
+    {
+        match self {
+            Doing::Idle => None,
+            Doing::Finding(find) => Some(find.plan()),
+            Doing::Binding(bind) => Some(bind.plan()),
+            Doing::Listing(all) => Some(all.plan()),
+            Doing::Releasing(release) => Some(release.plan()),
+            Doing::Rebinding(rebind) => Some(rebind.plan()),
+            Doing::Working(work) => Some(work.plan()),
+            Doing::Counting(count) => Some(count.plan()),
+        }
+    }
+
+    /// Takes in the old value of the word that the operation was on. A reply ends the call, and a
+    /// listing that ends gives the room back to `owners`.
+    pub fn take(&mut self, owners: &mut Room<u32>, old: u64) -> Option<Reply>
+        ensures taken { (self.new, result) ≡ doing_after M.mix_of self.old old }
+        ensures owners { owners.new ≡ owners_after M.mix_of self.old owners.old old }
+        ensures env { (env : Env) → IsDoingOf env self.old → IsDoingOf env self.new }
+    {
+        let next = match self {
+            Doing::Idle => return None,
+            Doing::Finding(find) => find.take(old),
+            Doing::Binding(bind) => bind.take(old),
+            Doing::Listing(all) => all.take(old),
+            Doing::Releasing(release) => without_node(release.take(old)),
+            Doing::Rebinding(rebind) => without_node(rebind.take(old)),
+            Doing::Working(work) => work.take(old),
+            Doing::Counting(count) => count.take(old),
+        };
+        match next {
+            Next::Go => None,
+            Next::Done(reply) => {
+                let ended = std::mem::replace(self, Doing::Idle);
+                if let Doing::Listing(all) = ended {
+                    *owners = all.into_parts();
+                }
+                Some(reply)
+            }
+        }
+    }
+}
+
+/// The reply, without the node that was taken out: it goes to no list, and its bit stays clear.
+fn without_node(next: Next<(Reply, Option<u32>)>) -> Next<Reply>
+    ensures { result ≡ without_node next }
+{
+    match next {
+        Next::Go => Next::Go,
+        Next::Done((reply, _)) => Next::Done(reply),
+    }
+}
+
+/// One caller. Its rooms have all the memory that its calls will need.
+#[derive(Drop)]
+pub struct Local<M: Mix> {
+    /// What it is doing.
+    pub doing: Doing<M>,
+    /// The owners that came with `Listed`, once the call has ended. While the caller lists owners
+    /// the listing has this room.
+    pub owners: Room<u32>,
+    /// The pairs that came with `Walked`, once the call has ended.
+    pub pairs: Room<(Port, u32)>,
+}
+
+impl<M: Mix> Local<M> {
+    /// A caller that has made no call, with rooms for all nodes. The one refusal is want of memory.
+    pub fn new(alloc: Global, env: Env) -> Result<Local<M>, AllocError>
+        ensures { IfOk result (λ local. local ≡ fresh env) }
+    {
+        Ok(Local {
+            doing: Doing::Idle,
+            owners: Room::with_limit(alloc, env.geometry.nodes)?,
+            pairs: Room::with_limit(alloc, env.geometry.nodes)?,
+        })
+    }
+
+    /// Whether the caller is in no call.
+    pub fn is_idle(&self) -> bool
+        ensures { result ≡ is_idle self.now }
+    {
+        self.doing.is_idle()
+    }
+
+    /// The owners of the last finished call, while the caller is in no call and where that one
+    /// answered `Listed`; otherwise none.
+    pub fn owners(&self) -> &[u32]
+        ensures { result.now ≡ self.now.owners.items }
+    {
+        self.owners.as_slice()
+    }
+
+    /// The pairs of the last finished call, while the caller is in no call and where that one
+    /// answered `Walked`; otherwise none.
+    pub fn pairs(&self) -> &[(Port, u32)]
+        ensures { result.now ≡ self.now.pairs.items }
+    {
+        self.pairs.as_slice()
+    }
+
+    /// Begins a call, and empties both rooms; no memory is taken or given back. It does nothing for a
+    /// call of which there is no machine yet: `walk` and `tidy`, and `rebind` in a table of lists.
+    pub fn begin(&mut self, env: Env, caller: u32, call: Call)
+        requires { self.old.owners.limit ≡ env.geometry.nodes }
+        ensures { self.new ≡ begun_with self.old (machine_of env caller call) }
+    {
+        let doing = match call {
+            Call::Find { port } => Doing::Finding(Find::new(env, caller, port)),
+            Call::Bind { port, owner, once } => {
+                Doing::Binding(Bind::new(env, caller, port, owner, once))
+            }
+            Call::All { port } => Doing::Listing(All::new(env, caller, port, self.owners.take())),
+            Call::Release { port, owner } => {
+                Doing::Releasing(Release::new(env, caller, port, owner))
+            }
+            Call::Rebind { port, owner, new } if env.config.kind == Kind::Single => {
+                Doing::Rebinding(Rebind::new(env, caller, port, owner, new))
+            }
+            Call::Work => Doing::Working(Work::new(env, caller)),
+            Call::Count => Doing::Counting(PortCount { env }),
+            _ => return,
+        };
+        self.owners.clear();
+        self.pairs.clear();
+        self.doing = doing;
+    }
+
+    /// The next operation. `None` where the caller is idle.
+    pub fn plan(&self) -> Option<Op>
+        ensures plan { result ≡ plan_of self.now }
+        ensures place { (env : Env) → IsLocalOf env self.now → IfSome result (λ op. op_place op < words_in env.geometry) }
+    {
+        self.doing.plan()
+    }
+
+    /// Takes in the old value of the word that the operation was on. A reply ends the call.
+    pub fn take(&mut self, old: u64) -> Option<Reply>
+        ensures taken { (self.new, result) ≡ local_after M.mix_of self.old old }
+        ensures env { (env : Env) → IsLocalOf env self.old → IsLocalOf env self.new }
+    {
+        self.doing.take(&mut self.owners, old)
+    }
+}
