@@ -23,6 +23,10 @@ impl<M: Mix> TableRule<(), SeatView<M>, Env> for Runs<M> {
 }
 
 /// The call that begins with a step, if one does.
+///
+/// A type by which one operation tells the table's rule whether it is one event of the run or two: the
+/// call's beginning as well. It has no bytes. Where an operation is made with `Brand`, the proof there
+/// picks the call; what is written below is only what holds where nothing is picked.
 pub trait Turn {
     ghost begins: { Option Call };
 }

@@ -23,7 +23,13 @@ use rht_words::Next;
 use std::marker::Brand;
 use std::sync::Wait;
 
-/// What stays as it is while a call is driven.
+/// What stays as it is while a call is driven: the caller's number, the call, the calls before it and
+/// the caller's rooms.
+///
+/// The clauses along a call's way speak of them, and no value of the program has them. So each function
+/// there takes a type `K: Ride`, which has that one ghost member and no bytes. `Brand` is the library's
+/// marker for a type whose ghost members are picked where it is passed: the call itself passes it, and
+/// its proof says what `riding` is from there on; the functions below hand `K` on.
 pub trait Ride {
     ghost riding: { Riding };
 }
