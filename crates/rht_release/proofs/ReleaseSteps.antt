@@ -37,7 +37,7 @@ use Rattle.rht_release.specs.Seek.{SeekModel, seek_plan, seek_after}
 use Rattle.rht_release.specs.declared.found_port.FoundPort.{FoundPort}
 use Rattle.rht_release.specs.declared.release.ReleaseAt.{ReleaseAt}
 use Rattle.rht_release.specs.declared.release.ReleaseAt.TheVariants as at
-use Rattle.rht_ghost.proofs.Theory.Ghosts.{is_first, put-same, First, Behind, Ghost}
+use Rattle.rht_ghost.proofs.Theory.Ghosts.{put-same, First, Behind, Ghost}
 use Rattle.rht_ghost.proofs.Theory.Wholes.{chain_of, list_of, word_index, Whole}
 use Rattle.rht_ghost.proofs.Theory.Knowns.{Nowhere, KnownBucket, Locks, TakenOut, LocksTakenOut, KnownList, AtNode, Differing, Matching, CutsOut, Leads, LeadsTo, Promotes, Known, NoOwner, list_link, first_of_list}
 use Rattle.rht_ghost.proofs.Theory.Knowledge.{plainly, Knowing, ListMeans}

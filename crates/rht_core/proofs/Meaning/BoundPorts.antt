@@ -20,7 +20,7 @@ use Rattle.rht_words.specs.Members.{In, IsDistinct, NotIn}
 use Rattle.rht_words.proofs.Members.{In-flat_map, flat_map-In, In-range_with_len, range_with_len-In, find-Some, find-None, In-AllByRecursion, count_below-most, length-count_below, not_in_from, In-append_cases, In-append_right, IsDistinct-with}
 use Rattle.rht_stands.specs.StandsFor.{in_force, chain_from, bucket_in, bucket_nodes, table_nodes, has_key, first_node, list_from, nodes_of, stands_for, shape_of}
 use Rattle.rht_ghost.proofs.Theory.Ghosts.{Ghost, HasSeat, lock_bit, table_at, some-same, First, Leaving, seat_of, seated, is_entry}
-use Rattle.rht_ghost.proofs.Theory.Wholes.{chain_of, list_of, key_of, hash_in, home, place_at, Whole, stop, seated_at, IsHomeOf}
+use Rattle.rht_ghost.proofs.Theory.Wholes.{chain_of, list_of, key_of, hash_in, home, place_at, Whole, stop, seated_at}
 use Rattle.rht_ghost.proofs.Theory.Passed.{hash-below, home-within, held-no_entry, member-no_entry, place-word, place-bucket}
 use Rattle.rht_ghost.proofs.Theory.SeatedLinks.{link-next_of, head-seated, chain-seated}
 use Rattle.rht_ghost.proofs.Pieces.Lists.{list_among, list_few}

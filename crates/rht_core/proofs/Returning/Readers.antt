@@ -8,7 +8,7 @@ use Rattle.rht_words.specs.Places.{Section}
 use Rattle.rht_words.proofs.LinksRead.{links_tell_apart}
 use Rattle.rht_words.proofs.Memory.{Memory}
 use Rattle.rht_words.specs.Members.{In}
-use Rattle.rht_ghost.proofs.Theory.Ghosts.{Owner, Free, Held, First, Leaving, Behind, Taken, Ghost, is_first, is_listed, listed-used, IsUsed, not_first-seatless, seat-first}
+use Rattle.rht_ghost.proofs.Theory.Ghosts.{Owner, Free, Held, First, Leaving, Behind, Taken, Ghost, is_first, is_listed, listed-used, IsUsed, seat_of, not_first-seatless, seat-first}
 use Rattle.rht_ghost.proofs.Theory.Wholes.{chain_of, list_of, key_of, seated_at, Whole}
 use Rattle.rht_ghost.proofs.Theory.Frames.{LinksStay}
 use Rattle.rht_ghost.proofs.Theory.SeatedLinks.{next_of, link-next_of, chain-first}

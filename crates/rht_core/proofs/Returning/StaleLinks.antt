@@ -1,6 +1,6 @@
 -- Which operations leave what a section may meet: all that callers make, but those on the section's own word, and the one that
 -- gives back a node which the section may not meet.
-use Rattle.std.proofs.Common.{◌≡◌, ℕ, suc, ◌<◌, List, true, false, ◌∙◌, ap, inl, arith}
+use Rattle.std.proofs.Common.{◌≡◌, ℕ, suc, ◌<◌, List, false, ◌∙◌, ap, inl, arith}
 use Rattle.rht_words.specs.declared.env.Env.{Env}
 use Rattle.rht_words.specs.Places.{Section, Node, NodeMap, ChainLink, ListLink}
 use Rattle.rht_words.proofs.Memory.{IsWrite}

@@ -1,13 +1,13 @@
 -- The store by which the bucket that an entry has left is cut off before it: the link of the node before it gets the bucket's marker, or
 -- the word of an empty bucket says so, which stays locked.
-use Rattle.std.proofs.Common.{◌≡◌, ◌≢◌, ◌⊎◌, ℕ, ◌*◌, ◌<◌, [], Option, Some, None, refl, sym, ◌∙◌, ap, subst, inl, arith, append-nil, true, false}
+use Rattle.std.proofs.Common.{◌≡◌, ◌≢◌, ◌⊎◌, ℕ, ◌*◌, ◌<◌, [], Option, Some, None, refl, sym, ◌∙◌, ap, subst, inl, arith, append-nil}
 use Rattle.rht_words.specs.declared.env.Env.{Env}
 use Rattle.rht_words.specs.Links.{link_of, head_of, marker_of}
 use Rattle.rht_words.specs.Chains.{IsSegment}
 use Rattle.rht_words.specs.Places.{Address, Node, ChainLink, PageWord}
 use Rattle.rht_words.specs.Members.{In}
 use Rattle.rht_words.proofs.Memory.{Memory, IsWrite}
-use Rattle.rht_ghost.proofs.Theory.Ghosts.{none-some, put-all, Bucket, Held, First, Behind, Ghost, lock_bit, seat_of, table_at, some-same, is_first}
+use Rattle.rht_ghost.proofs.Theory.Ghosts.{none-some, put-all, Bucket, Held, First, Behind, Ghost, lock_bit, seat_of, table_at, some-same}
 use Rattle.rht_ghost.proofs.Theory.Wholes.{chain_of, key_of, place_at, stop, BucketRight, OutRight, Whole}
 use Rattle.rht_ghost.proofs.Theory.Passed.{home-within, held-no_entry}
 use Rattle.rht_ghost.proofs.Theory.Knowns.{last_of}

@@ -1,6 +1,6 @@
 -- The stores by which the work brings the last entry of a bucket of the current table into one of a table behind it: the entry's link
 -- leads to the first node there, and then the other bucket's word leads to the entry.
-use Rattle.std.proofs.Common.{◌≡◌, ◌≢◌, ◌⊎◌, ℕ, ◌*◌, ◌<◌, List, [], ◌∷◌, ◌++◌, Option, Some, refl, sym, ◌∙◌, ap, subst, inl, inr, arith, true, false}
+use Rattle.std.proofs.Common.{◌≡◌, ◌≢◌, ◌⊎◌, ℕ, ◌*◌, ◌<◌, List, [], ◌∷◌, ◌++◌, Option, Some, refl, sym, ◌∙◌, ap, subst, inl, inr, arith}
 use Rattle.rht_words.specs.declared.env.Env.{Env}
 use Rattle.rht_words.specs.Links.{link_of, head_of, marker_of}
 use Rattle.rht_words.specs.Chains.{IsSegment}
@@ -10,7 +10,7 @@ use Rattle.rht_words.proofs.Memory.{Memory, IsWrite}
 use Rattle.rht_words.proofs.LinksRead.{heads_come_back, plain_of-link}
 use Rattle.rht_words.proofs.ChainLemmas.{IsSegment-cut, IsSegment-members}
 use Rattle.rht_words.proofs.Members.{not_in_from, in_and_not, in-middle, In-append_left, In-append_cases, IsDistinct-cut, IsDistinct-left}
-use Rattle.rht_ghost.proofs.Theory.Ghosts.{put-same, put-other, put-all, Bucket, Held, First, Leaving, Behind, Ghost, seat_of, table_at, none-some, some-same, is_first}
+use Rattle.rht_ghost.proofs.Theory.Ghosts.{put-same, put-other, put-all, Bucket, Held, First, Leaving, Behind, Ghost, seat_of, table_at, none-some, some-same}
 use Rattle.rht_ghost.proofs.Theory.Wholes.{chain_of, key_of, place_at, home, stop, BucketRight, OutRight, IsHomeOf, IsFirstAt, IsLeavingAt, Whole}
 use Rattle.rht_ghost.proofs.Theory.Passed.{home-within, held-no_entry, member-no_entry}
 use Rattle.rht_ghost.proofs.Theory.Frames.{Made}
