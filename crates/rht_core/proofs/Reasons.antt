@@ -16,10 +16,22 @@ pub mod MakesSeen
 pub mod RefusedBinds
 -- what a bind sees that misses a page on the way to its bucket
 pub mod PagesMissed
--- in every run each call that has ended has a reply with its cause
-pub mod CausesInRuns
--- and says rightly whether there is something to do for `work`
-pub mod KicksInRuns
+-- what a word of a future says
+pub mod NamedFutures
+-- what whoever makes a new node has seen
+pub mod NewNodesSeen
+-- what a bind made of the raise of the count
+pub mod RaisesSeen
+-- what a bind has seen, in each of its states and for its reply
+pub mod BindsSeen
+-- what it sees on the way to its bucket
+pub mod WaysSeen
+-- what it sees that has found the last table full
+pub mod GrowthsSeen
+-- and what each of its operations sees
+pub mod BindStepsSeen
+-- what a rebind has seen for want of a node
+pub mod RebindsSeen
 -- in every run a listing lists each owner that its operations loaded
 pub mod ListingsKept
 -- by which operation a release says that there is something to do for `work`
@@ -30,6 +42,14 @@ pub mod MadeSizes
 pub mod LastTables
 -- by which loads a resizing chose what is due, and which table it made the current one
 pub mod WorkChoices
+-- why each reply of a bind has its cause
+pub mod BindCauses
+-- and why each of the other calls
+pub mod ReplyCauses
+-- in every run each call that has ended has a reply with its cause
+pub mod CausesInRuns
+-- and says rightly whether there is something to do for `work`
+pub mod KicksInRuns
 -- that a resizing which is alone doesn't stop before a nested table
 pub mod LoneWorks
 -- when a bind hasn't found the last table full

@@ -46,7 +46,7 @@ use Rattle.rht_stands.specs.StandsFor.{stands_for, AreBound}
 use Rattle.rht_core.specs.Traces.{Did}
 use Rattle.rht_ghost.proofs.Theory.Steps.{by_test}
 use Rattle.rht_core.proofs.Tracing.TracedJobs.{Performs}
-use Rattle.rht_core.proofs.Reasons.CausesInRuns.{SawAt}
+use Rattle.rht_core.proofs.Reasons.BindsSeen.{SawAt}
 use Rattle.rht_core.proofs.Counting.SparedSlots.{SparesSlots, by_load, at_node, new_node-spares, give_node-spares, locate-spares, probe-spares, relink-spares, unlock-spares}
 use Rattle.rht_words.specs.Places.{ChainLink, ListLink}
 use Rattle.rht_bind.specs.Bind.{plan_at, IsBindAtIn}

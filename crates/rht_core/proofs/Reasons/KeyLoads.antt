@@ -11,6 +11,9 @@ use Rattle.rht_arena.specs.declared.take_run.TakeRunAt.TheVariants as runs
 use Rattle.rht_nest.specs.Make.{make_plan_at, IsMakeAtIn}
 use Rattle.rht_nest.specs.declared.make.MakeAt.{MakeAt}
 use Rattle.rht_nest.specs.declared.make.MakeAt.TheVariants as makes
+use Rattle.rht_nest.specs.Grow.{grow_plan_at, IsGrowAtIn}
+use Rattle.rht_nest.specs.declared.grow.GrowAt.{GrowAt}
+use Rattle.rht_nest.specs.declared.grow.GrowAt.TheVariants as grows
 use Rattle.rht_chain.specs.Lock.{lock_plan_at}
 use Rattle.rht_chain.specs.declared.lock.LockAt.{LockAt}
 use Rattle.rht_chain.specs.declared.lock.LockAt.TheVariants as locks
@@ -69,3 +72,12 @@ module _ (g : Geometry) where
       no_key-run take.pages take.at did within.taking.take_in.at_in
       (is ∙ ap (λ (of : Geometry). take_run_plan_at of take.pages take.at) within.taking.take_in.geometry_same)
   no_key-make h exponent seed allowed _ did within is = no_key did _ is (λ place load. cc)
+
+  -- nor does the entering of a page load one
+  pub no_key-grow : (entry : ℕ) (state : GrowAt) (did : Did) → IsGrowAtIn g state → did.op ≡ grow_plan_at entry state
+      → IsNoKeyLoad g did
+  no_key-grow entry (grows.Taking take) did within is =
+      no_key-run take.pages take.at did within.take_in.at_in
+      (is ∙ ap (λ (h : Geometry). take_run_plan_at h take.pages take.at) within.take_in.geometry_same)
+  no_key-grow entry (grows.Entering page) did within is = no_key did _ is (λ place load. cc)
+  no_key-grow entry (grows.Giving there give) did within is = no_key did _ is (λ place load. cc)

@@ -4,10 +4,9 @@
 -- All of it lies behind the load of that table's shape: that the table is full, the load of the current table, that of the
 -- count of ports, what the making of a table has seen, and the operation that comes last, the load of the future or the exchange
 -- that attaches a table.
-use Rattle.std.proofs.Common.{◌≡◌, ◌≢◌, ◌⊎◌, ℕ, ◌≤◌, ◌<◌, ◌-◌, Bool, true, false, cond, nat_le, List, [], ◌∷◌, ◌++◌, map, min, refl, sym, ap, ◌∙◌, subst, inl, inr, append_assoc, arith}
-use Rattle.std.specs.Prelude.{Option, Some, None, ◌&&◌}
+use Rattle.std.proofs.Common.{◌≡◌, ◌≢◌, ◌⊎◌, ℕ, ◌<◌, Bool, true, false, nat_le, List, [], ◌∷◌, ◌++◌, map, min, refl, sym, ap, ◌∙◌, subst, inl, inr, append_assoc, arith}
+use Rattle.std.specs.Prelude.{Option, None}
 use Rattle.std.specs.List.{Any}
-use Rattle.std.proofs.lemmas.Bool.{leb-false}
 use Rattle.std.proofs.lemmas.List.{map-append}
 use Rattle.std.proofs.lemmas.List.Quantifiers.{Any-push}
 use Rattle.rht_words.specs.Machines.{Performed}
@@ -18,7 +17,7 @@ use Rattle.rht_words.specs.declared.geometry.Geometry.{Geometry}
 use Rattle.rht_words.specs.declared.machine.Next.{Next}
 use Rattle.rht_words.specs.declared.machine.Next.TheVariants.{Go, Done}
 use Rattle.rht_words.specs.Places.{CurrentTable, PortCount, Slot, FutureWord, place_of}
-use Rattle.rht_words.specs.Links.{slot_of, table_of}
+use Rattle.rht_words.specs.Links.{table_of}
 use Rattle.rht_words.specs.Shapes.{unpacked, size_of}
 use Rattle.rht_words.proofs.EachElement.{Any-append_left}
 use Rattle.rht_policy.specs.Thresholds.{is_above_75, is_above_100}
@@ -40,22 +39,6 @@ use Rattle.rht_core.proofs.Reasons.KeyLoads.{no_key-before, no_key-make}
 use Rattle.rht_core.proofs.Reasons.ChainsCounted.{SawLongChain-push}
 use Rattle.rht_core.proofs.Reasons.MakesSeen.{SawMade, saw_nothing, make-saw}
 use Rattle.rht_core.proofs.Reasons.MadeSizes.{nests-wanted}
-use Rattle.rht_ghost.proofs.Theory.Steps.{by_test}
-
--- a word of a future that names no slot is 0
-pub no_slot : (word : ℕ) → word ≤ 8 → slot_of word ≡ None → word ≡ 0
-no_slot word few is =
-    by_test (λ t. cond t (Some (word - 1)) None ≡ None → word ≡ 0) (nat_le 1 word && nat_le word 8)
-    (λ t same. absurd (cc))
-    (λ f same. none f) is
-  where
-    none : (nat_le 1 word && nat_le word 8) ≡ false → word ≡ 0
-    none f =
-        by_test (λ t. (t && nat_le word 8) ≡ false → nat_le 1 word ≡ t → word ≡ 0) (nat_le 1 word)
-        (λ t other same.
-        let past = leb-false word 8 other in
-        absurd (omega (arith, past, few)))
-        (λ f other same. let low = leb-false 1 word f in omega (arith, low)) f refl
 
 -- where these are the words before the event with each number
 module _ (env : Env) (words_at : ℕ → List ℕ) where

@@ -39,6 +39,15 @@ use Rattle.rht_chain.specs.declared.probe.ProbeAt.TheVariants as probes
 use Rattle.rht_chain.specs.Relink.{RelinkModel, relink_plan_at}
 use Rattle.rht_chain.specs.declared.relink.RelinkAt.{RelinkAt}
 use Rattle.rht_chain.specs.declared.relink.RelinkAt.TheVariants as relinks
+use Rattle.rht_arena.specs.TakeRun.{take_run_plan_at}
+use Rattle.rht_arena.specs.declared.take_run.TakeRunAt.{TakeRunAt}
+use Rattle.rht_arena.specs.declared.take_run.TakeRunAt.TheVariants as runs
+use Rattle.rht_nest.specs.Grow.{grow_plan_at}
+use Rattle.rht_nest.specs.declared.grow.GrowAt.{GrowAt}
+use Rattle.rht_nest.specs.declared.grow.GrowAt.TheVariants as grows
+use Rattle.rht_nest.specs.Make.{make_plan_at}
+use Rattle.rht_nest.specs.declared.make.MakeAt.{MakeAt}
+use Rattle.rht_nest.specs.declared.make.MakeAt.TheVariants as makes
 use Rattle.rht_core.specs.Traces.{Did}
 use Rattle.rht_core.specs.Seen.{LoadsCurrent, CameTo, as_current, as_future, IsNoShapeLoad, LastWalked}
 use Rattle.rht_core.specs.Causes.{IsRaise}
@@ -118,6 +127,28 @@ module _ (g : Geometry) where
   relink_stores did m (relinks.ChainLink before) is = aside did _ is (λ place load. cc)
       (λ place value adds. cc)
   relink_stores did m (relinks.Word word) is = aside did _ is (λ place load. cc) (λ place value adds. cc)
+
+  -- the taking of a run of pages loads words of the map of pages
+  run_loads : (h : Geometry) (pages : ℕ) (state : TakeRunAt) (did : Did) → did.op ≡ take_run_plan_at h pages state
+      → IsNoShapeLoad g did
+  run_loads h pages (runs.MapWord first index) did is =
+      let order = parts_in_order h in
+      (elsewhere did _ is (λ table below same. absurd (omega (arith, same, below, order.page_map)))).no_shape
+  run_loads h pages (runs.Claim first index) did is = no_load did _ is (λ place load. cc)
+  run_loads h pages (runs.GiveBack first index bits) did is = no_load did _ is (λ place load. cc)
+
+  -- nor does the entering of a page
+  pub grow_loads : (entry : ℕ) (state : GrowAt) (did : Did) → did.op ≡ grow_plan_at entry state → IsNoShapeLoad g did
+  grow_loads entry (grows.Taking take) did is = run_loads take.geometry take.pages take.at did is
+  grow_loads entry (grows.Entering page) did is = no_load did _ is (λ place load. cc)
+  grow_loads entry (grows.Giving there give) did is = no_load did _ is (λ place load. cc)
+
+  -- nor does the making of a table load a shape
+  pub make_loads : (h : Geometry) (exponent seed : ℕ) (state : MakeAt) (did : Did)
+      → did.op ≡ make_plan_at h exponent seed state → IsNoShapeLoad g did
+  make_loads h exponent seed (makes.Taking slot take) did is = run_loads take.geometry take.pages take.at did is
+  make_loads h exponent seed (makes.TakingTop slot take) did is = run_loads take.geometry take.pages take.at did is
+  make_loads h exponent seed _ did is = no_load did _ is (λ place load. cc)
 
   -- ---- the way to a table
 

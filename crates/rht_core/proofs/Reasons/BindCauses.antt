@@ -1,0 +1,291 @@
+-- Why each reply of a bind has its cause: by what its operations saw.
+--
+-- How the run stood at the event of an operation that loaded or raised the count of ports follows from the
+-- law that each recorded operation stands in the run at its event. The count is at most the nodes there, so
+-- the clamp under which a bind looks at it has changed nothing.
+use Rattle.std.proofs.Common.{◌≡◌, ◌⊎◌, ℕ, ◌+◌, Bool, true, false, ◌↔◌, List, [], ◌∷◌, ◌++◌, min, refl, sym, ap, ◌∙◌, subst, inl, inr, arith, append_assoc}
+use Rattle.std.specs.List.{AllByRecursion, Any}
+use Rattle.std.proofs.lemmas.List.Elements.{All-from_recursion}
+use Rattle.std.proofs.lemmas.List.Quantifiers.{Any-push}
+use Rattle.rht_words.specs.declared.op.Op.TheVariants.{Load}
+use Rattle.rht_words.specs.declared.env.Env.{Env}
+use Rattle.rht_words.specs.declared.config.Kind.TheVariants.{Single, Listed}
+use Rattle.rht_words.specs.Places.{PortCount, Slot, FutureWord, place_of}
+use Rattle.rht_words.proofs.EachElement.{Any-append_left, AllByRecursion-cut}
+use Rattle.rht_policy.specs.Thresholds.{is_above_75, is_above_100}
+use Rattle.rht_words.specs.Shapes.{unpacked, size_of}
+use Rattle.rht_model.specs.declared.history.Reply.{Reply}
+use Rattle.rht_model.specs.declared.history.Reply.TheVariants.{Bound, Exists, TooBig, Again, Busy, NoTable, NoNode}
+use Rattle.rht_bind.specs.declared.bind.growth.Full.{Full}
+use Rattle.rht_bind.specs.declared.bind.growth.Full.TheVariants as full
+use Rattle.rht_core.specs.declared.event.Event.{Event}
+use Rattle.rht_core.specs.Traces.{Did, Past}
+use Rattle.rht_core.specs.Runs.{IsAdmitted}
+use Rattle.rht_core.specs.Laws.{IsRecorded}
+use Rattle.rht_core.specs.Seen.{words_before}
+use Rattle.rht_core.specs.ResizeCauses.{Loaded, AttachesSome, wanted_size, SawCrowded, WalkedFull}
+use Rattle.rht_core.specs.Causes.{IsRaise, IsDueBy, KicksRightly, SawFull, BindCause}
+use Rattle.rht_core.proofs.Counting.FullTables.{counted_at}
+use Rattle.rht_core.proofs.Reasons.AttachedTables.{IsNoAttach, AttachedSo}
+use Rattle.rht_core.proofs.Reasons.RefusedBinds.{SawWhy, SawOther, SawFullUp, Settled, IsFollowing}
+use Rattle.rht_core.proofs.Counting.CountedNodes.{raise_few, load_few}
+use Rattle.rht_core.proofs.Reasons.BindsSeen.{LoadedFull, SawFor}
+use Rattle.rht_core.proofs.Reasons.RaisesSeen.{Raised, due_by, SaysOfRaise}
+
+module _ (M : Type 0) (mix : ℕ → ℕ → ℕ → ℕ) (env : Env) (events : List Event) (c : ℕ)
+    (admitted : IsAdmitted env.config.kind events) where
+  -- the words before the event with each number
+  abbrev words_at : ℕ → List ℕ
+  words_at = words_before M mix env events
+
+  abbrev IsRecordedHere : Did → Type 0
+  IsRecordedHere did = IsRecorded M mix env events c did
+
+  -- how the run stood at the event is known of each operation
+  full-saw : (count : ℕ) (steps : List Did) → AllByRecursion IsRecordedHere steps
+      → Any (LoadedFull env count) steps → Any (SawFull M mix env events c count) steps
+  full-saw count steps recorded (k, did, within, is, full) =
+      let was = subst IsRecordedHere is (All-from_recursion IsRecordedHere steps recorded k did within) in (
+        k,
+        did,
+        within,
+        is,
+        record {
+          loaded = full.loaded;
+          found = full.found;
+          full = full.full;
+          counted = counted_at M mix env events c count did admitted full.loaded full.found was;
+        },
+      )
+
+  -- no clamp of the count has changed whether the table is due
+  kicked : (kick : Bool) (steps : List Did) → AllByRecursion IsRecordedHere steps
+      → Raised env words_at kick steps
+      → KicksRightly env kick steps
+  kicked kick steps recorded raised =
+      let walked = raised.walked in
+      let shape = raised.shape in
+      let behind = AllByRecursion-cut IsRecordedHere walked.before (walked.at ∷ walked.behind)
+      (subst (AllByRecursion IsRecordedHere) walked.split recorded) in
+      record {
+        table = raised.table;
+        shape = shape;
+        walked = walked;
+        unraised = raised.unraised;
+        kicks = so_kicks raised.attached raised.so shape walked.behind behind.1.1 raised.each raised.some;
+        raised = λ single. elim raised.some [
+          | inl any ↦ any
+          | inr none ↦ absurd (let both : Single ≡ Listed = sym single ∙ none.1 in cc)
+        ];
+      }
+    where
+      unclamped : (shape : ℕ) (did : Did) → IsRecordedHere did → IsRaise env.geometry did
+          → due_by env words_at shape did.old
+          ≡ is_above_75 (did.old + 1) (size_of (unpacked shape)) env.config.max
+      unclamped shape did was adds =
+          let few = raise_few env mix M events c did admitted adds was in
+          let most = env.geometry.within.nodes_within.1 in
+          let same : min did.old 65535 ≡ did.old = omega (arith, few, most) in
+          ap (λ count. is_above_75 (count + 1) (size_of (unpacked shape)) env.config.max) same
+
+      due : (shape : ℕ) (steps : List Did) → AllByRecursion IsRecordedHere steps
+          → AllByRecursion (SaysOfRaise env words_at false shape kick) steps → kick ≡ true
+          → Any (IsRaise env.geometry) steps
+          → Any (IsDueBy env shape) steps
+      due shape steps recorded each is (k, did, within, at_k, adds) =
+          let was = subst IsRecordedHere at_k (All-from_recursion IsRecordedHere steps recorded k did
+          within) in
+          let says = subst (SaysOfRaise env words_at false shape kick) at_k
+          (All-from_recursion (SaysOfRaise env words_at false shape kick) steps each k did within) in (
+            k,
+            did,
+            within,
+            at_k,
+            record {
+              raised = adds;
+              due = sym (unclamped shape did was adds) ∙
+                  sym (says adds) ∙ is;
+            },
+          )
+
+      by_due : (shape : ℕ) (steps : List Did) → AllByRecursion IsRecordedHere steps
+          → AllByRecursion (SaysOfRaise env words_at false shape kick) steps → Any (IsDueBy env shape) steps
+          → kick ≡ true
+      by_due shape steps recorded each (k, did, within, at_k, by) =
+          let was = subst IsRecordedHere at_k (All-from_recursion IsRecordedHere steps recorded k did
+          within) in
+          let says = subst (SaysOfRaise env words_at false shape kick) at_k
+          (All-from_recursion (SaysOfRaise env words_at false shape kick) steps each k did within) in
+          says by.raised ∙ unclamped shape did was by.raised ∙ by.due
+
+      -- a bind that has attached a table says so, whatever it raises
+      by_raise : (shape : ℕ) (steps : List Did)
+          → AllByRecursion (SaysOfRaise env words_at true shape kick) steps
+          → Any (IsRaise env.geometry) steps → kick ≡ true
+      by_raise shape steps each (k, did, within, at_k, adds) =
+          subst (SaysOfRaise env words_at true shape kick) at_k
+          (All-from_recursion (SaysOfRaise env words_at true shape kick) steps each k did within) adds
+
+      none_attached : AllByRecursion (IsNoAttach env.geometry) steps
+          → Any (AttachesSome env.geometry) steps → ⊥
+      none_attached none (k, did, within, at_k, attaches) =
+          subst (IsNoAttach env.geometry) at_k
+          (All-from_recursion (IsNoAttach env.geometry) steps none k did within) attaches
+
+      so_kicks : (attached : Bool) → AttachedSo env.geometry attached steps → (shape : ℕ) (behind : List Did)
+          → AllByRecursion IsRecordedHere behind
+          → AllByRecursion (SaysOfRaise env words_at attached shape kick) behind
+          → (Any (IsRaise env.geometry) behind ⊎ ((kick ≡ attached) × (env.config.kind ≡ Listed)))
+          → (kick ≡ true) ↔ (Any (AttachesSome env.geometry) steps ⊎ Any (IsDueBy env shape) behind)
+      so_kicks true so shape behind were each some = (
+        λ is. inl so,
+        λ either. elim some [
+          | inl any ↦ by_raise shape behind each any
+          | inr none ↦ none.0
+        ],
+      )
+      so_kicks false so shape behind were each some = (
+        (λ is. inr (elim some [
+          | inl any ↦ due shape behind were each is any
+          | inr none ↦ absurd (let both : true ≡ false = sym is ∙ none.0 in cc)
+        ])),
+        λ either. elim either [
+          | inl any ↦ absurd (none_attached so any)
+          | inr any ↦ by_due shape behind were each any
+        ],
+      )
+
+  -- no clamp has changed a count that was loaded
+  unclamped : (did : Did) → IsRecordedHere did → did.op ≡ Load (place_of env.geometry PortCount)
+      → min did.old 65536 ≡ did.old
+  unclamped did was loads =
+      let few = load_few env mix M events c did admitted loads was in
+      let most = env.geometry.within.nodes_within.1 in
+      omega (arith, few, most)
+
+  unclamped_some : (count : ℕ) (steps : List Did) → AllByRecursion IsRecordedHere steps
+      → Any (Loaded env.geometry PortCount count) steps → min count 65536 ≡ count
+  unclamped_some count steps recorded (k, did, within, is, loaded) =
+      let was = subst IsRecordedHere is (All-from_recursion IsRecordedHere steps recorded k did within) in
+      subst (λ n. min n 65536 ≡ n) loaded.found (unclamped did was loaded.word.loads)
+
+  -- a table is full by the count that was loaded, or its bucket has too many nodes
+  crowded : (why : Full) (shape : ℕ) (behind : List Did) → AllByRecursion IsRecordedHere behind
+      → SawWhy env words_at why shape behind → SawCrowded M mix env events c shape behind
+  crowded full.Chain shape behind recorded saw = inl saw
+  crowded full.Table shape behind recorded (k, did, within, is, above) =
+      let was = subst IsRecordedHere is (All-from_recursion IsRecordedHere behind recorded k did within) in
+      inr (
+        k,
+        did,
+        within,
+        is,
+        record {
+          count = did.old;
+          saw = record {
+            loaded = above.loaded;
+            found = refl;
+            counted = counted_at M mix env events c did.old did admitted above.loaded refl was;
+          };
+          above = subst (λ n. is_above_100 n (size_of (unpacked shape)) env.config.max ≡ true)
+              (unclamped did was above.loaded) above.above;
+        },
+      )
+
+  -- the operations before the one that settled a reply were recorded too, and so the table was full
+  recorded_before : (table : ℕ) (Saw : Full → ℕ → List Did → Type 0) (Last : Did → Type 0) (steps : List Did)
+      → AllByRecursion IsRecordedHere steps → (settled : Settled env words_at table Saw Last steps)
+      → AllByRecursion IsRecordedHere settled.before
+  recorded_before table Saw Last steps recorded settled =
+      let walked = settled.walked in
+      let parts = AllByRecursion-cut IsRecordedHere walked.before (walked.at ∷ walked.behind)
+      (subst (AllByRecursion IsRecordedHere) walked.split recorded) in
+      (AllByRecursion-cut IsRecordedHere settled.before (settled.at ∷ settled.rest)
+      (subst (AllByRecursion IsRecordedHere) settled.split parts.1.1)).0
+
+  abbrev walked_full : (table : ℕ) (Saw : Full → ℕ → List Did → Type 0) (Last : Did → Type 0)
+      (steps : List Did)
+      → AllByRecursion IsRecordedHere steps → (settled : Settled env words_at table Saw Last steps)
+      → SawWhy env words_at settled.why settled.shape settled.before
+      → WalkedFull M mix env events c table steps
+  walked_full table Saw Last steps recorded settled is_full = record {
+    shape = settled.shape;
+    walked = settled.walked;
+    before = settled.before;
+    at = settled.at;
+    rest = settled.rest;
+    split = settled.split;
+    crowded =
+        crowded settled.why settled.shape settled.before
+        (recorded_before table Saw Last steps recorded settled) is_full;
+  }
+
+  pub bind-cause : (port : ℕ) (past : Past) (reply : Reply) → SawFor env words_at mix port reply past.steps
+      → AllByRecursion IsRecordedHere past.steps → BindCause M mix env events c port past reply
+  bind-cause port past (Bound kick) saw recorded = kicked kick past.steps recorded saw
+  bind-cause port past (Exists owner) saw recorded = saw
+  bind-cause port past NoNode saw recorded = saw
+  bind-cause port past (TooBig count) saw recorded = full-saw count past.steps recorded saw
+  bind-cause port past (Again table) saw recorded = record {
+    table = saw.table;
+    full =
+        walked_full saw.table (SawWhy env words_at) (IsFollowing env words_at saw.table table) past.steps
+        recorded saw.settled
+        saw.settled.saw;
+    seen = saw.settled.last;
+  }
+  bind-cause port past (Busy root last) settled recorded =
+      let none = Loaded env.geometry (Slot last FutureWord) 0 in
+      let saw = settled.saw in
+      let same =
+      unclamped_some saw.count settled.before
+      (recorded_before last (SawOther env words_at last root) none past.steps recorded settled) saw.counted in
+      record {
+        full =
+            walked_full last (SawOther env words_at last root) none past.steps recorded settled saw.is_full;
+        other = saw.other;
+        current = saw.current;
+        count = saw.count;
+        counted = saw.counted;
+        not_due =
+            subst (λ n. is_above_75 n (size_of (unpacked settled.shape)) env.config.max ≡ false) same
+            saw.not_due;
+        none = settled.last;
+      }
+  bind-cause port past (NoTable size) (inr missed) recorded = inr missed
+  bind-cause port past (NoTable size) (inl seen) recorded =
+      let table = seen.table in
+      let none = Loaded env.geometry (Slot table FutureWord) 0 in
+      let settled = seen.settled in
+      let saw = settled.saw in
+      let wanted = saw.wanted in
+      let same =
+      unclamped_some wanted.count settled.before
+      (recorded_before table (SawFullUp env words_at table size) none past.steps recorded settled)
+      (subst (Any (Loaded env.geometry PortCount wanted.count))
+      (append_assoc wanted.sooner (wanted.counting ∷ []) wanted.making ∙ sym wanted.parts)
+      (Any-append_left (Loaded env.geometry PortCount wanted.count)
+      (wanted.sooner ++ wanted.counting ∷ []) wanted.making
+      (Any-push (Loaded env.geometry PortCount wanted.count) wanted.sooner wanted.counting
+      wanted.counted))) in
+      inl (record {
+        table = table;
+        full =
+            walked_full table (SawFullUp env words_at table size) none past.steps recorded settled
+            saw.is_full;
+        sooner = wanted.sooner;
+        counting = wanted.counting;
+        making = wanted.making;
+        parts = wanted.parts;
+        count = wanted.count;
+        counted = wanted.counted;
+        wanted = wanted.wanted ∙ ap (wanted_size env settled.shape) same;
+        grows = elim wanted.grows [
+          | inl due ↦ inl (subst (λ n. is_above_75 n (size_of (unpacked settled.shape)) env.config.max ≡ true)
+              same due)
+          | inr current ↦ inr current
+        ];
+        room = saw.room;
+        none = settled.last;
+      })
+  bind-cause port past _ saw recorded = absurd saw

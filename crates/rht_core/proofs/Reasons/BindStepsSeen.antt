@@ -1,0 +1,321 @@
+-- What each operation of a bind sees: from what was seen in its state, what is seen in the next one, or for
+-- the reply.
+use Rattle.std.proofs.Common.{◌∙◌, ◌≡◌, ℕ, ◌≤◌, Bool, cond, nat_le, List, [], ◌∷◌, ◌++◌, min, refl, sym, subst, arith}
+use Rattle.std.specs.Prelude.{Option, Some, None}
+use Rattle.std.specs.List.{AllByRecursion}
+use Rattle.std.proofs.lemmas.Bool.{leb-true}
+use Rattle.std.proofs.lemmas.List.Quantifiers.{Any-push}
+use Rattle.rht_words.specs.declared.op.Op.TheVariants.{Load}
+use Rattle.rht_words.specs.declared.env.Env.{Env}
+use Rattle.rht_words.specs.declared.config.Kind.{Kind}
+use Rattle.rht_words.specs.declared.config.Kind.TheVariants.{Single, Listed}
+use Rattle.rht_words.specs.declared.geometry.Geometry.{Geometry}
+use Rattle.rht_words.specs.declared.machine.Next.{Next}
+use Rattle.rht_words.specs.declared.machine.Next.TheVariants.{Go, Done}
+use Rattle.rht_words.specs.Places.{PortCount, ChainLink, place_of}
+use Rattle.rht_words.proofs.EachElement.{AllByRecursion-push}
+use Rattle.rht_policy.specs.Sizes.{most_ports}
+use Rattle.rht_policy.specs.Thresholds.{is_above_100, is_above_max}
+use Rattle.rht_words.specs.Shapes.{unpacked, size_of}
+use Rattle.rht_words.specs.Links.{slot_of, table_of}
+use Rattle.rht_model.specs.declared.history.Reply.{Reply}
+use Rattle.rht_model.specs.declared.history.Reply.TheVariants.{TooBig}
+use Rattle.rht_arena.specs.NewNode.{NewNodeModel, new_node_after_at}
+use Rattle.rht_arena.specs.declared.new_node.NewNodeAt.{NewNodeAt}
+use Rattle.rht_nest.specs.Make.{make_after_at}
+use Rattle.rht_nest.specs.Unmake.{unmake_after}
+use Rattle.rht_nest.specs.Grow.{grow_after_at}
+use Rattle.rht_chain.specs.Probe.{ProbeModel, probe_after_at}
+use Rattle.rht_chain.specs.declared.probe.ProbeAt.{ProbeAt}
+use Rattle.rht_chain.specs.declared.probe.Probed.{Probed}
+use Rattle.rht_chain.specs.declared.locked.Then.{Then}
+use Rattle.rht_chain.specs.declared.locked.Then.TheVariants.{Table, Answer}
+use Rattle.rht_chain.specs.Relink.{RelinkModel, relink_after}
+use Rattle.rht_bind.specs.Growing.{unlocking_full}
+use Rattle.rht_bind.specs.declared.bind.Attempt.{Attempt}
+use Rattle.rht_bind.specs.declared.bind.growth.Full.TheVariants as full
+use Rattle.rht_bind.specs.Bind.{after_at, filled, grown, bound_already, found_or_future, probed, replaced, unlocking, future_or_count, checked_count, published, unlocked}
+use Rattle.rht_bind.specs.declared.bind.Claimed.{Claimed}
+use Rattle.rht_bind.specs.declared.bind.FoundList.{FoundList}
+use Rattle.rht_bind.specs.declared.bind.BindAt.{BindAt}
+use Rattle.rht_bind.specs.declared.bind.BindAt.TheVariants as at
+use Rattle.rht_core.specs.Jobs.{binds}
+use Rattle.rht_core.specs.Traces.{Did, performed_of}
+use Rattle.rht_core.specs.Seen.{CameTo}
+use Rattle.rht_core.specs.ResizeCauses.{SawLongChain}
+use Rattle.rht_words.specs.Machines.{GoesOrEnds}
+use Rattle.rht_core.proofs.Reasons.PagesMissed.{SawGrowing, SawGrown, grow-saw, SeesMissing, SeesMissing-push}
+use Rattle.rht_core.proofs.Tracing.TracedJobs.{Performs, StandsIn}
+use Rattle.rht_core.proofs.Reasons.TablesWalked.{IsAside, grow_loads, IsNoRaise, no_load, aside, elsewhere, node_loads, probe_loads, relink_stores, came-current, came-future, walked-came, LastWalked-push, Walked, Walked-push, WalkedSeeing, WalkedSeeing-push, make_loads}
+use Rattle.rht_core.proofs.Reasons.KeyLoads.{no_key, no_key-grow}
+use Rattle.rht_core.proofs.Reasons.ChainsCounted.{HasCounted, HasCounted-push, CountedAt, CountedNext, probe-counted, long-counted}
+use Rattle.rht_core.proofs.Reasons.AttachedTables.{no_attach, AttachedSo, AttachedSo-push, SawAttached, relink-none, unmake-none}
+use Rattle.rht_core.proofs.Reasons.UnraisedBinds.{grow-none, SawUnraised}
+use Rattle.rht_core.proofs.Reasons.RefusedBinds.{no_key-future, Behind-push, SawWhy, SawWhy-push, SawRoot, SawToMake, above-why, root-saw, making-saw}
+use Rattle.rht_ghost.proofs.Theory.Steps.{by_test}
+use Rattle.rht_core.proofs.Reasons.NewNodesSeen.{SawMade, new-saw}
+use Rattle.rht_core.proofs.Reasons.RaisesSeen.{relink-no_load, relink-no_add, unmake-no_load, unmake-no_add, still, Raised, Raised-push, raise-saw, none-raised}
+use Rattle.rht_core.proofs.Reasons.BindsSeen.{LoadedFull, SawCounted, SawThen, SawAt, SawNext, SawFor, SawFor-push, SawForReply-push, SawThen-push}
+use Rattle.rht_core.proofs.Reasons.WaysSeen.{locating-saw, grown-saw}
+use Rattle.rht_core.proofs.Reasons.GrowthsSeen.{unmade-saw, want-saw, made-saw, again-saw, attach-saw, attaching_few, again_few}
+
+module _ (env : Env) (words_at : ℕ → List ℕ) (mix : ℕ → ℕ → ℕ → ℕ) (port : ℕ) where
+  abbrev Sees : BindAt → List Did → Type 0
+  Sees = SawAt env words_at mix port
+
+  abbrev SeesNext : List Did → BindAt × Next Reply → Type 0
+  SeesNext = SawNext env words_at mix port
+
+  bind_made-saw : (new : NewNodeModel) (r : NewNodeAt × Next (Option ℕ)) (all : List Did) → SawMade env all r
+      → SeesNext all (filled (record new { at = r.0 }) r.1)
+  bind_made-saw new (state, Go) all saw = saw
+  bind_made-saw new (state, Done None) all saw = saw
+  bind_made-saw new (state, Done (Some node)) all saw = tt
+
+  -- a walk that has ended in a bucket
+  bound-saw : (kind : Kind) (claimed : Claimed) (first : ℕ) (before : Option ℕ) (steps : List Did)
+      → Walked env.geometry claimed.table claimed.shape steps
+      → Sees (bound_already kind claimed first before) steps
+  bound-saw Single claimed first before steps walked = tt
+  bound-saw Listed claimed first before steps walked = walked
+
+  seen-saw : (kind : Kind) (claimed : Claimed) (found before : Option ℕ) (length : ℕ) (steps : List Did)
+      → SawCounted env words_at mix port claimed length steps
+      → Sees (found_or_future kind claimed found before length) steps
+  seen-saw kind claimed None before length steps seeing = seeing
+  seen-saw kind claimed (Some first) before length steps seeing =
+      bound-saw kind claimed first before steps seeing.walked
+
+  probed-saw : (kind : Kind) (attempt : Attempt) (table shape : ℕ) (probe : ProbeModel)
+      (r : ProbeAt × Next Probed)
+      (steps : List Did)
+      → WalkedSeeing env.geometry table shape (CountedNext env.geometry words_at shape r) steps
+      → Sees (probed kind attempt table shape (record probe { at = r.0 }) r.1) steps
+  probed-saw kind attempt table shape probe (state, Go) steps seeing = seeing
+  probed-saw kind attempt table shape probe (state, Done end) steps seeing =
+      let claimed : Claimed =
+      record { attempt = attempt; table = table; shape = shape; bucket = end.bucket } in
+      seen-saw kind claimed end.seen.found end.seen.before end.seen.length steps seeing
+
+  -- 16 nodes that were counted are a long chain, where no table is behind
+  future-saw : (claimed : Claimed) (length : ℕ) (future : Option ℕ) (steps : List Did)
+      → ((behind : List Did) → 16 ≤ length
+      → HasCounted env.geometry words_at claimed.shape claimed.bucket.place length behind
+      → SawLongChain env.geometry words_at claimed.shape behind)
+      → ((table : ℕ) → future ≡ Some table → CameTo env.geometry table steps)
+      → WalkedSeeing env.geometry claimed.table claimed.shape
+      (HasCounted env.geometry words_at claimed.shape claimed.bucket.place length) steps
+      → Sees (future_or_count claimed length future) steps
+  future-saw claimed length None steps long came seeing =
+      by_test (λ t. Sees (cond t (unlocking_full claimed full.Chain) (at.Count claimed)) steps)
+      (nat_le 16 length)
+      (λ t. record {
+        walked = seeing.walked.last;
+        saw = long seeing.walked.last.behind (leb-true 16 length t) seeing.saw;
+      })
+      (λ f. seeing.walked)
+  future-saw claimed length (Some table) steps long came seeing = came table refl
+
+  -- a count that refuses the bind was loaded by this operation
+  count-saw : (claimed : Claimed) (steps : List Did) (did : Did)
+      → did.op ≡ Load (place_of env.geometry PortCount)
+      → Walked env.geometry claimed.table claimed.shape steps
+      → Sees (checked_count env claimed did.old) (steps ++ did ∷ [])
+  unfolding LastWalked-push
+  count-saw claimed steps did is walked =
+      let beside = elsewhere env.geometry did _ is (λ table below same. absurd (omega arith)) in
+      let count = did.old in
+      let above = is_above_100 (min count 65536) (size_of (unpacked claimed.shape)) env.config.max in
+      let all = steps ++ did ∷ [] in
+      by_test
+      (λ t. Sees (cond t (unlocking claimed (Answer (TooBig count)))
+      (cond above (unlocking_full claimed full.Table) (at.Link claimed))) all)
+      (is_above_max (min count 65536) env.config.max)
+      (λ t.
+      let full : most_ports env.config.max ≤ min count 65536 =
+      leb-true (most_ports env.config.max) (min count 65536) t in
+      Any-push (LoadedFull env count) steps did record { loaded = is; found = refl; full = omega arith })
+      (λ f.
+      by_test (λ t. Sees (cond t (unlocking_full claimed full.Table) (at.Link claimed)) all) above
+      (λ t. record {
+        walked =
+            LastWalked-push env.geometry claimed.table claimed.shape steps did beside.no_shape walked.last;
+        saw = above-why env words_at claimed.shape walked.last.behind did is t;
+      })
+      (λ f. Walked-push env.geometry claimed.table claimed.shape steps did beside walked))
+
+  -- a bind that has put its node in front of a list has raised none
+  replaced-saw : (list : FoundList) (relink : RelinkModel) (next : Next (Unit {0})) (steps : List Did)
+      → env.config.kind ≡ Listed
+      → Walked env.geometry list.claimed.table list.claimed.shape steps
+      → AttachedSo env.geometry list.claimed.attempt.attached steps
+      → AllByRecursion (IsNoRaise env.geometry) steps
+      → SeesNext steps (replaced list relink next)
+  replaced-saw list relink Go steps listed walked so none = walked
+  replaced-saw list relink (Done done) steps listed walked so none =
+      none-raised env words_at list.claimed steps listed walked so none
+
+  published-saw : (node table : ℕ) (kick : Bool) (relink : RelinkModel) (next : Next (Unit {0}))
+      (steps : List Did)
+      → Raised env words_at kick steps → SeesNext steps (published node table kick relink next)
+  published-saw node table kick relink Go steps raised = raised
+  published-saw node table kick relink (Done done) steps raised = raised
+
+  unlocked-saw : (attempt : Attempt) (next : Then Reply) (steps : List Did)
+      → SawThen env words_at mix port next steps
+      → Sees (unlocked env attempt next) steps
+  unlocked-saw attempt (Table table) steps came = came
+  unlocked-saw attempt (Answer reply) steps saw = saw
+
+  -- with whether it has attached a table, and that it has raised no count
+  abbrev pub SawAll : List Did → BindAt × Next Reply → Type 0
+  SawAll all next =
+      GoesOrEnds
+      (λ state. Sees state all × (SawAttached env state all × SawUnraised env state all))
+      (λ reply. SawFor env words_at mix port reply all) next
+
+  pub all-saw : (next : BindAt × Next Reply) (all : List Did) → SeesNext all next → SawAttached env next.0 all
+      → SawUnraised env next.0 all → SawAll all next
+  all-saw (state, Go) all saw so none = (saw, (so, none))
+  all-saw (state, Done reply) all saw so none = saw
+
+  module _ (owner : ℕ) (once : Bool) where
+    pub bind-saw : (state : BindAt) (steps : List Did) (did : Did)
+        → (does : Performs mix env (binds port owner once state) did)
+        → StandsIn mix env words_at (binds port owner once state) did does
+        → Sees state steps → SawAttached env state steps → SawUnraised env state steps
+        → SeesNext (steps ++ did ∷ []) (after_at mix env port once state did.old)
+    bind-saw (at.Filling new) steps did does now saw so unraised =
+        bind_made-saw new (new_node_after_at new.at did.old) (steps ++ did ∷ [])
+        (new-saw env new new.at steps did refl does.within.at_in does.planned saw)
+    bind-saw (at.CurrentTable attempt) steps did does now saw so unraised =
+        came-current env.geometry steps did does.planned
+    bind-saw (at.Locating attempt locate) steps did does now saw so unraised =
+        locating-saw env words_at mix port owner once attempt locate steps did does now.now saw
+    bind-saw (at.Entering attempt table shape place grow) steps did does now saw so unraised =
+        let within = does.within.at_in.grow_in in
+        let after = grow_after_at env.geometry grow.at did.old in
+        let Before = SawGrowing env.geometry grow.at in
+        let After = SawGrown env.geometry after in
+        let apart : IsAside env.geometry did = record {
+          no_shape = grow_loads env.geometry grow.entry grow.at did does.planned;
+          no_raise = λ adds. grow-none env.geometry grow.entry grow.at (sym does.planned ∙ adds);
+        } in
+        let seeing : WalkedSeeing env.geometry table shape
+        (SeesMissing env words_at mix port table shape After) (steps ++ did ∷ []) =
+        WalkedSeeing-push env.geometry table shape (SeesMissing env words_at mix port table shape Before)
+        (SeesMissing env words_at mix port table shape After) steps did apart
+        (λ behind so_far. SeesMissing-push env words_at mix port table shape Before After behind did
+        (no_key-grow env.geometry grow.entry grow.at did within.at_in does.planned)
+        (λ before here. grow-saw env.geometry grow.entry grow.at before (performed_of did) within.at_in
+        does.planned here)
+        so_far) saw in
+        subst (λ (h : Geometry). let r = grow_after_at h grow.at did.old in
+        Sees (grown env port attempt table shape place (record grow { at = r.0 }) r.1) (steps ++ did ∷ []))
+        (sym within.geometry_same) (grown-saw env words_at mix port attempt table shape place grow after
+        (steps ++ did ∷ []) seeing)
+    bind-saw (at.Probing attempt table shape probe) steps did does now saw so unraised =
+        let within = does.within.at_in.probe_in.at_in in
+        let after = probe_after_at probe.geometry probe.key probe.at did.old in
+        probed-saw env.config.kind attempt table shape probe after (steps ++ did ∷ [])
+        (WalkedSeeing-push env.geometry table shape (CountedAt env.geometry words_at shape probe.at)
+        (CountedNext env.geometry words_at shape after) steps did
+        (probe_loads env.geometry did probe.at within does.planned)
+        (λ behind counted. probe-counted env mix words_at does.caller port does.words does.ghost does.whole
+        table shape probe.geometry probe.key probe.at behind did within
+        does.knows.knowing.means.table does.knows.knowing.means.bucket
+        does.planned now.now now.stay counted) saw)
+    bind-saw (at.FoundOwner claimed found) steps did does now saw so unraised = does.knows.fits
+    bind-saw (at.ListLink list) steps did does now saw so unraised =
+        Walked-push env.geometry list.claimed.table list.claimed.shape steps did
+        (aside env.geometry did _ does.planned (λ place load. cc) (λ place value adds. cc)) saw
+    bind-saw (at.ChainLink list) steps did does now saw so unraised =
+        Walked-push env.geometry list.claimed.table list.claimed.shape steps did
+        (node_loads env.geometry did env.geometry list.first ChainLink does.planned) saw
+    bind-saw (at.LinkBehind list link) steps did does now saw so unraised =
+        Walked-push env.geometry list.claimed.table list.claimed.shape steps did
+        (aside env.geometry did _ does.planned (λ place load. cc) (λ place value adds. cc)) saw
+    bind-saw (at.Replacing list relink) steps did does now saw so unraised =
+        replaced-saw list (relink_after relink).0 (relink_after relink).1 (steps ++ did ∷ [])
+        does.knows.fits.listed
+        (Walked-push env.geometry list.claimed.table list.claimed.shape steps did
+        (relink_stores env.geometry did relink relink.at does.planned) saw)
+        (AttachedSo-push env.geometry list.claimed.attempt.attached steps did
+        (no_attach env.geometry did _ does.planned (relink-none env.geometry relink relink.at)) so)
+        (AllByRecursion-push (IsNoRaise env.geometry) steps did unraised
+        (relink_stores env.geometry did relink relink.at does.planned).no_raise)
+    bind-saw (at.Future claimed length) steps did does now saw so unraised =
+        let place = claimed.bucket.place in
+        let counted = HasCounted env.geometry words_at claimed.shape place length in
+        future-saw claimed length (slot_of did.old) (steps ++ did ∷ [])
+        (λ behind enough has. long-counted env mix words_at does.caller port does.words does.ghost does.whole
+        claimed.table
+        claimed.shape place length behind does.knows.knowing.means.table enough has)
+        (λ table named. came-future env.geometry claimed.table table steps did does.within.at_in.table_in
+        does.planned named
+        (walked-came env.geometry claimed.table claimed.shape steps saw.walked.last))
+        (WalkedSeeing-push env.geometry claimed.table claimed.shape counted counted steps did
+        (elsewhere env.geometry did _ does.planned (λ table below same. absurd (omega arith)))
+        (λ behind has. HasCounted-push env.geometry words_at claimed.shape place length behind did
+        (no_key-future env words_at did claimed.table does.within.at_in.table_in does.planned) has) saw)
+    bind-saw (at.Count claimed) steps did does now saw so unraised =
+        count-saw claimed steps did does.planned saw
+    bind-saw (at.Link claimed) steps did does now saw so unraised =
+        Walked-push env.geometry claimed.table claimed.shape steps did
+        (aside env.geometry did _ does.planned (λ place load. cc) (λ place value adds. cc)) saw
+    bind-saw (at.Raise claimed) steps did does now saw so unraised =
+        raise-saw env words_at claimed steps did does.planned saw so unraised
+    bind-saw (at.Publish node table relink kick) steps did does now saw so unraised =
+        published-saw node table kick (relink_after relink).0 (relink_after relink).1 (steps ++ did ∷ [])
+        (Raised-push env words_at kick steps did
+        (still env did _ does.planned (relink-no_load relink relink.at) (relink-no_add relink relink.at)
+        (relink-none env.geometry relink relink.at)) saw)
+    bind-saw (at.Unlocking attempt table unlock next) steps did does now saw so unraised =
+        unlocked-saw attempt next (steps ++ did ∷ [])
+        (SawThen-push env words_at mix port next steps did
+        (still env did _ does.planned (λ place load. cc) (λ place value adds. cc) (λ table old new l e. cc))
+        saw)
+    bind-saw (at.UnlockingFull growing unlock) steps did does now saw so unraised =
+        Behind-push env words_at growing.table growing.shape (SawWhy env words_at growing.why growing.shape)
+        (SawWhy env words_at growing.why growing.shape) steps did
+        (no_load env.geometry did _ does.planned (λ place load. cc))
+        (λ behind why. SawWhy-push env words_at growing.why growing.shape behind did
+        (no_key env.geometry did _ does.planned (λ place load. cc)) why) saw
+    bind-saw (at.Root growing) steps did does now saw so unraised =
+        Behind-push env words_at growing.table growing.shape (SawWhy env words_at growing.why growing.shape)
+        (SawRoot env words_at growing (table_of did.old)) steps did
+        (elsewhere env.geometry did _ does.planned
+        (λ table below same. absurd (omega (arith, same)))).no_shape
+        (λ behind why. root-saw env words_at growing behind did does.planned why) saw
+    bind-saw (at.GrowthCount growing root) steps did does now saw so unraised =
+        want-saw env words_at mix port once growing root steps did does.planned
+        (elsewhere env.geometry did _ does.planned
+        (λ table below same. absurd (omega (arith, same)))).no_shape saw
+    bind-saw (at.Making growing size make) steps did does now saw so unraised =
+        let after = make_after_at make.geometry make.exponent make.nested make.at did.old in
+        made-saw env words_at mix port once growing size make after (steps ++ did ∷ [])
+        (Behind-push env words_at growing.table growing.shape
+        (SawToMake env words_at growing size make.exponent make.nested (make.at, Go))
+        (SawToMake env words_at growing size make.exponent make.nested after) steps did
+        (make_loads env.geometry make.geometry make.exponent make.seed make.at did does.planned)
+        (λ behind so_far. making-saw env words_at growing size make behind did does.within.at_in.make_in
+        does.planned so_far) saw)
+    bind-saw (at.FutureAgain growing refusal) steps did does now saw so unraised =
+        again-saw env words_at mix port once growing refusal (slot_of did.old) steps did
+        does.within.at_in.growing_in.table_in does.planned
+        (again_few env mix port owner once growing refusal did does) refl saw
+    bind-saw (at.Attaching growing slot shape) steps did does now saw so unraised =
+        attach-saw env words_at mix port once growing slot shape steps did
+        does.within.at_in.growing_in.table_in does.within.at_in.slot_in
+        does.planned (attaching_few env mix port owner once growing slot shape did does) saw
+    bind-saw (at.Unmaking attempt unmake answer) steps did does now saw so unraised =
+        unmade-saw env words_at mix port once attempt answer (unmake_after unmake did.old).0
+        (unmake_after unmake did.old).1 (steps ++ did ∷ [])
+        (SawForReply-push env words_at mix port answer steps did
+        (still env did _ does.planned (unmake-no_load unmake.geometry unmake.slot unmake.at)
+        (unmake-no_add unmake.geometry unmake.slot unmake.at)
+        (unmake-none env.geometry unmake.geometry unmake.slot unmake.at)) saw)
+    bind-saw (at.Giving give reply) steps did does now saw so unraised =
+        SawFor-push env words_at mix port reply steps did
+        (still env did _ does.planned (λ place load. cc) (λ place value adds. cc) (λ table old new l e. cc))
+        saw

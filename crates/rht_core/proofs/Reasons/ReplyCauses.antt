@@ -1,0 +1,105 @@
+-- Why each reply of the other calls has its cause: by what their operations saw, where there is something to
+-- show.
+--
+-- A look-up and a listing have nothing to show. A reading of the count loads what it answers by its one
+-- operation. For this and for a release it counts that each recorded operation stands in the run at its
+-- event.
+use Rattle.std.proofs.Common.{◌≡◌, ℕ, List, [], ◌∷◌, subst, inl, inr}
+use Rattle.std.specs.List.{AllByRecursion, Any}
+use Rattle.std.proofs.lemmas.List.Elements.{All-from_recursion}
+use Rattle.rht_words.specs.declared.op.Op.TheVariants.{Load}
+use Rattle.rht_words.specs.declared.env.Env.{Env}
+use Rattle.rht_words.specs.Places.{PortCount, place_of}
+use Rattle.rht_words.proofs.EachElement.{AllByRecursion-cut}
+use Rattle.rht_model.specs.declared.history.Reply.{Reply}
+use Rattle.rht_model.specs.declared.history.Reply.TheVariants.{Found, Missing, Released, Absent, Rebound, Listed as ListedOwners, NoTable, NoNode, Elsewhere, Moved, Idle, Counted}
+use Rattle.rht_core.specs.declared.event.Event.{Event}
+use Rattle.rht_core.specs.Replies.{IsFindReply, IsReleaseReply, IsRebindReply, IsAllReply, IsWorkReply}
+use Rattle.rht_core.specs.Traces.{Did, Past}
+use Rattle.rht_core.specs.Runs.{IsAdmitted}
+use Rattle.rht_core.specs.Laws.{IsRecorded}
+use Rattle.rht_core.specs.Seen.{SawCount}
+use Rattle.rht_core.specs.Causes.{FindCause, AllCause, ReleaseCause, RebindCause, WorkCause, CountCause}
+use Rattle.rht_core.proofs.Reasons.WorkChoices.{SawIdle-nothing, SawReplaced-published, SawForWork}
+use Rattle.rht_core.proofs.Counting.FullTables.{counted_at}
+use Rattle.rht_core.proofs.Counting.CountedNodes.{lower_few}
+use Rattle.rht_core.proofs.Reasons.ReleaseKicks.{SawForRelease, kicks_right}
+use Rattle.rht_core.proofs.Reasons.RebindsSeen.{SawForRebind}
+
+-- a look-up has nothing to show for its answers
+pub find-cause : (reply : Reply) → IsFindReply reply → FindCause reply
+find-cause (Found owner) is = tt
+find-cause Missing is = tt
+find-cause _ is = absurd is
+
+-- nor has a listing for its owners
+pub all-cause : (reply : Reply) → IsAllReply reply → AllCause reply
+all-cause (ListedOwners len) is = tt
+all-cause _ is = absurd is
+
+module _ (env : Env) where
+  pub rebind-cause : (past : Past) (reply : Reply) → SawForRebind env reply past.steps → IsRebindReply reply
+      → RebindCause env past reply
+  rebind-cause past Rebound saw is = tt
+  rebind-cause past Absent saw is = tt
+  rebind-cause past NoNode saw is = saw
+  rebind-cause past _ saw is = absurd is
+
+  pub work-cause : (words_at : ℕ → List ℕ) (past : Past) (reply : Reply)
+      → SawForWork env words_at reply past.steps
+      → IsWorkReply reply → WorkCause env words_at past reply
+  work-cause words_at past (Moved again) saw is = elim saw [
+    | inl has ↦ inl (SawReplaced-published env words_at again past.steps has)
+    | inr stops ↦ inr stops
+  ]
+  work-cause words_at past Idle saw is = SawIdle-nothing env words_at past.steps saw
+  work-cause words_at past (NoTable size) saw is = saw
+  work-cause words_at past Elsewhere saw is = saw
+  work-cause words_at past _ saw is = absurd is
+
+  -- the operation loaded this count of ports
+  pub record LoadedCount (count : ℕ) (did : Did) : Type 0 where
+    pub loaded : did.op ≡ Load (place_of env.geometry PortCount)
+    pub found : did.old ≡ count
+
+  abbrev pub SawForCount : Reply → List Did → Type 0
+  SawForCount (Counted count) steps = Any (LoadedCount count) steps
+  SawForCount _ steps = ⊥
+
+module _ (M : Type 0) (mix : ℕ → ℕ → ℕ → ℕ) (env : Env) (events : List Event) (c : ℕ)
+    (admitted : IsAdmitted env.config.kind events) where
+  abbrev IsRecordedHere : Did → Type 0
+  IsRecordedHere did = IsRecorded M mix env events c did
+
+  counted-saw : (count : ℕ) (steps : List Did) → AllByRecursion IsRecordedHere steps
+      → Any (LoadedCount env count) steps → Any (SawCount M mix env events c count) steps
+  counted-saw count steps recorded (k, did, within, is, saw) =
+      let was = subst IsRecordedHere is (All-from_recursion IsRecordedHere steps recorded k did within) in (
+        k,
+        did,
+        within,
+        is,
+        record {
+          loaded = saw.loaded;
+          found = saw.found;
+          counted = counted_at M mix env events c count did admitted saw.loaded saw.found was;
+        },
+      )
+
+  -- no more ports are bound than there are nodes, so that no clamp has changed a release's kick
+  pub release-cause : (past : Past) (reply : Reply) → SawForRelease env reply past.steps
+      → IsReleaseReply reply
+      → AllByRecursion IsRecordedHere past.steps → ReleaseCause env past reply
+  release-cause past (Released kick) saw is recorded =
+      let parts = AllByRecursion-cut IsRecordedHere saw.before (saw.last ∷ [])
+      (subst (AllByRecursion IsRecordedHere) saw.split recorded) in
+      kicks_right env kick past.steps saw
+      (λ lowers. lower_few env mix M events c saw.last admitted lowers parts.1.0)
+  release-cause past Absent saw is recorded = tt
+  release-cause past _ saw is recorded = absurd is
+
+  pub count-cause : (past : Past) (reply : Reply) → SawForCount env reply past.steps
+      → AllByRecursion IsRecordedHere past.steps
+      → CountCause M mix env events c past reply
+  count-cause past (Counted count) saw recorded = counted-saw count past.steps recorded saw
+  count-cause past _ saw recorded = absurd saw
