@@ -11,7 +11,7 @@ use Rattle.rht_words.proofs.Members.{count_below, one_if, not_in_from, AllByRecu
 use Rattle.rht_words.proofs.EachElement.{AllByRecursion-weaker}
 use Rattle.rht_model.specs.Multimap.{Multimap}
 use Rattle.rht_stands.specs.StandsFor.{stands_for, AreBound, AreAllBound}
-use Rattle.rht_ghost.proofs.Theory.Ghosts.{Owner, Free, Held, First, Leaving, Behind, Taken, Ghost, is_first, seat-first, seat_of, is_entry}
+use Rattle.rht_ghost.proofs.Theory.Ghosts.{Owner, First, Leaving, Ghost, is_first, seat-first, seat_of, is_entry}
 use Rattle.rht_ghost.proofs.Theory.Wholes.{key_of, firsts, Whole, seated_at}
 use Rattle.rht_ghost.proofs.Theory.Steps.{mem, owners_in}
 use Rattle.rht_core.proofs.Meaning.BoundPorts.{stands_for_bound}

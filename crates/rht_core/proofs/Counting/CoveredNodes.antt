@@ -12,7 +12,7 @@ use Rattle.rht_words.specs.declared.geometry.Geometry.{Geometry}
 use Rattle.rht_words.specs.Members.{In}
 use Rattle.rht_words.proofs.Members.{In-append_left, In-append_right, In-append_cases}
 use Rattle.rht_model.specs.declared.history.Call.{Call}
-use Rattle.rht_model.specs.declared.history.Call.TheVariants.{Bind, Find, All, Release, Rebind, Walk, Work, Tidy, Count}
+use Rattle.rht_model.specs.declared.history.Call.TheVariants.{Bind, Rebind}
 use Rattle.rht_model.specs.declared.history.Reply.{Reply}
 use Rattle.rht_model.specs.declared.history.Reply.TheVariants.{NoNode}
 use Rattle.rht_arena.specs.Laws.{map_place, map_bit}

@@ -28,7 +28,7 @@ use Rattle.rht_words.proofs.OpeningLaws.{opens_flat}
 use Rattle.rht_model.specs.Endings.{Ending, ended_with, plain_ending}
 use Rattle.rht_model.specs.declared.finished.Finished.{Finished}
 use Rattle.rht_model.specs.declared.history.Call.{Call}
-use Rattle.rht_model.specs.declared.history.Call.TheVariants.{Bind, Find, All, Release, Rebind, Walk, Work, Tidy, Count}
+use Rattle.rht_model.specs.declared.history.Call.TheVariants.{Rebind}
 use Rattle.rht_model.specs.declared.history.Reply.{Reply}
 use Rattle.rht_find.specs.Find.{after_at as find_after_at}
 use Rattle.rht_bind.specs.Bind.{after_at as bind_after_at}

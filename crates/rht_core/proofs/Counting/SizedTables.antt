@@ -51,7 +51,7 @@ use Rattle.rht_move.specs.Work.{after_at, last_seen, begun, not_made, made, unma
 use Rattle.rht_ghost.proofs.Theory.Ghosts.{Ghost, has_table, index_at, table_at, put-all, made_table}
 use Rattle.rht_ghost.proofs.Theory.Ways.{entered_table}
 use Rattle.rht_ghost.proofs.Theory.Wholes.{Whole}
-use Rattle.rht_ghost.proofs.Theory.Steps.{Move, Quiet, TakesNode, GivesNode, TakesLock, DropsLock, Raises, Links, Lowers, Rebinds, LinksBehind, Arms, TakesSlot, GivesSlot, TakesPages, GivesPages, Attaches, Enters, TakesWork, GivesWork, BeginsMoving, TakesSecond, Leaves, Arrives, CutsOff, Publishes, Retires, ghost_after, mem, by_test}
+use Rattle.rht_ghost.proofs.Theory.Steps.{Move, Attaches, Enters, ghost_after, mem, by_test}
 
 -- a table of this shape is flat, and has 16 buckets or more
 pub record IsSized (shape : ℕ) : Type 0 where

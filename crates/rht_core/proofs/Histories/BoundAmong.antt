@@ -17,7 +17,7 @@ use Rattle.rht_model.specs.Histories.{left_by, bindings_left}
 use Rattle.rht_model.specs.Multimap.{Multimap, unbound, with_owners}
 use Rattle.rht_model.specs.declared.finished.Finished.{Finished}
 use Rattle.rht_model.specs.declared.history.Call.{Call}
-use Rattle.rht_model.specs.declared.history.Call.TheVariants.{Bind, Find, All, Release, Rebind, Walk, Work, Tidy, Count}
+use Rattle.rht_model.specs.declared.history.Call.TheVariants.{Bind, Release, Rebind}
 use Rattle.rht_model.specs.declared.history.Entry.{Entry}
 use Rattle.rht_core.specs.declared.event.Event.{Event}
 use Rattle.rht_core.specs.Counts.{is_raising, raising}

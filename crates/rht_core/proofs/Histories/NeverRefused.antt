@@ -25,7 +25,7 @@ use Rattle.rht_words.proofs.Members.{one_if}
 use Rattle.rht_words.proofs.OpeningLaws.{opens_flat}
 use Rattle.rht_model.specs.declared.bindings.Closed.{Closed}
 use Rattle.rht_model.specs.declared.history.Call.{Call}
-use Rattle.rht_model.specs.declared.history.Call.TheVariants.{Bind, Find, All, Release, Rebind, Walk, Work, Tidy, Count}
+use Rattle.rht_model.specs.declared.history.Call.TheVariants.{Bind, Work}
 use Rattle.rht_model.specs.declared.history.Entry.{Entry}
 use Rattle.rht_model.specs.declared.history.Reply.{Reply}
 use Rattle.rht_model.specs.declared.history.Reply.TheVariants.{NoNode}

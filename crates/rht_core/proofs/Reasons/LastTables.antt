@@ -19,7 +19,7 @@ use Rattle.rht_core.specs.Jobs.{Job, works, held_of, held_next, job_after}
 use Rattle.rht_ghost.proofs.Theory.Ghosts.{Table, Ghost, put-same, made_table, some-same}
 use Rattle.rht_ghost.proofs.Theory.Wholes.{Whole}
 use Rattle.rht_ghost.proofs.Theory.Readiness.{IsAttaching}
-use Rattle.rht_ghost.proofs.Theory.Steps.{bare, Move, Quiet, TakesNode, GivesNode, TakesLock, DropsLock, Raises, Links, Lowers, Rebinds, LinksBehind, Arms, TakesSlot, GivesSlot, TakesPages, GivesPages, Attaches, Enters, TakesWork, GivesWork, BeginsMoving, TakesSecond, Leaves, Arrives, CutsOff, Publishes, Retires, Holding, DoesAttach, ReadyFor, Does, ghost_after, mem}
+use Rattle.rht_ghost.proofs.Theory.Steps.{bare, Move, Attaches, Holding, DoesAttach, ReadyFor, Does, ghost_after, mem}
 use Rattle.rht_core.proofs.Tracing.TracedJobs.{Performs}
 use Rattle.rht_core.proofs.Reasons.AttachedTables.{IsNoFutureExchange}
 

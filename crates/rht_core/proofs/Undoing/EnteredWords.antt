@@ -9,7 +9,7 @@ use Rattle.rht_words.proofs.Memory.{Memory}
 use Rattle.rht_nest.specs.Place.{nested_place, missing_at}
 use Rattle.rht_nest.specs.Tables.{is_nested}
 use Rattle.rht_core.specs.Refused.{IsMissingEntry}
-use Rattle.rht_ghost.proofs.Theory.Ghosts.{PageOf, has_entries, SlotOwner, SlotFree, SlotHeld, Live, Retired, Ghost, has_table, index_at, state_word, is_entry, is_entry_of, entry_word, table_of_page, table_at}
+use Rattle.rht_ghost.proofs.Theory.Ghosts.{PageOf, has_entries, SlotOwner, SlotFree, Ghost, has_table, index_at, state_word, is_entry, is_entry_of, entry_word, table_of_page, table_at}
 use Rattle.rht_ghost.proofs.Theory.Wholes.{IsNested, Whole}
 use Rattle.rht_ghost.proofs.Theory.Entries.{page_within, entry_in, entry_nested}
 use Rattle.rht_ghost.proofs.Theory.MissingEntries.{missed_at, ends_at_entry}

@@ -16,7 +16,7 @@ use Rattle.rht_words.specs.Links.{future_of, entry_of}
 use Rattle.rht_words.specs.Maps.{bit_of}
 use Rattle.rht_words.specs.Members.{In}
 use Rattle.rht_words.specs.Operations.{op_place, old_of, word_after}
-use Rattle.rht_words.specs.Places.{WorkLock, Slot, SlotWord, ShapeWord, SeedWord, FutureWord, SerialWord, StateWord, LoadedSection, NodeMap, PageMap, PageWord, Node, NodeWord, place_of}
+use Rattle.rht_words.specs.Places.{WorkLock, Slot, SlotWord, FutureWord, StateWord, LoadedSection, NodeMap, PageMap, PageWord, Node, NodeWord, place_of}
 use Rattle.rht_words.proofs.BitChanges.{bit_at-set, bit_at-set_other}
 use Rattle.rht_words.proofs.EachElement.{AllByRecursion-push, Any-append_left}
 use Rattle.rht_words.proofs.Members.{one_if}

@@ -6,7 +6,7 @@ use Rattle.std.specs.List.{AllByRecursion, Any}
 use Rattle.rht_words.specs.declared.geometry.Geometry.{Geometry}
 use Rattle.rht_words.specs.declared.op.Op.{Op}
 use Rattle.rht_words.specs.declared.op.Op.TheVariants.{Store, Exchange, And}
-use Rattle.rht_words.specs.Places.{NextSerial, WorkLock, Slot, SlotWord, ShapeWord, SeedWord, FutureWord, SerialWord, StateWord, LoadedSection, PageMap, PageWord, words_in, place_of}
+use Rattle.rht_words.specs.Places.{NextSerial, WorkLock, Slot, SlotWord, FutureWord, StateWord, LoadedSection, PageMap, PageWord, words_in, place_of}
 use Rattle.rht_words.proofs.EachElement.{AllByRecursion-cut}
 use Rattle.rht_words.proofs.PlacesApart.{parts_in_order}
 use Rattle.rht_model.specs.declared.history.Call.{Call}
