@@ -21,7 +21,7 @@ use Rattle.rht_core.proofs.Events.Worlds.{induct_by_last, run_of-push}
 use Rattle.rht_core.proofs.Events.RangesInRuns.{AllIn, opens-all, event-all}
 use Rattle.rht_core.proofs.Events.Invariants.{Inv, Knows, kept, enrolled}
 use Rattle.rht_core.proofs.Events.InvariantRuns.{opening_ghost, opening_inv}
-use Rattle.rht_ghost.proofs.Theory.Ghosts.{Ghost, IsUsed, seat_of}
+use Rattle.rht_ghost.proofs.Theory.Ghosts.{Ghost, IsUsed, seat_of, some-same}
 use Rattle.rht_ghost.proofs.Theory.Wholes.{key_of, seated_at}
 use Rattle.rht_ghost.proofs.Theory.Frames.{Made, still}
 use Rattle.rht_ghost.proofs.Theory.Steps.{Move, Quiet, mem, owners_in, ghost_after, ReadyFor}
@@ -29,7 +29,7 @@ use Rattle.rht_core.proofs.Meaning.BoundPorts.{stands_for_bound}
 use Rattle.rht_core.proofs.Histories.Behind.{behind-all, behind-more}
 use Rattle.rht_core.proofs.Finding.Places.{Places, PlacesRight}
 use Rattle.rht_core.proofs.Finding.Deaths.{DeathsRight, deaths_after}
-use Rattle.rht_core.proofs.Finding.PlacesSteps.{places_step}
+use Rattle.rht_core.proofs.Finding.PlacesSteps.{PlacesNext, places_step}
 
 module _ (env : Env) (mix : ℕ → ℕ → ℕ → ℕ) (L : Type 0) where
   -- the words stood for it behind so many events that the node's port had the node's owner as its first
@@ -37,13 +37,14 @@ module _ (env : Env) (mix : ℕ → ℕ → ℕ → ℕ) (L : Type 0) where
     pub others : List ℕ
     pub is : bindings_behind L mix env events t (key_of M n) ≡ owner_of (M (Node n OwnerWord)) ∷ others
 
+  -- the invariant with places that are right, and that nodes that died were first ones right before that
   pub record Placed (events : List Event) (core : Core L) : Type 0 where
     pub ghost : Ghost
     pub inv : Inv env mix L core ghost
     pub all : AllIn L mix env core
     pub places : Places
     pub right : PlacesRight env mix ghost places (mem env mix core.words) (length events)
-    pub deaths : DeathsRight env mix (mem env mix core.words) ghost inv.whole places (length events)
+    pub deaths : DeathsRight env (mem env mix core.words) ghost places (length events)
     pub said : (n t : ℕ) → n < env.geometry.nodes → IsUsed (ghost.node n) → seat_of (ghost.node n) ≡ None
         → places.dead n ≡ Some t → WasFirst events (mem env mix core.words) n t
 
@@ -72,71 +73,70 @@ module _ (env : Env) (mix : ℕ → ℕ → ℕ → ℕ) (L : Type 0) where
     longer : length events + 1 ≡ length more
     longer = sym (length_push events event)
 
-    -- what a first node's port stands for
-    was_now : (n j : ℕ) → seat_of (G.node n) ≡ Some j
-        → (others : List ℕ) × (bindings_behind L mix env more (length events) (key_of M n) ≡ owner_of (M (Node n OwnerWord)) ∷ others)
-    was_now n j sits =
-        let at = seated_at env mix M G placed.inv.whole n j sits in (
-          owners_in env mix M at.behind,
-          ap (λ (b : Multimap). b (key_of M n)) (behind-more L mix env events event (length events) (omega arith)
-              ∙ behind-all L mix env events ∙ stands)
-              ∙ stands_for_bound env mix core.words G placed.inv.whole (key_of M n) ∙ ap (owners_in env mix M) at.bound_to,
-        )
+    step : PlacesNext env mix (length events) M G placed.places M' G'
+    step = places_step env mix (length events) c M G placed.places M' placed.inv.whole placed.right move ready made
 
-    -- the words of a node stay that is or was a port's
-    words_stay : (n t : ℕ) → n < env.geometry.nodes → IsUsed (G.node n)
-        → (others : List ℕ) × (bindings_behind L mix env more t (key_of M n) ≡ owner_of (M (Node n OwnerWord)) ∷ others)
-        → WasFirst more M' n t
+    -- what a first node's port stands for
+    was_now : (n j : ℕ) → seat_of (G.node n) ≡ Some j → WasFirst more M n (length events)
+    was_now n j sits =
+        let at = seated_at env mix M G placed.inv.whole n j sits in
+        record {
+          others = owners_in env mix M at.behind;
+          is = ap (λ (b : Multimap). b (key_of M n)) (behind-more L mix env events event (length events) (omega arith)
+              ∙ behind-all L mix env events ∙ stands)
+              ∙ stands_for_bound env mix core.words G placed.inv.whole (key_of M n) ∙ ap (owners_in env mix M) at.bound_to;
+        }
+
+    -- a node that has died was a first one right before that
+    was_first : (n t : ℕ) → n < env.geometry.nodes → IsUsed (G.node n) → seat_of (G'.node n) ≡ None
+        → step.places.dead n ≡ Some t → WasFirst more M n t
+    was_first n t among used none dead = go (seat_of (G.node n)) refl
+      where
+        go : (seat : Option ℕ) → seat_of (G.node n) ≡ seat → WasFirst more M n t
+        go (Some j) sits =
+            let both : ◌≡◌ {A = Option ℕ} (Some (length events)) (Some t) = sym (step.deaths.died n j sits none) ∙ dead in
+            let now : length events ≡ t = cc in
+            subst (WasFirst more M n) now (was_now n j sits)
+        go None seatless =
+            let before = sym (step.deaths.kept n seatless) ∙ dead in
+            let was = placed.said n t among used seatless before in
+            let at = placed.deaths n among used seatless in
+            let same = some-same at.at t (sym at.is ∙ before) in
+            let early = at.early in
+            record {
+              others = was.others;
+              is = ap (λ (b : Multimap). b (key_of M n)) (behind-more L mix env events event t (omega (arith, same, early)))
+                  ∙ was.is;
+            }
+
+    -- and its words stay
+    words_stay : (n t : ℕ) → n < env.geometry.nodes → IsUsed (G.node n) → WasFirst more M n t → WasFirst more M' n t
     words_stay n t among used was =
         let rely = made.others (suc c) (λ e. absurd (omega arith)) in
         record {
-          others = was.0;
-          is = ap (bindings_behind L mix env more t) (rely.keys n among used) ∙ was.1
-              ∙ ap (λ w. owner_of w ∷ was.0) (sym (rely.owners n among used));
+          others = was.others;
+          is = ap (bindings_behind L mix env more t) (rely.keys n among used) ∙ was.is
+              ∙ ap (λ w. owner_of w ∷ was.others) (sym (rely.owners n among used));
         }
 
     pub next : Placed more core'
-    next =
-        let step = places_step env mix (length events) c M G placed.places M' placed.inv.whole placed.right move ready made in
-        record {
-          ghost = G';
-          inv = record {
-            same_env = inv'.same_env;
-            whole = made.whole;
-            each = subst (λ K. (k : ℕ) → Knows env mix k (job_of (local_of core' k).doing) M' K) same inv'.each;
-          };
-          all = all';
-          places = step.places;
-          right = subst (PlacesRight env mix G' step.places M') longer step.right_now;
-          deaths = subst (DeathsRight env mix M' G' made.whole step.places) longer
-              (deaths_after env mix (length events) M G placed.places M' G' step.places placed.inv.whole made.whole step.deaths placed.deaths);
-          said = λ n t among used none dead.
-              let was_used = step.deaths.used n used none in
-              words_stay n t among was_used (go n t among was_used none step.places dead step.deaths.died step.deaths.kept
-              (seat_of (G.node n)) refl);
-        }
-      where
-        go : (n t : ℕ) → n < env.geometry.nodes → IsUsed (G.node n) → seat_of (G'.node n) ≡ None → (P' : Places)
-            → P'.dead n ≡ Some t
-            → ((m j : ℕ) → seat_of (G.node m) ≡ Some j → seat_of (G'.node m) ≡ None → P'.dead m ≡ Some (length events))
-            → ((m : ℕ) → seat_of (G.node m) ≡ None → P'.dead m ≡ placed.places.dead m)
-            → (seat : Option ℕ) → seat_of (G.node n) ≡ seat
-            → (others : List ℕ) × (bindings_behind L mix env more t (key_of M n) ≡ owner_of (M (Node n OwnerWord)) ∷ others)
-        go n t among used none P' dead died kept (Some j) sits =
-            let both : ◌≡◌ {A = Option ℕ} (Some (length events)) (Some t) = sym (died n j sits none) ∙ dead in
-            let now : length events ≡ t = cc in
-            subst (λ k. (others : List ℕ) × (bindings_behind L mix env more k (key_of M n)
-            ≡ owner_of (M (Node n OwnerWord)) ∷ others)) now (was_now n j sits)
-        go n t among used none P' dead died kept None seatless =
-            let before = sym (kept n seatless) ∙ dead in
-            let was = placed.said n t among used seatless before in
-            let at = placed.deaths n among used seatless in
-            let both : ◌≡◌ {A = Option ℕ} (Some at.at) (Some t) = sym at.is ∙ before in
-            let same_time : at.at ≡ t = cc in
-            let early = at.early in (
-              was.others,
-              ap (λ (b : Multimap). b (key_of M n)) (behind-more L mix env events event t (omega (arith, same_time, early))) ∙ was.is,
-            )
+    next = record {
+      ghost = G';
+      inv = record {
+        same_env = inv'.same_env;
+        whole = made.whole;
+        each = subst (λ K. (k : ℕ) → Knows env mix k (job_of (local_of core' k).doing) M' K) same inv'.each;
+      };
+      all = all';
+      places = step.places;
+      right = subst (PlacesRight env mix G' step.places M') longer step.right_now;
+      deaths = subst (DeathsRight env M' G' step.places) longer
+          (deaths_after env mix (length events) M G placed.places M' G' step.places step.frame placed.inv.whole step.deaths
+          placed.deaths);
+      said = λ n t among used none dead.
+          let was_used = step.deaths.used n used none in
+          words_stay n t among was_used (was_first n t among was_used none dead);
+    }
 
   -- ---- runs
 
