@@ -1,4 +1,4 @@
--- the machines, operation by operation
+-- the steps of all machines as one, for whatever call a caller works at
 pub mod Machines
 -- what an event does to each caller, what holds in every run of its own, and the invariant
 pub mod Events

@@ -1,5 +1,7 @@
+-- what the words stand for, and what they say at a table's closing
 pub use Rattle.rht_stands.specs.StandsFor
 pub use Rattle.rht_stands.specs.Closing
+-- what a caller is doing, and the reading of how many ports are bound
 pub use Rattle.rht_callers.specs.Locals
 pub use Rattle.rht_callers.specs.PortCounts
 -- what a caller does, said without its table

@@ -1,8 +1,9 @@
-//! All machines together: what each caller is doing, the events of a run, and its laws.
+//! All callers together: the events of a run, and its laws.
 //!
-//! Stands on all machines and on `rht_model`. A run is what happens to a table's words and its
-//! callers, event by event; `State` is one run on plain words.
-//! Read `specs/Runs.antt` first, then `specs/StandsFor.antt`, which says what the words mean.
+//! Stands on `rht_callers`, which says what one caller is doing, on `rht_stands`, which says what
+//! words stand for, on the machines, and for its proofs on `rht_ghost`. A run is what happens to a
+//! table's words and its callers, event by event; `State` is one run on plain words.
+//! Read `specs/Runs.antt` first, then `specs/StandsFor.antt` of `rht_stands`.
 #![tactic(auto)]
 
 mod book;

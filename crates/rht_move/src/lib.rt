@@ -1,7 +1,7 @@
 //! Resizing a table: a larger or a smaller one is attached, and the entries are moved to it.
 //!
 //! Stands on `rht_words`, `rht_policy`, `rht_model`, and the pieces of `rht_arena`, `rht_nest` and
-//! `rht_chain`. `rht_core` runs this machine among the others.
+//! `rht_chain`; its proofs stand on `rht_ghost`. `rht_callers` has this machine among the others.
 //! Read `specs/Work.antt` first: it is the machine as a table. `specs/Choice.antt` says when a
 //! table is due, and `specs/Laws.antt` what the other crates rely on.
 #![tactic(auto)]

@@ -1,7 +1,7 @@
 //! Taking a binding out, putting another owner in one's place, and listing the owners of a port.
 //!
 //! Stands on `rht_words`, `rht_policy`, `rht_model`, and the pieces of `rht_arena`, `rht_nest` and
-//! `rht_chain`. The three machines share the way to the port, `Seek`.
+//! `rht_chain`; its proofs stand on `rht_ghost`. The three machines share the way to the port, `Seek`.
 //! Read `specs/Seek.antt` first, then `specs/Release.antt`: they are the machines as tables. Each
 //! machine has a module, in which the functions between its states are public.
 #![tactic(auto)]

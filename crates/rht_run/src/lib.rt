@@ -1,8 +1,9 @@
 //! The running table: all shared state lies in the words of one table, and callers step through it
 //! in threads of their own.
 //!
-//! Stands on `rht_core`, whose machines it runs, and on the kit's `atomic_table`, whose rule ties
-//! the words to one run. Nothing else is shared. `rht_registry` runs scripts on it.
+//! Stands on `rht_callers`, whose callers it runs, on `rht_core`, which says what a run is, and on
+//! the kit's `atomic_table`, whose rule ties the words to one run. Nothing else is shared.
+//! `rht_registry` runs scripts on it.
 //! Read `specs/Rule.antt` first, which is the rule, and then `specs/Passes.antt`, `Caused` and
 //! `Served`, which are what the calls promise.
 #![tactic(auto)]

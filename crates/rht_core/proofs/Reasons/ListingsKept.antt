@@ -3,7 +3,7 @@
 -- While a listing goes on its room has the owners that it has loaded so far. An operation of it that loads no owner leaves
 -- the room: those on the way to the port are on words of slots and of pages, and on the keys and the chain links of nodes;
 -- then come the links of the list, and the unlocking, which is a store. And where it loads an owner the room isn't full: it
--- has no more owners than the port's list has nodes before this one (`kept`, in `Machines/AllSteps`).
+-- has no more owners than the port's list has nodes before this one (`kept`, in `AllSteps` of `rht_release`).
 use Rattle.std.proofs.Common.{◌≡◌, ℕ, ◌+◌, ◌-◌, ◌<◌, true, false, cond, List, [], ◌∷◌, ◌++◌, refl, sym, ap, ◌∙◌, subst, arith}
 use Rattle.std.specs.Prelude.{Some}
 use Rattle.std.proofs.lemmas.List.{append-nil, append_assoc}
