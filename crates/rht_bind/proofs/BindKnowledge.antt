@@ -220,8 +220,8 @@ module _ (env : Env) (mix : ℕ → ℕ → ℕ → ℕ) (c : ℕ) (port owner :
     pub with_node : (n : ℕ) (reply : Reply) → IsBindReply once reply → AreOwnersWith reply []
         → ArePairsWith reply [] → reply ≢ NoNode
         → IsRight (calls.Bind port owner once) (Some n) (plain reply)
-    with_node n reply is owners pairs other = record {
-      replied = record { reply = is; owners = owners; pairs = pairs };
+    with_node n reply is none_named no_pairs other = record {
+      replied = record { reply = is; owners = none_named; pairs = no_pairs };
       tells = (λ none. absurd (cc), λ no_node. absurd (other no_node));
     }
 
