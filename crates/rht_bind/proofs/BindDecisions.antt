@@ -153,8 +153,7 @@ module _ (env : Env) (mix : ℕ → ℕ → ℕ → ℕ) (c : ℕ) (port owner :
       → BindMoved (at.Future claimed count) (future_or_count claimed count future, Go)
   future_next claimed count None unbound last known =
       by_test (λ t. BindMoved (at.Future claimed count)
-      (cond t (unlocking_full claimed full.Chain) (at.Count claimed), Go))
-      (nat_le 16 count)
+      (cond t (unlocking_full claimed full.Chain) (at.Count claimed), Go)) (nat_le 16 count)
       (λ t. reads env mix whole refl refl (inl refl)
       (full_knows claimed full.Chain (missed port owner claimed)
       (has_lock env mix c G claimed.bucket.place claimed.bucket.word known.knowing.means.bucket.lock)
@@ -172,8 +171,7 @@ module _ (env : Env) (mix : ℕ → ℕ → ℕ → ℕ) (c : ℕ) (port owner :
       → let here = at.Future claimed count in
       IsBindAtIn env here → BindKnows here M G → BindStep here
   future_loaded claimed count is known =
-      future_next claimed count
-      (slot_of (M (Slot claimed.table FutureWord)))
+      future_next claimed count (slot_of (M (Slot claimed.table FutureWord)))
       (future_is env mix c (holds_claimed claimed) (Some (own port owner claimed.attempt.node))
       (missed port owner claimed) words G whole port claimed.table claimed.bucket.place
       claimed.bucket.word (Some claimed.shape) known.knowing known.knowing.means.bucket)

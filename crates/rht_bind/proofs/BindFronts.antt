@@ -306,10 +306,8 @@ module _ (env : Env) (mix : ℕ → ℕ → ℕ → ℕ) (c : ℕ) (port owner :
         front_stored list op known.knowing
         (BindNext (
           at.Replacing list (front_relink env list (relinks.Word word)),
-          Done
-              (Bound claimed.attempt.attached),
-        ))
-        known.fits.listed
+          Done (Bound claimed.attempt.attached),
+        )) known.fits.listed
         (let order = parts_in_order env.geometry in omega (arith, back, order.nodes, order.pages))
         (subst (IsWrite env.geometry M (mem env mix (applied words op)) (PageWord j)) value
         (is_write env.geometry words (PageWord j) op all (index-within env mix claimed.bucket.place there)
@@ -334,12 +332,10 @@ module _ (env : Env) (mix : ℕ → ℕ → ℕ → ℕ) (c : ℕ) (port owner :
         let Ended : Memory → Ghost → Type 0 =
         BindNext (
           at.Replacing list (front_relink env list (relinks.Word word)),
-          Done
-              (Bound claimed.attempt.attached),
+          Done (Bound claimed.attempt.attached),
         ) in
         subst (λ v. Step env mix c call words G (Store place v)
-        (holds_front claimed.attempt.attached (Some place)) told Ended)
-        (sym known.fits.at_is)
+        (holds_front claimed.attempt.attached (Some place)) told Ended) (sym known.fits.at_is)
         (answered env mix (Some (plain (Bound claimed.attempt.attached)))
         (inl (keeps (Some (plain (Bound claimed.attempt.attached))))) (still_has refl)
         (unlock_step env mix c told None Nowhere words G all whole refl place claimed.bucket.word

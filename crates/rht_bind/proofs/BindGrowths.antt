@@ -110,8 +110,7 @@ module _ (env : Env) (mix : ℕ → ℕ → ℕ → ℕ) (c : ℕ) (port owner :
       → Tells env.config.kind c call (Some n) now None (option_map plain (ended_attempt once table))
   attempt_tells n table =
       by_test (λ t. Tells env.config.kind c call (Some n) now None
-      (option_map plain (cond t (Some (Again table)) None)))
-      once
+      (option_map plain (cond t (Some (Again table)) None))) once
       (λ is. binds.refused env mix c port owner once words G n (Again table) is refl refl (λ e. cc) refl tt
       refl)
       (λ is. inl refl)
@@ -230,8 +229,7 @@ module _ (env : Env) (mix : ℕ → ℕ → ℕ → ℕ) (c : ℕ) (port owner :
       let next = behind_attempt env attempt answer in
       rw (behind_holds attempt answer)
       (answered-map env mix told (inl (keeps told)) (still_has refl)
-      (λ M' G' w k. behind_knows attempt answer M' G' k)
-      step)
+      (λ M' G' w k. behind_knows attempt answer M' G' k) step)
 
   pub unmaking : (attempt : Attempt) (unmake : UnmakeModel) (answer : Option Reply)
       → let here = at.Unmaking attempt unmake answer in
@@ -241,8 +239,7 @@ module _ (env : Env) (mix : ℕ → ℕ → ℕ → ℕ) (c : ℕ) (port owner :
       (unmake_after_at unmake.at (old_of words (unmake_plan unmake)))
       (unmake_step env mix c (holds_behind attempt.node answer)
       (knows_of port owner (own port owner attempt.node) Nowhere Unlocked) words G all whole unmake
-      is.unmake_in
-      known.knowing)
+      is.unmake_in known.knowing)
 
   -- ---- the table is attached
 
@@ -316,8 +313,7 @@ module _ (env : Env) (mix : ℕ → ℕ → ℕ → ℕ) (c : ℕ) (port owner :
         })
         (let left =
         Knowing-retabled env mix M M' G (put G.table G.attached (made_table slot shape seed serial))
-        (G.attached + 1)
-        (put G.slot slot (Live G.attached))
+        (G.attached + 1) (put G.slot slot (Live G.attached))
         (put_in (is_page_for shape) (PageOf G.attached) G.page) whole kept
         (Slot (G.table τ).slot FutureWord) (future_of slot) write
         (slot_word-apart G (G.table τ).slot FutureWord) c
@@ -384,9 +380,6 @@ module _ (env : Env) (mix : ℕ → ℕ → ℕ → ℕ) (c : ℕ) (port owner :
             (at.Unmaking growing.attempt (unmake_new env.geometry slot shape)
             (ended_attempt once (table_of (found - 1)))),
         Go,
-      ))
-      (found == 0)
-      (λ t. won growing slot shape within known
-      (eqb-true found 0 t))
-      (λ f. lost growing slot shape within known
-      (eqb-false found 0 f))
+      )) (found == 0)
+      (λ t. won growing slot shape within known (eqb-true found 0 t))
+      (λ f. lost growing slot shape within known (eqb-false found 0 f))

@@ -159,8 +159,7 @@ module _ (env : Env) where
     pub listed : env.config.kind ≡ Listed
     pub relink_is : relink ≡ front_relink list relink.at
     pub at_is : IsRelinkAtOf list.claimed.bucket.place list.claimed.bucket.word
-        (link_of list.claimed.attempt.node)
-        list.before relink.at
+        (link_of list.claimed.attempt.node) list.before relink.at
 
 module _ (env : Env) (mix : ℕ → ℕ → ℕ → ℕ) (c : ℕ) (port owner : ℕ) (once : Bool) where
   -- how its pieces are for the port, the owner and the kind of the table
@@ -236,8 +235,7 @@ module _ (env : Env) (mix : ℕ → ℕ → ℕ → ℕ) (c : ℕ) (port owner :
         → ArePairsWith reply [] → reply ≢ NoNode → takes_out reply ≡ false → answers.IsBindRefusal reply
         → answers.is_refusal reply ≡ true
         → Tells env.config.kind c (calls.Bind port owner once) (Some n)
-        (owners env mix (mem env mix words) G) None
-        (Some (plain reply))
+        (owners env mix (mem env mix words) G) None (Some (plain reply))
     refused n reply is none_named no_pairs other stays may refuses =
         learns env.config.kind c (calls.Bind port owner once) (Some n)
         (owners env mix (mem env mix words) G)

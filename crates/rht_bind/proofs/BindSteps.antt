@@ -114,8 +114,7 @@ module _ (env : Env) (mix : ℕ → ℕ → ℕ → ℕ) (c : ℕ) (port owner :
       subst (λ g. Step env mix c call words G (give_node_plan (record { geometry = g; node = give.node }))
       (record told { node = Some give.node }) told (Knowing env mix c told known_nothing))
       (sym is.geometry_same)
-      (answered env mix (Some (plain reply))
-      (inl (keeps (Some (plain reply))))
+      (answered env mix (Some (plain reply)) (inl (keeps (Some (plain reply))))
       (record { taken = λ node none some. absurd (cc); gone = λ node some none told. absurd (cc) })
       (nodes.give_step env mix c told Nowhere Unlocked words G all whole tt
       (own port owner give.node) known.knowing))

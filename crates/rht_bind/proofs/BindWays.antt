@@ -285,13 +285,10 @@ module _ (env : Env) (mix : ℕ → ℕ → ℕ → ℕ) (c : ℕ) (port owner :
       IsBindAtIn env here → BindKnows here M G → BindStep here
   entering attempt table shape place grow is known =
       grown_next attempt table shape place grow
-      (grow_after_at grow.geometry grow.at (old_of words (grow_plan grow)))
-      known.fits
+      (grow_after_at grow.geometry grow.at (old_of words (grow_plan grow))) known.fits
       (grow_step env mix c (holds_node (Some attempt.node) None)
-      (on_way attempt table shape place)
-      (OnWay port table shape place None)
-      (behind_entry_of table shape place) words G all whole
-      place.entry
+      (on_way attempt table shape place) (OnWay port table shape place None)
+      (behind_entry_of table shape place) words G all whole place.entry
       (open_on_way env mix M G whole port table shape place)
       (λ M' G' page whole' on leads. entered_on_way env mix M' G' whole' port table shape place on
       is.place_in.geometry_same page leads)
