@@ -40,8 +40,16 @@ pub mod ReleaseKicks
 pub mod MadeSizes
 -- which table is the last one, and that it stays so
 pub mod LastTables
--- by which loads a resizing chose what is due, and which table it made the current one
-pub mod WorkChoices
+-- by which loads a resizing chose what is due
+pub mod ChoicesMade
+-- what it has seen, in each of its states and for its reply
+pub mod WorksSeen
+-- what it sees until it loads the future of the current table
+pub mod TablesDue
+-- what it sees that moves the current table
+pub mod MovesSeen
+-- and what each of its operations sees
+pub mod WorkStepsSeen
 -- why each reply of a bind has its cause
 pub mod BindCauses
 -- and why each of the other calls

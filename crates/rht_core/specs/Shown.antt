@@ -26,7 +26,8 @@ pub record WalksFrom (from next : Option Cursor) (past : Past) : Type 0 where
   pub len : ℕ
   pub reply : past.done.reply ≡ Walked len next
 
--- calls one behind the other, of which each goes on where the one before ended, and the last one has come to the end
+-- calls one behind the other, of which each goes on where the one before ended, and the last one has come to
+-- the end
 abbrev pub AreWalks : Option Cursor → List Past → Type 0
 AreWalks from [] = ⊥
 AreWalks from (past ∷ []) = WalksFrom from None past
@@ -48,9 +49,11 @@ ends_behind from [] = from
 ends_behind from (past ∷ pasts) = ends_behind (behind_call past) pasts
 
 module _ (M : Type 0) (mix : ℕ → ℕ → ℕ → ℕ) where
-  -- Of the bindings behind the events from the one on with this number, up to that: each port that is bound behind all of them is shown; a pair
-  -- that is shown is a port and its first owner behind one of them; and no port is shown twice.
-  pub record ShowsRightly (env : Env) (events : List Event) (begin behind : ℕ) (pairs : List (ℕ × ℕ)) : Type 0 where
+  -- Of the bindings behind the events from the one on with this number, up to that: each port that is bound
+  -- behind all of them is shown; a pair that is shown is a port and its first owner behind one of them; and
+  -- no port is shown twice.
+  pub record ShowsRightly (env : Env) (events : List Event) (begin behind : ℕ)
+      (pairs : List (ℕ × ℕ)) : Type 0 where
     pub throughout : (port : ℕ)
         → ((i : ℕ) → begin < i → i ≤ behind → bindings_behind M mix env events i port ≢ [])
         → In port (map (λ pair. pair.0) pairs)
@@ -63,13 +66,19 @@ module _ (M : Type 0) (mix : ℕ → ℕ → ℕ → ℕ) where
   AreFewMade env events =
       (indexes : List ℕ) → IsDistinct indexes
       → AllByRecursion (λ index. (c : ℕ) × (old : ℕ)
-      × IsRecorded M mix env events c record { index = index; op = Add (place_of env.geometry NextSerial) 1; old = old }) indexes
+      × IsRecorded M mix env events c record {
+        index = index;
+        op = Add (place_of env.geometry NextSerial) 1;
+        old = old;
+      }) indexes
       → length indexes < 2 ^ 63
 
-  -- in every run each full walk shows rightly, and each call of it has kept at most as many pairs as there are nodes
+  -- in every run each full walk shows rightly, and each call of it has kept at most as many pairs as there
+  -- are nodes
   abbrev pub Shown : Type 0
   Shown =
-      (env : Env) (events : List Event) (c : ℕ) (first : Past) (pasts : List Past) → IsAdmitted env.config.kind events
+      (env : Env) (events : List Event) (c : ℕ) (first : Past) (pasts : List Past)
+      → IsAdmitted env.config.kind events
       → AreFewMade env events
       → AreWalks None (first ∷ pasts)
       → AreAmong (first ∷ pasts) ((traced_of {M = M} mix env events).traces c).past
@@ -104,9 +113,10 @@ abbrev pub Fits : ℕ → ℕ → Option Cursor → Type 0
 Fits serial shape None = Unit {0}
 Fits serial shape (Some cursor) = (cursor.serial ≡ serial) × (cursor.bucket < size_of (unpacked shape))
 
--- `Walked`: with a cursor it is the walked table's, at a later bucket, and enough pairs were kept; without one the table's future was
--- found to be none, and behind that no bucket was looked at
-pub record SawWalked (g : Geometry) (from : Option Cursor) (limit len : ℕ) (next : Option Cursor) (steps : List Did) : Type 0 where
+-- `Walked`: with a cursor it is the walked table's, at a later bucket, and enough pairs were kept; without
+-- one the table's future was found to be none, and behind that no bucket was looked at
+pub record SawWalked (g : Geometry) (from : Option Cursor) (limit len : ℕ) (next : Option Cursor)
+    (steps : List Did) : Type 0 where
   pub table : ℕ
   pub serial : ℕ
   pub shape : ℕ
@@ -115,7 +125,8 @@ pub record SawWalked (g : Geometry) (from : Option Cursor) (limit len : ℕ) (ne
   pub ended : (next ≡ None
       × (before : List Did) × (at : Did) × (behind : List Did) × (begins.behind ≡ before ++ at ∷ behind)
       × Loaded g (Slot table FutureWord) 0 at × AllByRecursion (IsBeforeNodes g) behind)
-      ⊎ ((cursor : Cursor) × (next ≡ Some cursor) × (cursor.serial ≡ serial) × (first_bucket from < cursor.bucket)
+      ⊎ ((cursor : Cursor) × (next ≡ Some cursor) × (cursor.serial ≡ serial)
+      × (first_bucket from < cursor.bucket)
       × (cursor.bucket < size_of (unpacked shape)) × (limit ≤ len))
 
 -- `Again`: the walked table has this future, or this is the current table and the cursor doesn't fit it

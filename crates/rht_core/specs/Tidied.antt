@@ -1,11 +1,10 @@
 -- What a call that tidies gives back, why one waits, and which nodes wait, in every run.
-use Rattle.std.specs.Prelude.{◌≡◌, ◌↔◌, ℕ, ◌+◌, ◌*◌, ◌/◌, ◌%◌, ◌<◌, ◌⊎◌, List, [], ◌∷◌, ◌++◌, length, take, slice_index_or}
+use Rattle.std.specs.Prelude.{◌≡◌, ◌↔◌, ℕ, ◌%◌, ◌<◌, List, [], ◌∷◌, ◌++◌, length, take, slice_index_or}
 use Rattle.std.specs.List.{AllByRecursion, Any, Contains, flat_map, range_with_len}
 use Rattle.rht_words.specs.declared.env.Env.{Env}
 use Rattle.rht_words.specs.declared.geometry.Geometry.{Geometry}
-use Rattle.rht_words.specs.declared.op.Op.TheVariants.{Store}
 use Rattle.rht_words.specs.Members.{In, IsDistinct}
-use Rattle.rht_words.specs.Places.{Section, Slot, StateWord, PageMap, PageWord, place_of}
+use Rattle.rht_words.specs.Places.{Section}
 use Rattle.rht_model.specs.declared.history.Call.TheVariants.{Tidy}
 use Rattle.rht_model.specs.declared.history.Reply.TheVariants.{Clear, Pending}
 use Rattle.rht_arena.specs.Laws.{map_place, map_bit}
@@ -14,11 +13,10 @@ use Rattle.rht_core.specs.Counts.{IsPlaced}
 use Rattle.rht_core.specs.Runs.{Core, run_of, IsAdmitted}
 use Rattle.rht_core.specs.Reach.{SetsBit}
 use Rattle.rht_core.specs.Seen.{LoadsWord}
-use Rattle.rht_stands.specs.StandsFor.{shape_of}
-use Rattle.rht_core.specs.TablePages.{IsPageOfTable}
 use Rattle.rht_core.specs.Traces.{Did, Past, traced_of, behind_call}
 
--- a caller's batch: nodes that were taken out since the last tidying, those that wait, and the section words kept for these
+-- a caller's batch: nodes that were taken out since the last tidying, those that wait, and the section words
+-- kept for these
 pub record Batch : Type 0 where
   pub fresh : List ℕ
   pub waiting : List ℕ
@@ -37,8 +35,8 @@ left_of fresh (node ∷ nodes) = fresh
 abbrev pub GivesNode : Geometry → List Did → ℕ → Type 0
 GivesNode g steps node = (node < g.nodes) × Any (SetsBit (map_place g node) (map_bit node)) steps
 
--- A tidying that clears has given back just the nodes that were due, and says how many; none waits then. One that waits has given back
--- none, and they wait.
+-- A tidying that clears has given back just the nodes that were due, and says how many; none waits then. One
+-- that waits has given back none, and they wait.
 pub record TidiesRightly (g : Geometry) (before after : Batch) (past : Past) : Type 0 where
   pub cleared : (count : ℕ) → past.done.reply ≡ Clear count
       → (count ≡ length (due_of before.fresh before.waiting))
@@ -60,7 +58,8 @@ module _ (M : Type 0) (mix : ℕ → ℕ → ℕ → ℕ) (batch_of : Core M →
       (env : Env) (events : List Event) (c : ℕ) (past : Past) → IsAdmitted env.config.kind events
       → Contains ((traced_of {M = M} mix env events).traces c).past past
       → past.done.call ≡ Tidy
-      → TidiesRightly env.geometry (batch_before env events c past.begin) (batch_before env events c (behind_call past)) past
+      → TidiesRightly env.geometry (batch_before env events c past.begin)
+      (batch_before env events c (behind_call past)) past
 
   -- why one waits: it loaded another caller's section word, and found the odd word that it had kept
   pub record FindsKept (env : Env) (events : List Event) (c caller section : ℕ) (did : Did) : Type 0 where
@@ -71,7 +70,8 @@ module _ (M : Type 0) (mix : ℕ → ℕ → ℕ → ℕ) (batch_of : Core M →
     pub odd : section % 2 ≡ 1
 
   -- and the last operation of the call did so, behind which it knows that some nodes are due
-  pub record SawPending (env : Env) (events : List Event) (c caller section : ℕ) (steps : List Did) : Type 0 where
+  pub record SawPending (env : Env) (events : List Event) (c caller section : ℕ)
+      (steps : List Did) : Type 0 where
     pub before : List Did
     pub last : Did
     pub are : steps ≡ before ++ last ∷ []
@@ -80,39 +80,13 @@ module _ (M : Type 0) (mix : ℕ → ℕ → ℕ → ℕ) (batch_of : Core M →
   -- the nodes that wait in anybody's batch
   abbrev pub in_batches : Env → Core M → List ℕ
   in_batches env core =
-      flat_map (λ c. (batch_of core c).fresh ++ (batch_of core c).waiting) (range_with_len 0 env.geometry.callers)
+      flat_map (λ c. (batch_of core c).fresh ++ (batch_of core c).waiting)
+      (range_with_len 0 env.geometry.callers)
 
-  -- while nobody is in a call each node is free, in a port's list, or in a batch, and never two of these; and none is twice in batches
+  -- while nobody is in a call each node is free, in a port's list, or in a batch, and never two of these; and
+  -- none is twice in batches
   pub record AreBatched (env : Env) (core : Core M) : Type 0 where
     pub distinct : IsDistinct (in_batches env core)
     pub among : AllByRecursion (λ node. node < env.geometry.nodes) (in_batches env core)
-    pub placed : (node : ℕ) → node < env.geometry.nodes → IsPlaced env.geometry core.words (in_batches env core) node
-
--- ---- what a resizing may have returned, though it was refused
-
--- the operation found that the table in this slot is retired
-pub record FindsRetired (g : Geometry) (slot : ℕ) (did : Did) : Type 0 where
-  pub slot_in : slot < 8
-  pub loads : LoadsWord g (Slot slot StateWord) did
-  pub found : did.old ≡ 2
-
--- the operation freed its slot
-pub record ReturnsSlot (g : Geometry) (slot : ℕ) (did : Did) : Type 0 where
-  pub stores : did.op ≡ Store (place_of g (Slot slot StateWord)) 0
-  pub found : did.old ≡ 2
-
--- What is of a table that these operations returned: they found that it was retired, and freed its slot behind that. It is the slot's state,
--- and by the words before the first of these each of the table's pages: its bit, and its words.
-pub record IsOfReturned (g : Geometry) (words_at : ℕ → List ℕ) (steps : List Did) (place bit : ℕ) : Type 0 where
-  pub slot : ℕ
-  pub before : List Did
-  pub at : Did
-  pub behind : List Did
-  pub split : steps ≡ before ++ at ∷ behind
-  pub found : FindsRetired g slot at
-  pub returns : Any (ReturnsSlot g slot) behind
-  pub of_it :
-      (place ≡ place_of g (Slot slot StateWord))
-      ⊎ ((page : ℕ) × (page < g.pages) × IsPageOfTable g (words_at at.index) (shape_of g (words_at at.index) slot) page
-      × (((place ≡ place_of g (PageMap (page / 64))) × (bit ≡ page % 64))
-      ⊎ ((i : ℕ) × (i < 64) × (place ≡ place_of g (PageWord (64 * page + i))))))
+    pub placed : (node : ℕ) → node < env.geometry.nodes
+        → IsPlaced env.geometry core.words (in_batches env core) node

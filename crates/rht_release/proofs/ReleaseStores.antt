@@ -474,8 +474,10 @@ module _ (env : Env) (mix : ℕ → ℕ → ℕ → ℕ) (c : ℕ) (port owner :
               (after (relink_op found link)) G
               whole low k.only.raising low link is.means.link_is
               (found_in found link is.found [] k.means.table (idle_moves_none env mix M G whole c k.only) bound) (first_write found link lock.bucket before_in);
-          ready = inl (unlinking_known env mix c port j found.node s.front s.rear found.before M (after (relink_op found link)) G link
-              (found_in found link is.found [] k.means.table (idle_moves_none env mix M G whole c k.only) bound));
+          ready = inl (unlinking_known env mix c port j found.node s.front s.rear found.before M
+              (after (relink_op found link)) G link
+              (found_in found link is.found [] k.means.table
+              (idle_moves_none env mix M G whole c k.only) bound));
         })
       where
         none_behind : (nodes : List ℕ) → None ≡ first_of_list nodes → nodes ≡ []
@@ -542,7 +544,8 @@ module _ (env : Env) (mix : ℕ → ℕ → ℕ → ℕ) (c : ℕ) (port owner :
                   (found_in found (link_of second) is.found behind k.means.table
                   (idle_moves_none env mix M G whole c k.only) bound) second tail (Taken c) can
                   (first_write found (link_of second) lock.bucket before_in);
-              ready = inr (inl (replacing_known env mix c port j m s.front s.rear found.before M (after op) G behind
+              ready = inr (inl (replacing_known env mix c port j m s.front s.rear found.before M
+                  (after op) G behind
                   (found_in found (link_of second) is.found behind k.means.table
                   (idle_moves_none env mix M G whole c k.only) bound) second tail (Taken c) can));
             })

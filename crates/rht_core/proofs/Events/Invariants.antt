@@ -289,18 +289,24 @@ module _ (env : Env) (mix : ℕ → ℕ → ℕ → ℕ) where
     -- an enrolling leaves the whole, and all that anybody relies on
     pub enrolled : (core : Core L) (G : Ghost) → AllIn L mix env core → Inv core G
         → let M' = mem env mix (applied core.words (enrolling core.env)) in
-        Whole env mix M' G × ((k : ℕ) → Rely env mix k (mem env mix core.words) G M' G) × StaleStay env mix (mem env mix core.words) G M' G
+        Whole env mix M' G × ((k : ℕ) → Rely env mix k (mem env mix core.words) G M' G)
+        × StaleStay env mix (mem env mix core.words) G M' G
     enrolled core G sound inv =
         let op = enrolling core.env in
         let v = word_after (word_at env.geometry core.words EnrolledCallers) op in
         let M = mem env mix core.words in
         let M' = mem env mix (applied core.words op) in
         let write = is_write env.geometry core.words EnrolledCallers op sound.stays.all_words tt refl in
-        let kept = aside env mix EnrolledCallers (word_after (word_at env.geometry core.words EnrolledCallers) op)
+        let kept = aside env mix EnrolledCallers
+        (word_after (word_at env.geometry core.words EnrolledCallers) op)
         (mem env mix core.words) (mem env mix (applied core.words op)) G inv.whole write
         (record { current = λ e. cc; work = λ e. cc; slots = λ s w e. cc; pages = λ i e. cc }) (λ j e. cc) (λ n w e. cc) (λ i e. cc)
-        (λ e. cc) in
-        (kept.0, kept.1, stale_write env mix M M' G G EnrolledCallers v write (same_owners env mix G G refl) (λ n u f e. cc) (λ n u f e. cc))
+        (λ e. cc) in (
+          kept.0,
+          kept.1,
+          stale_write env mix M M' G G EnrolledCallers v write (same_owners env mix G G refl)
+              (λ n u f e. cc) (λ n u f e. cc),
+        )
 
     enroll_kept : (core : Core L) (G : Ghost) → AllIn L mix env core → Inv core G → Kept core G Enroll
     enroll_kept core G sound inv =

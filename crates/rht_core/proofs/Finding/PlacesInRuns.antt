@@ -1,5 +1,5 @@
--- In every run there are places that are right, and each node that is a port's first one no more was so, by what the words stood for, right before
--- the event from which on it isn't.
+-- In every run there are places that are right, and each node that is a port's first one no more was so, by
+-- what the words stood for, right before the event from which on it isn't.
 use Rattle.std.proofs.Common.{◌≡◌, ℕ, suc, ◌+◌, ◌<◌, List, [], ◌∷◌, ◌++◌, length, Option, Some, None, refl, sym, ◌∙◌, ap, subst, arith}
 use Rattle.std.proofs.lemmas.List.{length_push}
 use Rattle.rht_words.specs.declared.op.Op.{Op}
@@ -51,10 +51,13 @@ module _ (env : Env) (mix : ℕ → ℕ → ℕ → ℕ) (L : Type 0) where
   -- ---- one event more
 
   module _ (events : List Event) (event : Event) (core core' : Core L)
-      (stands : bindings_at L mix env events ≡ stands_for env.geometry core.words) (placed : Placed events core)
+      (stands : bindings_at L mix env events ≡ stands_for env.geometry core.words)
+      (placed : Placed events core)
       (c : ℕ) (move : Move) (ready : ReadyFor env mix c (mem env mix core.words) placed.ghost move)
-      (made : Made env mix c (mem env mix core.words) placed.ghost (mem env mix core'.words) (ghost_after env mix c move placed.ghost))
-      (H : Ghost) (same : H ≡ ghost_after env mix c move placed.ghost) (inv' : Inv env mix L core' H) (all' : AllIn L mix env core') where
+      (made : Made env mix c (mem env mix core.words) placed.ghost (mem env mix core'.words)
+      (ghost_after env mix c move placed.ghost))
+      (H : Ghost) (same : H ≡ ghost_after env mix c move placed.ghost) (inv' : Inv env mix L core' H)
+      (all' : AllIn L mix env core') where
     abbrev M : Memory
     M = mem env mix core.words
 
@@ -70,11 +73,14 @@ module _ (env : Env) (mix : ℕ → ℕ → ℕ → ℕ) (L : Type 0) where
     abbrev more : List Event
     more = events ++ event ∷ []
 
+    -- there is one event more
     longer : length events + 1 ≡ length more
     longer = sym (length_push events event)
 
+    -- the places behind it
     step : PlacesNext env mix (length events) M G placed.places M' G'
-    step = places_step env mix (length events) c M G placed.places M' placed.inv.whole placed.right move ready made
+    step = places_step env mix
+        (length events) c M G placed.places M' placed.inv.whole placed.right move ready made
 
     -- what a first node's port stands for
     was_now : (n j : ℕ) → seat_of (G.node n) ≡ Some j → WasFirst more M n (length events)
@@ -82,9 +88,11 @@ module _ (env : Env) (mix : ℕ → ℕ → ℕ → ℕ) (L : Type 0) where
         let at = seated_at env mix M G placed.inv.whole n j sits in
         record {
           others = owners_in env mix M at.behind;
-          is = ap (λ (b : Multimap). b (key_of M n)) (behind-more L mix env events event (length events) (omega arith)
+          is = ap (λ (b : Multimap). b (key_of M n))
+              (behind-more L mix env events event (length events) (omega arith)
               ∙ behind-all L mix env events ∙ stands)
-              ∙ stands_for_bound env mix core.words G placed.inv.whole (key_of M n) ∙ ap (owners_in env mix M) at.bound_to;
+              ∙ stands_for_bound env mix core.words G placed.inv.whole (key_of M n)
+              ∙ ap (owners_in env mix M) at.bound_to;
         }
 
     -- a node that has died was a first one right before that
@@ -94,7 +102,8 @@ module _ (env : Env) (mix : ℕ → ℕ → ℕ → ℕ) (L : Type 0) where
       where
         go : (seat : Option ℕ) → seat_of (G.node n) ≡ seat → WasFirst more M n t
         go (Some j) sits =
-            let both : ◌≡◌ {A = Option ℕ} (Some (length events)) (Some t) = sym (step.deaths.died n j sits none) ∙ dead in
+            let both : ◌≡◌ {A = Option ℕ} (Some (length events)) (Some t) =
+            sym (step.deaths.died n j sits none) ∙ dead in
             let now : length events ≡ t = cc in
             subst (WasFirst more M n) now (was_now n j sits)
         go None seatless =
@@ -105,12 +114,14 @@ module _ (env : Env) (mix : ℕ → ℕ → ℕ → ℕ) (L : Type 0) where
             let early = at.early in
             record {
               others = was.others;
-              is = ap (λ (b : Multimap). b (key_of M n)) (behind-more L mix env events event t (omega (arith, same, early)))
+              is = ap (λ (b : Multimap). b (key_of M n))
+                  (behind-more L mix env events event t (omega (arith, same, early)))
                   ∙ was.is;
             }
 
     -- and its words stay
-    words_stay : (n t : ℕ) → n < env.geometry.nodes → IsUsed (G.node n) → WasFirst more M n t → WasFirst more M' n t
+    words_stay : (n t : ℕ) → n < env.geometry.nodes → IsUsed (G.node n) → WasFirst more M n t
+        → WasFirst more M' n t
     words_stay n t among used was =
         let rely = made.others (suc c) (λ e. absurd (omega arith)) in
         record {
@@ -119,6 +130,7 @@ module _ (env : Env) (mix : ℕ → ℕ → ℕ → ℕ) (L : Type 0) where
               ∙ ap (λ w. owner_of w ∷ was.others) (sym (rely.owners n among used));
         }
 
+    -- so the invariant holds behind it
     pub next : Placed more core'
     next = record {
       ghost = G';
@@ -131,7 +143,8 @@ module _ (env : Env) (mix : ℕ → ℕ → ℕ → ℕ) (L : Type 0) where
       places = step.places;
       right = subst (PlacesRight env mix G' step.places M') longer step.right_now;
       deaths = subst (DeathsRight env M' G' step.places) longer
-          (deaths_after env mix (length events) M G placed.places M' G' step.places step.frame placed.inv.whole step.deaths
+          (deaths_after env mix
+          (length events) M G placed.places M' G' step.places step.frame placed.inv.whole step.deaths
           placed.deaths);
       said = λ n t among used none dead.
           let was_used = step.deaths.used n used none in
@@ -140,6 +153,7 @@ module _ (env : Env) (mix : ℕ → ℕ → ℕ → ℕ) (L : Type 0) where
 
   -- ---- runs
 
+  -- at the opening there are no places
   placed_opening : Placed [] (opening_core env)
   placed_opening = record {
     ghost = opening_ghost env;
@@ -159,19 +173,24 @@ module _ (env : Env) (mix : ℕ → ℕ → ℕ → ℕ) (L : Type 0) where
   }
 
   -- an event leads on from there
-  module _ (events : List Event) (w : World L) (stands : bindings_at L mix env events ≡ stands_for env.geometry w.core.words)
+  module _ (events : List Event) (w : World L)
+      (stands : bindings_at L mix env events ≡ stands_for env.geometry w.core.words)
       (placed : Placed events w.core) where
     core : Core L
     core = w.core
 
-    placed_step : (c : ℕ) (plan : Option Op) → planned_in w.core c ≡ plan → IsAdmittedEvent env.config.kind (Step c)
+    -- by what a caller plans, and by the event
+    placed_step : (c : ℕ) (plan : Option Op) → planned_in w.core c ≡ plan
+        → IsAdmittedEvent env.config.kind (Step c)
         → Placed (events ++ Step c ∷ []) (world_step mix w (Step c)).core
     placed_step c None is may =
         let k = kept env mix L w.core placed.ghost (Step c) placed.all placed.inv in
         let same : (core_step mix w.core (Step c)).0 ≡ w.core = ap (λ o. (with_step mix w.core c o).0) is in
         next events (Step c) w.core (core_step mix w.core (Step c)).0 stands placed 0 Quiet tt
-        (subst (λ words. Made env mix 0 (mem env mix w.core.words) placed.ghost (mem env mix words) placed.ghost)
-        (ap (λ (x : Core L). x.words) (sym same)) (still env mix 0 (mem env mix w.core.words) placed.ghost placed.inv.whole))
+        (subst (λ words. Made env mix 0 (mem env mix w.core.words) placed.ghost
+        (mem env mix words) placed.ghost)
+        (ap (λ (x : Core L). x.words) (sym same))
+        (still env mix 0 (mem env mix w.core.words) placed.ghost placed.inv.whole))
         k.ghost (k.ghost_kept.none is) k.inv (event-all L mix env w (Step c) may placed.all)
     placed_step c (Some op) is may =
         let k = kept env mix L w.core placed.ghost (Step c) placed.all placed.inv in
@@ -179,17 +198,20 @@ module _ (env : Env) (mix : ℕ → ℕ → ℕ → ℕ) (L : Type 0) where
         let of = moves.0 in
         let same : (core_step mix w.core (Step c)).0.words ≡ applied w.core.words op =
         ap (λ o. (with_step mix w.core c o).0.words) is in
-        next events (Step c) w.core (core_step mix w.core (Step c)).0 stands placed c of.step.move of.step.ready
+        next events (Step c) w.core
+        (core_step mix w.core (Step c)).0 stands placed c of.step.move of.step.ready
         (subst (λ words. Made env mix c (mem env mix w.core.words) placed.ghost (mem env mix words)
         (ghost_after env mix c of.step.move placed.ghost)) (sym same) of.step.made)
         k.ghost moves.1 k.inv (event-all L mix env w (Step c) may placed.all)
 
-    placed_event : (event : Event) → IsAdmittedEvent env.config.kind event → Placed (events ++ event ∷ []) (world_step mix w event).core
+    placed_event : (event : Event) → IsAdmittedEvent env.config.kind event
+        → Placed (events ++ event ∷ []) (world_step mix w event).core
     placed_event Enroll may =
         let k = kept env mix L w.core placed.ghost Enroll placed.all placed.inv in
         let e = enrolled env mix L w.core placed.ghost placed.all placed.inv in
         next events Enroll w.core (core_step mix w.core Enroll).0 stands placed 0 Quiet tt
-        (record { whole = e.0; others = λ c ne. e.1 c; stale = e.2 }) k.ghost k.ghost_kept k.inv (event-all L mix env w Enroll may placed.all)
+        (record { whole = e.0; others = λ c ne. e.1 c; stale = e.2 }) k.ghost k.ghost_kept k.inv
+        (event-all L mix env w Enroll may placed.all)
     placed_event (Begin c call) may =
         let k = kept env mix L w.core placed.ghost (Begin c call) placed.all placed.inv in
         next events (Begin c call) w.core (core_step mix w.core (Begin c call)).0 stands placed 0 Quiet tt
@@ -197,9 +219,12 @@ module _ (env : Env) (mix : ℕ → ℕ → ℕ → ℕ) (L : Type 0) where
         k.ghost k.ghost_kept k.inv (event-all L mix env w (Begin c call) may placed.all)
     placed_event (Step c) may = placed_step c (planned_in w.core c) refl may
 
-  pub has_places : (events : List Event) → IsAdmitted env.config.kind events → Placed events (run_of {M = L} mix env events).core
+  -- so it holds in every run, over its events
+  pub has_places : (events : List Event) → IsAdmitted env.config.kind events
+      → Placed events (run_of {M = L} mix env events).core
   has_places =
-      induct_by_last (λ events. IsAdmitted env.config.kind events → Placed events (run_of {M = L} mix env events).core)
+      induct_by_last (λ events. IsAdmitted env.config.kind events
+      → Placed events (run_of {M = L} mix env events).core)
       (λ none. placed_opening)
       (λ events event each all.
       let parts = AllByRecursion-cut (IsAdmittedEvent env.config.kind) events (event ∷ []) all in

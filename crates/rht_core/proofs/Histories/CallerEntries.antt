@@ -263,7 +263,8 @@ module _ (M : Type 0) (mix : ℕ → ℕ → ℕ → ℕ) (env : Env) where
           → ((claims : ClaimsAnswer kind c call was now) → IsSaid more c call begin claims.answer)
           → SaysStill kind c call early There after was now → IsEarly events c call begin There early
           → Still events c call begin was → Still more c call begin now
-      still-next early There None now claimed (inl keeps) is still = subst (Still more c call begin) (sym keeps) tt
+      still-next early There None now claimed (inl keeps) is still =
+          subst (Still more c call begin) (sym keeps) tt
       still-next early There (Some was) None claimed (inl keeps) is still = absurd keeps
       still-next early There (Some was) (Some now) claimed (inl keeps) is still = said-same was now keeps
           (said-more c call begin was still)
@@ -294,8 +295,10 @@ module _ (M : Type 0) (mix : ℕ → ℕ → ℕ → ℕ) (env : Env) where
             so_far = (let l = is.so_far in omega (arith, longer, l));
           }
       pending-next early There (Some was) now x (inr (inl learns)) is = absurd (let unknown = learns.unknown in cc)
-      pending-next early There (Some was) now x (inr (inr (inl recalls))) is = absurd (let unknown = recalls.unknown in cc)
-      pending-next early There (Some was) now x (inr (inr (inr claims))) is = absurd (let unknown = claims.unknown in cc)
+      pending-next early There (Some was) now x (inr (inr (inl recalls))) is =
+          absurd (let unknown = recalls.unknown in cc)
+      pending-next early There (Some was) now x (inr (inr (inr claims))) is =
+          absurd (let unknown = claims.unknown in cc)
 
       -- the history after the operation: the others' entries are the same
       pub record IsNext (history : List Numbered) (now : Option Answer) (es : List Numbered) : Type 0 where

@@ -37,7 +37,8 @@ use Rattle.rht_core.proofs.Tracing.LoneCalls.{found_first, left_so}
 use Rattle.rht_core.proofs.Tracing.TracedJobs.{Performs, LeadsOn, IsEndedSo, jobs_keep_in}
 use Rattle.rht_core.proofs.Reasons.LastTables.{AreSame}
 use Rattle.rht_core.proofs.Reasons.LoneWorks.{CalmAt, CalmReply, CalmNext, calm-work}
-use Rattle.rht_core.proofs.Reasons.WorkChoices.{SawReplaced, SawAtWork, SawNextWork, work-saw}
+use Rattle.rht_core.proofs.Reasons.WorksSeen.{SawReplaced, SawAtWork, SawNextWork}
+use Rattle.rht_core.proofs.Reasons.WorkStepsSeen.{work-saw}
 
 module _ (M : Type 0) (mix : ℕ → ℕ → ℕ → ℕ) (env : Env) (events : List Event) where
   abbrev words_at : ℕ → List ℕ
@@ -149,7 +150,7 @@ module _ (M : Type 0) (mix : ℕ → ℕ → ℕ → ℕ) (env : Env) (events : 
 
     -- where it answers that it moved, it has made another table the current one
     pub moved_alone : past.done.call ≡ Work → (again : Bool) → past.done.reply ≡ Moved again
-        → SawReplaced env words_at again past.steps
+        → SawReplaced env again past.steps
     moved_alone is again =
         let calls = ((traced_of {M = M} mix env events).traces c).past in
         let P = IsEndedSo M mix env Now Ended in

@@ -33,7 +33,8 @@ use Rattle.rht_core.specs.ResizeCauses.{Loaded}
 use Rattle.rht_core.specs.WorkCauses.{AreFuturesRead, HasChosen}
 use Rattle.rht_core.specs.Worked.{IsSettled, HasReplaced, IsAloneDuring, words_behind, Worked}
 use Rattle.rht_core.proofs.Tracing.StepsInTraces.{rising_around}
-use Rattle.rht_core.proofs.Reasons.WorkChoices.{SawIdle, Published, SawReplaced, SawForWork}
+use Rattle.rht_core.proofs.Reasons.ChoicesMade.{chosen_by}
+use Rattle.rht_core.proofs.Reasons.WorksSeen.{IsIdle, SawIdle, IsPublished, SawReplaced, SawForWork}
 use Rattle.rht_core.proofs.Reasons.CausesInRuns.{SawOf, past-saw}
 use Rattle.rht_core.proofs.Counting.CountedRuns.{counted, at_rest}
 use Rattle.rht_core.proofs.Counting.FullTables.{taken}
@@ -77,14 +78,17 @@ module _ (env : Env) where
   futures-load root last (did ∷ next ∷ dids) (slot, read, rest) =
       ((_, read.0.word.loads), futures-load slot last (next ∷ dids) rest)
 
-  module _ (words_at : ℕ → List ℕ) (steps : List Did) (saw : SawIdle env words_at steps) where
+  module _ (steps : List Did) (saw : SawIdle env steps) where
     abbrev chose : HasChosen env choices.Nothing steps
     chose = saw.chose
 
+    abbrev idle : IsIdle env (chosen_by env choices.Nothing steps chose) chose.behind
+    idle = saw.so
+
     -- those of the call, one after another
-    all_steps : steps ≡ (chose.lock ∷ chose.current ∷ chose.futures) ++ chose.shape ∷ chose.count ∷ saw.future ∷ saw.rest
+    all_steps : steps ≡ (chose.lock ∷ chose.current ∷ chose.futures) ++ chose.shape ∷ chose.count ∷ idle.future ∷ idle.rest
     all_steps = chose.split
-        ∙ ap (λ behind. (chose.lock ∷ chose.current ∷ chose.futures) ++ chose.shape ∷ chose.count ∷ behind) saw.behind_is
+        ∙ ap (λ behind. (chose.lock ∷ chose.current ∷ chose.futures) ++ chose.shape ∷ chose.count ∷ behind) idle.behind_is
 
     -- they leave each word but that of the work lock
     all_spare : (address : Address) → IsAddress env.geometry address → address ≢ WorkLock
@@ -93,17 +97,17 @@ module _ (env : Env) where
         let place = place_of env.geometry address in
         let apart : place_of env.geometry WorkLock ≢ place =
         λ same. other (place_of-apart env.geometry address WorkLock there tt (sym same)) in
-        let rest : AllByRecursion (Spares place) saw.rest =
+        let rest : AllByRecursion (Spares place) idle.rest =
         AllByRecursion-weaker (λ (did : Did). op_place did.op ≡ place_of env.geometry WorkLock) (Spares place)
-        (λ did on. inl (λ same. apart (sym on ∙ same))) saw.rest saw.on_lock in
-        let end : AllByRecursion (Spares place) (chose.shape ∷ chose.count ∷ saw.future ∷ saw.rest) = (
+        (λ did on. inl (λ same. apart (sym on ∙ same))) idle.rest idle.on_lock in
+        let end : AllByRecursion (Spares place) (chose.shape ∷ chose.count ∷ idle.future ∷ idle.rest) = (
           inr (ap (word_after chose.shape.old) chose.shape_read.word.loads),
           (
             inr (ap (word_after chose.count.old) chose.count_read.word.loads),
-            (inr (ap (word_after saw.future.old) saw.future_read.word.loads), rest),
+            (inr (ap (word_after idle.future.old) idle.future_read.word.loads), rest),
           ),
         ) in
-        let futures = AllByRecursion-append (Spares place) chose.futures (chose.shape ∷ chose.count ∷ saw.future ∷ saw.rest)
+        let futures = AllByRecursion-append (Spares place) chose.futures (chose.shape ∷ chose.count ∷ idle.future ∷ idle.rest)
         (loads-spare place chose.futures (futures-load chose.root chose.last chose.futures chose.futures_read)) end in
         subst (AllByRecursion (Spares place)) (sym all_steps) (
           inl (λ same. apart (sym (ap op_place chose.took.tries) ∙ same)),
@@ -114,17 +118,17 @@ module _ (env : Env) where
     current_there : Contains steps chose.current
     current_there = subst (λ s. Contains s chose.current) (sym all_steps) (1, omega arith, refl)
 
-    behind_there : (did : Did) → Contains (chose.shape ∷ chose.count ∷ saw.future ∷ saw.rest) did → Contains steps did
+    behind_there : (did : Did) → Contains (chose.shape ∷ chose.count ∷ idle.future ∷ idle.rest) did → Contains steps did
     behind_there did there =
         subst (λ s. Contains s did) (sym all_steps)
-        (Contains-append_right (chose.lock ∷ chose.current ∷ chose.futures) (chose.shape ∷ chose.count ∷ saw.future ∷ saw.rest)
+        (Contains-append_right (chose.lock ∷ chose.current ∷ chose.futures) (chose.shape ∷ chose.count ∷ idle.future ∷ idle.rest)
         did there)
 
     future_there : (did : Did) → Contains chose.futures did → Contains steps did
     future_there did (number, within, is) =
         subst (λ s. Contains s did) (sym all_steps)
         (Contains-append_left (chose.lock ∷ chose.current ∷ chose.futures)
-        (chose.shape ∷ chose.count ∷ saw.future ∷ saw.rest) did (suc (suc number), omega (arith, within), is))
+        (chose.shape ∷ chose.count ∷ idle.future ∷ idle.rest) did (suc (suc number), omega (arith, within), is))
 
 module _ (M : Type 0) (mix : ℕ → ℕ → ℕ → ℕ) (env : Env) (events : List Event) (c : ℕ) (past : Past)
     (admitted : IsAdmitted env.config.kind events)
@@ -147,7 +151,7 @@ module _ (M : Type 0) (mix : ℕ → ℕ → ℕ → ℕ) (env : Env) (events : 
     | inr other ↦ alone (behind_call past) d (begins_before M mix env events c past admitted ended alone) (omega arith) other
   ]
 
-  module _ (saw : SawIdle env words_at past.steps) where
+  module _ (saw : SawIdle env past.steps) where
     -- what it loaded of a word that isn't one of the work lock or the enrolled callers stands there at its end
     stands : (address : Address) (value : ℕ) (did : Did) → Contains past.steps did
         → Loaded env.geometry address value did → address ≢ WorkLock → address ≢ EnrolledCallers
@@ -156,18 +160,21 @@ module _ (M : Type 0) (mix : ℕ → ℕ → ℕ → ℕ) (env : Env) (events : 
         loaded_at_end M mix env events c past admitted ended alone address value did there loaded other
         (AllByRecursion-weaker (Spares (place_of env.geometry address))
         (λ d. did.index ≤ d.index → d.index < behind_call past → Spares (place_of env.geometry address) d)
-        (λ d spares first last. spares) past.steps (all_spare env words_at past.steps saw address loaded.word.there unlocked))
+        (λ d spares first last. spares) past.steps (all_spare env past.steps saw address loaded.word.there unlocked))
 
     abbrev root : ℕ
     root = saw.chose.root
+
+    abbrev found_idle : IsIdle env (chosen_by env choices.Nothing past.steps saw.chose) saw.chose.behind
+    found_idle = saw.so
 
     -- the current table's future, loaded last
     no_future : slot_of (word_at env.geometry after (Slot root FutureWord)) ≡ None
     no_future =
         ap slot_of
-        (stands (Slot root FutureWord) saw.future.old saw.future
-        (behind_there env words_at past.steps saw saw.future (2, omega arith, refl)) saw.future_read (λ e. cc) (λ e. cc))
-        ∙ saw.none
+        (stands (Slot root FutureWord) found_idle.future.old found_idle.future
+        (behind_there env past.steps saw found_idle.future (2, omega arith, refl)) found_idle.future_read (λ e. cc) (λ e. cc))
+        ∙ found_idle.none
 
     -- so the search for the last table ended at the current one
     ends_there : (last : ℕ) (futures : List Did) → AreFuturesRead env.geometry root last futures
@@ -180,7 +187,7 @@ module _ (M : Type 0) (mix : ℕ → ℕ → ℕ → ℕ) (env : Env) (events : 
         absurd (cc)
 
     last_is : root ≡ saw.chose.last
-    last_is = ends_there saw.chose.last saw.chose.futures saw.chose.futures_read (future_there env words_at past.steps saw)
+    last_is = ends_there saw.chose.last saw.chose.futures saw.chose.futures_read (future_there env past.steps saw)
 
     -- what is due where so many ports are bound, in a table of this shape that is the only one
     abbrev choice_with : ℕ → ℕ → Choice
@@ -199,16 +206,16 @@ module _ (M : Type 0) (mix : ℕ → ℕ → ℕ → ℕ) (env : Env) (events : 
         let most = env.geometry.within.nodes_within.1 in
         let ports = word_at g after PortCount in
         let counts : ports ≡ chose.count.old =
-        stands PortCount chose.count.old chose.count (behind_there env words_at past.steps saw chose.count (1, omega arith, refl))
+        stands PortCount chose.count.old chose.count (behind_there env past.steps saw chose.count (1, omega arith, refl))
         chose.count_read (λ e. cc) (λ e. cc) in
         let clamp : min chose.count.old 65536 ≡ ports = omega (arith, few, most, counts) in
         let current : table_of (word_at g after CurrentTable) ≡ root =
-        ap table_of (stands CurrentTable chose.current.old chose.current (current_there env words_at past.steps saw) chose.current_read
+        ap table_of (stands CurrentTable chose.current.old chose.current (current_there env past.steps saw) chose.current_read
         (λ e. cc) (λ e. cc)) ∙ chose.root_is in
         let shape : shape_of g after root ≡ chose.shape.old =
         ap (λ s. word_at g after (Slot s ShapeWord)) last_is
         ∙ stands (Slot chose.last ShapeWord) chose.shape.old chose.shape
-        (behind_there env words_at past.steps saw chose.shape (0, omega arith, refl)) chose.shape_read (λ e. cc) (λ e. cc) in
+        (behind_there env past.steps saw chose.shape (0, omega arith, refl)) chose.shape_read (λ e. cc) (λ e. cc) in
         let size = size_of (unpacked (shape_of g after root)) in
         let none : IsNoneDue (is_above_75 ports size env.config.max) (is_sparse env ports size) (is_nested (shape_of g after root)) =
         chosen-none size (shrunk_size ports env.config.min) (is_above_75 ports size env.config.max) (is_sparse env ports size)
@@ -230,40 +237,43 @@ module _ (M : Type 0) (mix : ℕ → ℕ → ℕ → ℕ) (env : Env) (events : 
 
   -- ---- another table
 
-  module _ (again : Bool) (saw : SawReplaced env words_at again past.steps) where
-    abbrev published : Published env words_at past.steps
-    published = saw.published
+  module _ (again : Bool) (saw : SawReplaced env again past.steps) where
+    abbrev chosen_then : HasChosen env saw.choice past.steps
+    chosen_then = saw.since.chose
+
+    abbrev published : IsPublished env (chosen_by env saw.choice past.steps chosen_then) chosen_then.behind
+    published = saw.since.so.published
 
     abbrev lock : Did
-    lock = published.chose.lock
+    lock = chosen_then.lock
 
     abbrev current : Did
-    current = published.chose.current
+    current = chosen_then.current
 
     abbrev at : Did
     at = published.published.at
 
     -- what came behind the load of the current table, and what before the store of another one
     abbrev rest : List Did
-    rest = published.chose.futures ++ published.chose.shape ∷ published.chose.count ∷ published.chose.behind
+    rest = chosen_then.futures ++ chosen_then.shape ∷ chosen_then.count ∷ chosen_then.behind
 
     abbrev before : List Did
-    before = (lock ∷ current ∷ published.chose.futures) ++ published.chose.shape ∷ published.chose.count ∷ published.published.before
+    before = (lock ∷ current ∷ chosen_then.futures) ++ chosen_then.shape ∷ chosen_then.count ∷ published.published.before
 
     from_load : past.steps ≡ lock ∷ current ∷ rest
-    from_load = published.chose.split
+    from_load = chosen_then.split
 
-    to_store : past.steps ≡ before ++ at ∷ published.behind
+    to_store : past.steps ≡ before ++ at ∷ published.later
     to_store =
-        let chose = published.chose in
+        let chose = chosen_then in
         let front = lock ∷ current ∷ chose.futures in
         chose.split ∙ ap (λ behind. front ++ chose.shape ∷ chose.count ∷ behind) published.published.split
-        ∙ sym (append_assoc front (chose.shape ∷ chose.count ∷ published.published.before) (at ∷ published.behind))
+        ∙ sym (append_assoc front (chose.shape ∷ chose.count ∷ published.published.before) (at ∷ published.later))
 
     stored_there : Contains past.steps at
     stored_there =
         subst (λ s. Contains s at) (sym to_store)
-        (Contains-append_right before (at ∷ published.behind) at (0, omega arith, refl))
+        (Contains-append_right before (at ∷ published.later) at (0, omega arith, refl))
 
     loaded_there : Contains past.steps current
     loaded_there = subst (λ s. Contains s current) (sym from_load) (1, omega arith, refl)
@@ -285,22 +295,22 @@ module _ (M : Type 0) (mix : ℕ → ℕ → ℕ → ℕ) (env : Env) (events : 
         rest rising.1 in
         let here : P current = λ first last. absurd (omega (arith, last)) in
         let first : P lock = λ from to. inl
-        (λ same. let both = sym (ap op_place published.chose.took.tries) ∙ same in absurd (omega (arith, both))) in
+        (λ same. let both = sym (ap op_place chosen_then.took.tries) ∙ same in absurd (omega (arith, both))) in
         subst (AllByRecursion P) (sym from_load) (first, (here, later))
 
     -- nor behind the store
     none_behind : AllByRecursion (Leaves (at.index + 1) (behind_call past)) past.steps
     none_behind =
-        let rising = rising_around (past.begin + 1) before at published.behind
+        let rising = rising_around (past.begin + 1) before at published.later
         (subst (IsRising (past.begin + 1)) to_store (steps_rising M mix env events c past admitted ended alone)) in
         let P = Leaves (at.index + 1) (behind_call past) in
         let earlier : AllByRecursion P before =
         AllByRecursion-weaker (λ (d : Did). d.index < at.index) P (λ d less first last. absurd (omega (arith, less, first)))
         before rising.0 in
         let here : P at = λ first last. absurd (omega (arith, first)) in
-        let behind : AllByRecursion P published.behind =
-        AllByRecursion-weaker (Spares place) P (λ d spares first last. spares) published.behind published.leave in
-        subst (AllByRecursion P) (sym to_store) (AllByRecursion-append P before (at ∷ published.behind) earlier (here, behind))
+        let behind : AllByRecursion P published.later =
+        AllByRecursion-weaker (Spares place) P (λ d spares first last. spares) published.later published.leave in
+        subst (AllByRecursion P) (sym to_store) (AllByRecursion-append P before (at ∷ published.later) earlier (here, behind))
 
     replaced : HasReplaced env.geometry past.steps (words_behind M mix env events past.begin) after
     replaced =
@@ -309,13 +319,13 @@ module _ (M : Type 0) (mix : ℕ → ℕ → ℕ → ℕ) (env : Env) (events : 
         let now = stored_at_end M mix env events c past admitted ended alone CurrentTable published.table at stored_there tt
         stored.stores (λ e. cc) none_behind in
         let was = loaded_at_begin M mix env events c past admitted ended alone CurrentTable current.old current loaded_there
-        published.chose.current_read (λ e. cc) none_before in
+        chosen_then.current_read (λ e. cc) none_before in
         let table_in = stored.table_in in
         record {
           table = published.table;
           stored = (number, at, within, is, stored);
           current = ap table_of now ∙ omega (arith, table_in);
-          another = λ same. published.another (sym published.chose.root_is ∙ sym (ap table_of was) ∙ same);
+          another = λ same. published.another (sym chosen_then.root_is ∙ sym (ap table_of was) ∙ same);
         }
 
   -- what the operations of the call show

@@ -82,7 +82,8 @@ module _ (env : Env) (mix : ℕ → ℕ → ℕ → ℕ) (words : List ℕ) (G :
   seat-among n has = (seated_at env mix M G whole n has.bucket has.seat).among
 
   -- a link that is no other node's leads to a node that has a seat, or to none
-  leads_on : (link : ℕ) → ((n : ℕ) → link ≡ link_of n → HasSeat G n) → IfSome (node_of g.nodes link) (HasSeat G)
+  leads_on : (link : ℕ) → ((n : ℕ) → link ≡ link_of n → HasSeat G n)
+      → IfSome (node_of g.nodes link) (HasSeat G)
   leads_on link to = go (node_of g.nodes link) refl
     where
       go : (next : Option ℕ) → node_of g.nodes link ≡ next → IfSome next (HasSeat G)
@@ -150,7 +151,10 @@ module _ (env : Env) (mix : ℕ → ℕ → ℕ → ℕ) (words : List ℕ) (G :
       (IsDistinct-with nodes n [] (subst IsDistinct (sym (append-nil nodes)) chained.distinct) apart tt)
       (λ m i. elim (In-append_cases m nodes (n ∷ []) i) [
         | inl k ↦ member-seat j m k
-        | inr k ↦ elim k [ inl e ↦ record { bucket = j; seat = ap seat_of (ap G.node e ∙ leaving) } | inr none ↦ absurd none ]
+        | inr k ↦ elim k [
+          | inl e ↦ record { bucket = j; seat = ap seat_of (ap G.node e ∙ leaving) }
+          | inr none ↦ absurd none
+        ]
       ])
       (IsSegment-append (chain_of M) nodes (n ∷ []) first (link_of n) (chain_of M n) upto (refl, refl))
       n (In-append_right n nodes (n ∷ []) (inl refl))
@@ -281,7 +285,8 @@ module _ (env : Env) (mix : ℕ → ℕ → ℕ → ℕ) (words : List ℕ) (G :
       go from.0 below (bucket_in g words shape from.0) refl from.2
     where
       go : (bucket : ℕ) → bucket < size τ → (place : Option ℕ)
-          → bucket_in g words (G.table τ).shape bucket ≡ place → In n (bucket_nodes g words place) → HasSeat G n
+          → bucket_in g words (G.table τ).shape bucket ≡ place → In n (bucket_nodes g words place)
+          → HasSeat G n
       go bucket below None is met = absurd met
       go bucket below (Some place) is met =
           let at = bucket_word τ bucket place l below is in
@@ -323,7 +328,9 @@ module _ (env : Env) (mix : ℕ → ℕ → ℕ → ℕ) (words : List ℕ) (G :
       let τ = table_at G to.bucket in
       let bucket = hash_in env mix G key τ in
       let below : bucket < size τ = hash-below env mix M G whole key τ in
-      let seat = seat_met n to.bucket (home-within env mix M G whole key (table_at G to.bucket) to.bucket at.attached at.here) to.first in (
+      let seat = seat_met n to.bucket
+      (home-within env mix M G whole key
+      (table_at G to.bucket) to.bucket at.attached at.here) to.first in (
         In-flat_map (table_nodes g words) n (G.table τ).slot (in_force g words)
             (table_in_force env mix words G whole τ at.current at.attached)
             (table_met τ bucket to.bucket n at.attached below at.here seat),

@@ -41,7 +41,8 @@ use Rattle.rht_core.proofs.Tracing.TracesAtEvents.{at_events}
 use Rattle.rht_core.proofs.Tracing.TracedJobs.{Performs, StandsIn, LeadsOn, IsEndedSo, jobs_keep_standing}
 use Rattle.rht_move.specs.Work as work
 use Rattle.rht_move.specs.declared.work.WorkAt.TheVariants as works_at
-use Rattle.rht_core.proofs.Reasons.WorkChoices.{SawForWork, SawAtWork, work-saw}
+use Rattle.rht_core.proofs.Reasons.WorksSeen.{SawForWork, SawAtWork}
+use Rattle.rht_core.proofs.Reasons.WorkStepsSeen.{work-saw}
 use Rattle.rht_core.proofs.Reasons.AttachedTables.{SawAttached, attached-saw}
 use Rattle.rht_core.proofs.Reasons.UnraisedBinds.{SawUnraised, unraised-saw}
 use Rattle.rht_core.proofs.Reasons.ReleaseKicks.{SawRelease, SawForRelease, release-saw}

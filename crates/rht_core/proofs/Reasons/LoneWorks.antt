@@ -57,7 +57,8 @@ use Rattle.rht_core.proofs.Tracing.TracedJobs.{Performs}
 use Rattle.rht_core.proofs.Reasons.AttachedTables.{IsNoFutureExchange, lock-none, make-none}
 use Rattle.rht_core.proofs.Reasons.MadeSizes.{made_flat}
 use Rattle.rht_core.proofs.Reasons.LastTables.{AreSame, one_shape, IsLastIn, none_last, last_shape, last_in, last_stays, finds_none, attached_last}
-use Rattle.rht_core.proofs.Reasons.WorkChoices.{SawReplaced, SawAtWork, stored-saw, cut-none}
+use Rattle.rht_core.proofs.Reasons.WorksSeen.{SawReplaced, SawAtWork}
+use Rattle.rht_core.proofs.Reasons.MovesSeen.{stored-saw, cut-none}
 
 -- a choice that attaches no table is one where the last table is flat
 chosen-flat : (size smaller : ℕ) (full sparse alone nested : Bool) (choice : Choice)
@@ -95,10 +96,10 @@ module _ (env : Env) (words_at : ℕ → List ℕ) (mix : ℕ → ℕ → ℕ �
 
   -- where it answers that it moved it has made another table the current one
   abbrev CalmEnd : Outcome → List Did → Type 0
-  CalmEnd outcome steps = (again : Bool) → outcome ≡ outcomes.Moved again → SawReplaced env words_at again steps
+  CalmEnd outcome steps = (again : Bool) → outcome ≡ outcomes.Moved again → SawReplaced env again steps
 
   abbrev pub CalmReply : Reply → List Did → Type 0
-  CalmReply reply steps = (again : Bool) → reply ≡ replies.Moved again → SawReplaced env words_at again steps
+  CalmReply reply steps = (again : Bool) → reply ≡ replies.Moved again → SawReplaced env again steps
 
   abbrev pub CalmAt : WorkAt → List Did → List ℕ → Type 0
   CalmAt at.WorkLock steps words = Unit {0}
@@ -414,7 +415,7 @@ module _ (env : Env) (words_at : ℕ → List ℕ) (mix : ℕ → ℕ → ℕ �
       leaves-flat (at.Linking emptying entry second) did does now still (λ table old new l e. cc) calm
   calm-work (at.CuttingOff emptying entry) steps did does now still saw calm =
       calm-cut (steps ++ did ∷ []) now emptying entry.before
-      (leaves-flat (at.CuttingOff emptying entry) did does now still (cut-none env words_at emptying.bucket.place entry.before) calm)
+      (leaves-flat (at.CuttingOff emptying entry) did does now still (cut-none env emptying.bucket.place entry.before) calm)
   calm-work (at.Unlocking rehash number unlock true) steps did does now still saw calm = absurd calm
   calm-work (at.Unlocking rehash number unlock false) steps did does now still saw calm =
       calm-next (steps ++ did ∷ []) now rehash number
@@ -424,11 +425,11 @@ module _ (env : Env) (words_at : ℕ → List ℕ) (mix : ℕ → ℕ → ℕ �
       calm-retiring (steps ++ did ∷ []) now rehash (slot_of did.old)
   calm-work (at.Retiring root again) steps did does now still saw calm = λ answered is.
       let same : again ≡ answered = cc in
-      subst (λ a. SawReplaced env words_at a (steps ++ did ∷ [])) same
-      (stored-saw env words_at again (Slot root StateWord) 2 steps did (does.within, tt) (λ e. cc) does.planned saw)
+      subst (λ a. SawReplaced env a (steps ++ did ∷ [])) same
+      (stored-saw env again (Slot root StateWord) 2 steps did (does.within, tt) (λ e. cc) does.planned saw)
   calm-work (at.LettingGo outcome) steps did does now still saw calm = λ again is.
       let moved : outcome ≡ outcomes.Moved again = moved-outcome outcome again is in
-      stored-saw env words_at again WorkLock 0 steps did tt (λ e. cc) does.planned (calm again moved)
+      stored-saw env again WorkLock 0 steps did tt (λ e. cc) does.planned (calm again moved)
     where
       moved-outcome : (outcome : Outcome) (again : Bool) → reply_of outcome ≡ replies.Moved again → outcome ≡ outcomes.Moved again
       moved-outcome outcomes.Idle again is = absurd (cc)

@@ -4,7 +4,7 @@
 -- A look-up and a listing have nothing to show. A reading of the count loads what it answers by its one
 -- operation. For this and for a release it counts that each recorded operation stands in the run at its
 -- event.
-use Rattle.std.proofs.Common.{◌≡◌, ℕ, List, [], ◌∷◌, subst, inl, inr}
+use Rattle.std.proofs.Common.{◌≡◌, ℕ, List, [], ◌∷◌, subst, inl, inr, ◌↔◌, Bool, true, false, refl, sym, arith}
 use Rattle.std.specs.List.{AllByRecursion, Any}
 use Rattle.std.proofs.lemmas.List.Elements.{All-from_recursion}
 use Rattle.rht_words.specs.declared.op.Op.TheVariants.{Load}
@@ -20,11 +20,16 @@ use Rattle.rht_core.specs.Runs.{IsAdmitted}
 use Rattle.rht_core.specs.Laws.{IsRecorded}
 use Rattle.rht_core.specs.Seen.{SawCount}
 use Rattle.rht_core.specs.Causes.{FindCause, AllCause, ReleaseCause, RebindCause, WorkCause, CountCause}
-use Rattle.rht_core.proofs.Reasons.WorkChoices.{SawIdle-nothing, SawReplaced-published, SawForWork}
+use Rattle.rht_core.proofs.Reasons.WorksSeen.{SaysMissing, FindsNoneFurther, SawReplaced, SawIdle, SawForWork}
 use Rattle.rht_core.proofs.Counting.FullTables.{counted_at}
 use Rattle.rht_core.proofs.Counting.CountedNodes.{lower_few}
 use Rattle.rht_core.proofs.Reasons.ReleaseKicks.{SawForRelease, kicks_right}
 use Rattle.rht_core.proofs.Reasons.RebindsSeen.{SawForRebind}
+use Rattle.std.specs.Prelude.{None}
+use Rattle.rht_move.specs.declared.work.choice.Choice.{Choice}
+use Rattle.rht_move.specs.declared.work.choice.Choice.TheVariants.{Attach, Later, Nothing}
+use Rattle.rht_core.specs.ResizeCauses.{Attaches}
+use Rattle.rht_core.specs.WorkCauses.{ReadsFuture, IsUnattached, SawNothingDue, SawPublished}
 
 -- a look-up has nothing to show for its answers
 pub find-cause : (reply : Reply) → IsFindReply reply → FindCause reply
@@ -45,14 +50,72 @@ module _ (env : Env) where
   rebind-cause past NoNode saw is = saw
   rebind-cause past _ saw is = absurd is
 
+  -- whether it is to say that a table is missing is whether none of the size that was due is attached
+  says-right : (again : Bool) (last : ℕ) (choice : Choice) (behind : List Did)
+      → SaysMissing env again last choice behind
+      → (again ≡ true) ↔ IsUnattached env.geometry last choice behind
+  says-right true last (Attach size) behind missing = (
+    λ is has.
+        let NoAttachOf : Did → Type 0 = λ did. (slot : ℕ) → Attaches env.geometry last slot did → ⊥ in
+        let none = subst (AllByRecursion NoAttachOf) has.split missing.1 in
+        (AllByRecursion-cut NoAttachOf has.before (has.at ∷ has.behind) none).1.0 has.slot has.attached,
+    λ so. refl,
+  )
+  says-right true last Later behind missing = (λ is. tt, λ so. refl)
+  says-right true last Nothing behind missing = absurd (missing.0 refl)
+  says-right false last (Attach size) behind has = (λ is. absurd (cc), λ so. absurd (so has))
+  says-right false last Later behind none = absurd none
+  says-right false last Nothing behind is = (λ is. absurd (cc), λ so. absurd so)
+
+  replaced-published : (again : Bool) (steps : List Did) → SawReplaced env again steps
+      → SawPublished env again steps
+  replaced-published again steps saw =
+      let since = saw.since in
+      let published = since.so.published in
+      let last = since.chose.last in
+      record {
+        choice = saw.choice;
+        chose = since.chose;
+        table = published.table;
+        behind = published.later;
+        published = published.published;
+        followed = published.followed;
+        looked = since.so.looked;
+        again_right = elim since.so.says [
+          | inl further ↦ (λ is. inl further.1, λ either. further.0)
+          | inr says ↦
+              let right = says-right again last saw.choice since.chose.behind says.0 in (
+                λ is. inr (right.0 is),
+                λ either. elim either [
+                  | inl (k, did, within, is, finds) ↦
+                      let NoneFurther = FindsNoneFurther env published.table in
+                      let none = All-from_recursion NoneFurther published.later says.1 k did within in
+                      absurd (subst NoneFurther is none finds)
+                  | inr so ↦ right.1 so
+                ],
+              )
+        ];
+      }
+
+  -- so it saw that nothing was due
+  idle-nothing : (steps : List Did) → SawIdle env steps → SawNothingDue env steps
+  idle-nothing steps saw =
+      let idle = saw.so in
+      record {
+        chose = saw.chose;
+        none =
+            subst (Any (ReadsFuture env.geometry saw.chose.root None)) (sym idle.behind_is)
+            (0, idle.future, omega arith, refl, (idle.future_read, idle.none));
+      }
+
   pub work-cause : (words_at : ℕ → List ℕ) (past : Past) (reply : Reply)
       → SawForWork env words_at reply past.steps
       → IsWorkReply reply → WorkCause env words_at past reply
   work-cause words_at past (Moved again) saw is = elim saw [
-    | inl has ↦ inl (SawReplaced-published env words_at again past.steps has)
+    | inl has ↦ inl (replaced-published again past.steps has)
     | inr stops ↦ inr stops
   ]
-  work-cause words_at past Idle saw is = SawIdle-nothing env words_at past.steps saw
+  work-cause words_at past Idle saw is = idle-nothing past.steps saw
   work-cause words_at past (NoTable size) saw is = saw
   work-cause words_at past Elsewhere saw is = saw
   work-cause words_at past _ saw is = absurd is

@@ -1,5 +1,6 @@
 -- What a caller in a read section could reach, by the words, it may still meet.
 use Rattle.std.proofs.Common.{◌≡◌, ℕ, ◌+◌, ◌<◌, ◌≤◌, List, Some, None, Option, zero, suc, ◌-◌, true, false, refl, sym, ◌∙◌, ap, subst, arith, slice_index}
+use Rattle.std.proofs.lemmas.Bool.{both_ways}
 use Rattle.rht_words.specs.declared.env.Env.{Env}
 use Rattle.rht_words.specs.Links.{head_of, slot_of}
 use Rattle.rht_words.specs.Members.{In}
@@ -15,11 +16,13 @@ use Rattle.rht_ghost.proofs.Theory.SeatedLinks.{next_of, link-next_of, head-seat
 use Rattle.rht_ghost.proofs.Theory.Steps.{mem}
 use Rattle.rht_core.proofs.Meaning.TablesInForce.{current_slot, future-leads}
 use Rattle.rht_core.proofs.Meaning.BoundPorts.{bucket-within, first_link}
-use Rattle.rht_core.proofs.Returning.Readers.{Reader, IsOpen, ReaderRight, not_both}
+use Rattle.rht_core.proofs.Returning.Readers.{Reader, IsOpen, ReaderRight}
 
-module _ (env : Env) (mix : ℕ → ℕ → ℕ → ℕ) (words : List ℕ) (G : Ghost) (whole : Whole env mix (mem env mix words) G) (c : ℕ)
-    (r : Reader) (right : ReaderRight env mix words G c r) (reads : IsOpen r) where
-  -- a table that a section may come to: it was attached, and is the one that was current when the section was opened or a later one
+module _ (env : Env) (mix : ℕ → ℕ → ℕ → ℕ) (words : List ℕ) (G : Ghost)
+    (whole : Whole env mix (mem env mix words) G) (c : ℕ) (r : Reader)
+    (right : ReaderRight env mix (mem env mix words) G c r) (reads : IsOpen r) where
+  -- a table that a section may come to: it was attached, and is the one that was current when the section was
+  -- opened or a later one
   pub record MeetsTable (slot : ℕ) : Type 0 where
     pub table : ℕ
     pub attached : table < G.attached
@@ -34,7 +37,8 @@ module _ (env : Env) (mix : ℕ → ℕ → ℕ → ℕ) (words : List ℕ) (G :
 
   module _ (at : Standing) (stands : StandsRight at) where
     -- where the words of a table lead to a next one, this is the one behind it
-    next_table : (slot next : ℕ) → MeetsTable slot → slot_of (mem env mix words (Slot slot FutureWord)) ≡ Some next
+    next_table : (slot next : ℕ) → MeetsTable slot
+        → slot_of (mem env mix words (Slot slot FutureWord)) ≡ Some next
         → MeetsTable next
     next_table slot next meets leads = go (G.attached - (meets.table + 1)) refl
       where
@@ -43,11 +47,14 @@ module _ (env : Env) (mix : ℕ → ℕ → ℕ → ℕ) (words : List ℕ) (G :
 
         go : (count : ℕ) → G.attached - (meets.table + 1) ≡ count → MeetsTable next
         go zero is =
-            let last = future-leads env mix words G whole meets.table zero (let l = meets.attached in omega (arith, is, l)) in
+            let l = meets.attached in
+            let last = future-leads env mix words G whole meets.table zero (omega (arith, is, l)) in
             let none : ◌≡◌ {A = Option ℕ} None (Some next) = sym last ∙ is_word in absurd (cc)
         go (suc count) is =
-            let more = future-leads env mix words G whole meets.table (suc count) (let l = meets.attached in omega (arith, is, l)) in
-            let named : ◌≡◌ {A = Option ℕ} (Some (G.table (meets.table + 1)).slot) (Some next) = sym more ∙ is_word in
+            let l = meets.attached in
+            let more = future-leads env mix words G whole meets.table (suc count) (omega (arith, is, l)) in
+            let named : ◌≡◌ {A = Option ℕ} (Some (G.table (meets.table + 1)).slot) (Some next) = sym more
+            ∙ is_word in
             record {
               table = meets.table + 1;
               attached = omega (arith, is);
@@ -55,6 +62,7 @@ module _ (env : Env) (mix : ℕ → ℕ → ℕ → ℕ) (words : List ℕ) (G :
               since = λ τ from. let before = meets.since τ from in omega (arith, before);
             }
 
+    -- each table that it could reach is one that it may come to
     pub reaches-table : (slot : ℕ) → ReachesTable env.geometry words at slot → MeetsTable slot
     reaches-table slot (at_table s there) = stands.tables s there
     reaches-table slot (at_current none) = record {
@@ -66,22 +74,26 @@ module _ (env : Env) (mix : ℕ → ℕ → ℕ → ℕ) (words : List ℕ) (G :
     reaches-table slot (by_future s next reached leads) = next_table s next (reaches-table s reached) leads
 
     -- the first link of a bucket of such a table leads to a node in a chain
-    bucket-first : (slot bucket place node : ℕ) → MeetsTable slot → bucket < size_of (unpacked (shape_of env.geometry words slot))
+    bucket-first : (slot bucket place node : ℕ) → MeetsTable slot
+        → bucket < size_of (unpacked (shape_of env.geometry words slot))
         → bucket_in env.geometry words (shape_of env.geometry words slot) bucket ≡ Some place
         → next_of env (head_of place (slice_index words place)) ≡ Some node → is_first (G.node node) ≡ true
     bucket-first slot bucket place node meets below there leads =
         let s = (G.table meets.table).slot in
         let is = bucket-within env mix words G whole meets.table bucket place meets.attached
         (subst (λ t. bucket < size_of (unpacked (shape_of env.geometry words t))) meets.slot_is below)
-        (subst (λ t. bucket_in env.geometry words (shape_of env.geometry words t) bucket ≡ Some place) meets.slot_is there) in
+        (subst (λ t. bucket_in env.geometry words
+        (shape_of env.geometry words t) bucket ≡ Some place) meets.slot_is there) in
         let j = is.index in
         let first : next_of env (head_of (place_at env mix j) (G.bucket j).plain) ≡ Some node =
         ap (next_of env) (sym (first_link env mix words G whole j is.within is.plain))
         ∙ subst (λ p. next_of env (head_of p (slice_index words p)) ≡ Some node) is.place_is leads in
-        let has = head-seated env mix (mem env mix words) G whole j node (whole.buckets j is.within is.plain).chained
+        let has = head-seated env mix (mem env mix words) G whole j node
+        (whole.buckets j is.within is.plain).chained
         (link-next_of env (head_of (place_at env mix j) (G.bucket j).plain) node first) in
         seat-first (G.node node) has.bucket has.seat
 
+    -- each node it may meet, in chains and in lists
     pub reaches-node : (node : ℕ) → ReachesNode env.geometry words at node → r.chains node ≡ true
     reaches-node node (at_node n there) = stands.nodes n there
     reaches-node node (in_bucket slot bucket place n table below there leads) =
@@ -92,7 +104,8 @@ module _ (env : Env) (mix : ℕ → ℕ → ℕ → ℕ) (words : List ℕ) (G :
     pub reaches-listed : (node : ℕ) → ReachesListed env.geometry words at node → r.lists node ≡ true
     reaches-listed node (in_chain n reached) = right.chained n (reaches-node n reached)
     reaches-listed node (at_listed n there) = stands.listed n there
-    reaches-listed node (by_list before n reached leads) = right.list_leads before n (reaches-listed before reached) leads
+    reaches-listed node (by_list before n reached leads) =
+        right.list_leads before n (reaches-listed before reached) leads
 
     -- so it could reach no node that a caller has taken for itself, and none that no section may meet
     pub safe-held : (d node : ℕ) → G.node node ≡ Held d → ReachesListed env.geometry words at node → ⊥
@@ -100,15 +113,17 @@ module _ (env : Env) (mix : ℕ → ℕ → ℕ → ℕ) (words : List ℕ) (G :
         held_not_used (G.node node) d held (right.used node (reaches-listed node reached))
 
     pub safe-unmet : (node : ℕ) → r.lists node ≡ false → ReachesListed env.geometry words at node → ⊥
-    safe-unmet node none reached = not_both (r.lists node) (reaches-listed node reached) none
+    safe-unmet node none reached = both_ways (r.lists node) none (reaches-listed node reached)
 
     -- a slot that it could reach has a table, and a page is a table's
     pub reaches-slot : (slot : ℕ) → ReachesTable env.geometry words at slot → has_table (G.slot slot) ≡ true
     reaches-slot slot reached =
         let meets = reaches-table slot reached in
-        subst (λ s. has_table (G.slot s) ≡ true) (sym meets.slot_is) (whole.tables.each meets.table meets.attached).has_slot
+        subst (λ s. has_table (G.slot s) ≡ true) (sym meets.slot_is)
+        (whole.tables.each meets.table meets.attached).has_slot
 
-    pub reaches-page : (page : ℕ) → ReachesPage env.geometry words at page → (τ : ℕ) × (G.page page ≡ PageOf τ)
+    pub reaches-page : (page : ℕ) → ReachesPage env.geometry words at page
+        → (τ : ℕ) × (G.page page ≡ PageOf τ)
     reaches-page page reached =
         let meets = reaches-table reached.slot reached.table in
         let τ = meets.table in

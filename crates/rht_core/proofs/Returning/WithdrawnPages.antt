@@ -1,4 +1,5 @@
--- What is left of a nested table when the page behind one of its entries is withdrawn, behind whose own entries there is none: a nested table.
+-- What is left of a nested table when the page behind one of its entries is withdrawn, behind whose own
+-- entries there is none: a nested table.
 use Rattle.std.proofs.Common.{◌≡◌, ◌≢◌, ℕ, ◌+◌, ◌*◌, ◌/◌, ◌%◌, ◌<◌, cond, Bool, true, false, Option, Some, None, refl, sym, ◌∙◌, ap, subst, inl, inr, arith}
 use Rattle.std.proofs.lemmas.Bool.{cases_eq}
 use Rattle.std.proofs.lemmas.Nat.{mod_below}
@@ -24,34 +25,41 @@ module _ (env : Env) (mix : ℕ → ℕ → ℕ → ℕ) (table : Table) (page :
 
   -- ---- one entry leads to a page
 
-  one_page : (q r : ℕ) (part : Part) → has_entries part ≡ true → StandsAs table q part → StandsAs table r part → q ≡ r
-  one_page q r Row has first second = absurd (cc)
-  one_page q r (Leaf low) has first second = absurd (cc)
+  -- pages with one part are one, where the part has entries
+  one_page : (q r : ℕ) (part : Part) → has_entries part ≡ true → StandsAs table q part → StandsAs table r part
+      → q ≡ r
   one_page q r (Middle low) has first second = some-same q r (sym first.entered ∙ second.entered)
   one_page q r Top has first second = first ∙ sym second
+  one_page q r part has first second = absurd (cc)
 
+  -- an entry of a page with a part is another one
   abbrev Same : Part → Part → ℕ → ℕ → Type 0
   Same one other a b = (one ≡ other) × (a ≡ b)
 
+  -- an entry of the top page is told by the part to which it leads, and so is one of a page behind it
   tops : (deep : Bool) (a b : ℕ)
       → ◌≡◌ {A = Part} (cond deep (Middle a) (Leaf a)) (cond deep (Middle b) (Leaf b)) → a ≡ b
   tops true a b is = cc
   tops false a b is = cc
 
-  top_and_middle : (deep : Bool) (a low : ℕ) → deep ≡ true → ◌≡◌ {A = Part} (cond deep (Middle a) (Leaf a)) (Leaf low) → ⊥
+  -- no entry of both leads to the same part
+  top_and_middle : (deep : Bool) (a low : ℕ) → deep ≡ true
+      → ◌≡◌ {A = Part} (cond deep (Middle a) (Leaf a)) (Leaf low) → ⊥
   top_and_middle true a low is same = cc
   top_and_middle false a low is same = let e : false ≡ true = is in cc
 
   leaves_same : (low high : ℕ) → ◌≡◌ {A = Part} (Leaf low) (Leaf high) → low ≡ high
   leaves_same low high is = cc
 
-  middles : (low high a b : ℕ) → low < N → high < N → low + N * a ≡ high + N * b → Same (Middle low) (Middle high) a b
+  middles : (low high a b : ℕ) → low < N → high < N → low + N * a ≡ high + N * b
+      → Same (Middle low) (Middle high) a b
   middles low high a b l h is =
       let some = some_entries table.shape in (
         ap Middle (sym (low_of N some low a l) ∙ ap (λ k. k % N) is ∙ low_of N some high b h),
         sym (high_of N some low a l) ∙ ap (λ k. k / N) is ∙ high_of N some high b h,
       )
 
+  -- entries that lead to pages with one part are one
   one_child : (q r : ℕ) (one other : Part) (a b : ℕ) → has_entries one ≡ true → has_entries other ≡ true
       → StandsAs table q one → StandsAs table r other → child table.shape one a ≡ child table.shape other b
       → Same one other a b
@@ -62,15 +70,17 @@ module _ (env : Env) (mix : ℕ → ℕ → ℕ → ℕ) (table : Table) (page :
   one_child q r Top (Middle high) a b has too first second is =
       absurd (top_and_middle (is_deep table.shape) a (high + N * b) second.deep is)
   one_child q r Top Top a b has too first second is = (refl, tops (is_deep table.shape) a b is)
-  one_child q r _ _ a b has too first second is = absurd (cc)
+  one_child q r one other a b has too first second is = absurd (cc)
 
   -- two entries of the table's pages that lead to one page are one
-  pub one_entry : (i j p : ℕ) → page (i / 64) ≡ PageOf τ → page (j / 64) ≡ PageOf τ → has_entries (table.part (i / 64)) ≡ true
+  pub one_entry : (i j p : ℕ) → page (i / 64) ≡ PageOf τ → page (j / 64) ≡ PageOf τ
+      → has_entries (table.part (i / 64)) ≡ true
       → has_entries (table.part (j / 64)) ≡ true → table.entry i ≡ Some p → table.entry j ≡ Some p → i ≡ j
   one_entry i j p of too has have first second =
       let one = nested.leads i p of has first in
       let other = nested.leads j p too have second in
-      let same = one_child (i / 64) (j / 64) (table.part (i / 64)) (table.part (j / 64)) (i % 64) (j % 64) has have
+      let same = one_child (i / 64) (j / 64) (table.part (i / 64)) (table.part (j / 64)) (i % 64)
+      (j % 64) has have
       (nested.stands (i / 64) of) (nested.stands (j / 64) too) (sym one.part_is ∙ other.part_is) in
       let pages = one_page (i / 64) (j / 64) (table.part (j / 64)) have
       (subst (StandsAs table (i / 64)) same.0 (nested.stands (i / 64) of)) (nested.stands (j / 64) too) in
@@ -80,14 +90,16 @@ module _ (env : Env) (mix : ℕ → ℕ → ℕ → ℕ) (table : Table) (page :
 
   module _ (j p : ℕ) (of : page (j / 64) ≡ PageOf τ) (has : has_entries (table.part (j / 64)) ≡ true)
       (leads : table.entry j ≡ Some p)
-      (none : has_entries (table.part p) ≡ true → (i : ℕ) → i / 64 ≡ p → table.entry i ≡ None) (owner : PageOwner)
-      (given : owner ≢ PageOf τ) where
+      (none : has_entries (table.part p) ≡ true → (i : ℕ) → i / 64 ≡ p → table.entry i ≡ None)
+      (owner : PageOwner) (given : owner ≢ PageOf τ) where
     abbrev t : Table
     t = withdrawn_table table j
 
+    -- which part it has
     behind : IsBehind env mix table page τ (table.part (j / 64)) (j % 64) p
     behind = nested.leads j p of has leads
 
+    -- its entry leads to none now, and the others where they led
     entry-here : t.entry j ≡ None
     entry-here = put-same table.entry j None
 
@@ -101,21 +113,21 @@ module _ (env : Env) (mix : ℕ → ℕ → ℕ → ℕ) (table : Table) (page :
       | inr other ↦ (other, sym (put-other table.entry j None i other) ∙ is)
     ]
 
-    -- the page is none of those with the top's part, and none but it is given
+    -- no entry of a page that has entries leads to one with the top's part
     no_top : (one : Part) (index : ℕ) → child table.shape one index ≡ Top → one ≢ Row → ⊥
     no_top Row index is other = other refl
-    no_top (Leaf low) index is other = cc
-    no_top (Middle low) index is other = cc
     no_top Top index is other = go (is_deep table.shape) is
       where
         go : (deep : Bool) → ◌≡◌ {A = Part} (cond deep (Middle index) (Leaf index)) Top → ⊥
         go true e = cc
         go false e = cc
+    no_top one index is other = cc
 
     not_row : (part : Part) → has_entries part ≡ true → part ≢ Row
     not_row Row has e = absurd (cc)
-    not_row _ has e = cc
+    not_row part has e = cc
 
+    -- so the page that is withdrawn isn't the top one
     top_apart : first_page table.shape ≢ p
     top_apart e =
         no_top (table.part (j / 64)) (j % 64) (sym behind.part_is ∙ ap table.part (sym e) ∙ nested.top_part)
@@ -124,6 +136,7 @@ module _ (env : Env) (mix : ℕ → ℕ → ℕ → ℕ) (table : Table) (page :
     abbrev pages : ℕ → PageOwner
     pages = put page p owner
 
+    -- the table's pages then are those that it had but for this one
     own : (q : ℕ) → pages q ≡ PageOf τ → (q ≢ p) × (page q ≡ PageOf τ)
     own q is = elim (cases_eq q p) [
       | inl e ↦ absurd (given (sym (put-same page p owner) ∙ ap pages (sym e) ∙ is))
@@ -132,6 +145,7 @@ module _ (env : Env) (mix : ℕ → ℕ → ℕ → ℕ) (table : Table) (page :
 
     -- ---- where pages stand
 
+    -- the entry of the top page on the way to a bucket
     abbrev first_entry : ℕ → ℕ
     first_entry low = 64 * first_page table.shape + low % N
 
@@ -141,15 +155,19 @@ module _ (env : Env) (mix : ℕ → ℕ → ℕ → ℕ) (table : Table) (page :
         let few = few_entries table.shape nested.shaped in
         omega (arith, below, few)
 
-    -- where the entry of the top page leads to the page, and pages of entries are behind the top page, it is one of these
-    is_middle : (low : ℕ) → first_entry low ≡ j → is_deep table.shape ≡ true → has_entries (table.part p) ≡ true
+    -- where the entry of the top page leads to the page, and pages of entries are behind the top page, it is
+    -- one of these
+    is_middle : (low : ℕ) → first_entry low ≡ j → is_deep table.shape ≡ true
+        → has_entries (table.part p) ≡ true
     is_middle low here deep =
         let at_top : table.part (j / 64) ≡ Top =
         ap (λ k. table.part (k / 64)) (sym here) ∙ ap table.part (in_top low) ∙ nested.top_part in
         ap has_entries (behind.part_is ∙ ap (λ part. child table.shape part (j % 64)) at_top)
         ∙ ap (λ d. has_entries (cond d (Middle (j % 64)) (Leaf (j % 64)))) deep
 
-    behind-stays : (deep : Bool) (q r rest : ℕ) → r ≢ p → cond deep (table.entry (64 * q + rest % 64)) (Some q) ≡ Some r
+    -- ways that don't lead to the page lead where they led
+    behind-stays : (deep : Bool) (q r rest : ℕ) → r ≢ p
+        → cond deep (table.entry (64 * q + rest % 64)) (Some q) ≡ Some r
         → cond deep (t.entry (64 * q + rest % 64)) (Some q) ≡ Some r
     behind-stays false q r rest other is = is
     behind-stays true q r rest other is = entry-other (64 * q + rest % 64) r is other
@@ -158,12 +176,14 @@ module _ (env : Env) (mix : ℕ → ℕ → ℕ → ℕ) (table : Table) (page :
     behind-here : (deep : Bool) (r rest : ℕ) → (deep ≡ true → has_entries (table.part p) ≡ true) → r ≢ p
         → cond deep (table.entry (64 * p + rest % 64)) (Some p) ≡ Some r → ⊥
     behind-here false r rest middle other is = other (sym (some-same p r is))
-    behind-here true r rest middle other is = none-some (none (middle refl) (64 * p + rest % 64) (omega arith)) is
+    behind-here true r rest middle other is = none-some
+        (none (middle refl) (64 * p + rest % 64) (omega arith)) is
 
     leaf-stays : (low r : ℕ) → r ≢ p → leaf_page table low ≡ Some r → leaf_page t low ≡ Some r
     leaf-stays low r other = go (table.entry (first_entry low)) refl
       where
-        go : (entry : Option ℕ) → table.entry (first_entry low) ≡ entry → behind_top table entry (low / N) ≡ Some r
+        go : (entry : Option ℕ) → table.entry (first_entry low) ≡ entry
+            → behind_top table entry (low / N) ≡ Some r
             → leaf_page t low ≡ Some r
         go None e is = absurd (cc)
         go (Some q) e is = elim (cases_eq q p) [
@@ -179,9 +199,11 @@ module _ (env : Env) (mix : ℕ → ℕ → ℕ → ℕ) (table : Table) (page :
               ∙ behind-stays (is_deep table.shape) q r (low / N) other is
         ]
 
+    -- and pages have the parts that they had
     stands-stay : (q : ℕ) (part : Part) → q ≢ p → StandsAs table q part → StandsAs t q part
     stands-stay q Row other is = is
-    stands-stay q (Leaf low) other is = record { below = is.below; entered = leaf-stays low q other is.entered }
+    stands-stay q (Leaf low) other is =
+        record { below = is.below; entered = leaf-stays low q other is.entered }
     stands-stay q (Middle low) other is = record {
       deep = is.deep;
       below = is.below;
@@ -203,7 +225,8 @@ module _ (env : Env) (mix : ℕ → ℕ → ℕ → ℕ) (table : Table) (page :
           let at = nested.leads i q mine.1 entries was.1 in
           record {
             within = at.within;
-            of = put-other page p owner q (λ e. was.0 (one_entry i j p mine.1 of entries has (was.1 ∙ ap Some e) leads)) ∙ at.of;
+            of = put-other page p owner q
+                (λ e. was.0 (one_entry i j p mine.1 of entries has (was.1 ∙ ap Some e) leads)) ∙ at.of;
             part_is = at.part_is;
           };
       places = λ b. refl;

@@ -7,7 +7,7 @@ use Rattle.rht_words.specs.Chains.{IsSegment}
 use Rattle.rht_words.specs.Places.{Address, Node, ChainLink, PageWord}
 use Rattle.rht_words.specs.Members.{In}
 use Rattle.rht_words.proofs.Memory.{Memory, IsWrite}
-use Rattle.rht_ghost.proofs.Theory.Ghosts.{none-some, put-all, Bucket, Held, First, Behind, Ghost, lock_bit, seat_of, table_at, some-same}
+use Rattle.rht_ghost.proofs.Theory.Ghosts.{none-some, put-all, Bucket, Held, First, Ghost, lock_bit, seat_of, table_at, some-same}
 use Rattle.rht_ghost.proofs.Theory.Wholes.{chain_of, key_of, place_at, stop, BucketRight, OutRight, Whole}
 use Rattle.rht_ghost.proofs.Theory.Passed.{home-within, held-no_entry}
 use Rattle.rht_ghost.proofs.Theory.Knowns.{last_of}
@@ -69,7 +69,6 @@ module _ (env : Env) (mix : ℕ → ℕ → ℕ → ℕ) where
             other_word = λ k ne e. ne (cc);
             other_link = λ n k ne f e. cc;
             no_leaving = λ n k ne leaving e. cc;
-            no_behind = λ n p f e. cc;
             no_seatless = λ n none e. cc;
             other_node = λ c n w ne f e. cc;
           }
@@ -88,9 +87,6 @@ module _ (env : Env) (mix : ℕ → ℕ → ℕ → ℕ) where
                     ne (first_one (G.node p) j k first (ap G.node (sym same) ∙ f));
                 no_leaving = λ n k ne leaving e. let same : n ≡ p = cc in
                     first_not_leaving (G.node p) j k first (ap G.node (sym same) ∙ leaving);
-                no_behind = λ n other f e.
-                    let same : n ≡ p = cc in
-                    let q : First j ≡ Behind other = sym first ∙ ap G.node (sym same) ∙ f in cc;
                 no_seatless = λ n none e.
                     let same : n ≡ p = cc in
                     none-some none (ap (λ k. seat_of (G.node k)) same ∙ ap seat_of first);

@@ -10,7 +10,7 @@ use Rattle.rht_words.proofs.Memory.{Memory, IsWrite}
 use Rattle.rht_words.proofs.LinksRead.{heads_come_back, plain_of-link}
 use Rattle.rht_words.proofs.ChainLemmas.{IsSegment-cut, IsSegment-members}
 use Rattle.rht_words.proofs.Members.{not_in_from, in_and_not, in-middle, In-append_left, In-append_cases, IsDistinct-cut, IsDistinct-left}
-use Rattle.rht_ghost.proofs.Theory.Ghosts.{put-same, put-other, put-all, Bucket, Held, First, Leaving, Behind, Ghost, seat_of, table_at, none-some, some-same}
+use Rattle.rht_ghost.proofs.Theory.Ghosts.{put-same, put-other, put-all, Bucket, Held, First, Leaving, Ghost, seat_of, table_at, none-some, some-same}
 use Rattle.rht_ghost.proofs.Theory.Wholes.{chain_of, key_of, place_at, home, stop, BucketRight, OutRight, IsHomeOf, IsFirstAt, IsLeavingAt, Whole}
 use Rattle.rht_ghost.proofs.Theory.Passed.{home-within, held-no_entry, member-no_entry}
 use Rattle.rht_ghost.proofs.Theory.Frames.{Made}
@@ -70,9 +70,6 @@ module _ (env : Env) (mix : ℕ → ℕ → ℕ → ℕ) where
         other_link = λ n k ne f e. let same : n ≡ entry = cc in
             ne (first_one (G.node entry) j k first (ap G.node (sym same) ∙ f));
         no_leaving = λ n k ne leaving e. ne (cc);
-        no_behind = λ n p f e.
-            let same : n ≡ entry = cc in
-            let q : First j ≡ Behind p = sym first ∙ ap G.node (sym same) ∙ f in cc;
         no_seatless = λ n none e.
             let same : n ≡ entry = cc in
             none-some none (ap (λ k. seat_of (G.node k)) same ∙ ap seat_of first);
@@ -258,7 +255,6 @@ module _ (env : Env) (mix : ℕ → ℕ → ℕ → ℕ) where
       other_word = λ k ne e. ne (cc);
       other_link = λ n k ne f e. cc;
       no_leaving = λ n k ne leaving e. cc;
-      no_behind = λ n p f e. cc;
       no_seatless = λ n none e. cc;
       other_node = λ c n w ne f e. cc;
     }

@@ -344,7 +344,8 @@ module _ (env : Env) (mix : ℕ → ℕ → ℕ → ℕ) where
             ∙ omega (arith, whole.counted, one_more_first, one_less_raiser);
       };
       stale = stale_write env mix M M' G G' (PageWord here) (link_of n) write
-          (let was = reowned_owners env mix G n (First here) (ap is_used ready.has.mine) in record { out = was.out; used = was.used })
+          (let was = reowned_owners env mix G n (First here) (ap is_used ready.has.mine) in
+          record { out = was.out; used = was.used })
           (λ m u f e. cc) (λ m u f e. cc);
       others = λ c ne. record {
         tables = tables_stay env mix M G G' whole same linked_passes;

@@ -113,8 +113,10 @@ module _ (env : Env) (mix : ℕ → ℕ → ℕ → ℕ) (d port j m q p : ℕ) 
 
     before_listed : is_listed (cut.node p) ≡ true
     before_listed =
-        let apart : p ≢ q = λ e. IsDistinct-apart (m ∷ us) (q ∷ vs) p q to.distinct before_in (inl refl) (sym e) in
-        ap is_listed (put-other (put G.node q (Taken d)) q (Taken d) p apart ∙ put-other G.node q (Taken d) p apart)
+        let apart : p ≢ q = λ e. IsDistinct-apart (m ∷ us) (q ∷ vs) p q to.distinct before_in (inl refl)
+        (sym e) in
+        ap is_listed (put-other (put G.node q (Taken d)) q (Taken d) p apart
+        ∙ put-other G.node q (Taken d) p apart)
         ∙ elim before_in [
           | inl e ↦ ap is_listed (ap G.node e ∙ first)
           | inr i ↦ ap is_listed (is_behind p (In-append_left p us (q ∷ vs) i))
@@ -346,7 +348,9 @@ module _ (env : Env) (mix : ℕ → ℕ → ℕ → ℕ) (d port j m q p : ℕ) 
     ];
     same = refl;
     one = refl;
-    seatless = ap seat_of ((whole.owned.bound_to port m (us ++ q ∷ vs) found.bound_to).each q (in-middle q us vs));
-    used = ap is_used ((whole.owned.bound_to port m (us ++ q ∷ vs) found.bound_to).each q (in-middle q us vs));
+    seatless = ap seat_of
+        ((whole.owned.bound_to port m (us ++ q ∷ vs) found.bound_to).each q (in-middle q us vs));
+    used = ap is_used ((whole.owned.bound_to port m (us ++ q ∷ vs) found.bound_to).each q
+        (in-middle q us vs));
     gone = refl;
   }

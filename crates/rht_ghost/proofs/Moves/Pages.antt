@@ -166,7 +166,8 @@ module _ (env : Env) (mix : ℕ → ℕ → ℕ → ℕ) where
           others = repaged_others index bits v PageFree (PageHeld d) M M' G whole free (λ τ e. cc) (λ τ e. cc) write
               here others d (λ c ne e. cc) (λ c ne e. ne (cc));
           stale = stale_write env mix M M' G (with_pages G index bits (PageHeld d)) (PageMap index) v write
-              (same_owners env mix G (with_pages G index bits (PageHeld d)) refl) (λ n u f e. cc) (λ n u f e. cc);
+              (same_owners env mix G (with_pages G index bits (PageHeld d)) refl) (λ n u f e. cc)
+              (λ n u f e. cc);
         },
         free,
       )

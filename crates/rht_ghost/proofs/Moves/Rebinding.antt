@@ -480,8 +480,10 @@ module _ (env : Env) (mix : ℕ → ℕ → ℕ → ℕ) (d : ℕ) (change : Cha
           (record {
             out = λ n e. owners_all (λ k o. G.node k ≡ Taken e → o ≡ Taken e)
                 (λ out. absurd (none_out e change.one change.one_owner is.one_changed out))
-                (λ out. absurd (none_out e change.other change.other_owner is.other_changed out)) (λ k one other out. out) n;
-            used = owners_all (λ k o. IsUsed (G.node k) → IsUsed o) (λ u. is.one_changed.used) (λ u. is.other_changed.used)
+                (λ out. absurd (none_out e change.other change.other_owner is.other_changed out))
+                (λ k one other out. out) n;
+            used = owners_all (λ k o. IsUsed (G.node k) → IsUsed o) (λ u. is.one_changed.used)
+                (λ u. is.other_changed.used)
                 (λ k one other u. u);
           })
           (λ n used. store.no_seatless n) store.stale_list;
@@ -489,4 +491,5 @@ module _ (env : Env) (mix : ℕ → ℕ → ℕ → ℕ) (d : ℕ) (change : Cha
       where
         none_out : (e n : ℕ) (owner : Owner) → IsChanged n owner → G.node n ≡ Taken e → ⊥
         none_out e n owner at out =
-            let z : true ≡ false = sym (eq-eqb e e refl) ∙ sym (ap (is_taken_by e) out) ∙ was_not_out e n owner at in cc
+            let z : true ≡ false = sym (eq-eqb e e refl) ∙ sym (ap (is_taken_by e) out)
+            ∙ was_not_out e n owner at in cc

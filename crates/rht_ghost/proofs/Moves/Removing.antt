@@ -22,7 +22,8 @@ use Rattle.rht_ghost.proofs.Moves.Rebinding.{IsStoreFor, IsChanged, IsRebound, r
 use Rattle.rht_ghost.proofs.Moves.Relinking.{relink_address, relink_value, relinked, relinked_right, last_in}
 
 -- the nodes of a bucket behind a relinking
-relinked_row : (place link : ℕ) (b : Bucket) (nodes : List ℕ) (before : Option ℕ) → (relinked place link b nodes before).nodes ≡ nodes
+relinked_row : (place link : ℕ) (b : Bucket) (nodes : List ℕ) (before : Option ℕ)
+    → (relinked place link b nodes before).nodes ≡ nodes
 relinked_row place link b nodes None = refl
 relinked_row place link b nodes (Some before) = refl
 
@@ -151,7 +152,8 @@ module _ (env : Env) (mix : ℕ → ℕ → ℕ → ℕ) (d port j m : ℕ) (fro
                   let q : Behind other ≡ First j = sym f ∙ ap G.node same ∙ mine in cc;
               no_seatless = λ n none e.
                   let same : n ≡ p = cc in
-                  seated p (last_in front p (sym last)) (ap (λ k. seat_of ((changed G d change).node k)) (sym same) ∙ none);
+                  seated p (last_in front p (sym last))
+                  (ap (λ k. seat_of ((changed G d change).node k)) (sym same) ∙ none);
               other_list = λ n p ne i e. cc;
               other_node = λ c n w ne held e.
                   let same : n ≡ p = cc in
@@ -317,7 +319,8 @@ module _ (env : Env) (mix : ℕ → ℕ → ℕ → ℕ) (d port j m : ℕ) (fro
         (relink_value (place_at env mix j) link before) whole
         (relink_store whole [] found (unlinking link) link refl
         (λ p i none. none-some none
-        (ap seat_of (unlinked-other p (λ e. in_and_not m front (subst (λ k. In k front) e i) (apart whole [] found).0)
+        (ap seat_of (unlinked-other p
+        (λ e. in_and_not m front (subst (λ k. In k front) e i) (apart whole [] found).0)
         ∙ front_first whole [] found p i))) write) unlinked_bound
 
   -- ---- another node comes into the place of the first one
@@ -636,7 +639,8 @@ module _ (env : Env) (mix : ℕ → ℕ → ℕ → ℕ) (d port j m : ℕ) (fro
     pub replace : Made env mix d M G M' replaced
     replace = rebind env mix d change M M' G a v whole
         (relink_store whole behind found change (link_of x) refl
-        (λ p i none. none-some none (ap seat_of (replaced-stays p (In-append_left p front rear i)))) write) replaced_bound
+        (λ p i none. none-some none
+        (ap seat_of (replaced-stays p (In-append_left p front rear i)))) write) replaced_bound
 
   -- ---- what is known of these changes
 

@@ -23,7 +23,7 @@ module _ (env : Env) (mix : ℕ → ℕ → ℕ → ℕ) (d here entry : ℕ) (b
   G' = record G { bucket = put G.bucket here b; node = node }
 
   -- the word that is stored is no word of a table, of the maps or the count, no word of a node but a link in a chain, and no link of
-  -- another bucket's nodes, of an entry that is in no bucket, of a node in a list, or of a node that another caller has
+  -- another bucket's nodes, of an entry that is in no bucket, of a node without a seat, or of a node that another caller has
   pub record IsEntryStore : Type 0 where
     pub write : IsWrite env.geometry M M' a v
     pub no_table : IsNoTableWord env mix a
@@ -35,7 +35,6 @@ module _ (env : Env) (mix : ℕ → ℕ → ℕ → ℕ) (d here entry : ℕ) (b
     pub other_word : (i : ℕ) → i ≢ here → PageWord i ≢ a
     pub other_link : (n i : ℕ) → i ≢ here → G.node n ≡ First i → Node n ChainLink ≢ a
     pub no_leaving : (n i : ℕ) → n ≢ entry → G.node n ≡ Leaving i → Node n ChainLink ≢ a
-    pub no_behind : (n other : ℕ) → G.node n ≡ Behind other → Node n ChainLink ≢ a
     pub no_seatless : (n : ℕ) → seat_of (G.node n) ≡ None → Node n ChainLink ≢ a
     pub other_node : (c n : ℕ) (w : NodeWord) → c ≢ d → G.node n ≡ Held c → Node n w ≢ a
 
@@ -370,8 +369,8 @@ module _ (env : Env) (mix : ℕ → ℕ → ℕ → ℕ) (d here entry : ℕ) (b
               let used = bound_used env mix M G whole (key_of M n) (G.bound (key_of M n)) refl m listed in
               store.write.others (Node m ChainLink) used.0 (elim (subst (In m) at.bound_to listed) [
                 | inl e ↦ store.other_link m i (elsewhere i h) (ap G.node e ∙ first)
-                | inr k ↦ store.no_behind m (key_of M n)
-                    ((whole.owned.bound_to (key_of M n) n at.behind at.bound_to).each m k)
+                | inr k ↦ store.no_seatless m
+                    (ap seat_of ((whole.owned.bound_to (key_of M n) n at.behind at.bound_to).each m k))
               ]);
           keys = λ n l used. key_stays n l;
           owners = λ n l used. store.write.others (Node n OwnerWord) l (store.no_owner n);
@@ -397,7 +396,8 @@ module _ (env : Env) (mix : ℕ → ℕ → ℕ → ℕ) (d here entry : ℕ) (b
       stale = stale_write env mix M M' G G' a v store.write
           (record {
             out = λ n e out. is.reseat.others n (unseated n (ap seat_of out)) ∙ out;
-            used = owners_all (λ k o. IsUsed (G.node k) → IsUsed o) (λ u. seat-used (node entry) is.reseat.after is.reseat.now)
+            used = owners_all (λ k o. IsUsed (G.node k) → IsUsed o)
+                (λ u. seat-used (node entry) is.reseat.after is.reseat.now)
                 (λ k ne u. u);
           })
           (λ n used none. store.no_seatless n (elim (cases_eq n entry) [

@@ -133,7 +133,8 @@ module _ (env : Env) (mix : ℕ → ℕ → ℕ → ℕ) where
             (PagesRight-kept env mix M M' G G.slot (Slot s w) v write (λ i e. cc) whole.pages)
             (EntriesRight-kept env mix M M' G G.table G.attached G.slot G.page whole kept (Slot s w) v write words
             (λ τ l. refl) (λ p τ of has. of) (λ j e. cc));
-        stale = stale_write env mix M M' G G (Slot s w) v write (same_owners env mix G G refl) (λ n u f e. cc) (λ n u f e. cc);
+        stale = stale_write env mix M M' G G (Slot s w) v write (same_owners env mix G G refl) (λ n u f e. cc)
+            (λ n u f e. cc);
         others = λ c ne. Rely-retabled env mix M M' G G.table G.attached G.slot G.page whole kept (Slot s w) v
             write words c (record {
               slots = λ t is. is;
@@ -160,5 +161,6 @@ module _ (env : Env) (mix : ℕ → ℕ → ℕ → ℕ) where
       record {
         whole = kept.0;
         others = λ c ne. kept.1 c;
-        stale = stale_write env mix M M' G G NextSerial v write (same_owners env mix G G refl) (λ n u f e. cc) (λ n u f e. cc);
+        stale = stale_write env mix M M' G G NextSerial v write (same_owners env mix G G refl) (λ n u f e. cc)
+            (λ n u f e. cc);
       }

@@ -239,7 +239,8 @@ module _ (env : Env) (mix : ℕ → ℕ → ℕ → ℕ) where
                   (whole.arena.bits n k);
             })
             (write.others PortCount tt (λ e. cc) ∙ whole.counted);
-        stale = stale_write env mix M M' G G (NodeMap i) value write (same_owners env mix G G refl) (λ n u f e. cc) (λ n u f e. cc);
+        stale = stale_write env mix M M' G G (NodeMap i) value write (same_owners env mix G G refl)
+            (λ n u f e. cc) (λ n u f e. cc);
         others =
             λ c ne. Rely-same env mix c M M' G G whole
             (same_tables env mix G G.bucket G.node G.bound G.raised) refl refl refl refl words
@@ -270,7 +271,8 @@ module _ (env : Env) (mix : ℕ → ℕ → ℕ → ℕ) where
               )
               (λ k l ne. bit_at-cleared_other (M (NodeMap i)) b k at.within l ne);
           stale = stale_write env mix M M' G (with_owner G n (Held d)) (NodeMap i)
-              (bit_and (M (NodeMap i)) (bit_not w64 (bit_of b))) write (reowned_owners env mix G n (Held d) (ap is_used free))
+              (bit_and (M (NodeMap i)) (bit_not w64 (bit_of b))) write
+              (reowned_owners env mix G n (Held d) (ap is_used free))
               (λ m u f e. cc) (λ m u f e. cc);
           others = λ c ne. record {
             tables = tables_stay env mix M G (with_owner G n (Held d)) whole same.tables
@@ -321,7 +323,8 @@ module _ (env : Env) (mix : ℕ → ℕ → ℕ → ℕ) where
       (λ k l ne. bit_at-set_other (M (NodeMap i)) b k ne) in
       record {
         whole = rw parts at made;
-        stale = stale_write env mix M M' G (with_owner G n Free) (NodeMap i) (bit_or (M (NodeMap i)) (bit_of b)) write
+        stale = stale_write env mix M M' G (with_owner G n Free) (NodeMap i)
+            (bit_or (M (NodeMap i)) (bit_of b)) write
             (reowned_owners env mix G n Free (ap is_used has.mine)) (λ m u f e. cc) (λ m u f e. cc);
         others = λ c ne. record {
           tables = tables_stay env mix M G (with_owner G n Free) whole same.tables
@@ -352,7 +355,8 @@ module _ (env : Env) (mix : ℕ → ℕ → ℕ → ℕ) where
       }
 
   -- The or that sets the bit of a node which a call of the caller has taken out. Others know what they knew.
-  pub return_node : (d n : ℕ) (M M' : Memory) (G : Ghost) → Whole env mix M G → n < env.geometry.nodes → G.node n ≡ Taken d
+  pub return_node : (d n : ℕ) (M M' : Memory) (G : Ghost) → Whole env mix M G → n < env.geometry.nodes
+      → G.node n ≡ Taken d
       → IsWrite env.geometry M M' (NodeMap (n / 64)) (bit_or (M (NodeMap (n / 64))) (bit_of (n % 64)))
       → Whole env mix M' (with_owner G n Free) × Others env mix d M G M' (with_owner G n Free)
   return_node d n M M' G whole among mine write =

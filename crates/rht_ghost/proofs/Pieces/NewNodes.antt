@@ -113,7 +113,8 @@ module _ (env : Env) (mix : ℕ → ℕ → ℕ → ℕ) (c : ℕ) (h : Holding)
     stays-reowned : (n : ℕ) (owner : Owner) → is_used (G.node n) ≡ false → is_used owner ≡ false
         → TablesStay env mix G (with_owner G n owner)
     stays-reowned n owner was now =
-        let same = reowned_chains env mix G n owner (unused-unlisted (G.node n) was) (unused-unlisted owner now) in
+        let same = reowned_chains env mix G n owner (unused-unlisted (G.node n) was)
+        (unused-unlisted owner now) in
         tables_stay env mix M G (with_owner G n owner) whole same.tables
         (chains_passes env mix M G (with_owner G n owner) whole same)
 

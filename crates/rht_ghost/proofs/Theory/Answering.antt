@@ -170,10 +170,12 @@ module _ (kind : Kind) (c : ℕ) (call : Call) where
     pub answer : Answer
     pub known : now ≡ Some answer
 
-  -- an operation that changes no bindings keeps what is known of the answer, or tells it, or recalls the one that was known early, or claims it
+  -- an operation that changes no bindings keeps what is known of the answer, or tells it, or recalls the one
+  -- that was known early, or claims it
   abbrev pub SaysStill : Option Answer → Type 0 → Multimap → Option Answer → Option Answer → Type 0
   SaysStill early There bindings was now =
-      KeepsAnswer was now ⊎ LearnsAnswer bindings was now ⊎ RecallsAnswer early There was now ⊎ ClaimsAnswer was now
+      KeepsAnswer was now ⊎ LearnsAnswer bindings was now ⊎ RecallsAnswer early There was now
+      ⊎ ClaimsAnswer was now
 
   -- ---- what is known early
 

@@ -33,13 +33,14 @@ module _ (env : Env) (mix : ℕ → ℕ → ℕ → ℕ) where
     pub out : (n e : ℕ) → G.node n ≡ Taken e → G'.node n ≡ Taken e
     pub used : (n : ℕ) → IsUsed (G.node n) → IsUsed (G'.node n)
 
-  -- the link in chains of each node that is or was a port's, and has no seat then; or it gets that of the port's first node
+  -- the link in chains of each node that is or was a port's, and has no seat then; or it gets that of the
+  -- port's first node
   abbrev pub LinksStay : Memory → Ghost → Memory → Ghost → Type 0
   LinksStay M G M' G' = (n : ℕ) → n < env.geometry.nodes → IsUsed (G.node n) → seat_of (G'.node n) ≡ None
       → (chain_of M' n ≡ chain_of M n) ⊎ IsLed M G M' G' n
 
-  -- What a step leaves of nodes that are in no chain then, and of those that are in no list: the links of such that are or were ports', but that
-  -- one may be led to where its port's first node leads.
+  -- What a step leaves of nodes that are in no chain then, and of those that are in no list: the links of
+  -- such that are or were ports', but that one may be led to where its port's first node leads.
   pub record StaleStay (M : Memory) (G : Ghost) (M' : Memory) (G' : Ghost) : Type 0 where
     pub owners : OwnersStay G G'
     pub chains : LinksStay M G M' G'
@@ -57,12 +58,14 @@ module _ (env : Env) (mix : ℕ → ℕ → ℕ → ℕ) where
       → OwnersStay G (with_owner G n owner)
   reowned_owners G n owner was = record {
     out = λ m e is. put-other G.node n owner m
-        (λ same. let q : true ≡ false = sym (ap is_used is) ∙ ap (λ k. is_used (G.node k)) same ∙ was in cc) ∙ is;
+        (λ same. let q : true ≡ false = sym (ap is_used is) ∙ ap (λ k. is_used (G.node k)) same ∙ was in cc)
+        ∙ is;
     used = λ m used. ap is_used (put-other G.node n owner m
         (λ same. let q : true ≡ false = sym used ∙ ap (λ k. is_used (G.node k)) same ∙ was in cc)) ∙ used;
   }
 
-  pub stale_write : (M M' : Memory) (G G' : Ghost) (a : Address) (v : ℕ) → IsWrite env.geometry M M' a v → OwnersStay G G'
+  pub stale_write : (M M' : Memory) (G G' : Ghost) (a : Address) (v : ℕ) → IsWrite env.geometry M M' a v
+      → OwnersStay G G'
       → ((n : ℕ) → IsUsed (G.node n) → seat_of (G'.node n) ≡ None → Node n ChainLink ≢ a)
       → ((n : ℕ) → IsUsed (G.node n) → is_listed (G'.node n) ≡ false → Node n ListLink ≢ a)
       → StaleStay M G M' G'
@@ -194,7 +197,8 @@ module _ (env : Env) (mix : ℕ → ℕ → ℕ → ℕ) where
       seat_same port [] b = ap (seat_in G'.node) (same.bound port ∙ b) ∙ sym (ap (seat_in G.node) b)
       seat_same port (n ∷ behind) b =
           let to = whole.owned.bound_to port n behind b in
-          ap (seat_in G'.node) (same.bound port ∙ b) ∙ ap seat_of (same.used n (seat-listed (G.node n) to.bucket to.first))
+          ap (seat_in G'.node) (same.bound port ∙ b) ∙ ap seat_of
+          (same.used n (seat-listed (G.node n) to.bucket to.first))
           ∙ sym (ap (seat_in G.node) b)
 
   -- ---- what a caller has of tables, and the work

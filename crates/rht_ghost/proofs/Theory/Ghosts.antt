@@ -312,7 +312,13 @@ first-seat (First j) is = (j, refl)
 first-seat (Leaving j) is = (j, refl)
 first-seat o is = absurd (cc)
 
--- who is in none has no seat
+-- and is in a list
+pub first-listed : (o : Owner) → is_first o ≡ true → is_listed o ≡ true
+first-listed (First j) is = refl
+first-listed (Leaving j) is = refl
+first-listed o is = absurd (cc)
+
+-- who is in no chain has no seat
 pub not_first-seatless : (o : Owner) → is_first o ≡ false → seat_of o ≡ None
 not_first-seatless (First j) is = absurd (cc)
 not_first-seatless (Leaving j) is = absurd (cc)

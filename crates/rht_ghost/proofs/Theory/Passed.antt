@@ -62,6 +62,13 @@ same-TableStays page τ table table' same = record {
   entries = λ j p of is. ap (λ t. t.entry j) same ∙ is;
 }
 
+-- which table it is
+pub record IsSameTable (table table' : Table) : Type 0 where
+  pub slot : table'.slot ≡ table.slot
+  pub shape : table'.shape ≡ table.shape
+  pub seed : table'.seed ≡ table.seed
+  pub serial : table'.serial ≡ table.serial
+
 module _ (env : Env) (mix : ℕ → ℕ → ℕ → ℕ) where
   -- Behind this table no bind of the port is armed, no entry of it is on its way out, and it isn't bound there.
   pub record Passed (G : Ghost) (port τ : ℕ) : Type 0 where
@@ -268,28 +275,18 @@ module _ (env : Env) (mix : ℕ → ℕ → ℕ → ℕ) where
 
   -- ---- what was passed is so still
 
-  -- Tables come behind those that there are, and the current one is left behind. Of those that there are all stays that is said of them,
-  -- but that a table in use may be retired, and that buckets get words whose pages were missing: each of these is blank then.
-  pub record TablesGrow (G G' : Ghost) : Type 0 where
-    pub tables : (τ : ℕ) → τ < G.attached → TableStays G.page τ (G.table τ) (G'.table τ)
-    pub placed : (τ b j : ℕ) → τ < G.attached → (G'.table τ).place b ≡ Some j
+  -- Tables come, the current one is left behind, and what has been said of each table stays. From this one on
+  -- pages and buckets stay too, but that buckets get words whose pages were missing: each of these is blank
+  -- then.
+  pub record GrowsFrom (low : ℕ) (G G' : Ghost) : Type 0 where
+    pub tables : (τ : ℕ) → τ < G.attached → IsSameTable (G.table τ) (G'.table τ)
+    pub places : (τ b j : ℕ) → τ < G.attached → low ≤ τ → (G.table τ).place b ≡ Some j
+        → (G'.table τ).place b ≡ Some j
+    pub placed : (τ b j : ℕ) → τ < G.attached → low ≤ τ → (G'.table τ).place b ≡ Some j
         → ((G.table τ).place b ≡ Some j) ⊎ (G'.bucket j ≡ blank_bucket)
     pub attached : G.attached ≤ G'.attached
     pub current : G.current ≤ G'.current
-    pub slots : (s : ℕ) → has_table (G.slot s) ≡ true → has_table (G'.slot s) ≡ true
-    pub indices : (s : ℕ) → has_table (G.slot s) ≡ true → index_at G' s ≡ index_at G s
-    pub retired : (s τ : ℕ) → G.slot s ≡ Retired τ → G'.slot s ≡ Retired τ
-    pub pages : (p τ : ℕ) → G.page p ≡ PageOf τ → G'.page p ≡ PageOf τ
-
-  -- a bucket's table stays
-  pub table_at-grows : (G G' : Ghost) → TablesGrow G G' → (j : ℕ) → table_at G j ≤ table_at G' j
-  table_at-grows G G' grow j = go (G.page (j / 64)) refl
-    where
-      go : (owner : PageOwner) → G.page (j / 64) ≡ owner → table_of_page owner ≤ table_at G' j
-      go PageFree is = omega arith
-      go (PageHeld c) is = omega arith
-      go (PageOf τ) is = let same : table_at G' j ≡ τ = ap table_of_page (grow.pages (j / 64) τ is) in omega
-          (arith, same)
+    pub pages : (p τ : ℕ) → low ≤ τ → G.page p ≡ PageOf τ → G'.page p ≡ PageOf τ
 
   -- a bind of the port is armed in this bucket
   pub record IsArmedFor (G : Ghost) (port j : ℕ) : Type 0 where
@@ -320,39 +317,55 @@ module _ (env : Env) (mix : ℕ → ℕ → ℕ → ℕ) where
         → WasOut G port n j ⊎ (seat G port ≡ Some j)
     pub seats : (port j : ℕ) → seat G' port ≡ Some j → WasSeated G port j ⊎ IsArmedFor G port j
 
+  -- a bucket's table stays
+  table_at-from : (low : ℕ) (G G' : Ghost) → GrowsFrom low G G' → (j : ℕ) → low ≤ table_at G j
+      → table_at G j ≤ table_at G' j
+  table_at-from low G G' grow j = go (G.page (j / 64)) refl
+    where
+      go : (owner : PageOwner) → G.page (j / 64) ≡ owner → low ≤ table_of_page owner
+          → table_of_page owner ≤ table_at G' j
+      go PageFree is from = omega arith
+      go (PageHeld c) is from = omega arith
+      go (PageOf τ) is from =
+          let same : table_at G' j ≡ τ = ap table_of_page (grow.pages (j / 64) τ from is) in
+          omega (arith, same)
+
   -- a port has the number that it had, and the homes, and perhaps one more in a bucket that is blank
-  pub hash-stays : (G G' : Ghost) → TablesGrow G G' → (port τ : ℕ) → τ < G.attached
+  hash-from : (low : ℕ) (G G' : Ghost) → GrowsFrom low G G' → (port τ : ℕ) → τ < G.attached
       → hash_in env mix G' port τ ≡ hash_in env mix G port τ
-  hash-stays G G' grow port τ l =
-      let stays = grow.tables τ l in
-      ap (λ shape. bucket_of mix port shape (G'.table τ).seed) stays.shape
-      ∙ ap (λ seed. bucket_of mix port (G.table τ).shape seed) stays.seed
+  hash-from low G G' grow port τ l =
+      let same = grow.tables τ l in
+      ap (λ shape. bucket_of mix port shape (G'.table τ).seed) same.shape
+      ∙ ap (λ seed. bucket_of mix port (G.table τ).shape seed) same.seed
 
-  pub home-stays : (G G' : Ghost) → TablesGrow G G' → (port τ j : ℕ) → τ < G.attached
+  pub home-from : (low : ℕ) (G G' : Ghost) → GrowsFrom low G G' → (port τ j : ℕ) → τ < G.attached → low ≤ τ
       → home env mix G port τ ≡ Some j → home env mix G' port τ ≡ Some j
-  home-stays G G' grow port τ j l is =
-      ap (G'.table τ).place (hash-stays G G' grow port τ l)
-      ∙ (grow.tables τ l).places (hash_in env mix G port τ) j is
+  home-from low G G' grow port τ j l from is =
+      ap (G'.table τ).place (hash-from low G G' grow port τ l)
+      ∙ grow.places τ (hash_in env mix G port τ) j l from is
 
-  pub home-comes : (G G' : Ghost) → TablesGrow G G' → (port τ j : ℕ) → τ < G.attached
+  home-comes-from : (low : ℕ) (G G' : Ghost) → GrowsFrom low G G' → (port τ j : ℕ) → τ < G.attached → low ≤ τ
       → home env mix G' port τ ≡ Some j → (home env mix G port τ ≡ Some j) ⊎ (G'.bucket j ≡ blank_bucket)
-  home-comes G G' grow port τ j l is =
-      grow.placed τ (hash_in env mix G port τ) j l (sym (ap (G'.table τ).place (hash-stays G G' grow port τ l)) ∙ is)
+  home-comes-from low G G' grow port τ j l from is =
+      grow.placed τ (hash_in env mix G port τ) j l from
+      (sym (ap (G'.table τ).place (hash-from low G G' grow port τ l)) ∙ is)
 
-  module _ (M : Memory) (G G' : Ghost) (whole : Whole env mix M G) (grow : TablesGrow G G')
-      (stay : PassesStay G G') where
-    pub Passed-stays : (port τ : ℕ) → Passed G port τ → Passed G' port τ
-    Passed-stays port τ passed =
-        let before : (σ j : ℕ) → σ < τ → home env mix G' port σ ≡ Some j
+  -- who has passed a table that isn't before that one has still
+  module _ (low : ℕ) (M : Memory) (G G' : Ghost) (whole : Whole env mix M G) (grow : GrowsFrom low G G')
+      (stay : PassesStay G G') (from_current : low ≤ G.current) where
+    pub Passed-from : (port τ : ℕ) → low ≤ τ → Passed G port τ → Passed G' port τ
+    Passed-from port τ from passed =
+        let before : (σ j : ℕ) → G'.current ≤ σ → σ < τ → home env mix G' port σ ≡ Some j
         → (home env mix G port σ ≡ Some j) ⊎ (G'.bucket j ≡ blank_bucket) =
-        λ σ j l is. home-comes G G' grow port σ j (omega (arith, l, passed.attached)) is in
+        λ σ j h l is. home-comes-from low G G' grow port σ j (omega (arith, l, passed.attached))
+        (omega (arith, h, grow.current, from_current)) is in
         record {
           attached = omega (arith, passed.attached, grow.attached);
-          quiet = λ σ j l h is. elim (before σ j h is) [
+          quiet = λ σ j l h is. elim (before σ j l h is) [
             | inl was ↦ unarmed σ j (G'.bucket j).armed refl (omega (arith, grow.current, l)) h was
             | inr blank ↦ ap (λ b. b.armed) blank
           ];
-          gone = λ σ j n behind l h is b out. elim (before σ j h is) [
+          gone = λ σ j n behind l h is b out. elim (before σ j l h is) [
             | inl was ↦ elim (stay.heads port n j behind b out) [
               | inl still ↦ passed.gone σ j n still.behind (omega (arith, grow.current, l)) h was still.bound_to still.out
               | inr seat_was ↦
@@ -362,17 +375,19 @@ module _ (env : Env) (mix : ℕ → ℕ → ℕ → ℕ) where
             ]
             | inr blank ↦ none-some (ap (λ b. b.out) blank) out
           ];
-          later = λ j s.
-              let more = table_at-grows G G' grow j in
-              elim (stay.seats port j s) [
-                | inl before ↦
-                    let at_least = passed.later before.bucket before.seat_is in
-                    omega (arith, at_least, before.earlier, more)
-                | inr arms ↦ elim (cases_lt (table_at G j) τ) [
-                  | inl less ↦ absurd (none-some (passed.quiet (table_at G j) j arms.current less arms.here) arms.armed)
-                  | inr least ↦ omega (arith, least, more)
-                ]
-              ];
+          later = λ j s. elim (stay.seats port j s) [
+            | inl before ↦
+                let at_least = passed.later before.bucket before.seat_is in
+                let more = table_at-from low G G' grow j (omega (arith, from, at_least, before.earlier)) in
+                omega (arith, at_least, before.earlier, more)
+            | inr arms ↦ elim (cases_lt (table_at G j) τ) [
+              | inl less ↦ absurd (none-some
+                  (passed.quiet (table_at G j) j arms.current less arms.here) arms.armed)
+              | inr least ↦
+                  let more = table_at-from low G G' grow j (omega (arith, from, least)) in
+                  omega (arith, least, more)
+            ]
+          ];
         }
       where
         unarmed : (σ j : ℕ) (armed : Option ℕ) → (G'.bucket j).armed ≡ armed → G.current ≤ σ → σ < τ
@@ -384,3 +399,48 @@ module _ (env : Env) (mix : ℕ → ℕ → ℕ → ℕ) where
               let table = home-table M G whole port σ j (omega (arith, passed.attached)) at in
               absurd (omega (arith, last, table, passed.attached))
         ]
+
+  -- ---- where all tables stay
+
+  -- Tables come behind those that there are, and the current one is left behind. Of those that there are all stays that is said of them,
+  -- but that a table in use may be retired, and that buckets get words whose pages were missing: each of these is blank then.
+  pub record TablesGrow (G G' : Ghost) : Type 0 where
+    pub tables : (τ : ℕ) → τ < G.attached → TableStays G.page τ (G.table τ) (G'.table τ)
+    pub placed : (τ b j : ℕ) → τ < G.attached → (G'.table τ).place b ≡ Some j
+        → ((G.table τ).place b ≡ Some j) ⊎ (G'.bucket j ≡ blank_bucket)
+    pub attached : G.attached ≤ G'.attached
+    pub current : G.current ≤ G'.current
+    pub slots : (s : ℕ) → has_table (G.slot s) ≡ true → has_table (G'.slot s) ≡ true
+    pub indices : (s : ℕ) → has_table (G.slot s) ≡ true → index_at G' s ≡ index_at G s
+    pub retired : (s τ : ℕ) → G.slot s ≡ Retired τ → G'.slot s ≡ Retired τ
+    pub pages : (p τ : ℕ) → G.page p ≡ PageOf τ → G'.page p ≡ PageOf τ
+
+  -- so everything stays from the first table on
+  grows_from : (G G' : Ghost) → TablesGrow G G' → GrowsFrom 0 G G'
+  grows_from G G' grow = record {
+    tables = λ τ l.
+        let stays = grow.tables τ l in
+        record { slot = stays.slot; shape = stays.shape; seed = stays.seed; serial = stays.serial };
+    places = λ τ b j l from. (grow.tables τ l).places b j;
+    placed = λ τ b j l from. grow.placed τ b j l;
+    attached = grow.attached;
+    current = grow.current;
+    pages = λ p τ from. grow.pages p τ;
+  }
+
+  pub table_at-grows : (G G' : Ghost) → TablesGrow G G' → (j : ℕ) → table_at G j ≤ table_at G' j
+  table_at-grows G G' grow j = table_at-from 0 G G' (grows_from G G' grow) j (omega arith)
+
+  pub hash-stays : (G G' : Ghost) → TablesGrow G G' → (port τ : ℕ) → τ < G.attached
+      → hash_in env mix G' port τ ≡ hash_in env mix G port τ
+  hash-stays G G' grow = hash-from 0 G G' (grows_from G G' grow)
+
+  pub home-stays : (G G' : Ghost) → TablesGrow G G' → (port τ j : ℕ) → τ < G.attached
+      → home env mix G port τ ≡ Some j → home env mix G' port τ ≡ Some j
+  home-stays G G' grow port τ j l = home-from 0 G G' (grows_from G G' grow) port τ j l (omega arith)
+
+  module _ (M : Memory) (G G' : Ghost) (whole : Whole env mix M G) (grow : TablesGrow G G')
+      (stay : PassesStay G G') where
+    pub Passed-stays : (port τ : ℕ) → Passed G port τ → Passed G' port τ
+    Passed-stays port τ = Passed-from 0 M G G' whole (grows_from G G' grow) stay (omega arith) port τ
+        (omega arith)

@@ -67,8 +67,9 @@ module _ (env : Env) (mix : ℕ → ℕ → ℕ → ℕ) where
     pub chain : chain_of M n ≡ head_of (place_at env mix j) (G.bucket j).plain
     pub raised : G.raised d ≡ true
 
-  -- What is known when what a port is bound to changes. Its only node goes out of its bucket; or another node comes into the first one's place,
-  -- which is nobody's or was behind that one, and those behind it were the port's; or a node behind the first one goes out of the list.
+  -- What is known when what a port is bound to changes. Its only node goes out of its bucket; or another node
+  -- comes into the first one's place, which is nobody's or was behind that one, and those behind it were the
+  -- port's; or a node behind the first one goes out of the list.
   pub record IsUnlinking (change : Change) (G : Ghost) : Type 0 where
     pub first : ℕ
     pub front : List ℕ

@@ -1,4 +1,5 @@
--- Where the words of buckets lead, and the links of nodes that are their ports' first ones: to such nodes, or to none.
+-- Where the words of buckets lead, and the links of nodes that are their ports' first ones: to such nodes, or
+-- to none.
 use Rattle.std.proofs.Common.{◌≡◌, ◌⊎◌, ℕ, ◌<◌, List, [], ◌∷◌, Option, Some, None, true, refl, sym, ◌∙◌, ap, subst, inl, inr, arith}
 use Rattle.rht_words.specs.declared.env.Env.{Env}
 use Rattle.rht_words.specs.Chains.{IsSegment}
@@ -24,9 +25,11 @@ link-next_of env link n leads = (links_tell_apart.named_by_link env.geometry.nod
 
 module _ (env : Env) (mix : ℕ → ℕ → ℕ → ℕ) (M : Memory) (G : Ghost) (whole : Whole env mix M G) where
   -- the chain of a port's bucket is right, and so is that of a bucket that has a node
-  pub home_chained : (port τ j : ℕ) → τ < G.attached → home env mix G port τ ≡ Some j → ChainedRight env mix M j (G.bucket j)
+  pub home_chained : (port τ j : ℕ) → τ < G.attached → home env mix G port τ ≡ Some j
+      → ChainedRight env mix M j (G.bucket j)
   home_chained port τ j l is =
-      (whole.buckets j (home-within env mix M G whole port τ j l is) (home-no_entry env mix M G whole port τ j l is)).chained
+      (whole.buckets j (home-within env mix M G whole port τ j l is)
+      (home-no_entry env mix M G whole port τ j l is)).chained
 
   pub member_chained : (j n : ℕ) → In n (G.bucket j).nodes → ChainedRight env mix M j (G.bucket j)
   member_chained j n there =
@@ -37,22 +40,31 @@ module _ (env : Env) (mix : ℕ → ℕ → ℕ → ℕ) (M : Memory) (G : Ghost
   row_leads : (link : ℕ) (nodes : List ℕ) (last n z : ℕ) → IsSegment (chain_of M) link nodes last → In n nodes
       → chain_of M n ≡ link_of z → In z nodes ⊎ (last ≡ link_of z)
   row_leads link [] last n z segment i leads = absurd i
-  row_leads link (x ∷ []) last n z segment (inl e) leads = inr (sym segment.1 ∙ ap (chain_of M) (sym e) ∙ leads)
+  row_leads link (x ∷ []) last n z segment (inl e) leads =
+      inr (sym segment.1 ∙ ap (chain_of M) (sym e) ∙ leads)
   row_leads link (x ∷ []) last n z segment (inr i) leads = absurd i
   row_leads link (x ∷ y ∷ nodes) last n z segment (inl e) leads =
       inl (inr (inl (link_of-one z y (sym leads ∙ ap (chain_of M) e ∙ segment.1.0))))
   row_leads link (x ∷ y ∷ nodes) last n z segment (inr i) leads =
-      elim (row_leads (chain_of M x) (y ∷ nodes) last n z segment.1 i leads) [ inl there ↦ inl (inr there) | inr end ↦ inr end ]
+      elim (row_leads (chain_of M x) (y ∷ nodes) last n z segment.1 i leads) [
+        | inl there ↦ inl (inr there)
+        | inr end ↦ inr end
+      ]
 
   -- the end of a bucket's chain leads to no node, or to a first one
   stop-seated : (j z : ℕ) → stop env mix (place_at env mix j) (G.bucket j).out ≡ link_of z → HasSeat G z
   stop-seated j z leads = go (G.bucket j).out refl leads
     where
-      go : (out : Option ℕ) → (G.bucket j).out ≡ out → stop env mix (place_at env mix j) out ≡ link_of z → HasSeat G z
+      go : (out : Option ℕ) → (G.bucket j).out ≡ out → stop env mix (place_at env mix j) out ≡ link_of z
+          → HasSeat G z
       go None is leads = absurd (omega (arith, leads))
       go (Some entry) is leads =
           let seat = out-seated env mix M G j entry (whole.moving.out j entry is) in
-          record { bucket = seat.0; seat = ap (λ n. seat_of (G.node n)) (link_of-one z entry (sym leads)) ∙ seat.1 }
+          record {
+            bucket = seat.0;
+            seat = ap (λ n. seat_of (G.node n)) (link_of-one z entry (sym leads))
+                ∙ seat.1;
+          }
 
   -- the word of a bucket leads to a first node, or to the end
   pub head-seated : (j z : ℕ) → ChainedRight env mix M j (G.bucket j)
@@ -75,19 +87,23 @@ module _ (env : Env) (mix : ℕ → ℕ → ℕ → ℕ) (M : Memory) (G : Ghost
         let j = sits.bucket in
         let there = (whole.owned.first_at n j first).there in
         elim (row_leads (head_of (place_at env mix j) (G.bucket j).plain) (G.bucket j).nodes
-        (stop env mix (place_at env mix j) (G.bucket j).out) n z (member_chained j n there).segment there leads) [
+        (stop env mix (place_at env mix j) (G.bucket j).out) n z
+        (member_chained j n there).segment there leads) [
           | inl in_it ↦ record { bucket = j; seat = ap seat_of (whole.owned.member j z in_it) }
           | inr end ↦ stop-seated j z end
         ]
     | inr leaving ↦
         let next = (whole.owned.leaving_at n sits.bucket leaving).next in
         head-seated next.bucket z
-        (home_chained (key_of M n) (table_at G next.bucket) next.bucket next.attached next.here) (sym next.chain ∙ leads)
+        (home_chained (key_of M n) (table_at G next.bucket) next.bucket next.attached next.here)
+        (sym next.chain ∙ leads)
   ]
 
   -- the same of the node to which the link is read to lead
-  pub chain-first : (n m : ℕ) → is_first (G.node n) ≡ true → next_of env (chain_of M n) ≡ Some m → is_first (G.node m) ≡ true
+  pub chain-first : (n m : ℕ) → is_first (G.node n) ≡ true → next_of env (chain_of M n) ≡ Some m
+      → is_first (G.node m) ≡ true
   chain-first n m is leads =
       let from = first-seat (G.node n) is in
-      let to = chain-seated n m (record { bucket = from.0; seat = from.1 }) (link-next_of env (chain_of M n) m leads) in
+      let to = chain-seated n m (record { bucket = from.0; seat = from.1 })
+      (link-next_of env (chain_of M n) m leads) in
       seat-first (G.node m) to.bucket to.seat

@@ -1,0 +1,466 @@
+-- What a resizing sees until it loads the future of the current table: the work lock and the current table,
+-- one future after another, the last table's shape and the count, by which it chooses; and what the table
+-- that is due comes to. It is made and attached, or another one was attached, or there is no room for it.
+use Rattle.std.proofs.Common.{◌≡◌, ◌≢◌, ◌⊎◌, ℕ, ◌<◌, ◌≤◌, ◌^◌, Bool, true, false, cond, List, [], ◌∷◌, ◌++◌, map, append_assoc, refl, sym, ap, ◌∙◌, subst, inl, inr}
+use Rattle.std.specs.Prelude.{Option, Some, None, ◌==◌, ◌||◌}
+use Rattle.std.proofs.lemmas.Bool.{eqb-true, eqb-false}
+use Rattle.std.proofs.lemmas.List.{map-append}
+use Rattle.std.proofs.lemmas.List.Quantifiers.{Any-push}
+use Rattle.rht_words.specs.declared.op.Op.{Op}
+use Rattle.rht_words.specs.declared.op.Op.TheVariants.{Load}
+use Rattle.rht_words.specs.declared.env.Env.{Env}
+use Rattle.rht_words.specs.declared.geometry.Geometry.{Geometry}
+use Rattle.rht_words.specs.declared.machine.Next.{Next}
+use Rattle.rht_words.specs.declared.machine.Next.TheVariants.{Go, Done}
+use Rattle.rht_words.specs.Links.{table_of, slot_of}
+use Rattle.rht_words.specs.Machines.{Performed}
+use Rattle.rht_words.specs.Places.{Address, CurrentTable, PortCount, Slot, ShapeWord, FutureWord, IsAddress, place_of}
+use Rattle.rht_words.specs.Shapes.{unpacked, size_of}
+use Rattle.rht_words.specs.Sizes.{IsSizeUpTo}
+use Rattle.rht_model.specs.declared.history.Reply.TheVariants.{Elsewhere}
+use Rattle.rht_nest.specs.Make.{MakeModel, may_nest, made_pages, make_plan, make_plan_at, make_after, make_after_at, made_shape}
+use Rattle.rht_nest.specs.Tables.{exponent_made, is_nested}
+use Rattle.rht_nest.specs.declared.make.MakeAt.{MakeAt}
+use Rattle.rht_nest.specs.Unmake.{UnmakeModel, unmake_new}
+use Rattle.rht_move.specs.declared.last_table.Last.{Last}
+use Rattle.rht_move.specs.declared.last_table.LastTableAt.{LastTableAt}
+use Rattle.rht_move.specs.declared.last_table.LastTableAt.TheVariants as seeks
+use Rattle.rht_move.specs.declared.work.choice.Choice.{Choice}
+use Rattle.rht_move.specs.declared.work.choice.Choice.TheVariants.{Attach, Later, Nothing}
+use Rattle.rht_move.specs.declared.work.Wanted.{Wanted}
+use Rattle.rht_move.specs.declared.work.Due.{Due}
+use Rattle.rht_move.specs.declared.work.Due.TheVariants as dues
+use Rattle.rht_move.specs.declared.work.Outcome.TheVariants as outcomes
+use Rattle.rht_move.specs.declared.work.WorkAt.{WorkAt}
+use Rattle.rht_move.specs.declared.work.WorkAt.TheVariants as at
+use Rattle.rht_move.specs.Choice.{choice_of}
+use Rattle.rht_move.specs.Laws.{IsOfASize}
+use Rattle.rht_move.specs.LastTable.{last_table_plan_at, last_table_after, next_or_shape, IsLastTableAtIn}
+use Rattle.rht_move.specs.Work.{plan_at, lock_seen, seeking, last_seen, begun, made, not_made, attached, unmade, is_later, future_or_idle, IsMakingIn}
+use Rattle.rht_core.specs.Traces.{Did, performed_of}
+use Rattle.rht_core.specs.ResizeCauses.{Loaded, Attaches, AreSlotsTaken, AreRunsTaken, SawNoRoom}
+use Rattle.rht_core.specs.WorkCauses.{ReadsFuture, HasChosen, IsSized, TriesToAttach, HasTried}
+use Rattle.rht_ghost.proofs.Theory.Steps.{by_test}
+use Rattle.rht_core.proofs.Reasons.AttachedTables.{IsNoAttach, no_attach, make-none}
+use Rattle.rht_core.proofs.Reasons.MakesSeen.{SawMaking, SawMade, IsShaped, saw_nothing, make-saw}
+use Rattle.rht_core.proofs.Reasons.MadeSizes.{due_size, shaped_flat, size_of-made}
+use Rattle.rht_core.proofs.Reasons.ChoicesMade.{Chosen, futures_next, Began-push, HasLock, SeekSaw, Measures, Since, chosen_by, Since-push, SinceSome-push}
+use Rattle.rht_core.proofs.Reasons.WorksSeen.{NoneAttached, Wants, IsMaking, Makes, IsSupplied, DueSaw, IsTried, IsDue, HasDue, IsMade, IsToAttach, SaysMissing, IsIdle, NoneAttached-push, SaysMissing-push, IsTried-push, SawAtWork, SawNextWork}
+
+-- an operation of the making of a table, which found this word
+abbrev made_step : Geometry → MakeModel → ℕ → Performed
+made_step g make old = record { op = make_plan_at g make.exponent make.seed make.at; old = old }
+
+-- what it finds of a shape has no more buckets than a nested table, where it is nested
+abbrev pub FindsSmall : LastTableAt → Did → Type 0
+FindsSmall (seeks.Future slot) did = Unit {0}
+FindsSmall (seeks.Shape slot) did = is_nested did.old ≡ true → size_of (unpacked did.old) ≤ 2 ^ 17
+
+module _ (env : Env) where
+  pub reads : (address : Address) (did : Did) → IsAddress env.geometry address
+      → did.op ≡ Load (place_of env.geometry address) → Loaded env.geometry address did.old did
+  reads address did there is = record { word = record { there = there; loads = is }; found = refl }
+
+module _ (env : Env) (words_at : ℕ → List ℕ) where
+  abbrev Sees : WorkAt → List Did → Type 0
+  Sees = SawAtWork env words_at
+
+  pub lock-saw : (steps : List Did) (did : Did) → did.op ≡ plan_at env at.WorkLock → steps ≡ []
+      → SawNextWork env words_at (steps ++ did ∷ []) (lock_seen did.old)
+  lock-saw steps did is none =
+      by_test (λ t. SawNextWork env words_at (steps ++ did ∷ [])
+      (cond t (at.CurrentTable, Go) (at.WorkLock, Done Elsewhere)))
+      (did.old == 0)
+      (λ t. record {
+        lock = did;
+        only = ap (λ s. s ++ did ∷ []) none;
+        took = record { tries = is; free = eqb-true did.old 0 t };
+      })
+      (λ f. record {
+        did = did;
+        only = ap (λ s. s ++ did ∷ []) none;
+        finds = record { tries = is; taken = eqb-false did.old 0 f };
+      })
+
+  pub current-saw : (steps : List Did) (did : Did) → did.op ≡ plan_at env at.CurrentTable → HasLock env steps
+      → Sees (seeking env.geometry (table_of did.old)) (steps ++ did ∷ [])
+  current-saw steps did is has = record {
+    futures = [];
+    began = record {
+      lock = has.lock;
+      current = did;
+      split = ap (λ s. s ++ did ∷ []) has.only;
+      took = has.took;
+      current_read = reads env CurrentTable did tt is;
+      root_is = refl;
+    };
+    are = refl;
+  }
+
+  seek-saw : (root slot : ℕ) (steps : List Did) (did : Did) (next : Option ℕ)
+      → ReadsFuture env.geometry slot next did → SeekSaw env root (seeks.Future slot) steps
+      → SeekSaw env root (next_or_shape slot next) (steps ++ did ∷ [])
+  seek-saw root slot steps did next reads seek = record {
+    futures = seek.futures ++ did ∷ [];
+    began = Began-push env root seek.futures steps did seek.began;
+    are = futures_next env.geometry root slot next seek.futures did seek.are reads;
+  }
+
+  pub last-saw : (root : ℕ) (h : Geometry) (state : LastTableAt) (steps : List Did) (did : Did)
+      → IsLastTableAtIn state
+      → FindsSmall state did → did.op ≡ last_table_plan_at env.geometry state → SeekSaw env root state steps
+      → let next = last_table_after (record { geometry = h; at = state }) did.old in
+      Sees (last_seen root next.0 next.1) (steps ++ did ∷ [])
+  last-saw root h (seeks.Future slot) steps did l small is seek =
+      seek-saw root slot steps did (slot_of did.old)
+      (reads env (Slot slot FutureWord) did (l, tt) is, refl) seek
+  last-saw root h (seeks.Shape slot) steps did l small is found = record {
+    futures = found.futures;
+    shape = did;
+    began = Began-push env root found.futures steps did found.began;
+    read = found.are;
+    shape_read = reads env (Slot slot ShapeWord) did (l, tt) is;
+    same = refl;
+    small = small;
+  }
+
+  -- the load of the count is the last one by which it chooses
+  chosen-saw : (root : ℕ) (last : Last) (choice : Choice) (steps : List Did) (did : Did)
+      → did.op ≡ Load (place_of env.geometry PortCount)
+      → choice_of env did.old last.shape (root == last.table) ≡ choice → Measures env root last steps
+      → HasChosen env choice (steps ++ did ∷ [])
+  chosen-saw root last choice steps did is chosen saw =
+      let began = Began-push env root (saw.futures ++ saw.shape ∷ []) steps did saw.began in
+      record {
+        root = root;
+        last = last.table;
+        lock = began.lock;
+        current = began.current;
+        futures = saw.futures;
+        shape = saw.shape;
+        count = did;
+        behind = [];
+        split = began.split
+            ∙ ap (λ s. began.lock ∷ began.current ∷ s) (append_assoc saw.futures (saw.shape ∷ []) (did ∷ []));
+        took = began.took;
+        current_read = began.current_read;
+        root_is = began.root_is;
+        futures_read = saw.read;
+        shape_read = saw.shape_read;
+        count_read = reads env PortCount did tt is;
+        chosen = ap (λ shape. choice_of env did.old shape (root == last.table)) saw.same ∙ chosen;
+      }
+
+  pub begun-saw : (root : ℕ) (last : Last) (choice : Choice) (steps : List Did) (did : Did)
+      → did.op ≡ Load (place_of env.geometry PortCount)
+      → choice_of env did.old last.shape (root == last.table) ≡ choice → Measures env root last steps
+      → Sees (begun env root last choice) (steps ++ did ∷ [])
+  unfolding chosen-saw
+  begun-saw root last (Attach size) steps did is chosen saw = record {
+    chose = chosen-saw root last (Attach size) steps did is chosen saw;
+    so = record {
+      wants = record {
+        root_same = refl;
+        last_same = refl;
+        shape_same = saw.same;
+        size_in = subst IsOfASize chosen (due_size env did.old last.shape (root == last.table) saw.small);
+      };
+      none = tt;
+      made = saw_nothing env.geometry (exponent_made size) false [] tt tt;
+    };
+  }
+  begun-saw root last Later steps did is chosen saw = record {
+    choice = Later;
+    since = record {
+      chose = chosen-saw root last Later steps did is chosen saw;
+      so = record {
+        root_same = refl;
+        saw = ((λ e. absurd (cc)), tt);
+        tried = λ size is. absurd (cc);
+        at_once = λ e. absurd (cc);
+      };
+    };
+  }
+  begun-saw root last Nothing steps did is chosen saw = record {
+    choice = Nothing;
+    since = record {
+      chose = chosen-saw root last Nothing steps did is chosen saw;
+      so = record { root_same = refl; saw = refl; tried = λ size is. absurd (cc); at_once = λ e. refl };
+    };
+  }
+
+  -- ---- the table that is due
+
+  -- an operation of the making among what it performed
+  performed-push : (make : MakeModel) (behind : List Did) (did : Did) → make.geometry ≡ env.geometry
+      → did.op ≡ make_plan make
+      → map performed_of (behind ++ did ∷ [])
+      ≡ map performed_of behind ++ made_step env.geometry make did.old ∷ []
+  performed-push make behind did geometry is =
+      map-append performed_of behind (did ∷ [])
+      ∙ ap (λ (op : Op). map performed_of behind ++ record { op = op; old = did.old } ∷ [])
+      (is ∙ ap (λ (h : Geometry). make_plan_at h make.exponent make.seed make.at) geometry)
+
+  -- a table that was wanted is due, and isn't attached; the current one can be moved without it
+  wanted-due : (wanted : Wanted) (of : Chosen) (behind : List Did)
+      → ((wanted.root == wanted.last.table) || is_nested wanted.last.shape) ≡ false
+      → Wants env wanted of → NoneAttached env of.last behind
+      → IsDue env wanted.root dues.Later (Attach wanted.size) of behind
+  wanted-due wanted of behind apart wants none = record {
+    root_same = wants.root_same;
+    saw = ((λ e. absurd (cc)), none);
+    tried = λ size is stays. absurd (elim stays [
+      | inl same ↦
+          let one : wanted.root ≡ wanted.last.table = sym wants.root_same ∙ same ∙ wants.last_same in
+          eqb-false wanted.root wanted.last.table
+          (neither (wanted.root == wanted.last.table) (is_nested wanted.last.shape) apart).0 one
+      | inr nested ↦
+          let flat = (neither (wanted.root == wanted.last.table) (is_nested wanted.last.shape) apart).1 in
+          let is = sym (ap is_nested wants.shape_same) ∙ nested in
+          cc
+    ]);
+    at_once = λ e. absurd (cc);
+  }
+    where
+      neither : (a b : Bool) → (a || b) ≡ false → (a ≡ false) × (b ≡ false)
+      neither true b is = absurd (cc)
+      neither false b is = (refl, is)
+
+  refused-saw : (wanted : Wanted) (all : List Did) (chose : HasChosen env (Attach wanted.size) all)
+      → Wants env wanted (chosen_by env (Attach wanted.size) all chose)
+      → NoneAttached env chose.last chose.behind
+      → SawNoRoom env.geometry wanted.size false chose.behind → Sees (not_made wanted) all
+  refused-saw wanted all chose wants none room =
+      let one = wanted.root == wanted.last.table in
+      let nested = is_nested wanted.last.shape in
+      by_test
+      (λ t. Sees
+      (cond t (at.LettingGo (outcomes.NoTable wanted.size)) (at.RootFuture wanted.root dues.Later)) all)
+      (one || nested)
+      (λ t. record {
+        chose = chose;
+        stays = elim (or_cases one nested t) [
+          | inl same ↦
+              inl (wants.root_same ∙ eqb-true wanted.root wanted.last.table same ∙ sym wants.last_same)
+          | inr is ↦ inr (ap is_nested wants.shape_same ∙ is)
+        ];
+        room = room;
+      })
+      (λ f. record {
+        choice = Attach wanted.size;
+        since = record {
+          chose = chose;
+          so = wanted-due wanted (chosen_by env (Attach wanted.size) all chose) chose.behind f wants none;
+        };
+      })
+    where
+      or_cases : (a b : Bool) → (a || b) ≡ true → (a ≡ true) ⊎ (b ≡ true)
+      or_cases true b is = inl refl
+      or_cases false b is = inr is
+
+  -- a table that was made has the size that was wanted, and is flat
+  shaped-size : (size exponent slot : ℕ) (nested : Bool) (page : ℕ) (steps : List Performed)
+      → IsSizeUpTo (2 ^ 17) size → exponent ≡ exponent_made size
+      → exponent ≤ 17 → (nested ≡ true → false ≡ true)
+      → IsShaped env.geometry exponent slot (made_shape exponent nested page) steps
+      → IsSized env.geometry slot size steps
+  shaped-size size exponent slot nested page steps size_in exponent_is greatest kind shaped = record {
+    before = shaped.before;
+    at = shaped.at;
+    behind = shaped.behind;
+    split = shaped.split;
+    shape = made_shape exponent nested page;
+    stored = shaped.stored;
+    sized =
+        ap (λ e. size_of (unpacked (made_shape e nested page))) exponent_is
+        ∙ size_of-made size page nested size_in;
+    flat = shaped_flat exponent page nested greatest kind;
+    left = shaped.left;
+  }
+
+  -- an operation of the making, by what comes next
+  making-saw : (wanted : Wanted) (make : MakeModel) (behind : List Did) (did : Did)
+      → IsMakingIn env wanted make
+      → did.op ≡ make_plan make
+      → SawMaking env.geometry make.exponent false make.at (map performed_of behind)
+      → SawMade env.geometry make.exponent false
+      (make_after_at make.geometry make.exponent make.nested make.at did.old)
+      (map performed_of (behind ++ did ∷ []))
+  making-saw wanted make behind did within is seen =
+      let next = make_after_at make.geometry make.exponent make.nested make.at did.old in
+      let nests = may_nest make.exponent make.nested in
+      let step = made_step env.geometry make did.old in
+      subst (λ n. SawMade env.geometry make.exponent (may_nest make.exponent n) next
+      (map performed_of (behind ++ did ∷ []))) within.flat
+      (subst (SawMade env.geometry make.exponent nests next)
+      (sym (performed-push make behind did within.make_in.geometry_same is))
+      (subst (λ (h : Geometry). SawMade env.geometry make.exponent nests
+      (make_after_at h make.exponent make.nested make.at did.old) (map performed_of behind ++ step ∷ []))
+      (sym within.make_in.geometry_same)
+      (make-saw env.geometry make.exponent make.seed make.nested make.at (map performed_of behind) did.old
+      within.make_in.at_in
+      (subst (λ n. SawMaking env.geometry make.exponent (may_nest make.exponent n) make.at
+      (map performed_of behind)) (sym within.flat) seen))))
+
+  pub made-saw : (wanted : Wanted) (make : MakeModel) (steps : List Did) (did : Did)
+      → IsMakingIn env wanted make
+      → did.op ≡ make_plan make → Makes env wanted make steps
+      → Sees (made wanted (make_after make did.old).0 (make_after make did.old).1) (steps ++ did ∷ [])
+  made-saw wanted make steps did within is saw =
+      let next = make_after_at make.geometry make.exponent make.nested make.at did.old in
+      go next (Since-push env (Attach wanted.size) steps did saw (λ of behind making. record {
+        wants = making.wants;
+        none = NoneAttached-push env of.last behind did quiet making.none;
+        made = making-saw wanted make behind did within is making.made;
+      }))
+    where
+      quiet : IsNoAttach env.geometry did
+      quiet = no_attach env.geometry did (make_plan make) is
+          (make-none env.geometry make.geometry make.exponent make.seed make.at)
+
+      go : (r : MakeAt × Next (Option (ℕ × ℕ)))
+          → Since env (Attach wanted.size) (IsMaking env wanted make.exponent r) (steps ++ did ∷ [])
+          → Sees (made wanted (record make { at = r.0 }) r.1) (steps ++ did ∷ [])
+      go (state, Go) since = since
+      go (state, Done None) since =
+          let steps_since = map performed_of since.chose.behind in
+          refused-saw wanted (steps ++ did ∷ []) since.chose since.so.wants since.so.none
+          (subst
+          (λ e. AreSlotsTaken env.geometry steps_since
+          ⊎ AreRunsTaken env.geometry (made_pages e) 0 [] steps_since) within.size_same since.so.made)
+      go (state, Done (Some table)) since =
+          let wants = since.so.wants in
+          let seen = since.so.made in
+          let sized = shaped-size wanted.size make.exponent table.0 seen.0 seen.1
+          (map performed_of since.chose.behind) wants.size_in within.size_same within.make_in.greatest
+          seen.3 seen.2 in (
+            wanted.size,
+            record {
+              chose = since.chose;
+              so = record {
+                root_same = wants.root_same;
+                last_same = wants.last_same;
+                none = since.so.none;
+                sized = sized;
+              };
+            },
+          )
+
+  -- ---- the table is attached, or another one was
+
+  pub attached-saw : (root last slot shape : ℕ) (steps : List Did) (did : Did) → last < 8 → slot < 8
+      → did.op ≡ plan_at env (at.Attaching root last slot shape) → IsToAttach env root last slot steps
+      → Sees (attached env.geometry root slot shape did.old) (steps ++ did ∷ [])
+  attached-saw root last slot shape steps did last_in slot_in is (size, since) =
+      by_test
+      (λ t. Sees
+      (cond t (at.RootFuture root dues.Attached) (at.Unmaking root (unmake_new env.geometry slot shape)))
+      (steps ++ did ∷ []))
+      (did.old == 0)
+      (λ t. some (Since-push env (Attach size) steps did since (λ of behind due. record {
+        root_same = due.root_same;
+        saw = record {
+          slot = slot;
+          before = behind;
+          at = did;
+          behind = [];
+          split = refl;
+          attached =
+              subst (λ l. Attaches env.geometry l slot did) (sym due.last_same)
+              (record {
+                table_in = last_in;
+                slot_in = slot_in;
+                exchanges = is;
+                found = eqb-true did.old 0 t;
+              });
+          sized = due.sized;
+        };
+        tried = tried of behind due;
+        at_once = λ e. absurd (cc);
+      })))
+      (λ f. some (Since-push env (Attach size) steps did since (λ of behind due. record {
+        root_same = due.root_same;
+        saw = (
+          (λ e. absurd (cc)),
+          NoneAttached-push env of.last behind did
+              (λ some. eqb-false did.old 0 f some.attaches.found) due.none,
+        );
+        tried = tried of behind due;
+        at_once = λ e. absurd (cc);
+      })))
+    where
+      some : {due : Due} → Since env (Attach size) (IsDue env root due (Attach size)) (steps ++ did ∷ [])
+          → HasDue env root due (steps ++ did ∷ [])
+      some since = record { choice = Attach size; since = since }
+
+      tried : (of : Chosen) (behind : List Did) → IsMade env root last slot size of behind
+          → IsTried env (Attach size) of (behind ++ did ∷ [])
+      tried of behind due other same stays =
+          let sizes : size ≡ other = cc in
+          subst (λ n. HasTried env.geometry of.last n (behind ++ did ∷ [])) sizes (record {
+            slot = slot;
+            before = behind;
+            at = did;
+            behind = [];
+            split = refl;
+            tries =
+                subst (λ l. TriesToAttach env.geometry l slot did) (sym due.last_same)
+                (record { table_in = last_in; slot_in = slot_in; exchanges = is });
+            sized = due.sized;
+          })
+
+  pub unmade-saw : (root : ℕ) (unmake : UnmakeModel) (next : Next (Unit {0})) (all : List Did)
+      → HasDue env root dues.Later all → Sees (unmade root unmake next) all
+  unmade-saw root unmake Go all saw = saw
+  unmade-saw root unmake (Done done) all saw = saw
+
+  -- ---- the future of the current table
+
+  -- it is to say so of what was due
+  due-says : (due : Due) (last : ℕ) (choice : Choice) (behind : List Did) → DueSaw env due last choice behind
+      → SaysMissing env (is_later due) last choice behind
+  due-says dues.Nothing last choice behind none = subst (λ c. IsSupplied env last c behind) (sym none) tt
+  due-says dues.Attached last choice behind saw = saw
+  due-says dues.Later last choice behind saw = saw
+
+  -- there is none only where nothing was due
+  pub future-saw : (root : ℕ) (due : Due) (next : Option ℕ) (steps : List Did) (did : Did) → root < 8
+      → did.op ≡ plan_at env (at.RootFuture root due) → slot_of did.old ≡ next
+      → (next ≡ None → due ≡ dues.Nothing)
+      → ((future : ℕ) → slot_of did.old ≡ Some future → root ≢ future)
+      → HasDue env root due steps → Sees (future_or_idle root due next) (steps ++ did ∷ [])
+  future-saw root due next steps did l is finds none apart has = go due next finds none has
+    where
+      quiet : IsNoAttach env.geometry did
+      quiet = no_attach env.geometry did _ is (λ table old new l e. cc)
+
+      loaded : (slot : ℕ) → slot ≡ root → Loaded env.geometry (Slot slot FutureWord) did.old did
+      loaded slot same =
+          subst (λ s. Loaded env.geometry (Slot s FutureWord) did.old did) (sym same)
+          (reads env (Slot root FutureWord) did (l, tt) is)
+
+      go : (due : Due) (next : Option ℕ) → slot_of did.old ≡ next → (next ≡ None → due ≡ dues.Nothing)
+          → HasDue env root due steps → Sees (future_or_idle root due next) (steps ++ did ∷ [])
+      go dues.Nothing None finds none has =
+          subst (λ c. Since env c (IsIdle env) (steps ++ did ∷ [])) has.since.so.saw
+          (Since-push env has.choice steps did has.since (λ of behind has. record {
+            future = did;
+            rest = [];
+            behind_is = ap (λ s. s ++ did ∷ []) (has.at_once refl);
+            future_read = loaded of.root has.root_same;
+            none = finds;
+            on_lock = tt;
+          }))
+      go dues.Attached None finds none has = absurd (let e = none refl in cc)
+      go dues.Later None finds none has = absurd (let e = none refl in cc)
+      go due (Some next) finds none has =
+          SinceSome-push env steps did has (λ choice of behind due_now. record {
+            root_same = due_now.root_same;
+            followed = Any-push (ReadsFuture env.geometry of.root (Some next)) behind did
+                (loaded of.root due_now.root_same, finds);
+            apart = λ same. apart next finds (sym due_now.root_same ∙ same);
+            says =
+                SaysMissing-push env (is_later due) of.last choice behind did quiet
+                (due-says due of.last choice behind due_now.saw);
+            tried = IsTried-push env choice of behind did due_now.tried;
+          })

@@ -1,0 +1,296 @@
+-- What each operation of a resizing sees: from what was seen in its state, what is seen in the next one, or
+-- for the reply.
+--
+-- Where a table was due there is a future to be found, by what the caller knows; and the last table that is
+-- looked for anew is another one than the current one, which is still the one that is moved.
+use Rattle.std.proofs.Common.{◌≡◌, ◌≢◌, ℕ, ◌≤◌, ◌+◌, ◌^◌, true, List, [], ◌∷◌, ◌++◌, map, refl, sym, ap, ◌∙◌, subst, inl, inr, arith}
+use Rattle.std.specs.Prelude.{Some, None, ◌==◌}
+use Rattle.std.proofs.lemmas.List.{map-append}
+use Rattle.rht_words.specs.declared.env.Env.{Env}
+use Rattle.rht_words.specs.declared.geometry.Geometry.{Geometry}
+use Rattle.rht_words.specs.Links.{table_of, slot_of, node_of, head_of, unlocked}
+use Rattle.rht_words.specs.Machines.{Performed}
+use Rattle.rht_words.specs.Operations.{op_place, old_of}
+use Rattle.rht_words.specs.Places.{CurrentTable, WorkLock, Slot, ShapeWord, FutureWord, StateWord, place_of, word_at}
+use Rattle.rht_words.specs.Shapes.{unpacked, size_of}
+use Rattle.rht_words.proofs.EachElement.{Any-append_left, AllByRecursion-push}
+use Rattle.rht_chain.specs.Lock.{lock_after}
+use Rattle.rht_nest.specs.Place.{place_after}
+use Rattle.rht_nest.specs.Tables.{is_nested}
+use Rattle.rht_nest.specs.Unmake.{unmake_after}
+use Rattle.rht_nest.specs.MakeLaws.{pages_for, SeesSlotTaken}
+use Rattle.rht_move.specs.declared.last_table.LastTableAt.{LastTableAt}
+use Rattle.rht_move.specs.declared.last_table.LastTableAt.TheVariants as seeks
+use Rattle.rht_move.specs.declared.rehash.Rehash.{Rehash}
+use Rattle.rht_move.specs.declared.rehash.Emptying.{Emptying}
+use Rattle.rht_move.specs.declared.work.choice.Choice.TheVariants.{Attach, Nothing}
+use Rattle.rht_move.specs.declared.work.Due.{Due}
+use Rattle.rht_move.specs.declared.work.Due.TheVariants as dues
+use Rattle.rht_move.specs.declared.work.Outcome.{Outcome}
+use Rattle.rht_move.specs.declared.work.Outcome.TheVariants as outcomes
+use Rattle.rht_move.specs.declared.work.WorkAt.{WorkAt}
+use Rattle.rht_move.specs.declared.work.WorkAt.TheVariants as at
+use Rattle.rht_move.specs.Choice.{choice_of}
+use Rattle.rht_move.specs.LastTable.{LastTableModel, last_table_plan_at, last_table_after}
+use Rattle.rht_move.specs.LastEntry.{last_entry_after}
+use Rattle.rht_move.specs.Work.{plan_at, after_at, entry_table_seen, with_word, reply_of}
+use Rattle.rht_core.specs.Jobs.{works}
+use Rattle.rht_core.specs.Traces.{Did, performed_of}
+use Rattle.rht_core.specs.ResizeCauses.{FindsSlotsTaken, AreSlotsTaken, AreRunsTaken}
+use Rattle.rht_core.specs.WorkCauses.{SawNoTableDue}
+use Rattle.rht_ghost.proofs.Theory.Ghosts.{index_at}
+use Rattle.rht_ghost.proofs.Theory.Steps.{mem}
+use Rattle.rht_ghost.proofs.Theory.Knowns.{Onward, Rooted}
+use Rattle.rht_ghost.proofs.Theory.Knowledge.{WorkMeans}
+use Rattle.rht_ghost.proofs.Pieces.WorkLoads.{has_future, future_seen, nested_size}
+use Rattle.rht_core.proofs.Tracing.TracedJobs.{Performs}
+use Rattle.rht_core.proofs.Reasons.AttachedTables.{no_attach, lock-none, unmake-none}
+use Rattle.rht_core.proofs.Reasons.MakesSeen.{runs_taken-stay}
+use Rattle.rht_core.proofs.Reasons.ChoicesMade.{HasChosen-push, Since-push}
+use Rattle.rht_core.proofs.Reasons.WorksSeen.{SawIdle, AnewSaw, HasDue-push, SawForWork, SawAtWork, SawNextWork}
+use Rattle.rht_core.proofs.Reasons.TablesDue.{reads, lock-saw, current-saw, FindsSmall, last-saw, begun-saw, made-saw, attached-saw, unmade-saw, future-saw}
+use Rattle.rht_core.proofs.Reasons.MovesSeen.{cut-none, publish-saw, stored-saw, goes, root-saw, passed-saw, locked-saw, entry-saw, walked-saw, second_locked-saw, cut-saw, sought-saw, found-saw, SawStopped-push, unlocking-stores, unlocked-saw, retiring-saw}
+
+-- ---- what the caller knows
+
+module _ (env : Env) (mix : ℕ → ℕ → ℕ → ℕ) where
+  -- what the future of the current table is, of which it knows that it has one
+  found_none : (root : ℕ) (due : Due) (did : Did)
+      → (does : Performs mix env (works (at.RootFuture root due)) did)
+      → slot_of did.old ≡ None
+      → WorkMeans env mix does.caller (mem env mix does.words) does.ghost (Rooted root Onward) → ⊥
+  found_none root due did does none knows =
+      let found : did.old ≡ mem env mix does.words (Slot root FutureWord) =
+      does.found ∙ ap (old_of does.words) does.planned in
+      has_future env mix does.caller (mem env mix does.words) does.ghost does.whole root knows
+      (sym (ap slot_of found) ∙ none)
+
+  -- a nested table has no more
+  last_small : (root : ℕ) (h : Geometry) (state : LastTableAt) (did : Did)
+      → Performs mix env (works (at.LastTable root (record { geometry = h; at = state }))) did
+      → FindsSmall state did
+  last_small root h (seeks.Future slot) did does = tt
+  last_small root h (seeks.Shape slot) did does =
+      let found : did.old ≡ mem env mix does.words (Slot slot ShapeWord) =
+      does.found ∙ ap (old_of does.words)
+      (does.planned ∙ ap (λ (g : Geometry). last_table_plan_at g (seeks.Shape slot))
+      does.within.seek_in.geometry_same) in
+      subst (λ shape. is_nested shape ≡ true → size_of (unpacked shape) ≤ 2 ^ 17) (sym found)
+      (nested_size env mix does.caller (mem env mix does.words) does.ghost does.whole slot
+      does.knows.knowing.means.work.more.aim_is.table)
+
+  -- nor is the next one the current one itself
+  other_future : (root : ℕ) (due : Due) (did : Did) → Performs mix env (works (at.RootFuture root due)) did
+      → (future : ℕ)
+      → slot_of did.old ≡ Some future → root ≢ future
+  other_future root due did does future finds same =
+      let G = does.ghost in
+      let found : did.old ≡ mem env mix does.words (Slot root FutureWord) =
+      does.found ∙ ap (old_of does.words) does.planned in
+      let follows = (future_seen env mix does.caller (mem env mix does.words) G does.whole root future _
+      does.knows.knowing.means.work (sym (ap slot_of found) ∙ finds)).more in
+      let tables = does.whole.tables in
+      let one = (tables.each G.current tables.current_in).index in
+      let two = (tables.each (G.current + 1) follows.more).index in
+      let both = sym one ∙ ap (index_at G) (follows.root_is ∙ same ∙ sym follows.future_is) ∙ two in
+      absurd (omega (arith, both))
+
+  -- where a table was due the current one has a future
+  nothing-found : (root : ℕ) (due : Due) (did : Did) → Performs mix env (works (at.RootFuture root due)) did
+      → slot_of did.old ≡ None → due ≡ dues.Nothing
+  nothing-found root dues.Nothing did does none = refl
+  nothing-found root dues.Attached did does none =
+      absurd (found_none root dues.Attached did does none does.knows.knowing.means.work)
+  nothing-found root dues.Later did does none =
+      absurd (found_none root dues.Later did does none does.knows.knowing.means.work)
+
+  -- nor is the last one, which is looked for anew for each entry
+  other_last : (emptying : Emptying) (h : Geometry) (slot : ℕ) (did : Did)
+      → Performs mix env (works (at.EntryTable emptying (record { geometry = h; at = seeks.Shape slot }))) did
+      → emptying.rehash.root ≢ slot
+  other_last emptying h slot did does same =
+      let G = does.ghost in
+      let is = does.knows.knowing.means.work.more in
+      let tables = does.whole.tables in
+      let one = (tables.each G.current tables.current_in).index in
+      let both : index_at G slot ≡ G.current = ap (index_at G)
+      (sym same ∙ sym is.next.empties.followed.root_is) ∙ one in
+      let later = is.aim_is.later in
+      absurd (omega (arith, both, later))
+
+  -- and the current one is still the one that is moved
+  still_root : (emptying : Emptying) (seek : LastTableModel) (did : Did)
+      → (does : Performs mix env (works (at.EntryTable emptying seek)) did)
+      → table_of (word_at env.geometry does.words CurrentTable) ≡ emptying.rehash.root
+  still_root emptying seek did does =
+      let tables = does.whole.tables in
+      let right = tables.each does.ghost.current tables.current_in in
+      let slot = (does.ghost.table does.ghost.current).slot in
+      let is : table_of (mem env mix does.words CurrentTable) ≡ slot =
+      (let word = tables.current_is in omega (arith, right.slot_in, word)) in
+      is ∙ does.knows.knowing.means.work.more.next.empties.followed.root_is
+
+-- ---- all states
+
+module _ (env : Env) (words_at : ℕ → List ℕ) where
+  abbrev Sees : WorkAt → List Did → Type 0
+  Sees = SawAtWork env words_at
+
+  table-saw : (mix : ℕ → ℕ → ℕ → ℕ) (emptying : Emptying) (h : Geometry) (state : LastTableAt)
+      (steps : List Did) (did : Did)
+      → let seek : LastTableModel = record { geometry = h; at = state } in
+      (does : Performs mix env (works (at.EntryTable emptying seek)) did) → does.words ≡ words_at did.index
+      → AnewSaw env emptying.rehash state steps
+      → let next = last_table_after seek did.old in
+      Sees (entry_table_seen emptying next.0 next.1) (steps ++ did ∷ [])
+  table-saw mix emptying h (seeks.Future slot) steps did does here saw =
+      let is = does.planned ∙ ap (λ (g : Geometry). last_table_plan_at g (seeks.Future slot))
+      does.within.seek_in.geometry_same in
+      sought-saw env emptying.rehash slot (slot_of did.old) steps did
+      (reads env (Slot slot FutureWord) did (does.within.seek_in.at_in, tt) is, refl) saw
+  table-saw mix emptying h (seeks.Shape slot) steps did does here saw =
+      let is = does.planned ∙ ap (λ (g : Geometry). last_table_plan_at g (seeks.Shape slot))
+      does.within.seek_in.geometry_same in
+      found-saw env words_at emptying slot steps did
+      (reads env (Slot slot ShapeWord) did (does.within.seek_in.at_in, tt) is)
+      (other_last env mix emptying h slot did does)
+      (subst (λ words. table_of (word_at env.geometry words CurrentTable) ≡ emptying.rehash.root) here
+      (still_root env mix emptying (record { geometry = h; at = seeks.Shape slot }) did does)) saw
+
+  -- an operation on the work lock finds nothing of slots
+  slots_taken-stay : (steps : List Performed) (step : Performed)
+      → op_place step.op ≡ place_of env.geometry WorkLock
+      → AreSlotsTaken env.geometry steps → AreSlotsTaken env.geometry (steps ++ step ∷ [])
+  slots_taken-stay steps step on_lock slots = record {
+    seen = λ slot l. Any-append_left (SeesSlotTaken env.geometry slot) steps (step ∷ []) (slots.seen slot l);
+    only =
+        AllByRecursion-push (FindsSlotsTaken env.geometry) steps step slots.only
+        (λ slot l place. let same = sym on_lock ∙ place in absurd (omega (arith, same)));
+  }
+
+  no_table-push : (size : ℕ) (steps : List Did) (did : Did)
+      → did.op ≡ plan_at env (at.LettingGo (outcomes.NoTable size))
+      → SawNoTableDue env size steps → SawNoTableDue env size (steps ++ did ∷ [])
+  unfolding HasChosen-push
+  no_table-push size steps did is saw =
+      let behind = saw.chose.behind in
+      let more = map-append performed_of behind (did ∷ []) in
+      record {
+        chose = HasChosen-push env (Attach size) steps did saw.chose;
+        stays = saw.stays;
+        room = elim saw.room [
+          | inl slots ↦ inl (subst (AreSlotsTaken env.geometry) (sym more)
+              (slots_taken-stay (map performed_of behind) (performed_of did) (ap op_place is) slots))
+          | inr runs ↦ inr (subst (AreRunsTaken env.geometry (pages_for size) 0 []) (sym more)
+              (runs_taken-stay env.geometry (pages_for size) 0 [] (map performed_of behind)
+              (performed_of did) runs))
+        ];
+      }
+
+  idle-push : (steps : List Did) (did : Did) → did.op ≡ plan_at env (at.LettingGo outcomes.Idle)
+      → SawIdle env steps → SawIdle env (steps ++ did ∷ [])
+  idle-push steps did is saw =
+      Since-push env Nothing steps did saw (λ of behind idle. record {
+        future = idle.future;
+        rest = idle.rest ++ did ∷ [];
+        behind_is = ap (λ s. s ++ did ∷ []) idle.behind_is;
+        future_read = idle.future_read;
+        none = idle.none;
+        on_lock =
+            AllByRecursion-push (λ did. op_place did.op ≡ place_of env.geometry WorkLock) idle.rest did
+            idle.on_lock (ap op_place is);
+      })
+
+  ended-saw : (outcome : Outcome) (steps : List Did) (did : Did) → did.op ≡ plan_at env (at.LettingGo outcome)
+      → SawForWork env words_at (reply_of outcome) steps
+      → SawForWork env words_at (reply_of outcome) (steps ++ did ∷ [])
+  ended-saw outcomes.Idle steps did is saw = idle-push steps did is saw
+  ended-saw (outcomes.NoTable size) steps did is saw = no_table-push size steps did is saw
+  ended-saw (outcomes.Moved again) steps did is saw = elim saw [
+    | inl replaced ↦ inl (stored-saw env again WorkLock 0 steps did tt (λ e. cc) is replaced)
+    | inr stops ↦
+        inr (SawStopped-push env words_at again steps did
+        (record { place = _; value = _; stores = is; other = λ e. cc }) stops)
+  ]
+
+  pub work-saw : (mix : ℕ → ℕ → ℕ → ℕ) (state : WorkAt) (steps : List Did) (did : Did)
+      → (does : Performs mix env (works state) did) → does.words ≡ words_at did.index → Sees state steps
+      → SawNextWork env words_at (steps ++ did ∷ []) (after_at mix env state did.old)
+  work-saw mix at.WorkLock steps did does here saw = lock-saw env words_at steps did does.planned saw
+  work-saw mix at.CurrentTable steps did does here saw = current-saw env words_at steps did does.planned saw
+  work-saw mix (at.LastTable root seek) steps did does here saw =
+      last-saw env words_at root seek.geometry seek.at steps did does.within.seek_in.at_in
+      (last_small env mix root seek.geometry seek.at did does)
+      (does.planned ∙ ap (λ (h : Geometry). last_table_plan_at h seek.at)
+      does.within.seek_in.geometry_same) saw
+  work-saw mix (at.Count root last) steps did does here saw =
+      begun-saw env words_at root last (choice_of env did.old last.shape (root == last.table)) steps did
+      does.planned refl saw
+  work-saw mix (at.Making wanted make) steps did does here saw =
+      made-saw env words_at wanted make steps did does.within does.planned saw
+  work-saw mix (at.Attaching root last slot shape) steps did does here saw =
+      attached-saw env words_at root last slot shape steps did does.within.last_in does.within.made_in.slot_in
+      does.planned saw
+  work-saw mix (at.Unmaking root unmake) steps did does here saw =
+      unmade-saw env words_at root (unmake_after unmake did.old).0 (unmake_after unmake did.old).1
+      (steps ++ did ∷ [])
+      (HasDue-push env root steps did
+      (no_attach env.geometry did _ does.planned
+      (unmake-none env.geometry unmake.geometry unmake.slot unmake.at)) saw)
+  work-saw mix (at.RootFuture root due) steps did does here saw =
+      future-saw env words_at root due (slot_of did.old) steps did does.within does.planned refl
+      (nothing-found env mix root due did does)
+      (other_future env mix root due did does) saw
+  work-saw mix (at.RootShape root future again) steps did does here saw =
+      let rehash : Rehash = record { root = root; future = future; shape = did.old; again = again } in
+      root-saw env words_at rehash 0 (steps ++ did ∷ [])
+      (goes env rehash _ steps did does.planned (λ table old new l e. cc) saw)
+  work-saw mix (at.Entry rehash number place) steps did does here saw =
+      passed-saw env words_at rehash number (place_after place did.old).0 (place_after place did.old).1
+      (steps ++ did ∷ [])
+      (goes env rehash _ steps did does.planned (λ table old new l e. cc) saw)
+  work-saw mix (at.Locking rehash number lock) steps did does here saw =
+      locked-saw env words_at rehash number (lock_after lock did.old).0 (lock_after lock did.old).1
+      (steps ++ did ∷ [])
+      (goes env rehash _ steps did does.planned
+      (lock-none env.geometry lock.place lock.at does.within.lock_in.place_in) saw)
+  work-saw mix (at.EntryTable emptying seek) steps did does here saw =
+      table-saw mix emptying seek.geometry seek.at steps did does here saw
+  work-saw mix (at.Seed emptying last) steps did does here saw =
+      goes env emptying.rehash _ steps did does.planned (λ table old new l e. cc) saw
+  work-saw mix (at.BucketWord emptying target) steps did does here saw =
+      entry-saw env words_at (with_word emptying (unlocked did.old)) target
+      (node_of env.geometry.nodes (head_of emptying.bucket.place (unlocked did.old))) (steps ++ did ∷ [])
+      (goes env emptying.rehash _ steps did does.planned (λ table old new l e. cc) saw)
+  work-saw mix (at.Walking emptying target walk) steps did does here saw =
+      walked-saw env words_at emptying target (last_entry_after walk did.old).0
+      (last_entry_after walk did.old).1 (steps ++ did ∷ [])
+      (goes env emptying.rehash _ steps did does.planned (λ table old new l e. cc) saw)
+  work-saw mix (at.Key emptying target entry) steps did does here saw =
+      goes env emptying.rehash _ steps did does.planned (λ table old new l e. cc) saw
+  work-saw mix (at.LockingSecond emptying entry table lock) steps did does here saw =
+      second_locked-saw env words_at emptying entry table (lock_after lock did.old).0
+      (lock_after lock did.old).1 (steps ++ did ∷ [])
+      (goes env emptying.rehash _ steps did does.planned
+      (lock-none env.geometry lock.place lock.at does.within.lock_in.place_in) saw)
+  work-saw mix (at.EntryLink emptying entry second) steps did does here saw =
+      goes env emptying.rehash _ steps did does.planned (λ table old new l e. cc) saw
+  work-saw mix (at.Linking emptying entry second) steps did does here saw =
+      goes env emptying.rehash _ steps did does.planned (λ table old new l e. cc) saw
+  work-saw mix (at.CuttingOff emptying entry) steps did does here saw =
+      cut-saw env words_at emptying entry.before (steps ++ did ∷ [])
+      (goes env emptying.rehash _ steps did does.planned
+      (cut-none env emptying.bucket.place entry.before) saw)
+  work-saw mix (at.Unlocking rehash number unlock stop) steps did does here saw =
+      unlocked-saw env words_at rehash number stop steps did
+      (unlocking-stores env unlock did does.within.unlock_in does.planned)
+      (no_attach env.geometry did _ does.planned (λ table old new l e. cc)) saw
+  work-saw mix (at.Publishing rehash) steps did does here saw =
+      publish-saw env rehash steps did does.within.tables_in.future_in does.planned saw
+  work-saw mix (at.NewFuture rehash) steps did does here saw =
+      retiring-saw env words_at rehash (slot_of did.old) steps did does.within.tables_in.future_in
+      does.planned refl saw
+  work-saw mix (at.Retiring root again) steps did does here saw =
+      inl
+      (stored-saw env again (Slot root StateWord) 2 steps did (does.within, tt) (λ e. cc) does.planned saw)
+  work-saw mix (at.LettingGo outcome) steps did does here saw = ended-saw outcome steps did does.planned saw

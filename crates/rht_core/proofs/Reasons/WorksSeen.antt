@@ -1,0 +1,320 @@
+-- What a resizing has seen so far, in each of its states, and what it saw once it has a reply.
+--
+-- What was chosen is kept behind the choice, with whether a table of its size was attached since. Where one
+-- was due there is a future to be found, by what the caller knows then. For each entry the last table is
+-- looked for anew, and where that is nested the move stops. In the end it is kept which table the resizing
+-- made the current one.
+use Rattle.std.proofs.Common.{◌≡◌, ◌≢◌, ◌⊎◌, ℕ, ◌^◌, Bool, true, false, List, [], ◌∷◌, ◌++◌, map, append_assoc, ap, ◌∙◌}
+use Rattle.std.specs.Prelude.{Option, Some, None}
+use Rattle.std.specs.List.{AllByRecursion, Any}
+use Rattle.rht_words.specs.declared.env.Env.{Env}
+use Rattle.rht_words.specs.declared.machine.Next.{Next}
+use Rattle.rht_words.specs.declared.machine.Next.TheVariants.{Go}
+use Rattle.rht_words.specs.Links.{slot_of}
+use Rattle.rht_words.specs.Machines.{GoesOrEnds}
+use Rattle.rht_words.specs.Operations.{op_place}
+use Rattle.rht_words.specs.Places.{CurrentTable, WorkLock, Slot, FutureWord, place_of}
+use Rattle.rht_words.specs.Sizes.{IsSizeUpTo}
+use Rattle.rht_words.proofs.EachElement.{Any-append_left, AllByRecursion-push}
+use Rattle.rht_model.specs.declared.history.Reply.{Reply}
+use Rattle.rht_model.specs.declared.history.Reply.TheVariants.{NoTable, Elsewhere, Idle, Moved}
+use Rattle.rht_nest.specs.Make.{MakeModel}
+use Rattle.rht_nest.specs.declared.make.MakeAt.{MakeAt}
+use Rattle.rht_move.specs.declared.last_table.LastTableAt.{LastTableAt}
+use Rattle.rht_move.specs.declared.rehash.Rehash.{Rehash}
+use Rattle.rht_move.specs.declared.work.choice.Choice.{Choice}
+use Rattle.rht_move.specs.declared.work.choice.Choice.TheVariants.{Attach, Later, Nothing}
+use Rattle.rht_move.specs.declared.work.Wanted.{Wanted}
+use Rattle.rht_move.specs.declared.work.Due.{Due}
+use Rattle.rht_move.specs.declared.work.Due.TheVariants as dues
+use Rattle.rht_move.specs.declared.work.WorkAt.{WorkAt}
+use Rattle.rht_move.specs.declared.work.WorkAt.TheVariants as at
+use Rattle.rht_move.specs.Work.{reply_of}
+use Rattle.rht_core.specs.Traces.{Did, performed_of}
+use Rattle.rht_core.specs.Seen.{LoadsWord}
+use Rattle.rht_core.specs.ResizeCauses.{Loaded, Attaches}
+use Rattle.rht_core.specs.WorkCauses.{SawElsewhere, ReadsFuture, HasPublished, IsSized, HasAttached, SawNoTableDue, HasTried, HasTriedIfNeeded, SawStopped}
+use Rattle.rht_core.proofs.Tracing.LoneCalls.{Spares}
+use Rattle.rht_core.proofs.Reasons.AttachedTables.{IsNoAttach}
+use Rattle.rht_core.proofs.Reasons.MakesSeen.{SawMade}
+use Rattle.rht_core.proofs.Reasons.ChoicesMade.{AreFuturesAt, Chosen, HasLock, SeekSaw, Measures, Since, SinceSome, SinceSome-push}
+
+module _ (env : Env) where
+  -- ---- what has become of what was chosen
+
+  -- no operation attached a table behind that of this slot
+  abbrev pub NoneAttached : ℕ → List Did → Type 0
+  NoneAttached last steps = AllByRecursion (λ did. (slot : ℕ) → Attaches env.geometry last slot did → ⊥) steps
+
+  -- a table of this size is wanted behind the last one
+  pub record Wants (wanted : Wanted) (of : Chosen) : Type 0 where
+    pub root_same : of.root ≡ wanted.root
+    pub last_same : of.last ≡ wanted.last.table
+    pub shape_same : of.shape ≡ wanted.last.shape
+    pub size_in : IsSizeUpTo (2 ^ 17) wanted.size
+
+  -- and none is attached there, while it is made
+  pub record IsMaking (wanted : Wanted) (exponent : ℕ) (next : MakeAt × Next (Option (ℕ × ℕ))) (of : Chosen)
+      (behind : List Did) : Type 0 where
+    pub wants : Wants wanted of
+    pub none : NoneAttached of.last behind
+    pub made : SawMade env.geometry exponent false next (map performed_of behind)
+
+  abbrev pub Makes : Wanted → MakeModel → List Did → Type 0
+  Makes wanted make = Since env (Attach wanted.size) (IsMaking wanted make.exponent (make.at, Go))
+
+  -- none was due, or a table of the size that was is attached
+  abbrev pub IsSupplied : ℕ → Choice → List Did → Type 0
+  IsSupplied last (Attach size) behind = HasAttached env.geometry last size behind
+  IsSupplied last Later behind = ⊥
+  IsSupplied last Nothing behind = Unit {0}
+
+  -- one was due, and none is
+  abbrev pub IsMissing : ℕ → Choice → List Did → Type 0
+  IsMissing last choice behind = (choice ≢ Nothing) × NoneAttached last behind
+
+  -- none was due; one was and is attached; or it isn't. Where none was it has performed nothing since
+  abbrev pub DueSaw : Due → ℕ → Choice → List Did → Type 0
+  DueSaw dues.Nothing last choice behind = choice ≡ Nothing
+  DueSaw dues.Attached last choice behind = IsSupplied last choice behind
+  DueSaw dues.Later last choice behind = IsMissing last choice behind
+
+  -- where the current one can't be moved without the table that was due, it was tried to attach that
+  abbrev pub IsTried : Choice → Chosen → List Did → Type 0
+  IsTried choice of behind = HasTriedIfNeeded env.geometry of.root of.last of.shape choice behind
+
+  pub record IsDue (root : ℕ) (due : Due) (choice : Choice) (of : Chosen) (behind : List Did) : Type 0 where
+    pub root_same : of.root ≡ root
+    pub saw : DueSaw due of.last choice behind
+    pub tried : IsTried choice of behind
+    pub at_once : due ≡ dues.Nothing → behind ≡ []
+
+  abbrev pub HasDue : ℕ → Due → List Did → Type 0
+  HasDue root due = SinceSome env (IsDue root due)
+
+  -- a table of the size that was due is to be attached behind this one
+  pub record IsMade (root last slot size : ℕ) (of : Chosen) (behind : List Did) : Type 0 where
+    pub root_same : of.root ≡ root
+    pub last_same : of.last ≡ last
+    pub none : NoneAttached of.last behind
+    pub sized : IsSized env.geometry slot size (map performed_of behind)
+
+  abbrev pub IsToAttach : ℕ → ℕ → ℕ → List Did → Type 0
+  IsToAttach root last slot steps = (size : ℕ) × Since env (Attach size) (IsMade root last slot size) steps
+
+  -- whether it is to say that the table that was due isn't attached
+  abbrev pub SaysMissing : Bool → ℕ → Choice → List Did → Type 0
+  SaysMissing true last choice behind = IsMissing last choice behind
+  SaysMissing false last choice behind = IsSupplied last choice behind
+
+  -- it has loaded this table as the future of the current one, which it moves
+  pub record IsMoving (root future : ℕ) (again : Bool) (choice : Choice) (of : Chosen)
+      (behind : List Did) : Type 0 where
+    pub root_same : of.root ≡ root
+    pub followed : Any (ReadsFuture env.geometry of.root (Some future)) behind
+    pub apart : of.root ≢ future
+    pub says : SaysMissing again of.last choice behind
+    pub tried : IsTried choice of behind
+
+  abbrev pub Moves : ℕ → ℕ → Bool → List Did → Type 0
+  Moves root future again = SinceSome env (IsMoving root future again)
+
+  -- it has made a table the current one that wasn't, and has left it so since
+  pub record IsPublished (of : Chosen) (behind : List Did) : Type 0 where
+    pub table : ℕ
+    pub later : List Did
+    pub published : HasPublished env.geometry table later behind
+    pub followed : Any (ReadsFuture env.geometry of.root (Some table)) published.before
+    pub another : of.root ≢ table
+    pub leave : AllByRecursion (Spares (place_of env.geometry CurrentTable)) later
+
+  -- by its last operation
+  pub record IsMoved (rehash : Rehash) (choice : Choice) (of : Chosen) (behind : List Did) : Type 0 where
+    pub published : IsPublished of behind
+    pub same : published.table ≡ rehash.future
+    pub says : SaysMissing rehash.again of.last choice behind
+    pub last : published.later ≡ []
+
+  abbrev pub HasMoved : Rehash → List Did → Type 0
+  HasMoved rehash = SinceSome env (IsMoved rehash)
+
+  -- the operation finds that the table of this slot has a future
+  abbrev pub FindsFurther : ℕ → Did → Type 0
+  FindsFurther table did = (next : ℕ) × ReadsFuture env.geometry table (Some next) did
+
+  abbrev pub FindsNoneFurther : ℕ → Did → Type 0
+  FindsNoneFurther table did = FindsFurther table did → ⊥
+
+  -- and then it has looked for a further one: it found one, or says what it was to say
+  pub record IsReplaced (again : Bool) (choice : Choice) (of : Chosen) (behind : List Did) : Type 0 where
+    pub published : IsPublished of behind
+    pub looked : Any (LoadsWord env.geometry (Slot published.table FutureWord)) published.later
+    pub says :
+        ((again ≡ true) × Any (FindsFurther published.table) published.later)
+        ⊎ (SaysMissing again of.last choice behind
+        × AllByRecursion (FindsNoneFurther published.table) published.later)
+
+  abbrev pub SawReplaced : Bool → List Did → Type 0
+  SawReplaced again = SinceSome env (IsReplaced again)
+
+  -- it found nothing due, loaded that the current table has no future, and has worked on the work lock alone
+  -- since
+  pub record IsIdle (of : Chosen) (behind : List Did) : Type 0 where
+    pub future : Did
+    pub rest : List Did
+    pub behind_is : behind ≡ future ∷ rest
+    pub future_read : Loaded env.geometry (Slot of.root FutureWord) future.old future
+    pub none : slot_of future.old ≡ None
+    pub on_lock : AllByRecursion (λ did. op_place did.op ≡ place_of env.geometry WorkLock) rest
+
+  abbrev pub SawIdle : List Did → Type 0
+  SawIdle = Since env Nothing IsIdle
+
+  abbrev pub RehashSaw : Rehash → List Did → Type 0
+  RehashSaw rehash = Moves rehash.root rehash.future rehash.again
+
+  -- for an entry it looks anew for the last table, or has found it
+  pub record LooksAnew (at : LastTableAt) (root : ℕ) (behind : List Did) : Type 0 where
+    pub before : List Did
+    pub futures : List Did
+    pub behind_is : behind ≡ before ++ futures
+    pub are : AreFuturesAt env.geometry at root futures
+
+  abbrev pub IsAnew : Rehash → LastTableAt → Choice → Chosen → List Did → Type 0
+  IsAnew rehash at choice of behind =
+      IsMoving rehash.root rehash.future rehash.again choice of behind × LooksAnew at of.root behind
+
+  abbrev pub AnewSaw : Rehash → LastTableAt → List Did → Type 0
+  AnewSaw rehash at = SinceSome env (IsAnew rehash at)
+
+  -- ---- with an operation more that attaches no table
+
+  pub NoneAttached-push : (last : ℕ) (steps : List Did) (did : Did) → IsNoAttach env.geometry did
+      → NoneAttached last steps
+      → NoneAttached last (steps ++ did ∷ [])
+  NoneAttached-push last steps did quiet none =
+      AllByRecursion-push (λ did. (slot : ℕ) → Attaches env.geometry last slot did → ⊥) steps did none
+      (λ slot attaches. quiet (record { table = last; slot = slot; attaches = attaches }))
+
+  -- what is attached stays so
+  HasAttached-push : (last size : ℕ) (steps : List Did) (did : Did) → HasAttached env.geometry last size steps
+      → HasAttached env.geometry last size (steps ++ did ∷ [])
+  HasAttached-push last size steps did has = record {
+    slot = has.slot;
+    before = has.before;
+    at = has.at;
+    behind = has.behind ++ did ∷ [];
+    split = ap (λ s. s ++ did ∷ []) has.split ∙ append_assoc has.before (has.at ∷ has.behind) (did ∷ []);
+    attached = has.attached;
+    sized = has.sized;
+  }
+
+  IsSupplied-push : (last : ℕ) (choice : Choice) (behind : List Did) (did : Did)
+      → IsSupplied last choice behind
+      → IsSupplied last choice (behind ++ did ∷ [])
+  IsSupplied-push last (Attach size) behind did has = HasAttached-push last size behind did has
+  IsSupplied-push last Later behind did none = none
+  IsSupplied-push last Nothing behind did is = tt
+
+  pub IsMissing-push : (last : ℕ) (choice : Choice) (behind : List Did) (did : Did)
+      → IsNoAttach env.geometry did
+      → IsMissing last choice behind → IsMissing last choice (behind ++ did ∷ [])
+  IsMissing-push last choice behind did quiet missing =
+      (missing.0, NoneAttached-push last behind did quiet missing.1)
+
+  pub SaysMissing-push : (again : Bool) (last : ℕ) (choice : Choice) (behind : List Did) (did : Did)
+      → IsNoAttach env.geometry did
+      → SaysMissing again last choice behind → SaysMissing again last choice (behind ++ did ∷ [])
+  SaysMissing-push true last choice behind did quiet saw = IsMissing-push last choice behind did quiet saw
+  SaysMissing-push false last choice behind did quiet saw = IsSupplied-push last choice behind did saw
+
+  -- what it has tried to attach it has tried later too
+  HasTried-push : (last size : ℕ) (steps : List Did) (did : Did) → HasTried env.geometry last size steps
+      → HasTried env.geometry last size (steps ++ did ∷ [])
+  HasTried-push last size steps did has = record {
+    slot = has.slot;
+    before = has.before;
+    at = has.at;
+    behind = has.behind ++ did ∷ [];
+    split = ap (λ s. s ++ did ∷ []) has.split ∙ append_assoc has.before (has.at ∷ has.behind) (did ∷ []);
+    tries = has.tries;
+    sized = has.sized;
+  }
+
+  pub IsTried-push : (choice : Choice) (of : Chosen) (behind : List Did) (did : Did)
+      → IsTried choice of behind
+      → IsTried choice of (behind ++ did ∷ [])
+  IsTried-push choice of behind did tried size is stays =
+      HasTried-push of.last size behind did (tried size is stays)
+
+  pub HasDue-push : (root : ℕ) (steps : List Did) (did : Did) → IsNoAttach env.geometry did
+      → HasDue root dues.Later steps → HasDue root dues.Later (steps ++ did ∷ [])
+  HasDue-push root steps did quiet has = SinceSome-push env steps did has (λ choice of behind due. record {
+    root_same = due.root_same;
+    saw = IsMissing-push of.last choice behind did quiet due.saw;
+    tried = IsTried-push choice of behind did due.tried;
+    at_once = λ e. absurd (cc);
+  })
+
+  pub IsMoving-push : (root future : ℕ) (again : Bool) (choice : Choice) (of : Chosen) (behind : List Did)
+      (did : Did)
+      → IsNoAttach env.geometry did → IsMoving root future again choice of behind
+      → IsMoving root future again choice of (behind ++ did ∷ [])
+  IsMoving-push root future again choice of behind did quiet moving = record {
+    root_same = moving.root_same;
+    followed = Any-append_left _ behind (did ∷ []) moving.followed;
+    apart = moving.apart;
+    says = SaysMissing-push again of.last choice behind did quiet moving.says;
+    tried = IsTried-push choice of behind did moving.tried;
+  }
+
+  pub Moves-push : (root future : ℕ) (again : Bool) (steps : List Did) (did : Did)
+      → IsNoAttach env.geometry did
+      → Moves root future again steps → Moves root future again (steps ++ did ∷ [])
+  Moves-push root future again steps did quiet moves = SinceSome-push env steps did moves
+      (λ choice of behind moving. IsMoving-push root future again choice of behind did quiet moving)
+
+-- where these are the words before the event with each number
+module _ (env : Env) (words_at : ℕ → List ℕ) where
+  -- it stops before a nested table
+  abbrev pub UnlockingSaw : Rehash → Bool → List Did → Type 0
+  UnlockingSaw rehash true steps = SawStopped env words_at true steps
+  UnlockingSaw rehash false steps = RehashSaw env rehash steps
+
+  -- for an answer
+  abbrev pub SawForWork : Reply → List Did → Type 0
+  SawForWork Elsewhere steps = SawElsewhere env.geometry steps
+  SawForWork (NoTable size) steps = SawNoTableDue env size steps
+  SawForWork Idle steps = SawIdle env steps
+  SawForWork (Moved again) steps = SawReplaced env again steps ⊎ SawStopped env words_at again steps
+  SawForWork _ steps = Unit {0}
+
+  abbrev pub SawAtWork : WorkAt → List Did → Type 0
+  SawAtWork at.WorkLock steps = steps ≡ []
+  SawAtWork at.CurrentTable steps = HasLock env steps
+  SawAtWork (at.LastTable root seek) steps = SeekSaw env root seek.at steps
+  SawAtWork (at.Count root last) steps = Measures env root last steps
+  SawAtWork (at.Making wanted make) steps = Makes env wanted make steps
+  SawAtWork (at.Attaching root last slot shape) steps = IsToAttach env root last slot steps
+  SawAtWork (at.Unmaking root unmake) steps = HasDue env root dues.Later steps
+  SawAtWork (at.RootFuture root due) steps = HasDue env root due steps
+  SawAtWork (at.RootShape root future again) steps = Moves env root future again steps
+  SawAtWork (at.Entry rehash number place) steps = RehashSaw env rehash steps
+  SawAtWork (at.Locking rehash number lock) steps = RehashSaw env rehash steps
+  SawAtWork (at.EntryTable emptying seek) steps = AnewSaw env emptying.rehash seek.at steps
+  SawAtWork (at.Seed emptying last) steps = RehashSaw env emptying.rehash steps
+  SawAtWork (at.BucketWord emptying target) steps = RehashSaw env emptying.rehash steps
+  SawAtWork (at.Walking emptying target walk) steps = RehashSaw env emptying.rehash steps
+  SawAtWork (at.Key emptying target entry) steps = RehashSaw env emptying.rehash steps
+  SawAtWork (at.LockingSecond emptying entry table lock) steps = RehashSaw env emptying.rehash steps
+  SawAtWork (at.EntryLink emptying entry second) steps = RehashSaw env emptying.rehash steps
+  SawAtWork (at.Linking emptying entry second) steps = RehashSaw env emptying.rehash steps
+  SawAtWork (at.CuttingOff emptying entry) steps = RehashSaw env emptying.rehash steps
+  SawAtWork (at.Unlocking rehash number unlock stop) steps = UnlockingSaw rehash stop steps
+  SawAtWork (at.Publishing rehash) steps = RehashSaw env rehash steps
+  SawAtWork (at.NewFuture rehash) steps = HasMoved env rehash steps
+  SawAtWork (at.Retiring root again) steps = SawReplaced env again steps
+  SawAtWork (at.LettingGo outcome) steps = SawForWork (reply_of outcome) steps
+
+  abbrev pub SawNextWork : List Did → WorkAt × Next Reply → Type 0
+  SawNextWork all next = GoesOrEnds (λ state. SawAtWork state all) (λ reply. SawForWork reply all) next
