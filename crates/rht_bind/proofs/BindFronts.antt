@@ -104,7 +104,6 @@ module _ (env : Env) (mix : ℕ → ℕ → ℕ → ℕ) (c : ℕ) (port owner :
   -- the link of that one was loaded
   pub front_loaded : (list : FoundList) → BindKnows (at.ChainLink list) M G → BindStep (at.ChainLink list)
   front_loaded list known =
-      let link = chain_of M list.first in
       let is = known.knowing.means.bucket in
       let stands = is.standing.stands in
       let j = word_index env mix list.claimed.bucket.place in

@@ -108,8 +108,6 @@ module _ (env : Env) (mix : ℕ → ℕ → ℕ → ℕ) (c : ℕ) (port owner :
         → let here = at.Raise claimed in
         IsBindAtIn env here → BindKnows here M G → BindStep here
     raising claimed is known =
-        let kick = kicks env claimed (M PortCount) in
-        let p = claimed.bucket.place in
         answered-map env mix None (inl refl) (still_has refl)
         (λ M' G' w k. let table = k.means.table in record {
           knowing =
