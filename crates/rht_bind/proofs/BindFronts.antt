@@ -33,7 +33,7 @@ use Rattle.rht_bind.specs.declared.bind.FoundList.{FoundList}
 use Rattle.rht_bind.specs.declared.bind.BindAt.{BindAt}
 use Rattle.rht_bind.specs.declared.bind.BindAt.TheVariants as at
 use Rattle.rht_ghost.proofs.Theory.Ghosts.{put-same, Ghost, index_at}
-use Rattle.rht_ghost.proofs.Theory.Wholes.{chain_of, place_at, word_index, place_at-index, index-within, Whole}
+use Rattle.rht_ghost.proofs.Theory.Wholes.{place_at, word_index, place_at-index, index-within, Whole}
 use Rattle.rht_ghost.proofs.Theory.Knowns.{Nowhere, FirstLink}
 use Rattle.rht_ghost.proofs.Theory.Knowledge.{plainly, HasOnly, HoldsLock, Knowing, idle_moves_none}
 use Rattle.rht_ghost.proofs.Theory.Answering.{IsRight, keeps}

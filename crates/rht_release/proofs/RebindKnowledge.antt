@@ -23,7 +23,7 @@ use Rattle.rht_ghost.proofs.Theory.Ghosts.{Ghost}
 use Rattle.rht_ghost.proofs.Theory.Knowns.{KnownNode, Nowhere, KnownBucket, Unlocked, Locks, Leads, LeadsTo, Succeeds, Known, knows_plain, KnownList}
 use Rattle.rht_ghost.proofs.Theory.Knowledge.{Knowing}
 use Rattle.rht_ghost.proofs.Theory.Answering.{IsRight}
-use Rattle.rht_ghost.proofs.Theory.Steps.{Holding, mem, owners, StepWhere}
+use Rattle.rht_ghost.proofs.Theory.Steps.{Holding, mem, StepWhere}
 use Rattle.rht_ghost.proofs.Pieces.NewNodes as nodes
 use Rattle.rht_release.proofs.Seeks as seeks
 use Rattle.rht_release.proofs.Seeks.{in_list}

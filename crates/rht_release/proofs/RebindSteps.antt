@@ -23,7 +23,7 @@ use Rattle.rht_model.specs.Multimap.{Multimap}
 use Rattle.rht_model.specs.Answers.{plain, rebind_reply, owners_rebound, bindings_after}
 use Rattle.rht_model.proofs.CallEffects.{with_owners-same, with_owners-other}
 use Rattle.rht_release.specs.FoundPort.{relink_of}
-use Rattle.rht_release.specs.Rebind.{plan_at, filled, giving, sought, owner_compared, IsRebindAtIn}
+use Rattle.rht_release.specs.Rebind.{plan_at, filled, sought, owner_compared, IsRebindAtIn}
 use Rattle.rht_release.specs.RebindHeld.{held_of_rebind, holds_found, holds_replacing}
 use Rattle.rht_release.specs.Seek.{SeekModel, seek_plan, seek_after}
 use Rattle.rht_release.specs.declared.found_port.FoundPort.{FoundPort}

@@ -43,7 +43,7 @@ use Rattle.rht_ghost.proofs.Moves.Removing.{IsFoundIn, CanReplace}
 use Rattle.rht_ghost.proofs.Pieces.Lists.{list_among}
 use Rattle.rht_ghost.proofs.Pieces.Rebounds.{IsTakenWith, taken_then, taken_more, only_left}
 use Rattle.rht_ghost.proofs.Pieces.Relinks.{lock_left, first_store, relink_write, relink_behind_maps, relink_leaves, holder_left, lock_kept}
-use Rattle.rht_release.proofs.RebindKnowledge.{own, known_replacing, known_of_rebind, replaces, with_node}
+use Rattle.rht_release.proofs.RebindKnowledge.{known_replacing, known_of_rebind, replaces, with_node}
 use Rattle.rht_release.proofs.RebindKnowledge as rebinds
 
 module _ (env : Env) (mix : ℕ → ℕ → ℕ → ℕ) (c : ℕ) (port owner new : ℕ)

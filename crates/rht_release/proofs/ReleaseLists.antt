@@ -37,7 +37,6 @@ use Rattle.rht_ghost.proofs.Theory.Steps.{by_test, mem, owners, owners_in, StepW
 use Rattle.rht_ghost.proofs.Moves.Relinking.{last_none, last_of-more}
 use Rattle.rht_ghost.proofs.Pieces.Lists.{segment_link, list_link-names, list_among, list_rest, found_list}
 use Rattle.rht_release.proofs.Seeks as seeks
-use Rattle.rht_release.proofs.ReleaseStores.{here}
 use Rattle.rht_release.proofs.ReleaseStores as stores
 use Rattle.rht_release.proofs.ReleaseKnowledge.{list_more}
 use Rattle.rht_release.proofs.ReleaseKnowledge as releases

@@ -29,7 +29,7 @@ use Rattle.rht_ghost.proofs.Theory.Wholes.{chain_of, word_index, Whole}
 use Rattle.rht_ghost.proofs.Theory.Knowns.{Nowhere, TakenOut, LocksTakenOut, KnownList, Leads, LeadsTo, Promotes, first_of_list}
 use Rattle.rht_ghost.proofs.Theory.Knowledge.{plainly}
 use Rattle.rht_ghost.proofs.Theory.Answering.{keeps}
-use Rattle.rht_ghost.proofs.Theory.Steps.{answered-map, Lowers, LinksBehind, Holding, mem, owners, moved, Step, step-map, answered, reads, still_has}
+use Rattle.rht_ghost.proofs.Theory.Steps.{answered-map, Lowers, LinksBehind, Holding, mem, moved, Step, step-map, answered, reads, still_has}
 use Rattle.rht_ghost.proofs.Moves.Quiet.{count_down}
 use Rattle.rht_ghost.proofs.Moves.TakenNodes.{chain_behind}
 use Rattle.rht_ghost.proofs.Pieces.Locks.{unlock_step, unlock_taken}
