@@ -33,7 +33,7 @@ use Rattle.rht_bind.specs.declared.bind.FoundList.{FoundList}
 use Rattle.rht_bind.specs.declared.bind.BindAt.{BindAt}
 use Rattle.rht_bind.specs.declared.bind.BindAt.TheVariants as at
 use Rattle.rht_ghost.proofs.Theory.Ghosts.{put-same, Ghost, index_at}
-use Rattle.rht_ghost.proofs.Theory.Wholes.{chain_of, place_at, word_index, place_at-index, index-within, Whole}
+use Rattle.rht_ghost.proofs.Theory.Wholes.{place_at, word_index, place_at-index, index-within, Whole}
 use Rattle.rht_ghost.proofs.Theory.Knowns.{Nowhere, FirstLink}
 use Rattle.rht_ghost.proofs.Theory.Knowledge.{plainly, HasOnly, HoldsLock, Knowing, idle_moves_none}
 use Rattle.rht_ghost.proofs.Theory.Answering.{IsRight, keeps}
@@ -104,7 +104,6 @@ module _ (env : Env) (mix : ℕ → ℕ → ℕ → ℕ) (c : ℕ) (port owner :
   -- the link of that one was loaded
   pub front_loaded : (list : FoundList) → BindKnows (at.ChainLink list) M G → BindStep (at.ChainLink list)
   front_loaded list known =
-      let link = chain_of M list.first in
       let is = known.knowing.means.bucket in
       let stands = is.standing.stands in
       let j = word_index env mix list.claimed.bucket.place in

@@ -153,7 +153,6 @@ module _ (env : Env) (mix : ℕ → ℕ → ℕ → ℕ) (c : ℕ) (port owner :
   refused_next growing why (Some table) known =
       let n = growing.attempt.node in
       let answer = ended_attempt once table in
-      let next = behind_attempt env growing.attempt answer in
       rw (behind_holds growing.attempt answer)
       (reads env mix whole refl refl (attempt_tells n table)
       (behind_knows growing.attempt answer M G
@@ -172,18 +171,14 @@ module _ (env : Env) (mix : ℕ → ℕ → ℕ → ℕ) (c : ℕ) (port owner :
       (known_made make.exponent make.seed r))
       → BindMoved (at.Making growing size make) (made growing size (record make { at = r.0 }) r.1, Go)
   made_next growing size make (state, Go) step =
-      let n = growing.attempt.node in
-      let next = at.Making growing size (record make { at = state }) in
       answered-map env mix None (inl refl) (still_has refl)
       (λ M' G' w k. record { knowing = k; fits = tt }) step
   made_next growing size make (state, Done None) step =
-      let next = at.FutureAgain growing (refusals.NoTable size) in
       answered-map env mix None (inl refl) (still_has refl)
       (λ M' G' w k. record { knowing = k; fits = tt }) step
   made_next growing size make (state, Done (Some table)) step =
       let h = holds_node (Some growing.attempt.node) None in
       let k = wants_table port owner growing in
-      let next = at.Attaching growing table.0 table.1 in
       let same = pages_of_table-shape env.geometry table.1 step.knows.means.making.fits in
       answered-map env mix None (inl refl) (still_has refl)
       (λ M' G' w k. record { knowing = k; fits = tt })
@@ -221,12 +216,10 @@ module _ (env : Env) (mix : ℕ → ℕ → ℕ → ℕ) (c : ℕ) (port owner :
       (unmade env attempt answer (record unmake { at = r.0 }) r.1, Go)
   unmade_next attempt unmake answer (state, Go) step =
       let told = option_map plain answer in
-      let next = at.Unmaking attempt (record unmake { at = state }) answer in
       answered-map env mix told (inl (keeps told)) (still_has refl)
       (λ M' G' w k. record { knowing = k; fits = tt }) step
   unmade_next attempt unmake answer (state, Done done) step =
       let told = option_map plain answer in
-      let next = behind_attempt env attempt answer in
       rw (behind_holds attempt answer)
       (answered-map env mix told (inl (keeps told)) (still_has refl)
       (λ M' G' w k. behind_knows attempt answer M' G' k) step)
@@ -334,8 +327,6 @@ module _ (env : Env) (mix : ℕ → ℕ → ℕ → ℕ) (c : ℕ) (port owner :
         )
     lost some =
         let answer = ended_attempt once (table_of (found - 1)) in
-        let unmake = unmake_new env.geometry slot shape in
-        let next = at.Unmaking growing.attempt unmake answer in
         let k = known.knowing in
         let pages = pages_of_unmake-table env.geometry shape slot
         ∙ pages_of_table-shape env.geometry shape k.means.making.fits in

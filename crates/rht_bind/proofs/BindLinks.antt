@@ -10,7 +10,7 @@ use Rattle.rht_words.specs.declared.config.Kind.TheVariants.{Single, Listed}
 use Rattle.rht_words.specs.Links.{link_of, head_of, plain_of}
 use Rattle.rht_words.specs.Ports.{owner_of}
 use Rattle.rht_words.specs.Operations.{applied}
-use Rattle.rht_words.specs.Places.{PortCount, Node, ChainLink, OwnerWord, PageWord, words_in}
+use Rattle.rht_words.specs.Places.{Node, ChainLink, OwnerWord, PageWord, words_in}
 use Rattle.rht_words.proofs.Memory.{Memory, IsWrite, is_write}
 use Rattle.rht_chain.specs.Relink.{RelinkModel, relink_new}
 use Rattle.rht_model.specs.declared.history.Call.{Call}
@@ -19,7 +19,7 @@ use Rattle.rht_model.specs.declared.history.Reply.TheVariants.{Bound}
 use Rattle.rht_model.specs.Multimap.{Multimap, Agree}
 use Rattle.rht_model.specs.Answers.{plain, bind_reply, owners_bound}
 use Rattle.rht_model.specs.Answers as answers
-use Rattle.rht_bind.specs.Bind.{kicks, IsBindAtIn}
+use Rattle.rht_bind.specs.Bind.{IsBindAtIn}
 use Rattle.rht_bind.specs.Growing.{made}
 use Rattle.rht_bind.specs.BindHeld.{holds_node, holds_claimed}
 use Rattle.rht_bind.specs.declared.bind.Claimed.{Claimed}
@@ -108,8 +108,6 @@ module _ (env : Env) (mix : ℕ → ℕ → ℕ → ℕ) (c : ℕ) (port owner :
         → let here = at.Raise claimed in
         IsBindAtIn env here → BindKnows here M G → BindStep here
     raising claimed is known =
-        let kick = kicks env claimed (M PortCount) in
-        let p = claimed.bucket.place in
         answered-map env mix None (inl refl) (still_has refl)
         (λ M' G' w k. let table = k.means.table in record {
           knowing =

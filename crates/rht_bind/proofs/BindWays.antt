@@ -171,7 +171,6 @@ module _ (env : Env) (mix : ℕ → ℕ → ℕ → ℕ) (c : ℕ) (port owner :
       answered-map env mix None (inl refl) (still_has refl)
       (λ M' G' w k. record { knowing = k; fits = tt }) step
   found_place attempt locate (next, Done there) step =
-      let state = at_bucket env port attempt next.table there.shape there.bucket in
       rw (located_holds attempt next.table there.shape there.bucket)
       (answered-map env mix None (inl refl) (still_has refl)
       (λ M' G' w k. located_knows attempt next.table there.shape there.bucket M' G' k) step)
@@ -274,7 +273,6 @@ module _ (env : Env) (mix : ℕ → ℕ → ℕ → ℕ) (c : ℕ) (port owner :
       (still_has refl)
       (λ M' G' w k. record { knowing = plainly env mix k.only k.means.node tt tt; fits = tt }) step
   grown_next attempt table shape place grow (state, Done (Some page)) there step =
-      let next = behind_page env port attempt table shape (entered place page) in
       rw (entered_holds attempt table shape (entered place page))
       (answered-map env mix None (inl refl) (still_has refl)
       (λ M' G' w k. entered_knows attempt table shape (entered place page) M' G'
@@ -361,7 +359,6 @@ module _ (env : Env) (mix : ℕ → ℕ → ℕ → ℕ) (c : ℕ) (port owner :
   walked attempt table shape probe (next, Done end) key step =
       let claimed : Claimed =
       record { attempt = attempt; table = table; shape = shape; bucket = end.bucket } in
-      let there = found_or_future env.config.kind claimed end.seen.found end.seen.before end.seen.length in
       rw (seen_holds claimed end.seen.found end.seen.before end.seen.length)
       (answered-map env mix None (inl refl) (still_has refl)
       (λ M' G' w k. seen_knows claimed end.seen.found end.seen.before end.seen.length M' G' k) step)

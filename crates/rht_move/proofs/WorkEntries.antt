@@ -263,7 +263,6 @@ module _ (env : Env) (mix : ℕ → ℕ → ℕ → ℕ) (c : ℕ) (words : List
       → WorkKnows (at.EntryLink emptying entry second) M G
       → WorkStep (at.EntryLink emptying entry second)
   link_entry emptying entry second known =
-      let state = at.EntryLink emptying entry second in
       let next = at.Linking emptying entry second in
       leads next (inl refl) refl refl refl
       (leave_step env mix c (moving_at None) words G all whole refl (known_rehash emptying.rehash)
@@ -274,7 +273,6 @@ module _ (env : Env) (mix : ℕ → ℕ → ℕ → ℕ) (c : ℕ) (words : List
       → WorkKnows (at.Linking emptying entry second) M G
       → WorkStep (at.Linking emptying entry second)
   link_bucket emptying entry second known =
-      let state = at.Linking emptying entry second in
       let next = at.CuttingOff emptying entry in
       leads next (inl refl) refl refl refl
       (arrive_step env mix c (moving_at None) words G all whole refl (known_rehash emptying.rehash)

@@ -68,7 +68,6 @@ module _ (env : Env) (mix : ℕ → ℕ → ℕ → ℕ) (c : ℕ) (words : List
 
   publish : (rehash : Rehash) → WorkKnows (at.Publishing rehash) M G → WorkStep (at.Publishing rehash)
   publish rehash known =
-      let state = at.Publishing rehash in
       let next = at.NewFuture rehash in
       leads next (inl refl) refl refl refl
       (publish_step env mix c (moving_at None) words G all whole refl (known_rehash rehash)
@@ -95,7 +94,6 @@ module _ (env : Env) (mix : ℕ → ℕ → ℕ → ℕ) (c : ℕ) (words : List
 
   let_go : (outcome : Outcome) → WorkKnows (at.LettingGo outcome) M G → WorkStep (at.LettingGo outcome)
   let_go outcome known =
-      let state = at.LettingGo outcome in
       let answer = plain (reply_of outcome) in
       let after : Holding = held.ended_with answer in
       answered-map env mix (Some answer) (inl (keeps (Some answer))) (still_has refl)

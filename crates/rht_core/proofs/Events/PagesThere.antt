@@ -33,8 +33,8 @@ use Rattle.rht_ghost.proofs.Pieces.Locates.{known_locate, IsThereAt}
 use Rattle.rht_release.proofs.Seeks.{known_of_seek, seek_there}
 use Rattle.rht_find.proofs.FindSteps.{known_of_find, find_there}
 use Rattle.rht_release.proofs.AllSteps.{known_of_all, all_there}
-use Rattle.rht_release.proofs.ReleaseSteps.{known_of_release, release_there}
-use Rattle.rht_release.proofs.RebindSteps.{known_of_rebind, rebind_there}
+use Rattle.rht_release.proofs.ReleaseKnowledge.{known_of_release, release_there}
+use Rattle.rht_release.proofs.RebindKnowledge.{known_of_rebind, rebind_there}
 use Rattle.rht_core.proofs.Machines.EarlyPages.{IsThere}
 use Rattle.rht_core.proofs.Machines.JobSteps.{JobKnows}
 use Rattle.rht_core.proofs.Events.RangesInRuns.{AllIn}

@@ -9,8 +9,8 @@ use Rattle.rht_model.specs.Endings.{Ending}
 use Rattle.rht_core.specs.Jobs.{Job, finds, binds, lists, releases, rebinds, works, counts}
 use Rattle.rht_find.proofs.FindSteps.{find_there}
 use Rattle.rht_release.proofs.AllSteps.{all_there}
-use Rattle.rht_release.proofs.ReleaseSteps.{release_there}
-use Rattle.rht_release.proofs.RebindSteps.{rebind_there}
+use Rattle.rht_release.proofs.ReleaseKnowledge.{release_there}
+use Rattle.rht_release.proofs.RebindKnowledge.{rebind_there}
 
 -- the page that the job may miss is there in these words
 abbrev pub IsThere : Env → (ℕ → ℕ → ℕ → ℕ) → Job → Memory → Type 0

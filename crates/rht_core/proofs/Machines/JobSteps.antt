@@ -50,8 +50,10 @@ use Rattle.rht_find.proofs.FindSteps.{known_of_find, fits_find, find_there, find
 use Rattle.rht_bind.proofs.BindKnowledge.{known_of_bind, fits_bind, bind_holds, BindNext}
 use Rattle.rht_bind.proofs.BindSteps.{bind_step}
 use Rattle.rht_release.proofs.AllSteps.{known_of_all, fits_all, all_there, all_there_next, all_holds, AllNext, all_step}
-use Rattle.rht_release.proofs.ReleaseSteps.{known_of_release, fits_release, release_there, release_there_next, release_holds, ReleaseNext, nothing_known, release_step}
-use Rattle.rht_release.proofs.RebindSteps.{known_of_rebind, fits_rebind, rebind_there, rebind_there_next, rebind_holds, RebindNext, rebind_step}
+use Rattle.rht_release.proofs.ReleaseKnowledge.{known_of_release, fits_release, release_there, release_there_next, release_holds, ReleaseNext, nothing_known}
+use Rattle.rht_release.proofs.ReleaseSteps.{release_step}
+use Rattle.rht_release.proofs.RebindKnowledge.{known_of_rebind, fits_rebind, rebind_there, rebind_there_next, rebind_holds, RebindNext}
+use Rattle.rht_release.proofs.RebindSteps.{rebind_step}
 use Rattle.rht_move.proofs.WorkKnowledge.{known_of_work, work_holds, WorkNext}
 use Rattle.rht_move.proofs.WorkMachine.{work_step}
 
