@@ -2,7 +2,17 @@
 pub mod TurnedBits
 -- what the words say of an entry behind which a page is entered
 pub mod EnteredWords
--- what each move makes of them
+-- what a call has undone so far of what it turned
+pub mod UndoneSoFar
+-- an operation of a call that may still be refused
+pub mod GoingBack
+-- what becomes of the bits where the call takes or gives back a node, a lock or a slot
+pub mod UndoneHoldings
+-- where it takes pages or gives them back
+pub mod UndonePages
+-- where it attaches a table or enters a page
+pub mod UndoneTables
+-- and so by each move
 pub mod UndoneMoves
 -- the states behind which no refusal comes
 pub mod PastRefusal

@@ -54,7 +54,7 @@ use Rattle.rht_ghost.proofs.Pieces.Makes.{known_of_make}
 use Rattle.rht_words.proofs.FilteredLists.{range_with_len-from}
 use Rattle.rht_core.proofs.Machines.JobSteps.{JobKnows}
 use Rattle.rht_core.proofs.Reasons.AttachedTables.{make-none, unmake-none}
-use Rattle.rht_core.proofs.Undoing.UndoneMoves.{MayAttachWith}
+use Rattle.rht_core.proofs.Undoing.GoingBack.{MayAttachWith}
 use Rattle.rht_core.proofs.Undoing.PastRefusal.{bind_is_past, rebind_is_past, work_is_past, is_past}
 use Rattle.rht_core.proofs.Undoing.StoredShapes.{HasStored}
 

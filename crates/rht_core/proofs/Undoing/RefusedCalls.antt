@@ -57,7 +57,9 @@ use Rattle.rht_core.proofs.Tracing.TracedJobs.{Performs, LeadsOn, IsEndedSo, job
 use Rattle.rht_core.proofs.Tracing.TracesAtEvents.{at_events}
 use Rattle.rht_core.proofs.Tracing.RepliesInRuns.{Holds, Answered, runs-right}
 use Rattle.rht_core.proofs.Undoing.TurnedBits.{held_bits}
-use Rattle.rht_core.proofs.Undoing.UndoneMoves.{Undoes, GoneWhereEntered, Undoes-push, MayGoBack, kept_by}
+use Rattle.rht_core.proofs.Undoing.UndoneSoFar.{Undoes, GoneWhereEntered, Undoes-push}
+use Rattle.rht_core.proofs.Undoing.GoingBack.{GoesBack}
+use Rattle.rht_core.proofs.Undoing.UndoneMoves.{kept_by}
 use Rattle.rht_core.proofs.Undoing.PastRefusal.{bind_is_past, rebind_is_past, work_is_past, is_past, StaysPast, bind-past, rebind-past, work-past}
 use Rattle.rht_core.proofs.Undoing.StoredShapes.{bind-stored}
 use Rattle.rht_core.proofs.Undoing.RefusableJobs.{refusable, mine, JobStored, attaches, enters, gone}
@@ -314,22 +316,34 @@ module _ (M : Type 0) (mix : ℕ → ℕ → ℕ → ℕ) (env : Env) (events : 
           had (subst (λ old. In page (held_next (job_after mix env job old)).pages) free i) in
           let holds = refusable job may in
           let step = performs.step in
-          let go_back : MayGoBack env mix (words_before M mix env events) (call_of job) steps did (held_of job) after performs.caller performs.ghost = record {
-            low = holds.low;
-            low_then = low_then;
-            still = holds.still;
-            still_then = still_then;
-            locked_has = holds.locked_has;
-            mine = mine env mix performs.caller (mem env mix performs.words) performs.ghost job may performs.knows;
-            attaches = λ last slot low exchanges has.
-                attaches env mix performs.caller (mem env mix performs.words) performs.ghost steps did last slot low exchanges
-                job may performs.knows kept.stored performs.planned has;
-            enters = λ entry page exchanges has.
-                enters env mix performs.caller (mem env mix performs.words) performs.ghost did entry page exchanges job may
-                performs.planned has;
+          let goes_back : GoesBack env mix (words_before M mix env events) (call_of job) = record {
+            steps = steps;
+            did = did;
+            before = held_of job;
+            after = after;
+            caller = performs.caller;
+            words = performs.words;
+            ghost = performs.ghost;
+            whole = performs.whole;
+            here = sym here;
+            found = performs.found;
+            so_far = kept.undoes;
+            may = record {
+              low = holds.low;
+              low_then = low_then;
+              still = holds.still;
+              still_then = still_then;
+              locked_has = holds.locked_has;
+              mine = mine env mix performs.caller (mem env mix performs.words) performs.ghost job may performs.knows;
+              attaches = λ last slot low exchanges has.
+                  attaches env mix performs.caller (mem env mix performs.words) performs.ghost steps did last slot
+                  low exchanges job may performs.knows kept.stored performs.planned has;
+              enters = λ entry page exchanges has.
+                  enters env mix performs.caller (mem env mix performs.words) performs.ghost did entry page exchanges
+                  job may performs.planned has;
+            };
           } in
-          elim (kept_by env mix (words_before M mix env events) (call_of job) steps did (held_of job) after performs.caller performs.words performs.ghost
-          performs.whole (sym here) performs.found kept.undoes go_back step.move step.ready
+          elim (kept_by goes_back step.move step.ready
           (subst (λ old. Does env mix step.move did.op old (held_of job) after) (sym performs.found) step.does)) [
             | inl says ↦ inl says
             | inr keeps ↦ inr (
