@@ -1,7 +1,7 @@
 -- The room of owners has a place for each node, wherever it lies: with its caller, or in a listing, which
 -- takes it as it begins and gives it back as it ends. And while a call goes on nothing comes into the room
 -- of its caller.
-use Rattle.std.proofs.Common.{◌≡◌, ℕ, true, ◌++◌, ◌∷◌, [], length, nat_lt, refl, ◌∙◌}
+use Rattle.std.proofs.Common.{◌≡◌, ℕ, true, ◌++◌, ◌∷◌, [], length, nat_lt, refl, ap, ◌∙◌}
 use Rattle.std.specs.Prelude.{Some, None}
 use Rattle.std.proofs.lemmas.Bool.{cond_both}
 use Rattle.rht_words.specs.declared.env.Env.{Env}
@@ -9,6 +9,7 @@ use Rattle.rht_words.specs.declared.machine.Next.{Next}
 use Rattle.rht_words.specs.declared.machine.Next.TheVariants.{Go, Done}
 use Rattle.rht_words.specs.Ports.{owner_of}
 use Rattle.rht_model.specs.declared.history.Call.{Call}
+use Rattle.rht_model.specs.declared.history.Reply.{Reply}
 use Rattle.rht_model.specs.Rooms.{Kept}
 use Rattle.rht_find.specs.Find.{find_after}
 use Rattle.rht_bind.specs.Bind.{bind_after}
@@ -22,7 +23,6 @@ use Rattle.rht_callers.specs.declared.local.Local.{Local}
 use Rattle.rht_callers.specs.declared.local.Doing.{Doing}
 use Rattle.rht_callers.specs.declared.local.Doing.TheVariants.{Idle, Finding, Binding, Listing, Releasing, Rebinding, Working, Counting}
 use Rattle.rht_callers.specs.Locals.{does_nothing, is_idle, machine_of, doing_after, doing_next, without_node, owners_room, owners_beside, owners_after, room_given}
-use Rattle.rht_callers.proofs.NextDoings.{next_so}
 use Rattle.rht_callers.proofs.CallBeginnings.{begins_so}
 
 -- an operation of a listing leaves its room's limit
@@ -45,13 +45,7 @@ module _ (M : Type 0) where
       go : (doing : Doing M) → does_nothing doing ≡ true → (owners_room doing local.owners).limit ≡ limit
           → local.owners.limit ≡ limit
       go Idle idle is = is
-      go (Finding m) idle is = absurd (cc)
-      go (Binding m) idle is = absurd (cc)
-      go (Listing m) idle is = absurd (cc)
-      go (Releasing m) idle is = absurd (cc)
-      go (Rebinding m) idle is = absurd (cc)
-      go (Working m) idle is = absurd (cc)
-      go (Counting m) idle is = absurd (cc)
+      go _ idle is = absurd (cc)
 
   -- who has begun has it as well, or its listing
   pub begun-limit : (env : Env) (c : ℕ) (call : Call) (machine : Doing M)
@@ -78,29 +72,27 @@ module _ (M : Type 0) where
   listed_next-limit m after room (state, Go) = refl
   listed_next-limit m after room (state, Done done) = refl
 
+  -- what has no room leaves that of its caller
+  beside-limit : {A : Type 0} (doing : A → Doing M) (room : Kept ℕ) → ((m : A) → owners_room (doing m) room ≡ room)
+      → (r : A × Next Reply) → (owners_room (doing_next doing r).0 room).limit ≡ room.limit
+  beside-limit doing room beside (m, Go) = ap (λ (k : Kept ℕ). k.limit) (beside m)
+  beside-limit doing room beside (m, Done reply) = refl
+
   -- an operation leaves the room's limit
   pub owners_after-limit : (mix : ℕ → ℕ → ℕ → ℕ) (doing : Doing M) (room : Kept ℕ) (old : ℕ)
       → (owners_room (doing_after mix doing old).0 (owners_after mix doing room old)).limit
       ≡ (owners_room doing room).limit
   owners_after-limit mix Idle room old = refl
-  owners_after-limit mix (Finding m) room old =
-      next_so (λ doing. (owners_room doing room).limit ≡ room.limit) Finding refl (find_after mix m old).0
-      (find_after mix m old).1 refl
-  owners_after-limit mix (Binding m) room old =
-      next_so (λ doing. (owners_room doing room).limit ≡ room.limit) Binding refl (bind_after mix m old).0
-      (bind_after mix m old).1 refl
+  owners_after-limit mix (Finding m) room old = beside-limit Finding room (λ n. refl) (find_after mix m old)
+  owners_after-limit mix (Binding m) room old = beside-limit Binding room (λ n. refl) (bind_after mix m old)
   owners_after-limit mix (Listing m) room old =
       listed_next-limit m (room_after m.at m.room old) room (after_at mix m.env m.port m.at old)
       ∙ room_after-limit m.at m.room old
   owners_after-limit mix (Releasing m) room old =
-      next_so (λ doing. (owners_room doing room).limit ≡ room.limit) Releasing refl (release_after mix m old).0
-      (without_node (release_after mix m old).1) refl
+      let next = release_after mix m old in beside-limit Releasing room (λ n. refl) (next.0, without_node next.1)
   owners_after-limit mix (Rebinding m) room old =
-      next_so (λ doing. (owners_room doing room).limit ≡ room.limit) Rebinding refl (rebind_after mix m old).0
-      (without_node (rebind_after mix m old).1) refl
-  owners_after-limit mix (Working m) room old =
-      next_so (λ doing. (owners_room doing room).limit ≡ room.limit) Working refl (work_after mix m old).0
-      (work_after mix m old).1 refl
+      let next = rebind_after mix m old in beside-limit Rebinding room (λ n. refl) (next.0, without_node next.1)
+  owners_after-limit mix (Working m) room old = beside-limit Working room (λ n. refl) (work_after mix m old)
   owners_after-limit mix (Counting m) room old = refl
 
   listed_next-stays : (m : AllModel) (after room : Kept ℕ) (next : AllAt × Next (Unit {0}))

@@ -2,7 +2,7 @@
 --
 -- By induction over the events: while the words of the slots are as at opening, each call is calm, so its next operation leaves them; and at
 -- the end each call was calm.
-use Rattle.std.proofs.Common.{◌≡◌, ◌≢◌, ℕ, zero, suc, ◌<◌, ◌≤◌, List, [], ◌∷◌, ◌++◌, length, take, map, get_or, refl, sym, ap, ◌∙◌, subst, inl, inr, arith}
+use Rattle.std.proofs.Common.{◌≡◌, ◌≢◌, ℕ, Bool, true, false, zero, suc, ◌<◌, ◌≤◌, List, [], ◌∷◌, ◌++◌, length, take, map, get_or, refl, sym, ap, ◌∙◌, subst, inl, inr, arith}
 use Rattle.std.specs.Prelude.{Option, Some, None, IfSome}
 use Rattle.std.specs.List.{AllByRecursion}
 use Rattle.std.proofs.lemmas.Bool.{cases_lt}
@@ -45,6 +45,7 @@ use Rattle.rht_core.specs.Traces.{Did, Past, Traced, traced_of}
 use Rattle.rht_core.proofs.Machines.JobSteps.{JobIn}
 use Rattle.rht_core.proofs.Events.Invariants.{step_of}
 use Rattle.rht_core.proofs.Events.InvariantRuns.{has_inv}
+use Rattle.rht_core.proofs.Events.JobsOfCallers.{first-so, each_goes, same_call}
 use Rattle.rht_core.proofs.Events.Worlds.{induct_by_last, take-push, take-push_all, run_of-push, step_none, step_words}
 use Rattle.rht_core.proofs.Tracing.TracedJobs.{Performs, LeadsOn, IsKeeping, IsAtJob, jobs_keep_standing}
 use Rattle.rht_core.proofs.Tracing.TracedRuns.{world-traced_of}
@@ -108,7 +109,7 @@ module _ (env : Env) (mix : ℕ → ℕ → ℕ → ℕ) where
   work-spares (work_at.LettingGo outcome) within calm = inr (inl refl)
   work-spares _ within calm = absurd calm
 
-  job-spares : (c : ℕ) (job : Job) → JobIn env mix c job → CalmJob env job → SparesSlots (job_plan env job)
+  pub job-spares : (c : ℕ) (job : Job) → JobIn env mix c job → CalmJob env job → SparesSlots (job_plan env job)
   job-spares c (finds port state) within calm = find-spares env state within
   job-spares c (binds port owner once state) within calm = bind-spares env (IsFirst env) (IsZero env) state within.at_in calm
   job-spares c (lists port room state) within calm = all-spares env state within.at_in
@@ -130,15 +131,11 @@ module _ (Now : Job → Type 0) (Ended : Call → Ending → Type 0) where
   next-goes start job ending (state, Go) kept = kept
   next-goes start job ending (state, Done end) kept = kept
 
--- where there is nothing to say
-pub nothing-goes : {S A : Type 0} (next : S × Next A) → GoesOrEnds (λ (state : S). Unit {0}) (λ (end : A). Unit {0}) next
-nothing-goes (state, Go) = tt
-nothing-goes (state, Done end) = tt
-
--- what is so of the first job of a call
-pub first-so : (Now : Job → Type 0) (first : Option Job) (job : Job) → IfSome first Now → first ≡ Some job → Now job
-first-so Now None job kept is = absurd (cc)
-first-so Now (Some first) job kept is = let same : first ≡ job = cc in subst Now same kept
+-- the calls that may make a table
+abbrev pub may_make : Call → Bool
+may_make (Bind port owner once) = true
+may_make Work = true
+may_make _ = false
 
 -- ---- the words before each event
 
@@ -196,30 +193,25 @@ module _ (M : Type 0) (mix : ℕ → ℕ → ℕ → ℕ) (env : Env) (roomy : I
     both-lead job all (after, Go) saw calm = (saw, calm)
     both-lead job all (after, Done ending) saw calm = (saw, calm)
 
+    -- of a call that makes no table there is nothing to say
+    other-calm : (job : Job) → may_make (call_of job) ≡ false → CalmJob env job
+    other-calm (binds port owner once state) other = absurd (cc)
+    other-calm (works state) other = absurd (cc)
+    other-calm _ other = tt
+
     job-calm : (job : Job) (steps : List Did) (did : Did) → (does : Performs mix env job did) → does.words ≡ words_at did.index
         → Now job steps → CalmOn job (job_after mix env job did.old)
-    job-calm (finds port state) steps did does now kept =
-        let next = find_after_at mix env port state did.old in
-        next-goes (CalmJob env) (CalmEnd env) (finds port state) (finds port) plain_ending next (nothing-goes next)
     job-calm (binds port owner once state) steps did does now kept =
         next-goes (CalmJob env) (CalmEnd env) (binds port owner once state) (binds port owner once) plain_ending (bind_after_at mix env port once state did.old)
         (calm-bind env (IsFirst env) (IsZero env) words_at (λ i. (few i).bound) mix port owner once state steps did does kept.0.0 kept.1
         (few-calm env mix roomy did (words_at did.index) (unmade did.index) (few did.index) port owner once state does now))
-    job-calm (lists port room state) steps did does now kept =
-        let after = all.room_after state room did.old in
-        let next = all.after_at mix env port state did.old in
-        next-goes (CalmJob env) (CalmEnd env) (lists port room state) (lists port after) (listing_ending after) next (nothing-goes next)
-    job-calm (releases port owner state) steps did does now kept =
-        let next = release.after_at mix env port owner state did.old in
-        next-goes (CalmJob env) (CalmEnd env) (releases port owner state) (releases port owner) node_ending next (nothing-goes next)
-    job-calm (rebinds port owner new state) steps did does now kept =
-        let next = rebind.after_at mix env port owner state did.old in
-        next-goes (CalmJob env) (CalmEnd env) (rebinds port owner new state) (rebinds port owner new) node_ending next (nothing-goes next)
     job-calm (works state) steps did does now kept =
         next-goes (CalmJob env) (CalmEnd env) (works state) works plain_ending (work.after_at mix env state did.old)
         (calm-work env mix roomy did (words_at did.index) (unmade did.index) (few did.index)
         state does now kept.1)
-    job-calm counts steps did does now kept = tt
+    job-calm job steps did does now kept =
+        each_goes (CalmJob env) (CalmEnd env (call_of job)) (call_of job) (job_after mix env job did.old) (same_call mix env job did.old)
+        (λ other same. other-calm other (ap may_make same)) (λ ending. tt)
 
     first_rebind-calm : (port owner new : ℕ) (kind : Kind) → IfSome (first_rebind env port owner new kind) (CalmJob env)
     first_rebind-calm port owner new Single = tt

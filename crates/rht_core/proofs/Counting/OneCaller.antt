@@ -72,7 +72,7 @@ use Rattle.rht_move.proofs.WorkKnowledge.{last_aim}
 use Rattle.rht_core.proofs.Events.BooksInRuns.{BookSays, has_books}
 use Rattle.rht_core.proofs.Events.Invariants.{Inv, StepOf, step_of, kept}
 use Rattle.rht_core.proofs.Events.InvariantRuns.{opening_ghost, opening_inv, idle_at_opening}
-use Rattle.rht_core.proofs.Events.JobsOfCallers.{first_job-machine, left-job, doing_after-reply}
+use Rattle.rht_core.proofs.Events.JobsOfCallers.{first-so, each_goes, same_call, first_job-machine, left-job, doing_after-reply}
 use Rattle.rht_core.proofs.Events.RangesInRuns.{AllIn, opens-all, event-all}
 use Rattle.rht_core.proofs.Events.SoundRuns.{has_place, made_in}
 use Rattle.rht_core.proofs.Events.Worlds.{induct_by_last, beginning-some, planned-some, run_of-push, begin_none, begin_self, begin_other, step_none, step_self, step_other}
@@ -83,7 +83,7 @@ use Rattle.rht_core.proofs.Reasons.CausesInRuns.{JobSaw, EndsSeen, job-leads, fi
 use Rattle.rht_core.proofs.Reasons.CalmCalls.{below-max, below-size}
 use Rattle.rht_core.proofs.Reasons.CalmBinds.{CalmBind, IsCalmAt, calm-bind, bind-spares}
 use Rattle.rht_core.proofs.Counting.CountedPorts.{fewer-AreBound}
-use Rattle.rht_core.proofs.Counting.FewPorts.{before-push, GoesOn, next-goes, nothing-goes, first-so}
+use Rattle.rht_core.proofs.Counting.FewPorts.{before-push, GoesOn, next-goes, may_make, job-spares}
 use Rattle.rht_core.proofs.Counting.FullTables.{taken}
 use Rattle.rht_core.proofs.Counting.SizedTables.{IsSized, AreSized, SizedWork, sized-work, moved-sized, slot-sized}
 use Rattle.rht_core.proofs.Counting.SparedSlots.{IsBesideSlots, SparesSlots, find-spares, all-spares, release-spares, rebind-spares, by_load}
@@ -191,6 +191,12 @@ module _ (env : Env) where
     work-one (state, Go) sized = sized
     work-one (state, Done reply) sized = tt
 
+    -- of a call that makes no table there is nothing to say
+    other-one : (job : Job) → may_make (call_of job) ≡ false → OneJob job
+    other-one (binds port owner once state) other = absurd (cc)
+    other-one (works state) other = absurd (cc)
+    other-one _ other = tt
+
     first_rebind-one : (port owner new : ℕ) (kind : Kind) → IfSome (first_rebind env port owner new kind) OneJob
     first_rebind-one port owner new Single = tt
     first_rebind-one port owner new Listed = tt
@@ -262,28 +268,17 @@ module _ (env : Env) where
       one-leads : (job : Job) (steps : List Did) → (does : Performs mix env job did) → AreSized does.ghost
           → word_at env.geometry does.words PortCount ≤ 16 → JobSaw env words_at mix job steps → OneJob job
           → OneOn job (job_after mix env job did.old)
-      one-leads (finds port state) steps does sized low saw one =
-          let next = find_after_at mix env port state did.old in
-          next-goes OneJob OneEnd (finds port state) (finds port) plain_ending next (nothing-goes next)
       one-leads (binds port owner once state) steps does sized low saw one =
           next-goes OneJob OneEnd (binds port owner once state) (binds port owner once) plain_ending (bind_after_at mix env port once state did.old)
           (calm-bind env Any Any words_at (λ i. (few i).bound) mix port owner once state steps did does saw.0 one
           (bind-sees port owner once state (record { does = does; sized = sized; low = low })))
-      one-leads (lists port room state) steps does sized low saw one =
-          let after = all.room_after state room did.old in
-          let next = all.after_at mix env port state did.old in
-          next-goes OneJob OneEnd (lists port room state) (lists port after) (listing_ending after) next (nothing-goes next)
-      one-leads (releases port owner state) steps does sized low saw one =
-          let next = release.after_at mix env port owner state did.old in
-          next-goes OneJob OneEnd (releases port owner state) (releases port owner) node_ending next (nothing-goes next)
-      one-leads (rebinds port owner new state) steps does sized low saw one =
-          let next = rebind.after_at mix env port owner state did.old in
-          next-goes OneJob OneEnd (rebinds port owner new state) (rebinds port owner new) node_ending next (nothing-goes next)
       one-leads (works state) steps does sized low saw one =
           next-goes OneJob OneEnd (works state) works plain_ending (work.after_at mix env state did.old)
           (work-one (work.after_at mix env state did.old)
           (sized-work env keeps mix state did.old does.within one (work-sees state (record { does = does; sized = sized }))))
-      one-leads counts steps does sized low saw one = tt
+      one-leads job steps does sized low saw one =
+          each_goes OneJob (OneEnd (call_of job)) (call_of job) (job_after mix env job did.old) (same_call mix env job did.old)
+          (λ other same. other-one other (ap may_make same)) (λ ending. tt)
 
     -- ---- a table that is attached
 
@@ -291,23 +286,15 @@ module _ (env : Env) where
       attach-sized : (job : Job) → JobIn env mix c job → JobKnows env mix c job M G → OneJob job → (last slot shape : ℕ) → last < 8
           → job_plan env job ≡ Exchange (place_of env.geometry (Slot last FutureWord)) 0 (future_of slot)
           → M (Slot slot ShapeWord) ≡ shape → IsSized shape
-      attach-sized (finds port state) within knows one last slot shape l e is =
-          absurd (spares-none _ last 0 (future_of slot) (find-spares env state within) l e)
       attach-sized (binds port owner once state) within knows one last slot shape l e is =
           absurd (spares-none _ last 0 (future_of slot) (bind-spares env Any Any state within.at_in one) l e)
-      attach-sized (lists port room state) within knows one last slot shape l e is =
-          absurd (spares-none _ last 0 (future_of slot) (all-spares env state within.at_in) l e)
-      attach-sized (releases port owner state) within knows one last slot shape l e is =
-          absurd (spares-none _ last 0 (future_of slot) (release-spares env state within) l e)
-      attach-sized (rebinds port owner new state) within knows one last slot shape l e is =
-          absurd (spares-none _ last 0 (future_of slot) (rebind-spares env state within.at_in) l e)
       attach-sized (works state) within knows one last slot shape l e is =
           let at = work-attaches state within last slot l e in
           let known = subst (λ s. JobKnows env mix c (works s) M G) at.is knows in
           let sized : IsSized at.shape = subst (SizedWork env keeps) at.is one in
           subst IsSized (sym known.knowing.means.making.shape_is ∙ is) sized
-      attach-sized counts within knows one last slot shape l e is =
-          absurd (spares-none _ last 0 (future_of slot) (by_load _ _ refl) l e)
+      attach-sized job within knows one last slot shape l e is =
+          absurd (spares-none _ last 0 (future_of slot) (job-spares env mix c job within tt) l e)
 
 -- ---- runs
 
@@ -409,7 +396,7 @@ module _ (L : Type 0) (mix : ℕ → ℕ → ℕ → ℕ) (env : Env) (keeps : e
           let next = local_after mix local old in
           let r = job_after mix env of.job old in
           let table = (has.all.stays.locals_of c).doing in
-          let left : job_of next.0.doing ≡ (told r).0 = left-job L mix env local.doing of.job old table of.is in
+          let left : job_of next.0.doing ≡ (told r).0 = left-job mix env local.doing of.job old table of.is in
           let books = has_books env mix L events admitted in
           let asked = (subst (λ (job : Option Job). BookSays job (w.books c) (outs env mix books.ghost c)) of.is (books.says c)).0 in
           let after = after-one of.job (w.books c) r next.0 next.1

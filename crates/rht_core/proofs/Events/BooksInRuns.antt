@@ -126,7 +126,7 @@ module _ (env : Env) (mix : ℕ → ℕ → ℕ → ℕ) (L : Type 0) where
       let next = local_after mix local old in
       let r = job_after mix env of.job old in
       let table = (all.stays.locals_of c).doing in
-      let left : job_of next.0.doing ≡ (told r).0 = left-job L mix env local.doing of.job old table of.is in
+      let left : job_of next.0.doing ≡ (told r).0 = left-job mix env local.doing of.job old table of.is in
       let says_job = subst (λ (job : Option Job). BookSays job (w.books c) (outs env mix G c)) of.is says in
       subst (λ (job : Option Job). BookSays job (book_after (ending_of next.0 next.1) (w.books c))
       (outs env mix G' c)) (sym left)

@@ -251,7 +251,7 @@ module _ (env : Env) (mix : ℕ → ℕ → ℕ → ℕ) where
         let next = (local_after mix (local_of core c) old).0 in
         let M' = mem env mix (applied core.words op) in
         let G' = ghost_after env mix c step.move G in
-        let left : job_of next.doing ≡ (told (job_after mix env of.job old)).0 = left-job L mix env doing
+        let left : job_of next.doing ≡ (told (job_after mix env of.job old)).0 = left-job mix env doing
         of.job old (sound.stays.locals_of c).doing of.is in
         record {
           ghost = G';

@@ -2,7 +2,8 @@
 -- the job, and a call that begins begins as its first job. Each is shown by cases on machines; what is said of callers
 -- above is said of jobs.
 use Rattle.std.proofs.Common.{◌≡◌, ℕ, Bool, true, false, [], refl, sym, ap, ◌∙◌, subst}
-use Rattle.std.specs.Prelude.{Option, Some, None, option_map}
+use Rattle.std.specs.Prelude.{Option, Some, None, IfSome, option_map}
+use Rattle.rht_words.specs.Machines.{GoesOrEnds}
 use Rattle.rht_words.specs.declared.op.Op.{Op}
 use Rattle.rht_words.specs.declared.env.Env.{Env}
 use Rattle.rht_words.specs.Held as held
@@ -87,33 +88,39 @@ same_call mix env (works state) old =
     job_next-call works plain_ending Work (λ s. refl) (work.after_at mix env state old)
 same_call mix env counts old = refl
 
+-- what is so of each job of a call and of each way in which the call may end is so behind an operation
+pub each_goes : (Now : Job → Type 0) (Ended : Ending → Type 0) (call : Call) (next : Job × Next Ending) → call_of next.0 ≡ call
+    → ((job : Job) → call_of job ≡ call → Now job) → ((ending : Ending) → Ended ending) → GoesOrEnds Now Ended next
+each_goes Now Ended call (job, Go) same now ended = now job same
+each_goes Now Ended call (job, Done ending) same now ended = ended ending
+
 -- a job leaves either no ending, and goes on, or an ending, and no job
 pub left-told : (next : Job × Next Ending) → is_no_job (told next).0 ≡ has_ended (told next).1
 left-told (job, Go) = refl
 left-told (job, Done ending) = refl
 
+-- what is so of the first job of a call
+pub first-so : (Now : Job → Type 0) (first : Option Job) (job : Job) → IfSome first Now → first ≡ Some job → Now job
+first-so Now None job kept is = absurd (cc)
+first-so Now (Some first) job kept is = let same : first ≡ job = cc in subst Now same kept
+
 -- a call holds nothing at its beginning
-first_rebind-holds : (env : Env) (port owner new : ℕ) (kind : Kind) (job : Job)
-    → first_rebind env port owner new kind ≡ Some job → held_of job ≡ held.holds_nothing
-first_rebind-holds env port owner new Single job is =
-    let here : rebinds port owner new (rebind.first_state env port new) ≡ job = cc in ap held_of (sym here)
-first_rebind-holds env port owner new Listed job is = absurd (cc)
+abbrev HoldsNothing : Job → Type 0
+HoldsNothing job = held_of job ≡ held.holds_nothing
+
+first_rebind-holds : (env : Env) (port owner new : ℕ) (kind : Kind) → IfSome (first_rebind env port owner new kind) HoldsNothing
+first_rebind-holds env port owner new Single = refl
+first_rebind-holds env port owner new Listed = tt
+
+first_job-holds : (env : Env) (call : Call) → IfSome (first_job env call) HoldsNothing
+first_job-holds env (Rebind port owner new) = first_rebind-holds env port owner new env.config.kind
+first_job-holds env (Walk from limit) = tt
+first_job-holds env Tidy = tt
+first_job-holds env _ = refl
 
 pub first_holds : (env : Env) (call : Call) (job : Job) → first_job env call ≡ Some job
     → held_of job ≡ held.holds_nothing
-first_holds env (Find port) job is = let here : finds port CurrentTable ≡ job = cc in ap held_of (sym here)
-first_holds env (Bind port owner once) job is =
-    let here : binds port owner once (bind.first_state env port owner) ≡ job = cc in ap held_of (sym here)
-first_holds env (All port) job is =
-    let here : lists port (room_for_nodes env) (alls.Seeking (seek_new env.geometry)) ≡ job = cc in
-    ap held_of (sym here)
-first_holds env (Release port owner) job is =
-    let here : releases port owner (Seeking (seek_new env.geometry)) ≡ job = cc in ap held_of (sym here)
-first_holds env (Rebind port owner new) job is = first_rebind-holds env port owner new env.config.kind job is
-first_holds env Work job is = let here : works works_at.WorkLock ≡ job = cc in ap held_of (sym here)
-first_holds env Count job is = let here : counts ≡ job = cc in ap held_of (sym here)
-first_holds env (Walk from limit) job is = absurd (cc)
-first_holds env Tidy job is = absurd (cc)
+first_holds env call job is = first-so HoldsNothing (first_job env call) job (first_job-holds env call) is
 
 -- so nothing is known of its answer, now or early, and it has no node
 pub first_unknown : (env : Env) (call : Call) (job : Job) → first_job env call ≡ Some job → (held_of job).answer ≡ None
@@ -124,68 +131,6 @@ first_not_early env call job is = ap (λ (h : held.Held Answer). h.early) (first
 
 pub first_without : (env : Env) (call : Call) (job : Job) → first_job env call ≡ Some job → (held_of job).node ≡ None
 first_without env call job is = ap (λ (h : held.Held Answer). h.node) (first_holds env call job is)
-
--- the job that is left of what a caller does is the one that is left of its job
-module _ (M : Type 0) where
-  -- where the caller's machine in a state is the job in that state
-  next-left : {S A : Type 0} (doing : A → Doing M) (machine : S → A) (job : S → Job)
-      → ((state : S) → job_of (doing (machine state)) ≡ Some (job state)) → (r : S × Next Reply)
-      → job_of (doing_next doing (machine r.0, r.1)).0 ≡ (told (job_next job plain_ending r)).0
-  next-left doing machine job same (state, Go) = same state
-  next-left doing machine job same (state, Done reply) = refl
-
-  node-left : {S A : Type 0} (doing : A → Doing M) (machine : S → A) (job : S → Job)
-      → ((state : S) → job_of (doing (machine state)) ≡ Some (job state)) → (r : S × Next (Reply × Option ℕ))
-      → job_of (doing_next doing (machine r.0, without_node r.1)).0 ≡ (told (job_next job node_ending r)).0
-  node-left doing machine job same (state, Go) = same state
-  node-left doing machine job same (state, Done end) = refl
-
-  listed-left : (m : AllModel) (after : Kept ℕ) (r : AllAt × Next (Unit {0}))
-      → job_of (doing_next {M = M} Listing (moved m after r)).0
-      ≡ (told (job_next (lists m.port after) (listing_ending after) r)).0
-  listed-left m after (state, Go) = refl
-  listed-left m after (state, Done done) = refl
-
-  pub left-job : (mix : ℕ → ℕ → ℕ → ℕ) (env : Env) (doing : Doing M) (job : Job) (old : ℕ)
-      → IsDoingOf env doing → job_of doing ≡ Some job
-      → job_of (doing_after mix doing old).0 ≡ (told (job_after mix env job old)).0
-  left-job mix env Idle job old of is = absurd (cc)
-  left-job mix env (Finding m) job old of is =
-      let here : finds m.port m.at ≡ job = cc in
-      next-left Finding (λ state. record m { at = state }) (finds m.port) (λ state. refl)
-      (find.after_at mix m.env m.port m.at old)
-      ∙ ap (λ (e : Env). (told (job_after mix e (finds m.port m.at) old)).0) of
-      ∙ ap (λ (j : Job). (told (job_after mix env j old)).0) here
-  left-job mix env (Binding m) job old of is =
-      let here : binds m.port m.owner m.once m.at ≡ job = cc in
-      next-left Binding (λ state. record m { at = state }) (binds m.port m.owner m.once) (λ state. refl)
-      (bind.after_at mix m.env m.port m.once m.at old)
-      ∙ ap (λ (e : Env). (told (job_after mix e (binds m.port m.owner m.once m.at) old)).0) of
-      ∙ ap (λ (j : Job). (told (job_after mix env j old)).0) here
-  left-job mix env (Listing m) job old of is =
-      let here : lists m.port m.room m.at ≡ job = cc in
-      listed-left m (all.room_after m.at m.room old) (all.after_at mix m.env m.port m.at old)
-      ∙ ap (λ (e : Env). (told (job_after mix e (lists m.port m.room m.at) old)).0) of
-      ∙ ap (λ (j : Job). (told (job_after mix env j old)).0) here
-  left-job mix env (Releasing m) job old of is =
-      let here : releases m.port m.owner m.at ≡ job = cc in
-      node-left Releasing (λ state. record m { at = state }) (releases m.port m.owner) (λ state. refl)
-      (release.after_at mix m.env m.port m.owner m.at old)
-      ∙ ap (λ (e : Env). (told (job_after mix e (releases m.port m.owner m.at) old)).0) of
-      ∙ ap (λ (j : Job). (told (job_after mix env j old)).0) here
-  left-job mix env (Rebinding m) job old of is =
-      let here : rebinds m.port m.owner m.new_owner m.at ≡ job = cc in
-      node-left Rebinding (λ state. record m { at = state }) (rebinds m.port m.owner m.new_owner) (λ state. refl)
-      (rebind.after_at mix m.env m.port m.owner m.at old)
-      ∙ ap (λ (e : Env). (told (job_after mix e (rebinds m.port m.owner m.new_owner m.at) old)).0) of
-      ∙ ap (λ (j : Job). (told (job_after mix env j old)).0) here
-  left-job mix env (Working m) job old of is =
-      let here : works m.at ≡ job = cc in
-      next-left Working (λ state. record m { at = state }) works (λ state. refl) (work.after_at mix m.env m.at old)
-      ∙ ap (λ (e : Env). (told (job_after mix e (works m.at) old)).0) of
-      ∙ ap (λ (j : Job). (told (job_after mix env j old)).0) here
-  left-job mix env (Counting m) job old of is =
-      let here : counts ≡ job = cc in ap (λ (j : Job). (told (job_after mix env j old)).0) here
 
 module _ {M : Type 0} where
   -- who is in no call has no job
@@ -363,6 +308,13 @@ module _ {M : Type 0} where
       ended-reply : (local : Local M) (reply : Option Reply) → option_map (λ (e : Ending). e.answer.reply) (ending_of local reply) ≡ reply
       ended-reply local None = refl
       ended-reply local (Some reply) = refl
+
+  -- the job that is left of what it does is the one that is left of its job
+  pub left-job : (mix : ℕ → ℕ → ℕ → ℕ) (env : Env) (doing : Doing M) (job : Job) (old : ℕ)
+      → IsDoingOf env doing → job_of doing ≡ Some job
+      → job_of (doing_after mix doing old).0 ≡ (told (job_after mix env job old)).0
+  left-job mix env doing job old of is =
+      ap (λ l. l.0) (doing_after-job (fresh env) (record { owners = refl; pairs = refl }) mix env doing job old of is)
 
   -- what becomes of a caller is what becomes of its job
   pub local_after-job : (mix : ℕ → ℕ → ℕ → ℕ) (env : Env) (local : Local M) (job : Job) (old : ℕ)

@@ -2,7 +2,7 @@
 --
 -- Whatever others do, what its operations show is kept while it is made; and beside it what it knows in each state where the words of
 -- tables have always stayed, from one of its operations to the next, as that one left them. In a call that is alone they have.
-use Rattle.std.proofs.Common.{◌≡◌, ℕ, Bool, List, [], ◌∷◌, ◌++◌, append_assoc, refl, sym, ap, ◌∙◌, subst}
+use Rattle.std.proofs.Common.{◌≡◌, ℕ, Bool, true, false, List, [], ◌∷◌, ◌++◌, append_assoc, refl, sym, ap, ◌∙◌, subst}
 use Rattle.std.specs.Prelude.{Some}
 use Rattle.std.specs.List.{AllByRecursion, Contains}
 use Rattle.std.proofs.lemmas.List.Elements.{All-contains, All-from_recursion}
@@ -19,11 +19,6 @@ use Rattle.rht_model.specs.declared.history.Call.TheVariants.{Rebind, Work}
 use Rattle.rht_model.specs.declared.history.Reply.{Reply}
 use Rattle.rht_model.specs.declared.history.Reply.TheVariants.{Moved}
 use Rattle.rht_model.specs.Endings.{Ending, plain_ending, ending_in}
-use Rattle.rht_find.specs.Find.{after_at as find_after_at}
-use Rattle.rht_bind.specs.Bind as bind
-use Rattle.rht_release.specs.All as all
-use Rattle.rht_release.specs.Release as release
-use Rattle.rht_release.specs.Rebind as rebind
 use Rattle.rht_move.specs.Work as work
 use Rattle.rht_move.specs.declared.work.WorkAt.{WorkAt}
 use Rattle.rht_move.specs.declared.work.WorkAt.TheVariants as works_at
@@ -33,6 +28,7 @@ use Rattle.rht_core.specs.Runs.{IsAdmitted}
 use Rattle.rht_core.specs.Seen.{words_before}
 use Rattle.rht_core.specs.Traces.{Did, Past, traced_of, behind_call}
 use Rattle.rht_core.specs.Worked.{IsAloneDuring, words_behind}
+use Rattle.rht_core.proofs.Events.JobsOfCallers.{each_goes, same_call}
 use Rattle.rht_core.proofs.Tracing.LoneCalls.{found_first, left_so}
 use Rattle.rht_core.proofs.Tracing.TracedJobs.{Performs, LeadsOn, IsEndedSo, jobs_keep_in}
 use Rattle.rht_core.proofs.Reasons.LastTables.{AreSame}
@@ -96,9 +92,13 @@ module _ (M : Type 0) (mix : ℕ → ℕ → ℕ → ℕ) (env : Env) (events : 
   next-leads start job ending all (state, Done end) kept = kept
 
   -- of the other calls nothing is kept
-  nothing-kept : {S A : Type 0} (next : S × Next A) → GoesOrEnds (λ (state : S). Unit {0}) (λ (end : A). Unit {0}) next
-  nothing-kept (state, Go) = tt
-  nothing-kept (state, Done end) = tt
+  abbrev is_work : Call → Bool
+  is_work Work = true
+  is_work _ = false
+
+  other-kept : (job : Job) (all : List Did) → is_work (call_of job) ≡ false → Now job all
+  other-kept (works state) all other = absurd (cc)
+  other-kept _ all other = tt
 
   work-kept : (all : List Did) (next : WorkAt × Next Reply) → SawNextWork env words_at all next
       → ((now : List ℕ) → IsStill all now → CalmNext env words_at mix all now next)
@@ -109,22 +109,6 @@ module _ (M : Type 0) (mix : ℕ → ℕ → ℕ → ℕ) (env : Env) (events : 
   goes : (job : Job) (steps : List Did) (did : Did) (performs : Performs mix env job did)
       → performs.words ≡ words_before M mix env events did.index → Now job steps
       → LeadsOn M mix env Now Ended job (steps ++ did ∷ []) (job_after mix env job did.old)
-  goes (finds port state) steps did performs here kept =
-      let next = find_after_at mix env port state did.old in
-      next-leads (finds port state) (finds port) plain_ending (steps ++ did ∷ []) next (nothing-kept next)
-  goes (binds port owner once state) steps did performs here kept =
-      let next = bind.after_at mix env port once state did.old in
-      next-leads (binds port owner once state) (binds port owner once) plain_ending (steps ++ did ∷ []) next (nothing-kept next)
-  goes (lists port room state) steps did performs here kept =
-      let after = all.room_after state room did.old in
-      let next = all.after_at mix env port state did.old in
-      next-leads (lists port room state) (lists port after) (listing_ending after) (steps ++ did ∷ []) next (nothing-kept next)
-  goes (releases port owner state) steps did performs here kept =
-      let next = release.after_at mix env port owner state did.old in
-      next-leads (releases port owner state) (releases port owner) node_ending (steps ++ did ∷ []) next (nothing-kept next)
-  goes (rebinds port owner new state) steps did performs here kept =
-      let next = rebind.after_at mix env port owner state did.old in
-      next-leads (rebinds port owner new state) (rebinds port owner new) node_ending (steps ++ did ∷ []) next (nothing-kept next)
   goes (works state) steps did performs here kept =
       let next = work.after_at mix env state did.old in
       next-leads (works state) works plain_ending (steps ++ did ∷ []) next
@@ -132,7 +116,10 @@ module _ (M : Type 0) (mix : ℕ → ℕ → ℕ → ℕ) (env : Env) (events : 
       (λ now still. calm-work env words_at mix state steps did performs now
       (subst (λ words. AreSame env (applied words did.op) now) (sym here) (still steps [] did refl)) kept.0
       (subst (CalmAt env words_at mix state steps) (sym here) (kept.1 (words_at did.index) (still-before steps did now still)))))
-  goes counts steps did performs here kept = tt
+  goes job steps did performs here kept =
+      let all = steps ++ did ∷ [] in
+      each_goes (λ after. Now after all) (λ ending. Ended (call_of job) ending all) (call_of job) (job_after mix env job did.old)
+      (same_call mix env job did.old) (λ other same. other-kept other all (ap is_work same)) (λ ending. tt)
 
   -- ---- a call that is alone
 

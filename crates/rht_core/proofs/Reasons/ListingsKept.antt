@@ -4,8 +4,8 @@
 -- the room: those on the way to the port are on words of slots and of pages, and on the keys and the chain links of nodes;
 -- then come the links of the list, and the unlocking, which is a store. And where it loads an owner the room isn't full: it
 -- has no more owners than the port's list has nodes before this one (`kept`, in `AllSteps` of `rht_release`).
-use Rattle.std.proofs.Common.{◌≡◌, ℕ, ◌+◌, ◌-◌, ◌<◌, true, false, cond, List, [], ◌∷◌, ◌++◌, refl, sym, ap, ◌∙◌, subst, arith}
-use Rattle.std.specs.Prelude.{Some}
+use Rattle.std.proofs.Common.{◌≡◌, ℕ, ◌+◌, ◌-◌, ◌<◌, Bool, true, false, cond, List, [], ◌∷◌, ◌++◌, refl, sym, ap, ◌∙◌, subst, arith}
+use Rattle.std.specs.Prelude.{Some, IfSome}
 use Rattle.std.proofs.lemmas.List.{append-nil, append_assoc}
 use Rattle.rht_words.specs.declared.op.Op.{Op}
 use Rattle.rht_words.specs.declared.op.Op.TheVariants.{Load}
@@ -57,6 +57,7 @@ use Rattle.rht_core.specs.Traces.{Did}
 use Rattle.rht_core.specs.ListedOwners.{is_owner_word, loads_owner, owner_loaded, owners_loaded, ListedOwners}
 use Rattle.rht_ghost.proofs.Theory.Steps.{mem}
 use Rattle.rht_release.proofs.AllSteps.{AllKnows, kept}
+use Rattle.rht_core.proofs.Events.JobsOfCallers.{first-so, each_goes, same_call}
 use Rattle.rht_core.proofs.Tracing.TracedJobs.{Performs, LeadsOn, jobs_keep}
 
 -- ---- one operation more
@@ -156,13 +157,8 @@ module _ (mix : ℕ → ℕ → ℕ → ℕ) (env : Env) where
 
   -- the room of a listing has the owners that it has loaded
   abbrev Keeps : Job → List Did → Type 0
-  Keeps (finds port state) steps = Unit {0}
-  Keeps (binds port owner once state) steps = Unit {0}
   Keeps (lists port room state) steps = room.items ≡ owners_loaded g steps
-  Keeps (releases port owner state) steps = Unit {0}
-  Keeps (rebinds port owner new state) steps = Unit {0}
-  Keeps (works state) steps = Unit {0}
-  Keeps counts steps = Unit {0}
+  Keeps _ steps = Unit {0}
 
   -- and so has its answer
   abbrev Ended : Call → Ending → List Did → Type 0
@@ -210,30 +206,17 @@ module _ (mix : ℕ → ℕ → ℕ → ℕ) (env : Env) where
   -- ---- jobs
 
   -- at its beginning a listing has loaded none, and its room is empty
-  begins_rebind : (port owner new : ℕ) (kind : Kind) (job : Job) → first_rebind env port owner new kind ≡ Some job
-      → Keeps job []
-  begins_rebind port owner new Single job is =
-      let here : rebinds port owner new (rebind_at.first_state env port new) ≡ job = cc in
-      subst (λ j. Keeps j []) here tt
-  begins_rebind port owner new Listed job is = absurd (cc)
+  first_rebind-keeps : (port owner new : ℕ) (kind : Kind) → IfSome (first_rebind env port owner new kind) (λ job. Keeps job [])
+  first_rebind-keeps port owner new Single = tt
+  first_rebind-keeps port owner new Listed = tt
+
+  first-keeps : (call : Call) → IfSome (first_job env call) (λ job. Keeps job [])
+  first-keeps (All port) = refl
+  first-keeps (Rebind port owner new) = first_rebind-keeps port owner new env.config.kind
+  first-keeps _ = tt
 
   begins : (call : Call) (job : Job) → first_job env call ≡ Some job → Keeps job []
-  begins (Find port) job is =
-      let here : finds port finding.CurrentTable ≡ job = cc in subst (λ j. Keeps j []) here tt
-  begins (Bind port owner once) job is =
-      let here : binds port owner once (bind_at.first_state env port owner) ≡ job = cc in
-      subst (λ j. Keeps j []) here tt
-  begins (All port) job is =
-      let here : lists port (room_for_nodes env) (listing.Seeking (seek_new env.geometry)) ≡ job = cc in
-      subst (λ j. Keeps j []) here refl
-  begins (Release port owner) job is =
-      let here : releases port owner (releasing.Seeking (seek_new env.geometry)) ≡ job = cc in
-      subst (λ j. Keeps j []) here tt
-  begins (Rebind port owner new) job is = begins_rebind port owner new env.config.kind job is
-  begins (Walk from limit) job is = absurd (cc)
-  begins Work job is = let here : works works_at.WorkLock ≡ job = cc in subst (λ j. Keeps j []) here tt
-  begins Tidy job is = absurd (cc)
-  begins Count job is = let here : counts ≡ job = cc in subst (λ j. Keeps j []) here tt
+  begins call job is = first-so (λ j. Keeps j []) (first_job env call) job (first-keeps call) is
 
   module _ (M : Type 0) where
     abbrev Leads : Job → List Did → Job × Next Ending → Type 0
@@ -247,37 +230,28 @@ module _ (mix : ℕ → ℕ → ℕ → ℕ) (env : Env) where
     listing_leads port room after state all (next, Done done) loaded = λ p is. loaded
 
     -- and any other call
-    other_leads : {S A : Type 0} (job : Job) (next : S → Job) (ending : A → Ending) (all : List Did)
-        → ((p : ℕ) → call_of job ≡ All p → ⊥) → ((state : S) → Keeps (next state) all) → (r : S × Next A)
-        → Leads job all (job_next next ending r)
-    other_leads job next ending all other keeps (state, Go) = keeps state
-    other_leads job next ending all other keeps (state, Done end) = λ p is. absurd (other p is)
+    abbrev is_listing : Call → Bool
+    is_listing (All port) = true
+    is_listing _ = false
+
+    other-keeps : (job : Job) (all : List Did) → is_listing (call_of job) ≡ false → Keeps job all
+    other-keeps (lists port room state) all other = absurd (cc)
+    other-keeps _ all other = tt
+
+    other-ends : (call : Call) (ending : Ending) (all : List Did) → is_listing call ≡ false → Ended call ending all
+    other-ends call ending all other = λ p is. absurd (let both : false ≡ true = sym other ∙ ap is_listing is in cc)
 
     -- each operation of a job
     leads : (job : Job) (steps : List Did) (did : Did) → Performs mix env job did → Keeps job steps
         → Leads job (steps ++ did ∷ []) (job_after mix env job did.old)
-    leads (finds port state) steps did performs loaded =
-        other_leads (finds port state) (finds port) plain_ending (steps ++ did ∷ [])
-        (λ p is. let same : Find port ≡ All p = is in cc) (λ s. tt) (find_at.after_at mix env port state did.old)
-    leads (binds port owner once state) steps did performs loaded =
-        other_leads (binds port owner once state) (binds port owner once) plain_ending (steps ++ did ∷ [])
-        (λ p is. let same : Bind port owner once ≡ All p = is in cc) (λ s. tt)
-        (bind_at.after_at mix env port once state did.old)
     leads (lists port room state) steps did performs loaded =
         listing_leads port room (room_after state room did.old) state (steps ++ did ∷ [])
         (after_at mix env port state did.old) (listing_keeps port room steps did loaded state performs)
-    leads (releases port owner state) steps did performs loaded =
-        other_leads (releases port owner state) (releases port owner) node_ending (steps ++ did ∷ [])
-        (λ p is. let same : Release port owner ≡ All p = is in cc) (λ s. tt)
-        (release_at.after_at mix env port owner state did.old)
-    leads (rebinds port owner new state) steps did performs loaded =
-        other_leads (rebinds port owner new state) (rebinds port owner new) node_ending (steps ++ did ∷ [])
-        (λ p is. let same : Rebind port owner new ≡ All p = is in cc) (λ s. tt)
-        (rebind_at.after_at mix env port owner state did.old)
-    leads (works state) steps did performs loaded =
-        other_leads (works state) works plain_ending (steps ++ did ∷ [])
-        (λ p is. let same : Work ≡ All p = is in cc) (λ s. tt) (work.after_at mix env state did.old)
-    leads counts steps did performs loaded = λ p is. let same : Count ≡ All p = is in absurd (cc)
+    leads job steps did performs loaded =
+        let all = steps ++ did ∷ [] in
+        each_goes (λ after. Keeps after all) (λ ending. Ended (call_of job) ending all) (call_of job) (job_after mix env job did.old)
+        (same_call mix env job did.old) (λ other same. other-keeps other all (ap is_listing same))
+        (λ ending. other-ends (call_of job) ending all refl)
 
 pub listed_owners : (M : Type 0) (mix : ℕ → ℕ → ℕ → ℕ) → ListedOwners M mix
 listed_owners M mix env events c admitted =

@@ -131,13 +131,8 @@ refusable _ may = absurd (cc)
 
 -- what it has stored for a table that it makes
 abbrev pub JobStored : Env → Job → List Did → Type 0
-JobStored env (finds port state) steps = Unit {0}
 JobStored env (binds port owner once state) steps = HasStored env state steps
-JobStored env (lists port room state) steps = Unit {0}
-JobStored env (releases port owner state) steps = Unit {0}
-JobStored env (rebinds port owner new state) steps = Unit {0}
-JobStored env (works state) steps = Unit {0}
-JobStored env counts steps = Unit {0}
+JobStored env _ steps = Unit {0}
 
 -- ---- its pages
 

@@ -52,7 +52,7 @@ use Rattle.rht_ghost.proofs.Theory.Answering.{entry_of, same_reply, known_so, un
 use Rattle.rht_ghost.proofs.Theory.Steps.{Holding, mem, ghost_after, Does, SaysChange}
 use Rattle.rht_core.proofs.Meaning.BoundPorts.{stands_for_bound}
 use Rattle.rht_core.proofs.Events.Worlds.{run_of-next, step_words}
-use Rattle.rht_core.proofs.Events.JobsOfCallers.{same_call}
+use Rattle.rht_core.proofs.Events.JobsOfCallers.{same_call, each_goes}
 use Rattle.rht_core.proofs.Tracing.TracedJobs.{Performs, LeadsOn, IsEndedSo, jobs_keep_in}
 use Rattle.rht_core.proofs.Tracing.TracesAtEvents.{at_events}
 use Rattle.rht_core.proofs.Tracing.RepliesInRuns.{Holds, Answered, runs-right}
@@ -138,6 +138,19 @@ module _ (M : Type 0) (mix : ℕ → ℕ → ℕ → ℕ) (env : Env) (events : 
   Ended Work ending steps = Undone Work ending steps
   Ended Tidy ending steps = Undone Tidy ending steps
 
+  -- the calls that a machine may refuse
+  abbrev may_be_refused : Call → Bool
+  may_be_refused (Bind port owner once) = true
+  may_be_refused (Rebind port owner new) = true
+  may_be_refused Work = true
+  may_be_refused _ = false
+
+  always_past : (job : Job) → may_be_refused (call_of job) ≡ false → is_past job ≡ true
+  always_past (binds port owner once state) may = absurd (cc)
+  always_past (rebinds port owner new state) may = absurd (cc)
+  always_past (works state) may = absurd (cc)
+  always_past _ may = refl
+
   ended-so : (call : Call) (ending : Ending) (steps : List Did) → Undone call ending steps → Ended call ending steps
   ended-so (Find port) ending steps undone = tt
   ended-so (All port) ending steps undone = tt
@@ -154,54 +167,26 @@ module _ (M : Type 0) (mix : ℕ → ℕ → ℕ → ℕ) (env : Env) (events : 
   both_say call reply not_so so = let both = sym not_so ∙ so in cc
 
   module _ (all : List Did) where
-    finds-lead : (port : ℕ) (state : FindAt) (r : FindAt × Next Reply)
-        → Leads (finds port state) all (job_next (finds port) plain_ending r)
-    finds-lead port state (next, Go) = inl refl
-    finds-lead port state (next, Done reply) = tt
-
-    binds-lead : (port owner : ℕ) (once : Bool) (state : BindAt) (r : BindAt × Next Reply)
-        → StaysPast bind_is_past (λ reply. reply) (Bind port owner once) r
-        → Leads (binds port owner once state) all (job_next (binds port owner once) plain_ending r)
-    binds-lead port owner once state (next, Go) past = inl past
-    binds-lead port owner once state (next, Done reply) past =
-        λ nothing. absurd (both_say (Bind port owner once) reply past nothing)
-
-    lists-lead : (port : ℕ) (room after : Kept ℕ) (state : AllAt) (r : AllAt × Next (Unit {0}))
-        → Leads (lists port room state) all (job_next (lists port after) (listing_ending after) r)
-    lists-lead port room after state (next, Go) = inl refl
-    lists-lead port room after state (next, Done done) = tt
-
-    releases-lead : (port owner : ℕ) (state : ReleaseAt) (r : ReleaseAt × Next (Reply × Option ℕ))
-        → Leads (releases port owner state) all (job_next (releases port owner) node_ending r)
-    releases-lead port owner state (next, Go) = inl refl
-    releases-lead port owner state (next, Done end) = tt
-
-    rebinds-lead : (port owner new : ℕ) (state : RebindAt) (r : RebindAt × Next (Reply × Option ℕ))
-        → StaysPast rebind_is_past (λ end. end.0) (Rebind port owner new) r
-        → Leads (rebinds port owner new state) all (job_next (rebinds port owner new) node_ending r)
-    rebinds-lead port owner new state (next, Go) past = inl past
-    rebinds-lead port owner new state (next, Done end) past =
-        λ nothing. absurd (both_say (Rebind port owner new) end.0 past nothing)
-
-    works-lead : (state : WorkAt) (r : WorkAt × Next Reply) → StaysPast work_is_past (λ reply. reply) Work r
-        → Leads (works state) all (job_next works plain_ending r)
-    works-lead state (next, Go) past = inl past
-    works-lead state (next, Done reply) past = λ nothing. absurd (both_say Work reply past nothing)
+    -- a call that isn't refused any more goes on so, or ends with a reply that says that it did something
+    said-leads : {S A : Type 0} (start : Job) (job : S → Job) (ending : A → Ending) (r : S × Next A)
+        → StaysPast (λ state. is_past (job state)) (λ end. (ending end).answer.reply) (call_of start) r
+        → Leads start all (job_next job ending r)
+    said-leads start job ending (state, Go) past = inl past
+    said-leads start job ending (state, Done end) past =
+        ended-so (call_of start) (ending end) all (λ nothing. absurd (both_say (call_of start) (ending end).answer.reply past nothing))
 
     past-leads : (job : Job) (old : ℕ) → is_past job ≡ true → Leads job all (job_after mix env job old)
-    past-leads (finds port state) old past = finds-lead port state (find_at.after_at mix env port state old)
     past-leads (binds port owner once state) old past =
-        binds-lead port owner once state (bind_at.after_at mix env port once state old)
+        said-leads (binds port owner once state) (binds port owner once) plain_ending (bind_at.after_at mix env port once state old)
         (bind-past port owner once mix env state old past)
-    past-leads (lists port room state) old past =
-        lists-lead port room (all_at.room_after state room old) state (all_at.after_at mix env port state old)
-    past-leads (releases port owner state) old past =
-        releases-lead port owner state (release_at.after_at mix env port owner state old)
     past-leads (rebinds port owner new state) old past =
-        rebinds-lead port owner new state (rebind_at.after_at mix env port owner state old)
-        (rebind-past port owner new mix env state old past)
-    past-leads (works state) old past = works-lead state (work_at.after_at mix env state old) (work-past mix env state old past)
-    past-leads counts old past = tt
+        said-leads (rebinds port owner new state) (rebinds port owner new) node_ending
+        (rebind_at.after_at mix env port owner state old) (rebind-past port owner new mix env state old past)
+    past-leads (works state) old past =
+        said-leads (works state) works plain_ending (work_at.after_at mix env state old) (work-past mix env state old past)
+    past-leads job old past =
+        each_goes (λ after. Going after all) (λ ending. Ended (call_of job) ending all) (call_of job) (job_after mix env job old)
+        (same_call mix env job old) (λ other same. inl (always_past other (ap may_be_refused same))) (λ ending. tt)
 
     -- ---- behind an answer that says that bindings were changed
 
