@@ -1,5 +1,5 @@
--- In every run there are places that are right, and each node that is a port's first one no more was so, by
--- what the words stood for, right before the event from which on it isn't.
+-- In every run there are places that are right. And each node that is no port's first one any more was one,
+-- by what the words stood for, right before the event from which on it isn't.
 use Rattle.std.proofs.Common.{◌≡◌, ℕ, suc, ◌+◌, ◌<◌, List, [], ◌∷◌, ◌++◌, length, Option, Some, None, refl, sym, ◌∙◌, ap, subst, arith}
 use Rattle.std.proofs.lemmas.List.{length_push}
 use Rattle.rht_words.specs.declared.op.Op.{Op}

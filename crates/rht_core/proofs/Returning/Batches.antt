@@ -1,5 +1,5 @@
--- The nodes of a caller that wait to be given back, and what is kept of the section words: it outlives what
--- anybody does, and once each kept word was even or has changed no open section may meet one of the nodes.
+-- The nodes of a caller that wait to be given back, and what is kept of the section words, whatever anybody
+-- does. Once each kept word was even or has changed no open section may meet one of the nodes.
 use Rattle.std.proofs.Common.{◌≡◌, ◌≢◌, ℕ, ◌%◌, List, true, refl, ap, inl, inr}
 use Rattle.std.specs.Prelude.{◌&&◌}
 use Rattle.std.proofs.lemmas.Bool.{both_ways, and_right, or_cases}

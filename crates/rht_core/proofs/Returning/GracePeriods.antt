@@ -1,6 +1,6 @@
 -- A grace period of things that no section meets any more that is opened from now on: each caller's section
--- word is loaded once, and the period is over once each of these was even, or a later load found another
--- word. When the loads come isn't asked, and that words wrap does no harm.
+-- word is loaded once. It is over once each was even, or was found changed later; when the loads come isn't
+-- asked, and that words wrap does no harm.
 use Rattle.std.proofs.Common.{◌≡◌, ◌≢◌, ◌⊎◌, ℕ, ◌%◌, Bool, true, false, refl, ◌∙◌, inl, inr, arith}
 use Rattle.std.proofs.lemmas.Bool.{both_ways, false_from_ne_true}
 

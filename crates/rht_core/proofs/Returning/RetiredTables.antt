@@ -1,5 +1,5 @@
--- Tables that were left behind: which sections may come to one, that it stays over once it is over, and that
--- its buckets are blank once nobody has one of them locked, so that their pages can be given back.
+-- Tables that were left behind: which sections may come to one, and that none does once it is over. A bucket
+-- of such a table is blank once nobody has locked it, so that its page can be given back.
 use Rattle.std.proofs.Common.{◌≡◌, ℕ, ◌%◌, ◌<◌, List, [], ◌∷◌, Option, Some, None, Bool, true, false, refl, sym, ◌∙◌, ap, subst, inl, arith}
 use Rattle.std.specs.Prelude.{nat_le}
 use Rattle.std.specs.Option.{is_some}

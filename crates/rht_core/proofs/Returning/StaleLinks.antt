@@ -1,5 +1,5 @@
--- Which operations leave what a section may meet: all that callers make, but those on the section's own word,
--- and the one that gives back a node which the section may not meet.
+-- Which operations leave what a section may meet. All that callers make do, but those on the section's own
+-- word, and so does the one that gives back a node which the section may not meet.
 use Rattle.std.proofs.Common.{◌≡◌, ℕ, suc, ◌<◌, false, ◌∙◌, ap, inl, arith}
 use Rattle.std.proofs.lemmas.Bool.{both_ways}
 use Rattle.rht_words.specs.declared.env.Env.{Env}
