@@ -384,10 +384,13 @@ function print_all(    one) {
   for (one = 1; one <= statements; one++)
     if (side_of[one] == "now" && !(one in partner)) added += told("NEW", one)
   for (one = 1; one <= statements; one++)
-    if (side_of[one] == "before" && !(one in partner)) {
+    if (side_of[one] == "before" && !(one in partner) && (name_of[one], text_of[one]) in stands_in) {
+      print "JOINED " name_of[one] ": " file_of[one] " -> " stands_in[name_of[one], text_of[one]]
+      joined++
+    }
+  for (one = 1; one <= statements; one++)
+    if (side_of[one] == "before" && !(one in partner) && !((name_of[one], text_of[one]) in stands_in)) {
       gone += told("GONE", one)
-      if ((name_of[one], text_of[one]) in stands_in)
-        print "  its words stand in " stands_in[name_of[one], text_of[one]]
       print "  was: " text_of[one]
     }
   for (one = 1; one <= statements; one++)
@@ -396,8 +399,8 @@ function print_all(    one) {
       print "  was: " text_of[partner[one]]
       print "  now: " text_of[one]
     }
-  printf "statements: %d stand, %d moved, %d opened, %d new, %d gone, %d changed\n", stand,
-    moved, opened, added, gone, changed
+  printf "statements: %d stand, %d moved, %d opened, %d joined, %d new, %d gone, %d changed\n", stand,
+    moved, opened, joined, added, gone, changed
 }
 
 # Prints the line of one statement, with the file in which it stood before where that is another.
