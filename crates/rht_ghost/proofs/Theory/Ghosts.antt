@@ -277,6 +277,7 @@ seat-used (First i) j is = refl
 seat-used (Leaving i) j is = refl
 seat-used _ j is = absurd (cc)
 
+-- and in a list
 pub seat-listed : (o : Owner) (j : ℕ) → seat_of o ≡ Some j → IsListedNode o
 seat-listed (First j) k is = refl
 seat-listed (Leaving j) k is = refl
@@ -295,12 +296,14 @@ unused-unlisted Free is = refl
 unused-unlisted (Held c) is = refl
 unused-unlisted _ is = absurd (cc)
 
+-- and one that is in no list is in no chain
 pub unlisted-not_first : (o : Owner) → is_listed o ≡ false → is_first o ≡ false
 unlisted-not_first (First j) is = absurd (cc)
 unlisted-not_first (Leaving j) is = absurd (cc)
 unlisted-not_first (Behind k) is = absurd (cc)
 unlisted-not_first _ is = refl
 
+-- who has a seat is in a chain
 pub seat-first : (o : Owner) (j : ℕ) → seat_of o ≡ Some j → is_first o ≡ true
 seat-first (First i) j is = refl
 seat-first (Leaving i) j is = refl
