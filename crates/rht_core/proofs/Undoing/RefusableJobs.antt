@@ -41,10 +41,10 @@ use Rattle.rht_move.specs.WorkHeld.{held_of_work}
 use Rattle.rht_move.specs.LastTable.{LastTableModel}
 use Rattle.rht_move.specs.declared.last_table.Last.{Last}
 use Rattle.rht_move.specs.declared.work.Wanted.{Wanted}
-use Rattle.rht_move.specs.declared.work.Outcome.TheVariants.{Idle, NoTable, Moved}
+use Rattle.rht_move.specs.declared.work.Outcome.TheVariants.{NoTable}
 use Rattle.rht_move.specs.declared.work.WorkAt.{WorkAt}
 use Rattle.rht_move.specs.declared.work.WorkAt.TheVariants as working
-use Rattle.rht_core.specs.Jobs.{Job, finds, binds, lists, releases, rebinds, works, counts, call_of, job_plan, job_after, held_of, held_next}
+use Rattle.rht_core.specs.Jobs.{Job, binds, rebinds, works, call_of, job_plan, job_after, held_of, held_next}
 use Rattle.rht_core.specs.Traces.{Did}
 use Rattle.rht_core.specs.Refused.{StoresLast, MayAttach}
 use Rattle.rht_ghost.proofs.Theory.Ghosts.{Ghost, PageHeld}
