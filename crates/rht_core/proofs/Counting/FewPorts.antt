@@ -21,10 +21,6 @@ use Rattle.rht_words.proofs.EachElement.{AllByRecursion-cut}
 use Rattle.rht_words.proofs.OpeningLaws.{stand_in_place}
 use Rattle.rht_words.proofs.WordChanges.{applied-other}
 use Rattle.rht_bind.specs.Bind.{after_at as bind_after_at}
-use Rattle.rht_find.specs.Find.{after_at as find_after_at}
-use Rattle.rht_release.specs.All as all
-use Rattle.rht_release.specs.Release as release
-use Rattle.rht_release.specs.Rebind as rebind
 use Rattle.rht_move.specs.LastTable.{last_table_plan_at}
 use Rattle.rht_move.specs.declared.last_table.LastTableAt.{LastTableAt}
 use Rattle.rht_move.specs.declared.last_table.LastTableAt.TheVariants as last_tables
@@ -34,11 +30,15 @@ use Rattle.rht_move.specs.declared.work.WorkAt.TheVariants as work_at
 use Rattle.rht_model.specs.Endings.{Ending, ending_in, plain_ending}
 use Rattle.rht_model.specs.declared.finished.Finished.{Finished}
 use Rattle.rht_model.specs.declared.history.Call.{Call}
+<<<<<<< HEAD
 use Rattle.rht_model.specs.declared.history.Call.TheVariants.{Rebind}
+=======
+use Rattle.rht_model.specs.declared.history.Call.TheVariants.{Bind, Rebind, Work}
+>>>>>>> fe94d2c
 use Rattle.rht_core.specs.declared.event.Event.{Event}
 use Rattle.rht_core.specs.declared.event.Event.TheVariants.{Enroll, Begin, Step}
 use Rattle.rht_core.specs.FewPorts.{IsNoTableMade, IsCallTaken, StaysWithFirst, FewPorts}
-use Rattle.rht_core.specs.Jobs.{Job, finds, binds, releases, rebinds, lists, works, counts, first_job, first_rebind, call_of, job_of, job_plan, job_next, job_after, listing_ending, node_ending}
+use Rattle.rht_core.specs.Jobs.{Job, finds, binds, releases, rebinds, lists, works, counts, first_job, first_rebind, call_of, job_of, job_plan, job_next, job_after}
 use Rattle.rht_core.specs.Runs.{World, enrolling, local_of, planned_in, view_of, world_step, run_of, IsAdmitted, IsAdmittedEvent}
 use Rattle.rht_core.specs.Seen.{words_before}
 use Rattle.rht_core.specs.Traces.{Did, Past, Traced, traced_of}

@@ -30,7 +30,6 @@ use Rattle.rht_model.specs.declared.finished.Finished.{Finished}
 use Rattle.rht_model.specs.declared.history.Call.{Call}
 use Rattle.rht_model.specs.declared.history.Call.TheVariants.{Rebind}
 use Rattle.rht_model.specs.declared.history.Reply.{Reply}
-use Rattle.rht_find.specs.Find.{after_at as find_after_at}
 use Rattle.rht_bind.specs.Bind.{after_at as bind_after_at}
 use Rattle.rht_nest.specs.Tables.{is_nested}
 use Rattle.rht_nest.specs.Locate.{LocateModel}
@@ -39,9 +38,6 @@ use Rattle.rht_bind.specs.declared.bind.Attempt.{Attempt}
 use Rattle.rht_bind.specs.declared.bind.Claimed.{Claimed}
 use Rattle.rht_bind.specs.declared.bind.BindAt.{BindAt}
 use Rattle.rht_bind.specs.declared.bind.BindAt.TheVariants as at
-use Rattle.rht_release.specs.All as all
-use Rattle.rht_release.specs.Release as release
-use Rattle.rht_release.specs.Rebind as rebind
 use Rattle.rht_move.specs.LastTable.{LastTableModel, last_table_plan_at}
 use Rattle.rht_move.specs.declared.last_table.LastTableAt.{LastTableAt}
 use Rattle.rht_move.specs.declared.last_table.LastTableAt.TheVariants as last_tables
@@ -54,7 +50,7 @@ use Rattle.rht_core.specs.declared.event.Event.TheVariants.{Enroll, Begin, Step}
 use Rattle.rht_callers.specs.declared.local.Local.{Local}
 use Rattle.rht_callers.specs.declared.local.Doing.{Doing}
 use Rattle.rht_core.specs.FewPorts.{IsBindTaken, OneCaller}
-use Rattle.rht_core.specs.Jobs.{Job, finds, binds, releases, rebinds, lists, works, counts, first_job, first_rebind, call_of, job_of, job_plan, job_after, told, held_of, held_next, listing_ending, node_ending}
+use Rattle.rht_core.specs.Jobs.{Job, binds, works, first_job, first_rebind, call_of, job_of, job_plan, job_after, told, held_of, held_next}
 use Rattle.rht_core.specs.Laws.{view_stepped}
 use Rattle.rht_callers.specs.Locals.{local_after, ending_of}
 use Rattle.rht_core.specs.Runs.{World, View, opening, local_of, planned_in, beginning_in, view_of, world_step, run_of, book_after, finished_with, IsAdmitted, IsAdmittedEvent}
@@ -86,7 +82,7 @@ use Rattle.rht_core.proofs.Counting.CountedPorts.{fewer-AreBound}
 use Rattle.rht_core.proofs.Counting.FewPorts.{before-push, GoesOn, next-goes, may_make, job-spares}
 use Rattle.rht_core.proofs.Counting.FullTables.{taken}
 use Rattle.rht_core.proofs.Counting.SizedTables.{IsSized, AreSized, SizedWork, sized-work, moved-sized, slot-sized}
-use Rattle.rht_core.proofs.Counting.SparedSlots.{IsBesideSlots, SparesSlots, find-spares, all-spares, release-spares, rebind-spares, by_load}
+use Rattle.rht_core.proofs.Counting.SparedSlots.{IsBesideSlots, SparesSlots}
 use Rattle.rht_core.proofs.Histories.BoundAmong.{count-few}
 
 -- what is said of every number

@@ -10,39 +10,34 @@ use Rattle.rht_words.specs.Held as held
 use Rattle.rht_words.specs.declared.machine.Next.{Next}
 use Rattle.rht_words.specs.declared.machine.Next.TheVariants.{Go, Done}
 use Rattle.rht_model.specs.declared.history.Call.{Call}
-use Rattle.rht_model.specs.declared.history.Call.TheVariants.{Bind, Find, Release, Rebind, All, Walk, Work, Tidy, Count}
+use Rattle.rht_model.specs.declared.history.Call.TheVariants.{Bind, Find, Release, Rebind, All, Walk, Work, Tidy}
 use Rattle.rht_model.specs.declared.history.Reply.{Reply}
 use Rattle.rht_model.specs.Answers.{Answer}
 use Rattle.rht_model.specs.Endings.{Ending, plain_ending}
 use Rattle.rht_find.specs.Find as find
 use Rattle.rht_find.specs.Find.{FindModel}
-use Rattle.rht_find.specs.declared.find.FindAt.TheVariants.{CurrentTable}
 use Rattle.rht_bind.specs.Bind as bind
 use Rattle.rht_bind.specs.Bind.{BindModel}
 use Rattle.rht_model.specs.declared.history.Reply.TheVariants.{Counted}
 use Rattle.rht_model.specs.Rooms.{Kept}
-use Rattle.rht_release.specs.Seek.{seek_new}
 use Rattle.rht_release.specs.All as all
 use Rattle.rht_release.specs.All.{AllModel, moved}
 use Rattle.rht_release.specs.AllHeld.{listing_of}
 use Rattle.rht_release.specs.declared.all.AllAt.{AllAt}
-use Rattle.rht_release.specs.declared.all.AllAt.TheVariants as alls
 use Rattle.rht_callers.specs.PortCounts.{count_plan_in}
 use Rattle.rht_callers.specs.declared.local.Local.{Local}
 use Rattle.rht_callers.specs.declared.local.Doing.{Doing}
 use Rattle.rht_callers.specs.declared.local.Doing.TheVariants.{Idle, Finding, Binding, Releasing, Rebinding, Listing, Working, Counting}
-use Rattle.rht_callers.specs.Locals.{fresh, room_for_nodes, does_nothing, machine_of, doing_plan, doing_after, owners_after, room_given, local_after, ending_of, doing_next, without_node, IsDoingOf, IsLocalOf}
+use Rattle.rht_callers.specs.Locals.{fresh, does_nothing, machine_of, doing_plan, doing_after, owners_after, room_given, local_after, ending_of, doing_next, without_node, IsDoingOf, IsLocalOf}
 use Rattle.rht_core.specs.Jobs.{listing_ending, node_ending, Job, finds, binds, releases, rebinds, lists, works, counts, call_of, first_job, first_rebind, job_plan, job_after, job_next, job_of, told, held_of}
 use Rattle.rht_words.specs.declared.config.Kind.{Kind}
 use Rattle.rht_words.specs.declared.config.Kind.TheVariants.{Single, Listed}
 use Rattle.rht_release.specs.Release as release
 use Rattle.rht_release.specs.Release.{ReleaseModel}
-use Rattle.rht_release.specs.declared.release.ReleaseAt.TheVariants.{Seeking}
 use Rattle.rht_release.specs.Rebind as rebind
 use Rattle.rht_release.specs.Rebind.{RebindModel}
 use Rattle.rht_move.specs.Work as work
 use Rattle.rht_move.specs.Work.{WorkModel}
-use Rattle.rht_move.specs.declared.work.WorkAt.TheVariants as works_at
 use Rattle.rht_callers.proofs.CallBeginnings.{begins_so}
 
 -- there is no job

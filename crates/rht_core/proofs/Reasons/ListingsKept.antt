@@ -18,8 +18,8 @@ use Rattle.rht_words.specs.Ports.{owner_of}
 use Rattle.rht_words.specs.Places.{Address, CurrentTable, Slot, ShapeWord, SeedWord, FutureWord, Node, ChainLink, KeyWord, OwnerWord, ListLink, PageWord, IsAddress, IsBucketPlace, pages_at, place_of, word_at}
 use Rattle.rht_words.proofs.PlacesApart.{address_at-place_of}
 use Rattle.rht_model.specs.declared.history.Call.{Call}
-use Rattle.rht_model.specs.declared.history.Call.TheVariants.{Bind, Find, All, Release, Rebind, Walk, Work, Tidy, Count}
-use Rattle.rht_model.specs.Endings.{Ending, plain_ending}
+use Rattle.rht_model.specs.declared.history.Call.TheVariants.{All, Rebind}
+use Rattle.rht_model.specs.Endings.{Ending}
 use Rattle.rht_model.specs.Rooms.{Kept, with_kept}
 use Rattle.rht_nest.specs.Locate.{locate_plan_at, IsLocateAtIn}
 use Rattle.rht_nest.specs.declared.locate.LocateAt.{LocateAt}
@@ -33,26 +33,17 @@ use Rattle.rht_chain.specs.declared.locked_walk.LockedWalkAt.TheVariants as walk
 use Rattle.rht_chain.specs.Probe.{probe_plan_at, IsProbeAtIn}
 use Rattle.rht_chain.specs.declared.probe.ProbeAt.{ProbeAt}
 use Rattle.rht_chain.specs.declared.probe.ProbeAt.TheVariants as probing
-use Rattle.rht_find.specs.declared.find.FindAt.TheVariants as finding
-use Rattle.rht_release.specs.Seek.{SeekModel, seek_new, seek_plan, seek_plan_at, IsSeekAtIn, IsSeekIn}
+use Rattle.rht_release.specs.Seek.{SeekModel, seek_plan, seek_plan_at, IsSeekAtIn, IsSeekIn}
 use Rattle.rht_release.specs.declared.seek.SeekAt.{SeekAt}
 use Rattle.rht_release.specs.declared.seek.SeekAt.TheVariants as seeking
 use Rattle.rht_release.specs.All.{after_at, room_after}
 use Rattle.rht_release.specs.declared.all.AllAt.{AllAt}
 use Rattle.rht_release.specs.declared.all.AllAt.TheVariants as listing
 use Rattle.rht_release.specs.declared.found_port.FoundPort.{FoundPort}
-use Rattle.rht_release.specs.declared.release.ReleaseAt.TheVariants as releasing
-use Rattle.rht_find.specs.Find as find_at
-use Rattle.rht_bind.specs.Bind as bind_at
-use Rattle.rht_release.specs.Release as release_at
-use Rattle.rht_release.specs.Rebind as rebind_at
-use Rattle.rht_move.specs.Work as work
-use Rattle.rht_move.specs.declared.work.WorkAt.TheVariants as works_at
 use Rattle.rht_words.specs.declared.config.Kind.{Kind}
 use Rattle.rht_words.specs.declared.config.Kind.TheVariants.{Single, Listed}
 use Rattle.rht_nest.specs.Place.{PlaceModel, place_plan, IsPlaceIn}
-use Rattle.rht_callers.specs.Locals.{room_for_nodes}
-use Rattle.rht_core.specs.Jobs.{Job, finds, binds, lists, releases, rebinds, works, counts, call_of, first_rebind, first_job, job_next, job_after, listing_ending, node_ending}
+use Rattle.rht_core.specs.Jobs.{Job, lists, call_of, first_rebind, first_job, job_next, job_after, listing_ending}
 use Rattle.rht_core.specs.Traces.{Did}
 use Rattle.rht_core.specs.ListedOwners.{is_owner_word, loads_owner, owner_loaded, owners_loaded, ListedOwners}
 use Rattle.rht_ghost.proofs.Theory.Steps.{mem}

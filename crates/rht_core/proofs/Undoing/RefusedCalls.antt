@@ -23,23 +23,13 @@ use Rattle.rht_model.specs.Answers.{Answer, is_change}
 use Rattle.rht_model.specs.Endings.{Ending, plain_ending, ending_in}
 use Rattle.rht_model.specs.Multimap.{Multimap, Agree}
 use Rattle.rht_model.proofs.UnchangedBindings.{left_by-unchanged}
-use Rattle.rht_model.specs.Rooms.{Kept}
-use Rattle.rht_find.specs.Find as find_at
-use Rattle.rht_find.specs.declared.find.FindAt.{FindAt}
 use Rattle.rht_bind.specs.Bind as bind_at
-use Rattle.rht_bind.specs.declared.bind.BindAt.{BindAt}
-use Rattle.rht_release.specs.All as all_at
-use Rattle.rht_release.specs.declared.all.AllAt.{AllAt}
-use Rattle.rht_release.specs.Release as release_at
-use Rattle.rht_release.specs.declared.release.ReleaseAt.{ReleaseAt}
 use Rattle.rht_release.specs.Rebind as rebind_at
-use Rattle.rht_release.specs.declared.rebind.RebindAt.{RebindAt}
 use Rattle.rht_move.specs.Work as work_at
-use Rattle.rht_move.specs.declared.work.WorkAt.{WorkAt}
 use Rattle.rht_move.specs.declared.work.WorkAt.TheVariants as works_at
 use Rattle.rht_core.specs.declared.event.Event.{Event}
 use Rattle.rht_core.specs.declared.event.Event.TheVariants.{Step as Steps}
-use Rattle.rht_core.specs.Jobs.{Job, finds, binds, lists, releases, rebinds, works, counts, call_of, first_rebind, first_job, job_plan, job_after, job_next, listing_ending, node_ending, held_of, held_next}
+use Rattle.rht_core.specs.Jobs.{Job, binds, rebinds, works, call_of, first_rebind, first_job, job_plan, job_after, job_next, node_ending, held_of, held_next}
 use Rattle.rht_core.specs.Runs.{World, run_of}
 use Rattle.rht_core.specs.Traces.{Did, Past, traced_of}
 use Rattle.rht_core.specs.Seen.{words_before}
@@ -60,7 +50,7 @@ use Rattle.rht_core.proofs.Undoing.TurnedBits.{held_bits}
 use Rattle.rht_core.proofs.Undoing.UndoneSoFar.{Undoes, GoneWhereEntered, Undoes-push}
 use Rattle.rht_core.proofs.Undoing.GoingBack.{GoesBack}
 use Rattle.rht_core.proofs.Undoing.UndoneMoves.{kept_by}
-use Rattle.rht_core.proofs.Undoing.PastRefusal.{bind_is_past, rebind_is_past, work_is_past, is_past, StaysPast, bind-past, rebind-past, work-past}
+use Rattle.rht_core.proofs.Undoing.PastRefusal.{is_past, StaysPast, bind-past, rebind-past, work-past}
 use Rattle.rht_core.proofs.Undoing.StoredShapes.{bind-stored}
 use Rattle.rht_core.proofs.Undoing.RefusableJobs.{refusable, mine, JobStored, attaches, enters, gone}
 
