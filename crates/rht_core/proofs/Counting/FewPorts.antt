@@ -30,11 +30,7 @@ use Rattle.rht_move.specs.declared.work.WorkAt.TheVariants as work_at
 use Rattle.rht_model.specs.Endings.{Ending, ending_in, plain_ending}
 use Rattle.rht_model.specs.declared.finished.Finished.{Finished}
 use Rattle.rht_model.specs.declared.history.Call.{Call}
-<<<<<<< HEAD
-use Rattle.rht_model.specs.declared.history.Call.TheVariants.{Rebind}
-=======
-use Rattle.rht_model.specs.declared.history.Call.TheVariants.{Bind, Rebind, Work}
->>>>>>> fe94d2c
+use Rattle.rht_model.specs.declared.history.Call.TheVariants.{Bind, Find, All, Release, Rebind, Walk, Work, Tidy, Count}
 use Rattle.rht_core.specs.declared.event.Event.{Event}
 use Rattle.rht_core.specs.declared.event.Event.TheVariants.{Enroll, Begin, Step}
 use Rattle.rht_core.specs.FewPorts.{IsNoTableMade, IsCallTaken, StaysWithFirst, FewPorts}
@@ -134,8 +130,14 @@ module _ (Now : Job → Type 0) (Ended : Call → Ending → Type 0) where
 -- the calls that may make a table
 abbrev pub may_make : Call → Bool
 may_make (Bind port owner once) = true
+may_make (Find port) = false
+may_make (All port) = false
+may_make (Release port owner) = false
+may_make (Rebind port owner new) = false
+may_make (Walk from limit) = false
 may_make Work = true
-may_make _ = false
+may_make Tidy = false
+may_make Count = false
 
 -- ---- the words before each event
 

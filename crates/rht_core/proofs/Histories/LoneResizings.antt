@@ -15,7 +15,7 @@ use Rattle.rht_words.specs.Machines.{GoesOrEnds}
 use Rattle.rht_words.specs.Operations.{applied}
 use Rattle.rht_words.specs.Places.{CurrentTable, Slot, ShapeWord, FutureWord}
 use Rattle.rht_model.specs.declared.history.Call.{Call}
-use Rattle.rht_model.specs.declared.history.Call.TheVariants.{Rebind, Work}
+use Rattle.rht_model.specs.declared.history.Call.TheVariants.{Bind, Find, All, Release, Rebind, Walk, Work, Tidy, Count}
 use Rattle.rht_model.specs.declared.history.Reply.{Reply}
 use Rattle.rht_model.specs.declared.history.Reply.TheVariants.{Moved}
 use Rattle.rht_model.specs.Endings.{Ending, plain_ending, ending_in}
@@ -93,8 +93,15 @@ module _ (M : Type 0) (mix : ℕ → ℕ → ℕ → ℕ) (env : Env) (events : 
 
   -- of the other calls nothing is kept
   abbrev is_work : Call → Bool
+  is_work (Bind port owner once) = false
+  is_work (Find port) = false
+  is_work (All port) = false
+  is_work (Release port owner) = false
+  is_work (Rebind port owner new) = false
+  is_work (Walk from limit) = false
   is_work Work = true
-  is_work _ = false
+  is_work Tidy = false
+  is_work Count = false
 
   other-kept : (job : Job) (all : List Did) → is_work (call_of job) ≡ false → Now job all
   other-kept (works state) all other = absurd (cc)

@@ -89,8 +89,13 @@ pub record IsRebindingIn (env : Env) (new : ℕ) (state : RebindAt) : Type 0 whe
 
 -- a rebind is built for tables of one owner for each port alone, each other job for those of lists as well
 abbrev pub IsJobBuilt : Env → Job → Type 0
+IsJobBuilt env (finds port state) = Unit {0}
+IsJobBuilt env (binds port owner once state) = Unit {0}
+IsJobBuilt env (lists port room state) = Unit {0}
+IsJobBuilt env (releases port owner state) = Unit {0}
 IsJobBuilt env (rebinds port owner new state) = env.config.kind ≡ Single
-IsJobBuilt env _ = Unit {0}
+IsJobBuilt env (works state) = Unit {0}
+IsJobBuilt env counts = Unit {0}
 
 module _ (env : Env) (mix : ℕ → ℕ → ℕ → ℕ) (c : ℕ) where
   -- all that the job names is the table's
@@ -109,7 +114,8 @@ module _ (env : Env) (mix : ℕ → ℕ → ℕ → ℕ) (c : ℕ) where
   fits_job (lists port room state) = fits_all port room state
   fits_job (releases port owner state) = fits_release env mix c port owner state
   fits_job (rebinds port owner new state) = fits_rebind env mix c port owner new state
-  fits_job _ = Unit {0}
+  fits_job (works state) = Unit {0}
+  fits_job counts = Unit {0}
 
   pub record JobKnows (job : Job) (M : Memory) (G : Ghost) : Type 0 where
     pub built : IsJobBuilt env job

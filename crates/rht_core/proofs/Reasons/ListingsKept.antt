@@ -18,7 +18,7 @@ use Rattle.rht_words.specs.Ports.{owner_of}
 use Rattle.rht_words.specs.Places.{Address, CurrentTable, Slot, ShapeWord, SeedWord, FutureWord, Node, ChainLink, KeyWord, OwnerWord, ListLink, PageWord, IsAddress, IsBucketPlace, pages_at, place_of, word_at}
 use Rattle.rht_words.proofs.PlacesApart.{address_at-place_of}
 use Rattle.rht_model.specs.declared.history.Call.{Call}
-use Rattle.rht_model.specs.declared.history.Call.TheVariants.{All, Rebind}
+use Rattle.rht_model.specs.declared.history.Call.TheVariants.{Bind, Find, All, Release, Rebind, Walk, Work, Tidy, Count}
 use Rattle.rht_model.specs.Endings.{Ending}
 use Rattle.rht_model.specs.Rooms.{Kept, with_kept}
 use Rattle.rht_nest.specs.Locate.{locate_plan_at, IsLocateAtIn}
@@ -43,7 +43,7 @@ use Rattle.rht_release.specs.declared.found_port.FoundPort.{FoundPort}
 use Rattle.rht_words.specs.declared.config.Kind.{Kind}
 use Rattle.rht_words.specs.declared.config.Kind.TheVariants.{Single, Listed}
 use Rattle.rht_nest.specs.Place.{PlaceModel, place_plan, IsPlaceIn}
-use Rattle.rht_core.specs.Jobs.{Job, lists, call_of, first_rebind, first_job, job_next, job_after, listing_ending}
+use Rattle.rht_core.specs.Jobs.{Job, finds, binds, lists, releases, rebinds, works, counts, call_of, first_rebind, first_job, job_next, job_after, listing_ending}
 use Rattle.rht_core.specs.Traces.{Did}
 use Rattle.rht_core.specs.ListedOwners.{is_owner_word, loads_owner, owner_loaded, owners_loaded, ListedOwners}
 use Rattle.rht_ghost.proofs.Theory.Steps.{mem}
@@ -148,8 +148,13 @@ module _ (mix : ℕ → ℕ → ℕ → ℕ) (env : Env) where
 
   -- the room of a listing has the owners that it has loaded
   abbrev Keeps : Job → List Did → Type 0
+  Keeps (finds port state) steps = Unit {0}
+  Keeps (binds port owner once state) steps = Unit {0}
   Keeps (lists port room state) steps = room.items ≡ owners_loaded g steps
-  Keeps _ steps = Unit {0}
+  Keeps (releases port owner state) steps = Unit {0}
+  Keeps (rebinds port owner new state) steps = Unit {0}
+  Keeps (works state) steps = Unit {0}
+  Keeps counts steps = Unit {0}
 
   -- and so has its answer
   abbrev Ended : Call → Ending → List Did → Type 0
@@ -222,8 +227,15 @@ module _ (mix : ℕ → ℕ → ℕ → ℕ) (env : Env) where
 
     -- and any other call
     abbrev is_listing : Call → Bool
+    is_listing (Bind port owner once) = false
+    is_listing (Find port) = false
     is_listing (All port) = true
-    is_listing _ = false
+    is_listing (Release port owner) = false
+    is_listing (Rebind port owner new) = false
+    is_listing (Walk from limit) = false
+    is_listing Work = false
+    is_listing Tidy = false
+    is_listing Count = false
 
     other-keeps : (job : Job) (all : List Did) → is_listing (call_of job) ≡ false → Keeps job all
     other-keeps (lists port room state) all other = absurd (cc)

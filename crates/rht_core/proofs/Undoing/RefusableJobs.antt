@@ -44,7 +44,7 @@ use Rattle.rht_move.specs.declared.work.Wanted.{Wanted}
 use Rattle.rht_move.specs.declared.work.Outcome.TheVariants.{NoTable}
 use Rattle.rht_move.specs.declared.work.WorkAt.{WorkAt}
 use Rattle.rht_move.specs.declared.work.WorkAt.TheVariants as working
-use Rattle.rht_core.specs.Jobs.{Job, binds, rebinds, works, call_of, job_plan, job_after, held_of, held_next}
+use Rattle.rht_core.specs.Jobs.{Job, finds, binds, lists, releases, rebinds, works, counts, call_of, job_plan, job_after, held_of, held_next}
 use Rattle.rht_core.specs.Traces.{Did}
 use Rattle.rht_core.specs.Refused.{StoresLast, MayAttach}
 use Rattle.rht_ghost.proofs.Theory.Ghosts.{Ghost, PageHeld}
@@ -131,8 +131,13 @@ refusable _ may = absurd (cc)
 
 -- what it has stored for a table that it makes
 abbrev pub JobStored : Env → Job → List Did → Type 0
+JobStored env (finds port state) steps = Unit {0}
 JobStored env (binds port owner once state) steps = HasStored env state steps
-JobStored env _ steps = Unit {0}
+JobStored env (lists port room state) steps = Unit {0}
+JobStored env (releases port owner state) steps = Unit {0}
+JobStored env (rebinds port owner new state) steps = Unit {0}
+JobStored env (works state) steps = Unit {0}
+JobStored env counts steps = Unit {0}
 
 -- ---- its pages
 

@@ -131,9 +131,14 @@ module _ (M : Type 0) (mix : ℕ → ℕ → ℕ → ℕ) (env : Env) (events : 
   -- the calls that a machine may refuse
   abbrev may_be_refused : Call → Bool
   may_be_refused (Bind port owner once) = true
+  may_be_refused (Find port) = false
+  may_be_refused (All port) = false
+  may_be_refused (Release port owner) = false
   may_be_refused (Rebind port owner new) = true
+  may_be_refused (Walk from limit) = false
   may_be_refused Work = true
-  may_be_refused _ = false
+  may_be_refused Tidy = false
+  may_be_refused Count = false
 
   always_past : (job : Job) → may_be_refused (call_of job) ≡ false → is_past job ≡ true
   always_past (binds port owner once state) may = absurd (cc)
