@@ -48,6 +48,7 @@ use Rattle.rht_ghost.proofs.Theory.Steps.{answered-map, Rebinds, Holding, HoldsN
 use Rattle.rht_ghost.proofs.Moves.Relinking.{relink_address, relink_value}
 use Rattle.rht_ghost.proofs.Moves.Removing as removing
 use Rattle.rht_ghost.proofs.Moves.Removing.{IsFoundIn, CanReplace}
+use Rattle.rht_ghost.proofs.Pieces.Locates.{IsThereFor}
 use Rattle.rht_ghost.proofs.Pieces.NewNodes as nodes
 use Rattle.rht_ghost.proofs.Pieces.Locks.{unlock_step, unlock_taken}
 use Rattle.rht_ghost.proofs.Pieces.Lists.{list_among, found_list}
@@ -89,21 +90,6 @@ module _ (port owner new : ℕ) where
       known_replacing n found (has_relinked found.before relink.at)
   known_of_rebind (at.Unlocking n table unlock) = knows_of n (Locks unlock.place unlock.word)
   known_of_rebind (at.Giving give) = knows_of give.node Unlocked
-
--- the bucket that it may find missing is there
-abbrev pub rebind_there : RebindAt → Memory → Type 0
-rebind_there (at.Filling fresh) M = ⊥
-rebind_there (at.Seeking n seek) M = seeks.seek_there seek.at M
-rebind_there (at.Owner n found) M = ⊥
-rebind_there (at.ChainLink n found) M = ⊥
-rebind_there (at.Link n found link) M = ⊥
-rebind_there (at.Replacing n found relink) M = ⊥
-rebind_there (at.Unlocking n table unlock) M = ⊥
-rebind_there (at.Giving give) M = ⊥
-
-abbrev pub rebind_there_next : RebindAt × Next (Reply × Option ℕ) → Memory → Type 0
-rebind_there_next (at, Go) M = rebind_there at M
-rebind_there_next (at, Done end) M = ⊥
 
 module _ (env : Env) (mix : ℕ → ℕ → ℕ → ℕ) (c : ℕ) (port owner new : ℕ) where
   abbrev call : Call
@@ -151,10 +137,12 @@ module _ (env : Env) (mix : ℕ → ℕ → ℕ → ℕ) (c : ℕ) (port owner n
     now = owners env mix M G
 
     -- what an operation leads to from a state
-    abbrev RebindMoved : RebindAt → RebindAt × Next (Reply × Option ℕ) → Type 0
+    abbrev pub RebindMoved : RebindAt → RebindAt × Next (Reply × Option ℕ) → Type 0
     RebindMoved at r =
-        StepWhere env mix (rebind_there at M) (rebind_there_next r (mem env mix (applied words (plan_at env at)))) c call
-        words G (plan_at env at) (held_of_rebind at) (rebind_holds r) (RebindNext r)
+        StepWhere env mix (IsThereFor (held_of_rebind at).early (known_of_rebind port owner new at).table M)
+        (IsThereFor (rebind_holds r).early (known_of_rebind port owner new r.0).table
+        (mem env mix (applied words (plan_at env at)))) c call words G (plan_at env at) (held_of_rebind at)
+        (rebind_holds r) (RebindNext r)
 
     abbrev pub RebindStep : RebindAt → Type 0
     RebindStep at = RebindMoved at (after_at mix env port owner at (old_of words (plan_at env at)))
@@ -261,8 +249,10 @@ module _ (env : Env) (mix : ℕ → ℕ → ℕ → ℕ) (c : ℕ) (port owner n
 
     -- where the port was found its owner is loaded, and where it wasn't the node is given back
     seek_next : (n : ℕ) (seek : SeekModel) (r : SeekModel × Next (Option FoundPort))
-        → StepWhere env mix (seeks.seek_there seek.at M)
-        (seeks.seek_there_next (r.0.at, r.1) (mem env mix (applied words (seek_plan seek)))) c call words G
+        → StepWhere env mix
+        (seeks.seek_there (Some n) (plain Absent) port (Some (own port owner new n)) seek.at M)
+        (seeks.seek_there_next (Some n) (plain Absent) port (Some (own port owner new n)) (r.0.at, r.1)
+        (mem env mix (applied words (seek_plan seek)))) c call words G
         (seek_plan seek) (held_of_rebind (at.Seeking n seek))
         (seeks.seek_holds (Some n) (plain Absent) (r.0.at, r.1))
         (seeks.SeekNext env mix c call port (Some n) (Some (own port owner new n)) (plain Absent)
@@ -352,8 +342,11 @@ module _ (env : Env) (mix : ℕ → ℕ → ℕ → ℕ) (c : ℕ) (port owner n
     -- an operation that leads to a replacement which stands so
     abbrev ReplacingNext : ℕ → FoundPort → ℕ → Bool → Type 0
     ReplacingNext n found link stored =
-        Step env mix c call words G (plan_at env (at.Link n found link)) (holds_found n found)
-        (holds_replacing n found stored)
+        let op = plan_at env (at.Link n found link) in
+        let table = (known_replacing port owner new n found stored).table in
+        StepWhere env mix ⊥
+        (IsThereFor (holds_replacing n found stored).early table (mem env mix (applied words op)))
+        c call words G op (holds_found n found) (holds_replacing n found stored)
         (ReplacingKnows n found (relink_of env.geometry found (link_of n)) stored)
 
     linked : (n : ℕ) (found : FoundPort) (link : ℕ) → RebindKnows (at.Link n found link) M G
@@ -367,12 +360,12 @@ module _ (env : Env) (mix : ℕ → ℕ → ℕ → ℕ) (c : ℕ) (port owner n
         answered-map env mix None (inl refl) (still_has refl)
         (λ M' G' w k. let node = k.means.node in let is = k.means.bucket in (
           plainly env mix k.only (record {
-                has = node.has;
-                chain = tt;
-                key = node.key;
-                owner = node.owner;
-                list = node.list;
-              }) k.means.table (record {
+            has = node.has;
+            chain = tt;
+            key = node.key;
+            owner = node.owner;
+            list = node.list;
+          }) k.means.table (record {
             found = is.found;
             behind = is.behind;
             bound_to = is.bound_to;

@@ -46,6 +46,7 @@ use Rattle.rht_ghost.proofs.Theory.Steps.{answered-map, Lowers, LinksBehind, Hol
 use Rattle.rht_ghost.proofs.Moves.Quiet.{count_down}
 use Rattle.rht_ghost.proofs.Moves.TakenNodes.{chain_behind}
 use Rattle.rht_ghost.proofs.Moves.Relinking.{last_none, last_of-more}
+use Rattle.rht_ghost.proofs.Pieces.Locates.{IsThereFor}
 use Rattle.rht_ghost.proofs.Pieces.Locks.{unlock_step, unlock_taken}
 use Rattle.rht_ghost.proofs.Pieces.Lists.{segment_link, list_link-names, list_among, list_rest, found_list}
 use Rattle.rht_ghost.proofs.Pieces.Rebounds.{found_kept}
@@ -103,24 +104,6 @@ module _ (port owner : ℕ) where
       known_relinking found (LeadsTo None relink.link owner) (has_relinked found.before relink.at)
   known_of_release (at.Lowering node shape) = here (TakenOut node)
   known_of_release (at.Unlocking table unlock removed) = here (known_unlocking unlock removed)
-
--- the bucket that it may find missing is there
-abbrev pub release_there : ReleaseAt → Memory → Type 0
-release_there (at.Seeking seek) M = seeks.seek_there seek.at M
-release_there (at.Owner found node before) M = ⊥
-release_there (at.ListLink found node) M = ⊥
-release_there (at.LinkBehind found node before) M = ⊥
-release_there (at.CuttingOut found node before link) M = ⊥
-release_there (at.ChainLink found second) M = ⊥
-release_there (at.SecondLink found second link) M = ⊥
-release_there (at.Promoting found relink) M = ⊥
-release_there (at.Unlinking found relink) M = ⊥
-release_there (at.Lowering node shape) M = ⊥
-release_there (at.Unlocking table unlock removed) M = ⊥
-
-abbrev pub release_there_next : ReleaseAt × Next (Reply × Option ℕ) → Memory → Type 0
-release_there_next (at, Go) M = release_there at M
-release_there_next (at, Done end) M = ⊥
 
 module _ (env : Env) (mix : ℕ → ℕ → ℕ → ℕ) (c : ℕ) (port owner : ℕ) where
   abbrev call : Call
@@ -211,10 +194,12 @@ module _ (env : Env) (mix : ℕ → ℕ → ℕ → ℕ) (c : ℕ) (port owner :
     Steps op h h' Knows = Step env mix c call words G op h h' Knows
 
     -- what an operation leads to from a state
-    abbrev ReleaseMoved : ReleaseAt → ReleaseAt × Next (Reply × Option ℕ) → Type 0
+    abbrev pub ReleaseMoved : ReleaseAt → ReleaseAt × Next (Reply × Option ℕ) → Type 0
     ReleaseMoved at r =
-        StepWhere env mix (release_there at M) (release_there_next r (mem env mix (applied words (plan_at env at)))) c call
-        words G (plan_at env at) (held_of_release at) (release_holds r) (ReleaseNext r)
+        StepWhere env mix (IsThereFor (held_of_release at).early (known_of_release port owner at).table M)
+        (IsThereFor (release_holds r).early (known_of_release port owner r.0).table
+        (mem env mix (applied words (plan_at env at)))) c call words G (plan_at env at) (held_of_release at)
+        (release_holds r) (ReleaseNext r)
 
     abbrev pub ReleaseStep : ReleaseAt → Type 0
     ReleaseStep at = ReleaseMoved at (after_at mix env port owner at (old_of words (plan_at env at)))
@@ -272,8 +257,9 @@ module _ (env : Env) (mix : ℕ → ℕ → ℕ → ℕ) (c : ℕ) (port owner :
     SeekNext r = seeks.SeekNext env mix c call port None None (plain Absent) (r.0.at, r.1)
 
     sought_step : (seek : SeekModel) (r : SeekModel × Next (Option FoundPort))
-        → StepWhere env mix (seeks.seek_there seek.at M)
-        (seeks.seek_there_next (r.0.at, r.1) (mem env mix (applied words (seek_plan seek)))) c call words G
+        → StepWhere env mix (seeks.seek_there None (plain Absent) port None seek.at M)
+        (seeks.seek_there_next None (plain Absent) port None (r.0.at, r.1)
+        (mem env mix (applied words (seek_plan seek)))) c call words G
         (seek_plan seek) (seeks.held_of_seek None (plain Absent) seek.at)
         (seeks.seek_holds None (plain Absent) (r.0.at, r.1)) (SeekNext r)
         → ReleaseMoved (at.Seeking seek) (sought r.0 r.1)
@@ -644,13 +630,13 @@ module _ (env : Env) (mix : ℕ → ℕ → ℕ → ℕ) (c : ℕ) (port owner :
         (count_down env mix c M M' G whole low k.only.raising write)
         (record { subtracts = refl; high = refl; holds = refl })
         (plainly env mix (record {
-            nodes = k.only.nodes;
-            locks = k.only.locks;
-            raising = put-same G.raised c false;
-            slots = k.only.slots;
-            pages_in = k.only.pages_in;
-            works = k.only.works;
-          }) tt tt (record { among = k.means.bucket.among; taken = k.means.bucket.taken })))
+          nodes = k.only.nodes;
+          locks = k.only.locks;
+          raising = put-same G.raised c false;
+          slots = k.only.slots;
+          pages_in = k.only.pages_in;
+          works = k.only.works;
+        }) tt tt (record { among = k.means.bucket.among; taken = k.means.bucket.taken })))
 
     -- the bucket is unlocked: no node has the owner, or a later one was taken out
     unlocking_step : (table : ℕ) (unlock : Unlock) (removed : Option ℕ)
