@@ -10,5 +10,15 @@ pub mod HeldTables
 pub mod WorkStays
 -- on which words a worker works
 pub mod WorkPlanned
--- the work, operation by operation
+-- what a resizing knows in each state
+pub mod WorkKnowledge
+-- what leads it from one state to the next
+pub mod WorkLeads
+-- the last table, and one that is attached behind it
+pub mod WorkTables
+-- the next bucket of the current table
+pub mod WorkBuckets
+-- the last entry of a bucket, which is moved
+pub mod WorkEntries
+-- a resizing, operation by operation
 pub mod WorkMachine

@@ -18,8 +18,16 @@ pub mod AllPlanned
 pub mod Seeks
 -- the stores of a release that take a node out
 pub mod ReleaseStores
+-- what a release knows in each state
+pub mod ReleaseKnowledge
+-- its way to its port, and along the list of owners
+pub mod ReleaseLists
 -- a release, operation by operation
 pub mod ReleaseSteps
+-- what a rebind knows in each state
+pub mod RebindKnowledge
+-- the store of a rebind, which puts its node in the place of the old one
+pub mod RebindStores
 -- a rebind, operation by operation
 pub mod RebindSteps
 -- a listing of owners, operation by operation

@@ -33,7 +33,7 @@ use Rattle.rht_ghost.proofs.Theory.Ghosts.{Ghost, taken_is}
 use Rattle.rht_ghost.proofs.Theory.Knowns.{KnownList, LeadsTo}
 use Rattle.rht_ghost.proofs.Theory.Knowledge.{HasTakenOut, BucketMeans}
 use Rattle.rht_ghost.proofs.Theory.Steps.{mem}
-use Rattle.rht_release.proofs.ReleaseSteps.{known_relinking}
+use Rattle.rht_release.proofs.ReleaseKnowledge.{known_relinking}
 use Rattle.rht_core.proofs.Machines.JobSteps.{JobKnows}
 use Rattle.rht_core.proofs.Events.Invariants.{Knows, Inv}
 use Rattle.rht_core.proofs.Events.InvariantRuns.{has_inv}

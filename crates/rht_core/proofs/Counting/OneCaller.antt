@@ -68,7 +68,7 @@ use Rattle.rht_ghost.proofs.Theory.Wholes.{outs}
 use Rattle.rht_ghost.proofs.Theory.Steps.{ReadyFor, Does, ghost_after, mem}
 use Rattle.rht_ghost.proofs.Pieces.Locates.{known_locate}
 use Rattle.rht_core.proofs.Machines.JobSteps.{JobIn, JobKnows}
-use Rattle.rht_move.proofs.WorkMachine.{last_aim}
+use Rattle.rht_move.proofs.WorkKnowledge.{last_aim}
 use Rattle.rht_core.proofs.Events.BooksInRuns.{BookSays, has_books}
 use Rattle.rht_core.proofs.Events.Invariants.{Inv, StepOf, step_of, kept}
 use Rattle.rht_core.proofs.Events.InvariantRuns.{opening_ghost, opening_inv, idle_at_opening}

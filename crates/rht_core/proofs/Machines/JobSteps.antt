@@ -46,11 +46,15 @@ use Rattle.rht_ghost.proofs.Theory.Steps.{mem, Holding, Step, StepWhere, step-ma
 use Rattle.rht_ghost.proofs.Pieces.Locates.{IsThereFor}
 use Rattle.rht_ghost.proofs.Theory.Knowns.{known_nothing}
 use Rattle.rht_find.proofs.FindSteps.{known_of_find, fits_find, FindMoved, find_step}
-use Rattle.rht_bind.proofs.BindSteps.{known_of_bind, fits_bind, bind_holds, BindNext, bind_step}
+use Rattle.rht_bind.proofs.BindKnowledge.{known_of_bind, fits_bind, bind_holds, BindNext}
+use Rattle.rht_bind.proofs.BindSteps.{bind_step}
 use Rattle.rht_release.proofs.AllSteps.{known_of_all, fits_all, AllMoved, all_step}
-use Rattle.rht_release.proofs.ReleaseSteps.{known_of_release, fits_release, ReleaseMoved, nothing_known, release_step}
-use Rattle.rht_release.proofs.RebindSteps.{known_of_rebind, fits_rebind, RebindMoved, rebind_step}
-use Rattle.rht_move.proofs.WorkMachine.{known_of_work, work_holds, WorkNext, work_step}
+use Rattle.rht_release.proofs.ReleaseKnowledge.{known_of_release, fits_release, ReleaseMoved, nothing_known}
+use Rattle.rht_release.proofs.ReleaseSteps.{release_step}
+use Rattle.rht_release.proofs.RebindKnowledge.{known_of_rebind, fits_rebind, RebindMoved}
+use Rattle.rht_release.proofs.RebindSteps.{rebind_step}
+use Rattle.rht_move.proofs.WorkKnowledge.{known_of_work, work_holds, WorkNext}
+use Rattle.rht_move.proofs.WorkMachine.{work_step}
 
 -- what a caller knows by its job
 abbrev pub known_of : Job → Known
@@ -184,7 +188,7 @@ module _ (env : Env) (mix : ℕ → ℕ → ℕ → ℕ) (c : ℕ) where
     lists_so port room roomy state after (next, Done done) step = step
 
     releases_so : (port owner : ℕ) (state : ReleaseAt) (r : ReleaseAt × Next (Reply × Option ℕ))
-        → ReleaseMoved env mix c port owner low words G all whole state r
+        → ReleaseMoved env mix c port owner words G state r
         → JobStepOf words G (job_plan env (releases port owner state)) (releases port owner state) (job_next (releases port owner) node_ending r)
     releases_so port owner state (next, Go) step =
         step-map env mix (λ M G' w k. record { built = tt; knowing = k.knowing; fits = k.fits }) step
@@ -192,13 +196,13 @@ module _ (env : Env) (mix : ℕ → ℕ → ℕ → ℕ) (c : ℕ) where
         let after = held.ended_with (plain end.0) in
         step-map env mix (λ M G' w k. nothing_known env mix c after end.1 M G' k) step
 
-    rebinds_so : (single : env.config.kind ≡ Single) (port owner new : ℕ) (small : new < 2 ^ 32)
-        (state : RebindAt) (r : RebindAt × Next (Reply × Option ℕ))
-        → RebindMoved env mix c port owner new single small low words G all whole state r
+    rebinds_so : env.config.kind ≡ Single → (port owner new : ℕ) (state : RebindAt)
+        (r : RebindAt × Next (Reply × Option ℕ))
+        → RebindMoved env mix c port owner new words G state r
         → JobStepOf words G (job_plan env (rebinds port owner new state)) (rebinds port owner new state) (job_next (rebinds port owner new) node_ending r)
-    rebinds_so single port owner new small state (next, Go) step =
+    rebinds_so single port owner new state (next, Go) step =
         step-map env mix (λ M G' w k. record { built = single; knowing = k.knowing; fits = k.fits }) step
-    rebinds_so single port owner new small state (next, Done end) step =
+    rebinds_so single port owner new state (next, Done end) step =
         let after = held.ended_with (plain end.0) in
         step-map env mix (λ M G' w k. nothing_known env mix c after end.1 M G' k) step
 
@@ -227,7 +231,7 @@ module _ (env : Env) (mix : ℕ → ℕ → ℕ → ℕ) (c : ℕ) where
         releases_so port owner state (release_at.after_at mix env port owner state (old_of words (release_at.plan_at env state)))
         (release_step env mix c port owner low words G all whole state within (record { knowing = knows.knowing; fits = knows.fits }))
     job_step (rebinds port owner new state) within knows =
-        rebinds_so knows.built port owner new within.new_in state
+        rebinds_so knows.built port owner new state
         (rebind_at.after_at mix env port owner state (old_of words (rebind_at.plan_at env state)))
         (rebind_step env mix c port owner new knows.built within.new_in low words G all whole state within.at_in
         (record { knowing = knows.knowing; fits = knows.fits }))

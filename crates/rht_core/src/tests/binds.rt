@@ -1,0 +1,173 @@
+//! Binds, look-ups, releases and counts in a table of one owner for each port.
+
+use super::{
+    BOUND, FIND_5, RELEASED, assert_run, begins, bind, ends, enrolls, filled, for_two, linked,
+    located, release, replies, small, steps,
+};
+use rht_model::{Call, Reply};
+use rht_policy::{Lookup3, Low};
+use rht_words::{Config, Hash, Op};
+use std::test::Fail;
+
+#[test]
+fn one_bind_and_one_find(rt: HostRuntime) -> Result<(), Fail> {
+    let locked = [(Op::load(319), 0), (Op::exchange(319, 0, 1), 0)];
+    let found = [
+        (Op::load(319), 2),
+        (Op::exchange(319, 2, 3), 2),
+        (Op::load(283), 5),
+        (Op::load(284), 9),
+        (Op::load(285), 0),
+        (Op::store(319, 2), 3),
+    ];
+    assert_run::<Low>(
+        &rt,
+        rt.alloc(),
+        small(),
+        &[
+            enrolls(0),
+            begins(0, bind(5, 9)),
+            steps(0, &filled(255, 0, 5, 9)),
+            steps(0, &located(1)),
+            steps(0, &locked),
+            ends(0, &linked(), bind(5, 9), BOUND),
+            begins(0, FIND_5),
+            steps(0, &[(Op::load(0), 0)]),
+            steps(0, &located(1)),
+            ends(0, &found, FIND_5, Reply::Found { owner: 9 }),
+        ],
+    )
+}
+
+#[test]
+fn releases_and_counts(rt: HostRuntime) -> Result<(), Fail> {
+    let absent = Reply::Absent;
+    let found = Reply::Found { owner: 7 };
+    assert_run::<Low>(
+        &rt,
+        rt.alloc(),
+        small(),
+        &[
+            enrolls(0),
+            replies(Call::Count, Reply::Counted { count: 0 }),
+            replies(release(5, 9), absent),
+            replies(bind(5, 9), BOUND),
+            replies(bind(69, 7), BOUND),
+            begins(0, Call::Count),
+            ends(
+                0,
+                &[(Op::load(2), 2)],
+                Call::Count,
+                Reply::Counted { count: 2 },
+            ),
+            replies(release(5, 7), absent),
+            replies(release(6, 9), absent),
+            replies(release(5, 9), RELEASED),
+            replies(release(5, 9), absent),
+            replies(FIND_5, Reply::Missing),
+            replies(Call::Find { port: 69 }, found),
+            replies(Call::Count, Reply::Counted { count: 1 }),
+            replies(bind(5, 3), BOUND),
+            replies(release(69, 7), RELEASED),
+            replies(release(5, 3), RELEASED),
+            replies(Call::Count, Reply::Counted { count: 0 }),
+        ],
+    )
+}
+
+#[test]
+fn two_callers_at_one_bucket(rt: HostRuntime) -> Result<(), Fail> {
+    let waits = [
+        (Op::exchange(319, 0, 1), 1),
+        (Op::load(319), 1),
+        (Op::load(319), 1),
+    ];
+    let linked_before = [
+        (Op::load(319), 2),
+        (Op::exchange(319, 2, 3), 2),
+        (Op::load(283), 5),
+        (Op::load(282), 639),
+        (Op::load(26), 0),
+        (Op::load(2), 1),
+        (Op::store(286, 2), 0),
+        (Op::add(2, 1), 1),
+        (Op::store(319, 4), 3),
+    ];
+    let exists = [
+        (Op::load(319), 4),
+        (Op::exchange(319, 4, 5), 4),
+        (Op::load(287), 69),
+        (Op::load(286), 2),
+        (Op::load(283), 5),
+        (Op::load(284), 9),
+        (Op::store(319, 4), 5),
+        (Op::or(280, 4), 248),
+    ];
+    assert_run::<Low>(
+        &rt,
+        rt.alloc(),
+        for_two(),
+        &[
+            enrolls(0),
+            enrolls(1),
+            begins(0, bind(5, 9)),
+            steps(0, &filled(255, 0, 5, 9)),
+            steps(0, &located(1)),
+            steps(0, &[(Op::load(319), 0)]),
+            // Port 69 has bucket 69 - 64 too.
+            begins(1, bind(69, 7)),
+            steps(1, &filled(254, 1, 69, 7)),
+            steps(1, &located(1)),
+            steps(1, &[(Op::load(319), 0)]),
+            // Both found the bucket unlocked. Caller 0 locks it, and caller 1 waits.
+            steps(0, &[(Op::exchange(319, 0, 1), 0)]),
+            steps(1, &waits),
+            ends(0, &linked(), bind(5, 9), BOUND),
+            ends(1, &linked_before, bind(69, 7), BOUND),
+            // The chain is node 1, then node 0. A third node is taken and given back.
+            begins(0, bind(5, 3)),
+            steps(0, &filled(252, 2, 5, 3)),
+            steps(0, &located(1)),
+            ends(0, &exists, bind(5, 3), Reply::Exists { owner: 9 }),
+        ],
+    )
+}
+
+#[test]
+fn a_table_with_the_mixed_hash(rt: HostRuntime) -> Result<(), Fail> {
+    let config = Config {
+        hash: Hash::Mix,
+        seed: 0,
+        ..small()
+    };
+    // The published mix of port 1 with the seed 0 is 0x40f3f2be, which is 62 modulo 64: the bucket
+    // is at 314 + 62 = 376.
+    let found = [
+        (Op::load(376), 2),
+        (Op::exchange(376, 2, 3), 2),
+        (Op::load(283), 1),
+        (Op::load(284), 8),
+        (Op::load(285), 0),
+        (Op::store(376, 2), 3),
+    ];
+    let find = Call::Find { port: 1 };
+    assert_run::<Lookup3>(
+        &rt,
+        rt.alloc(),
+        config,
+        &[
+            enrolls(0),
+            replies(bind(1, 8), BOUND),
+            begins(0, find),
+            steps(0, &[(Op::load(0), 0)]),
+            steps(0, &located(0)),
+            ends(0, &found, find, Reply::Found { owner: 8 }),
+            replies(bind(5, 9), BOUND),
+            replies(bind(69, 7), BOUND),
+            replies(bind(5, 3), Reply::Exists { owner: 9 }),
+            replies(FIND_5, Reply::Found { owner: 9 }),
+            replies(Call::Find { port: 69 }, Reply::Found { owner: 7 }),
+            replies(Call::Find { port: 6 }, Reply::Missing),
+        ],
+    )
+}

@@ -1,0 +1,98 @@
+//! What words stand for at a closing, and in words that no run gives.
+
+use super::{FIND_5, bind, reply_to, small};
+use crate::{Event, State, owners_of};
+use rht_model::{Call, Closed};
+use rht_policy::Low;
+use rht_words::{Geometry, Port};
+use std::alloc::Global;
+use std::process::Abort;
+use std::test::Fail;
+
+/// What a small table holds at its closing, when its caller has made these calls.
+fn closed_after(rt: &impl Abort, alloc: Global, calls: &[Call]) -> Result<Closed, Fail> {
+    let config = small();
+    assert!(rt; config.is_settled());
+    assert!(rt; config.callers == 1);
+    let mut state = State::<Low>::open(alloc, config)?;
+    state.step(Event::Enroll);
+    for call in calls {
+        reply_to(rt, &mut state, 0, *call);
+    }
+    assert!(rt; state.local(0).is_idle());
+    assert_eq!(rt; state.size(), 64);
+    Ok(state.closed()?)
+}
+
+#[test]
+fn a_closed_table_lists_what_is_bound(rt: HostRuntime) -> Result<(), Fail> {
+    let nothing = closed_after(&rt, rt.alloc(), &[])?;
+    assert_eq!(rt;
+        (nothing.size, nothing.keys, nothing.bindings.len()),
+        (64, 0, 0)
+    );
+    // Ports 69 and 5 are in bucket 5, port 1000 in bucket 40, and port 2 in bucket 2.
+    let calls = [
+        bind(1000, 9),
+        bind(5, 9),
+        bind(69, 7),
+        bind(5, 3),
+        FIND_5,
+        bind(2, 1),
+    ];
+    let closed = closed_after(&rt, rt.alloc(), &calls)?;
+    let want: [(Port, &[u32]); 4] = [(2, &[1]), (5, &[9]), (69, &[7]), (1000, &[9])];
+    assert_eq!(rt;
+        (closed.size, closed.keys, closed.bindings.len()),
+        (64, 4, 4)
+    );
+    for (i, (port, owners)) in want.iter().enumerate() {
+        assert!(rt; i < closed.bindings.len());
+        assert_eq!(rt; closed.bindings.port(i), *port, "at {i}");
+        assert_eq!(rt; closed.bindings.owners(i), *owners, "at {i}");
+    }
+    Ok(())
+}
+
+#[test]
+fn owners_in_words_that_no_run_gives(rt: HostRuntime) -> Result<(), Fail> {
+    let geometry = Geometry::new(8, 4, 1).ok_or("within limits")?;
+    let mut words = Vec::new(rt.alloc());
+    for _ in 0..geometry.words() {
+        words.push(0)?;
+    }
+    // Two tables of 4 buckets, which are each other's future.
+    let tables = [(24, 2), (26, 2), (56, 2 + 1_024), (58, 1)];
+    // Node 0 stands in the first table, and behind it on its list nodes 2 and 1.
+    let first = [
+        (315, 2),
+        (283, 5),
+        (284, 9),
+        (285, 6),
+        (292, 7),
+        (293, 4),
+        (288, 3),
+    ];
+    // Nodes 3 and 4 stand in a ring in the second table, and node 4 is behind itself on its list.
+    let second = [
+        (378, 8), // 314 + 64
+        (294, 10),
+        (295, 5),
+        (296, 1),
+        (298, 8),
+        (299, 6),
+        (300, 2),
+        (301, 10),
+    ];
+    for (place, value) in tables.iter().chain(&first).chain(&second) {
+        let word = words.get_mut(*place).ok_or("within the words")?;
+        *word = *value;
+    }
+    let cases: [(Port, &[u32]); 3] = [(5, &[9, 7, 3]), (6, &[2; 8]), (7, &[])];
+    for (port, want) in cases {
+        assert_eq!(rt; words.len(), geometry.words());
+        let owners = owners_of(rt.alloc(), geometry, words.as_slice(), port)?;
+        assert_eq!(rt; owners.as_slice(), want, "at {port}");
+    }
+    Ok(())
+}
