@@ -20,7 +20,6 @@ use Rattle.rht_nest.specs.declared.locate.LocatedBucket.TheVariants as buckets
 use Rattle.rht_chain.specs.Probe.{ProbeModel, probe_new, probe_plan, probe_after, lock_of_probe}
 use Rattle.rht_chain.specs.declared.probe.Probed.{Probed}
 use Rattle.rht_chain.specs.declared.locked.Locked.{Locked}
-use Rattle.rht_chain.specs.declared.locked.Then.{Then}
 use Rattle.rht_chain.specs.declared.locked.Then.TheVariants.{Table, Answer}
 use Rattle.rht_model.specs.declared.history.Call.{Call}
 use Rattle.rht_model.specs.declared.history.Call.TheVariants as calls
@@ -41,7 +40,7 @@ use Rattle.rht_ghost.proofs.Theory.Knowns.{KnownTable, Nowhere, Passes, AtHome, 
 use Rattle.rht_ghost.proofs.Theory.Knowledge.{plainly, Knowing}
 use Rattle.rht_ghost.proofs.Theory.Answering.{KeepsAnswer, IsLegalOn, IsRight, KnowsEarly, TellsOrRecalls, none_early, keeps, learns, recalls}
 use Rattle.rht_ghost.proofs.Theory.Steps.{answered-map, Holding, mem, owners, owners_in, Moved, moved-map, StepWhere, answered_where, reads, HoldsNoneEarly, still_has}
-use Rattle.rht_ghost.proofs.Pieces.Locates.{known_locate, IsThereAt, first_passed, locate_step, LocateKnows, LocatedKnows, LocateSays, Recalls, locate_says, FutureIs, future_is}
+use Rattle.rht_ghost.proofs.Pieces.Locates.{known_locate, IsThereFor, first_passed, locate_step, LocateKnows, LocatedKnows, LocateSays, Recalls, locate_says, FutureIs, future_is}
 use Rattle.rht_ghost.proofs.Pieces.Locks.{unlock_step}
 use Rattle.rht_ghost.proofs.Pieces.Lists.{IsNextOf, list_next, list_among}
 use Rattle.rht_ghost.proofs.Pieces.Probes.{known_probe, known_found, place_of_probe, IsProbeFor, probed_by, ProbeKnows, probe_step}
@@ -54,21 +53,6 @@ at_lock lock = record held.holds_nothing { lock = lock }
 -- what it knows of the way to a bucket, and of the bucket that it has locked
 abbrev knows_of : KnownTable → KnownBucket → Known
 knows_of table bucket = knows_plain None table bucket
-
--- the bucket that it may find missing is there
-abbrev pub find_there : FindAt → Memory → Type 0
-find_there at.CurrentTable M = ⊥
-find_there (at.Locating locate) M = IsThereAt locate.at M
-find_there (at.Probing table probe) M = ⊥
-find_there (at.Future table bucket) M = ⊥
-find_there (at.FirstOwner table bucket node) M = ⊥
-find_there (at.ListLink table bucket node owner) M = ⊥
-find_there (at.LaterOwner table bucket node owner) M = ⊥
-find_there (at.Unlocking table unlock next) M = ⊥
-
-abbrev pub find_there_next : FindAt × Next Reply → Memory → Type 0
-find_there_next (at, Go) M = find_there at M
-find_there_next (at, Done reply) M = ⊥
 
 -- what it knows early is what any call does whose port is bound nowhere
 early_is : (at : LocateAt) → finds.early_of_locate at ≡ early_of_locate (plain Missing) at
@@ -134,10 +118,11 @@ module _ (env : Env) (mix : ℕ → ℕ → ℕ → ℕ) (c : ℕ) (port : ℕ) 
     now = owners env mix M G
 
     -- what an operation leads to from a state
-    abbrev FindMoved : FindAt → FindAt × Next Reply → Type 0
+    abbrev pub FindMoved : FindAt → FindAt × Next Reply → Type 0
     FindMoved at r =
-        StepWhere env mix (find_there at M) (find_there_next r (mem env mix (applied words (plan_at env at)))) c call words G
-        (plan_at env at) (held_of_find at) (find_holds r) (FindNext r)
+        StepWhere env mix (IsThereFor (held_of_find at).early (known_of_find port at).table M)
+        (IsThereFor (find_holds r).early (known_of_find port r.0).table
+        (mem env mix (applied words (plan_at env at)))) c call words G (plan_at env at) (held_of_find at) (find_holds r) (FindNext r)
 
     abbrev pub FindStep : FindAt → Type 0
     FindStep at = FindMoved at (after_at mix env port at (old_of words (plan_at env at)))
@@ -180,7 +165,8 @@ module _ (env : Env) (mix : ℕ → ℕ → ℕ → ℕ) (c : ℕ) (port : ℕ) 
 
     -- the bucket was looked for
     found_bucket : (locate next : LocateModel) (shape : ℕ) (bucket : LocatedBucket)
-        → Recalls env mix c (before locate) None Unlocked words G whole port call (plain Missing) missing_legal locate.at bucket
+        → Recalls env mix c (before locate) None Unlocked words G whole port call (plain Missing)
+        missing_legal locate.table locate.at bucket
         → LocateMoved locate (LocatedKnows env mix c (before locate) None Unlocked port next.table shape bucket)
         → FindMoved (at.Locating locate) (bucket_or_early env port next bucket)
     found_bucket locate next shape (buckets.At place) says step =
@@ -193,33 +179,41 @@ module _ (env : Env) (mix : ℕ → ℕ → ℕ → ℕ) (c : ℕ) (port : ℕ) 
         goes_from locate (locating env table) _ refl
         (λ M' G' k. record { knowing = record { only = k.only; means = k.means }; fits = tt }) step
     found_bucket locate next shape (buckets.Missing place None) says step =
-        let There = IsThereAt locate.at M in
+        let There : Option answers.Answer → Type 0 =
+        λ early. IsThereFor early (known_locate port locate.table locate.at) M in
         let kind = env.config.kind in
         let absent = plain Missing in
-        answered_where env mix There ⊥ c call words G (locate_plan locate) (before locate) (before locate) (Some absent) None
-        (FindNext (at.Locating next, Done Missing))
-        (subst (λ early. TellsOrRecalls kind c call None early There now None (Some absent))
+        let early = finds.early_of_locate locate.at in
+        answered_where env mix (There early) ⊥ c call words G (locate_plan locate) (before locate)
+        (before locate) (Some absent) None (FindNext (at.Locating next, Done Missing))
+        (subst (λ e. TellsOrRecalls kind c call None e (There e) now None (Some absent))
         (sym (early_is locate.at ∙ says.known_early))
-        (recalls kind c call None There now absent missing_right refl says.missing))
-        (none_early kind c call There ⊥ now (finds.early_of_locate locate.at) None refl) (still_has refl)
+        (recalls kind c call None (There (Some absent)) now absent missing_right refl
+        (subst (λ e. ¬ There e) says.known_early says.missing)))
+        (none_early kind c call (There early) ⊥ now early None refl) (still_has refl)
         (moved-map env mix (λ M' G' w k. plainly env mix k.only tt tt tt) step)
 
     -- the way to the bucket
     found_place : (locate : LocateModel) (r : LocateModel × Next Located)
         → LocateMoved locate (LocateKnows env mix c (before locate) None Unlocked port r)
-        → LocateSays env mix c (before locate) None Unlocked words G whole port call (plain Missing) missing_legal locate.at
-        (applied words (locate_plan locate)) r
+        → LocateSays env mix c (before locate) None Unlocked words G whole port call (plain Missing)
+        missing_legal locate.table locate.at (applied words (locate_plan locate)) r
         → FindMoved (at.Locating locate) (located env port r.0 r.1)
     found_place locate (next, Go) step says =
-        let There = IsThereAt locate.at M in
-        let There' = IsThereAt next.at (mem env mix (applied words (locate_plan locate))) in
+        let now_there : Option answers.Answer → Type 0 =
+        λ early. IsThereFor early (known_locate port locate.table locate.at) M in
+        let then_there : Option answers.Answer → Type 0 =
+        λ early. IsThereFor early (known_locate port next.table next.at)
+        (mem env mix (applied words (locate_plan locate))) in
+        let KnowsThem : Option answers.Answer → Option answers.Answer → Type 0 =
+        λ was is. KnowsEarly env.config.kind c call (now_there was) (then_there is) now was is in
         let Knows : Memory → Ghost → Type 0 = FindNext (at.Locating next, Go) in
-        answered_where env mix There There' c call words G (locate_plan locate) (before locate) (before locate) None
-        (finds.early_of_locate next.at) Knows (inl (inl refl))
-        (subst (λ early. KnowsEarly env.config.kind c call There There' now early (finds.early_of_locate next.at))
-        (sym (early_is locate.at))
-        (subst (KnowsEarly env.config.kind c call There There' now (early_of_locate (plain Missing) locate.at))
-        (sym (early_is next.at)) says))
+        let was = finds.early_of_locate locate.at in
+        let is = finds.early_of_locate next.at in
+        answered_where env mix (now_there was) (then_there is) c call words G (locate_plan locate)
+        (before locate) (before locate) None is Knows (inl (inl refl))
+        (subst (λ e. KnowsThem e is) (sym (early_is locate.at))
+        (subst (KnowsThem (early_of_locate (plain Missing) locate.at)) (sym (early_is next.at)) says))
         (still_has refl)
         (moved-map env mix (λ M' G' w k. record { knowing = record { only = k.only; means = k.means }; fits = tt }) step)
     found_place locate (next, Done there) step says = found_bucket locate next there.shape there.bucket says step
@@ -329,7 +323,7 @@ module _ (env : Env) (mix : ℕ → ℕ → ℕ → ℕ) (c : ℕ) (port : ℕ) 
         goes_on at.CurrentTable (at.Locating (locate_new env.geometry (table_of (M CurrentTable)))) refl
         refl refl (record {
           knowing = plainly env mix known.knowing.only tt (first_passed env mix c held.holds_nothing None Unlocked
-                  words G whole port) tt;
+              words G whole port) tt;
           fits = tt;
         })
     find_step (at.Locating locate) is known =

@@ -22,7 +22,7 @@ use Rattle.rht_model.specs.Multimap.{Multimap}
 use Rattle.rht_model.specs.Answers.{Answer}
 use Rattle.rht_model.specs.Rooms.{Kept, with_kept}
 use Rattle.rht_release.specs.All.{plan_at, after_at, room_after, sought, list_followed, IsAllAtIn}
-use Rattle.rht_release.specs.AllHeld.{listing_of, held_of_all, holds_lock}
+use Rattle.rht_release.specs.AllHeld.{listing_of, held_of_all}
 use Rattle.rht_release.specs.Seek.{SeekModel, seek_plan, seek_after}
 use Rattle.rht_release.specs.declared.found_port.FoundPort.{FoundPort}
 use Rattle.rht_release.specs.declared.all.AllAt.{AllAt}
@@ -33,6 +33,7 @@ use Rattle.rht_ghost.proofs.Theory.Knowns.{Nowhere, Locks, Collected, CollectedT
 use Rattle.rht_ghost.proofs.Theory.Knowledge.{plainly, Knowing}
 use Rattle.rht_ghost.proofs.Theory.Answering.{IsLegalOn, IsRight, Tells, keeps, learns}
 use Rattle.rht_ghost.proofs.Theory.Steps.{answered-map, Holding, mem, owners, owners_in, StepWhere, step-map, reads, HoldsNoneEarly, still_has}
+use Rattle.rht_ghost.proofs.Pieces.Locates.{IsThereFor}
 use Rattle.rht_ghost.proofs.Pieces.Locks.{unlock_step}
 use Rattle.rht_ghost.proofs.Pieces.Lists.{list_among, list_few, list_rest, found_list}
 use Rattle.rht_release.proofs.Seeks as seeks
@@ -56,17 +57,6 @@ module _ (port : ℕ) where
   fits_all room (at.Owner found node) = Unit {0}
   fits_all room (at.ListLink found node) = Unit {0}
   fits_all room (at.Unlocking table unlock) = Unit {0}
-
--- the bucket that it may find missing is there
-abbrev pub all_there : AllAt → Memory → Type 0
-all_there (at.Seeking seek) M = seeks.seek_there seek.at M
-all_there (at.Owner found node) M = ⊥
-all_there (at.ListLink found node) M = ⊥
-all_there (at.Unlocking table unlock) M = ⊥
-
-abbrev pub all_there_next : AllAt × Next (Unit {0}) → Memory → Type 0
-all_there_next (at, Go) M = all_there at M
-all_there_next (at, Done done) M = ⊥
 
 -- the room with this owner behind the others
 abbrev pub room_with : Kept ℕ → ℕ → Kept ℕ
@@ -100,10 +90,13 @@ module _ (env : Env) (mix : ℕ → ℕ → ℕ → ℕ) (c : ℕ) (port : ℕ) 
     now = owners env mix M G
 
     -- what an operation leads to from a state, with this room then
-    abbrev AllMoved : AllAt → Kept ℕ → AllAt × Next (Unit {0}) → Type 0
+    abbrev pub AllMoved : AllAt → Kept ℕ → AllAt × Next (Unit {0}) → Type 0
     AllMoved at after r =
-        StepWhere env mix (all_there at M) (all_there_next r (mem env mix (applied words (plan_at env at)))) c call words G
-        (plan_at env at) (held_of_all room.items at) (all_holds after r) (AllNext after r)
+        StepWhere env mix
+        (IsThereFor (held_of_all room.items at).early (known_of_all port room.items at).table M)
+        (IsThereFor (all_holds after r).early (known_of_all port after.items r.0).table
+        (mem env mix (applied words (plan_at env at)))) c call words G (plan_at env at)
+        (held_of_all room.items at) (all_holds after r) (AllNext after r)
 
     abbrev pub AllStep : AllAt → Type 0
     AllStep at =
@@ -268,8 +261,9 @@ module _ (env : Env) (mix : ℕ → ℕ → ℕ → ℕ) (c : ℕ) (port : ℕ) 
 
     -- where the port was found its owners are loaded
     seek_next : (seek : SeekModel) (r : SeekModel × Next (Option FoundPort)) → room.items ≡ []
-        → StepWhere env mix (seeks.seek_there seek.at M)
-        (seeks.seek_there_next (r.0.at, r.1) (mem env mix (applied words (seek_plan seek)))) c call words G
+        → StepWhere env mix (seeks.seek_there None absent port None seek.at M)
+        (seeks.seek_there_next None absent port None (r.0.at, r.1)
+        (mem env mix (applied words (seek_plan seek)))) c call words G
         (seek_plan seek) (held_of_all room.items (at.Seeking seek))
         (seeks.seek_holds None absent (r.0.at, r.1))
         (seeks.SeekNext env mix c call port None None absent (r.0.at, r.1))

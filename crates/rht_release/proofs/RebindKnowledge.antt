@@ -19,6 +19,7 @@ use Rattle.rht_release.specs.declared.found_port.FoundPort.{FoundPort}
 use Rattle.rht_release.specs.declared.rebind.RebindAt.{RebindAt}
 use Rattle.rht_release.specs.declared.rebind.RebindAt.TheVariants as at
 use Rattle.rht_model.specs.Replies.{IsRebindReply, AreOwnersWith, ArePairsWith}
+use Rattle.rht_ghost.proofs.Pieces.Locates.{IsThereFor}
 use Rattle.rht_ghost.proofs.Theory.Ghosts.{Ghost}
 use Rattle.rht_ghost.proofs.Theory.Knowns.{KnownNode, Nowhere, KnownBucket, Unlocked, Locks, Leads, LeadsTo, Succeeds, Known, knows_plain, KnownList}
 use Rattle.rht_ghost.proofs.Theory.Knowledge.{Knowing}
@@ -62,21 +63,6 @@ module _ (port owner new : ℕ) where
       known_replacing n found (has_relinked found.before relink.at)
   known_of_rebind (at.Unlocking n table unlock) = knows_of n (Locks unlock.place unlock.word)
   known_of_rebind (at.Giving give) = knows_of give.node Unlocked
-
--- the bucket that it may find missing is there
-abbrev pub rebind_there : RebindAt → Memory → Type 0
-rebind_there (at.Filling fresh) M = ⊥
-rebind_there (at.Seeking n seek) M = seeks.seek_there seek.at M
-rebind_there (at.Owner n found) M = ⊥
-rebind_there (at.ChainLink n found) M = ⊥
-rebind_there (at.Link n found link) M = ⊥
-rebind_there (at.Replacing n found relink) M = ⊥
-rebind_there (at.Unlocking n table unlock) M = ⊥
-rebind_there (at.Giving give) M = ⊥
-
-abbrev pub rebind_there_next : RebindAt × Next (Reply × Option ℕ) → Memory → Type 0
-rebind_there_next (at, Go) M = rebind_there at M
-rebind_there_next (at, Done end) M = ⊥
 
 -- the relinking that puts its node in the place of the old one
 abbrev pub replaces : Env → ℕ → FoundPort → Bool → RelinkModel
@@ -123,8 +109,10 @@ module _ (env : Env) (mix : ℕ → ℕ → ℕ → ℕ) (c : ℕ) (port owner n
     -- what an operation leads to from a state
     abbrev pub RebindMoved : RebindAt → RebindAt × Next (Reply × Option ℕ) → Type 0
     RebindMoved at r =
-        StepWhere env mix (rebind_there at (mem env mix words))
-        (rebind_there_next r (mem env mix (applied words (plan_at env at)))) c (calls.Rebind port owner new)
+        StepWhere env mix
+        (IsThereFor (held_of_rebind at).early (known_of_rebind port owner new at).table (mem env mix words))
+        (IsThereFor (rebind_holds r).early (known_of_rebind port owner new r.0).table
+        (mem env mix (applied words (plan_at env at)))) c (calls.Rebind port owner new)
         words G (plan_at env at) (held_of_rebind at) (rebind_holds r) (RebindNext r)
 
     abbrev pub RebindStep : RebindAt → Type 0

@@ -34,7 +34,8 @@ use Rattle.rht_ghost.proofs.Theory.Wholes.{Whole}
 use Rattle.rht_ghost.proofs.Theory.Knowns.{KnownNode, Nowhere, Unlocked, LeadsTo, first_of_list}
 use Rattle.rht_ghost.proofs.Theory.Knowledge.{plainly, Knowing}
 use Rattle.rht_ghost.proofs.Theory.Answering.{IsLegalOn, IsRight, keeps, learns}
-use Rattle.rht_ghost.proofs.Theory.Steps.{answered-map, Holding, by_test, mem, owners, owners_in, Moved, StepWhere, Step, step-map, reads, still_has}
+use Rattle.rht_ghost.proofs.Theory.Steps.{answered-map, Holding, by_test, mem, owners, owners_in, Moved, StepWhere, step-map, reads, still_has}
+use Rattle.rht_ghost.proofs.Pieces.Locates.{IsThereFor}
 use Rattle.rht_ghost.proofs.Pieces.NewNodes as nodes
 use Rattle.rht_ghost.proofs.Pieces.Locks.{unlock_step, unlock_taken}
 use Rattle.rht_ghost.proofs.Pieces.Lists.{found_list}
@@ -139,8 +140,10 @@ module _ (env : Env) (mix : ℕ → ℕ → ℕ → ℕ) (c : ℕ) (port owner n
 
   -- where the port was found its owner is loaded, and where it wasn't the node is given back
   seek_next : (n : ℕ) (seek : SeekModel) (r : SeekModel × Next (Option FoundPort))
-      → StepWhere env mix (seeks.seek_there seek.at M)
-      (seeks.seek_there_next (r.0.at, r.1) (mem env mix (applied words (seek_plan seek)))) c call words G
+      → StepWhere env mix
+      (seeks.seek_there (Some n) (plain Absent) port (Some (own port owner new n)) seek.at M)
+      (seeks.seek_there_next (Some n) (plain Absent) port (Some (own port owner new n)) (r.0.at, r.1)
+      (mem env mix (applied words (seek_plan seek)))) c call words G
       (seek_plan seek) (held_of_rebind (at.Seeking n seek))
       (seeks.seek_holds (Some n) (plain Absent) (r.0.at, r.1))
       (seeks.SeekNext env mix c call port (Some n) (Some (own port owner new n)) (plain Absent)
@@ -235,8 +238,11 @@ module _ (env : Env) (mix : ℕ → ℕ → ℕ → ℕ) (c : ℕ) (port owner n
   -- an operation that leads to a replacement which stands so
   abbrev ReplacingNext : ℕ → FoundPort → ℕ → Bool → Type 0
   ReplacingNext n found link stored =
-      Step env mix c call words G (plan_at env (at.Link n found link)) (holds_found n found)
-      (holds_replacing n found stored)
+      let op = plan_at env (at.Link n found link) in
+      let table = (known_replacing port owner new n found stored).table in
+      StepWhere env mix ⊥
+      (IsThereFor (holds_replacing n found stored).early table (mem env mix (applied words op)))
+      c call words G op (holds_found n found) (holds_replacing n found stored)
       (ReplacingKnows n found (relink_of env.geometry found (link_of n)) stored)
 
   linked : (n : ℕ) (found : FoundPort) (link : ℕ) → RebindKnows (at.Link n found link) M G

@@ -19,6 +19,7 @@ use Rattle.rht_release.specs.FoundPort.{relink_of}
 use Rattle.rht_release.specs.declared.found_port.FoundPort.{FoundPort}
 use Rattle.rht_release.specs.declared.release.ReleaseAt.{ReleaseAt}
 use Rattle.rht_release.specs.declared.release.ReleaseAt.TheVariants as at
+use Rattle.rht_ghost.proofs.Pieces.Locates.{IsThereFor}
 use Rattle.rht_ghost.proofs.Theory.Ghosts.{Ghost}
 use Rattle.rht_ghost.proofs.Theory.Knowns.{KnownBucket, Locks, TakenOut, LocksTakenOut, KnownList, AtNode, Differing, Matching, CutsOut, Leads, LeadsTo, Promotes, Known}
 use Rattle.rht_ghost.proofs.Theory.Knowledge.{plainly, Knowing, ListMeans}
@@ -76,24 +77,6 @@ module _ (port owner : ℕ) where
       known_relinking found (LeadsTo None relink.link owner) (has_relinked found.before relink.at)
   known_of_release (at.Lowering node shape) = here (TakenOut node)
   known_of_release (at.Unlocking table unlock removed) = here (known_unlocking unlock removed)
-
--- the bucket that it may find missing is there
-abbrev pub release_there : ReleaseAt → Memory → Type 0
-release_there (at.Seeking seek) M = seeks.seek_there seek.at M
-release_there (at.Owner found node before) M = ⊥
-release_there (at.ListLink found node) M = ⊥
-release_there (at.LinkBehind found node before) M = ⊥
-release_there (at.CuttingOut found node before link) M = ⊥
-release_there (at.ChainLink found second) M = ⊥
-release_there (at.SecondLink found second link) M = ⊥
-release_there (at.Promoting found relink) M = ⊥
-release_there (at.Unlinking found relink) M = ⊥
-release_there (at.Lowering node shape) M = ⊥
-release_there (at.Unlocking table unlock removed) M = ⊥
-
-abbrev pub release_there_next : ReleaseAt × Next (Reply × Option ℕ) → Memory → Type 0
-release_there_next (at, Go) M = release_there at M
-release_there_next (at, Done end) M = ⊥
 
 module _ (env : Env) where
   -- a relinking of this link in the bucket of the port, before its first store or behind it
@@ -181,8 +164,10 @@ module _ (env : Env) (mix : ℕ → ℕ → ℕ → ℕ) (c : ℕ) (port owner :
     -- what an operation leads to from a state
     abbrev pub ReleaseMoved : ReleaseAt → ReleaseAt × Next (Reply × Option ℕ) → Type 0
     ReleaseMoved at r =
-        StepWhere env mix (release_there at (mem env mix words))
-        (release_there_next r (mem env mix (applied words (plan_at env at)))) c (calls.Release port owner)
+        StepWhere env mix
+        (IsThereFor (held_of_release at).early (known_of_release port owner at).table (mem env mix words))
+        (IsThereFor (release_holds r).early (known_of_release port owner r.0).table
+        (mem env mix (applied words (plan_at env at)))) c (calls.Release port owner)
         words G (plan_at env at) (held_of_release at) (release_holds r) (ReleaseNext r)
 
     abbrev pub ReleaseStep : ReleaseAt → Type 0

@@ -94,8 +94,9 @@ module _ (env : Env) (mix : ℕ → ℕ → ℕ → ℕ) (c : ℕ) (port owner :
   SeekNext r = seeks.SeekNext env mix c call port None None (plain Absent) (r.0.at, r.1)
 
   sought_step : (seek : SeekModel) (r : SeekModel × Next (Option FoundPort))
-      → StepWhere env mix (seeks.seek_there seek.at M)
-      (seeks.seek_there_next (r.0.at, r.1) (mem env mix (applied words (seek_plan seek)))) c call words G
+      → StepWhere env mix (seeks.seek_there None (plain Absent) port None seek.at M)
+      (seeks.seek_there_next None (plain Absent) port None (r.0.at, r.1)
+      (mem env mix (applied words (seek_plan seek)))) c call words G
       (seek_plan seek) (seeks.held_of_seek None (plain Absent) seek.at)
       (seeks.seek_holds None (plain Absent) (r.0.at, r.1)) (SeekNext r)
       → ReleaseMoved (at.Seeking seek) (sought r.0 r.1)

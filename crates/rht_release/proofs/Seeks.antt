@@ -32,7 +32,7 @@ use Rattle.rht_ghost.proofs.Theory.Knowns.{KnownNode, KnownTable, Nowhere, Passe
 use Rattle.rht_ghost.proofs.Theory.Knowledge.{plainly, Knowing}
 use Rattle.rht_ghost.proofs.Theory.Answering.{IsLegalOn, IsRight, TellsOrRecalls, none_early, keeps, learns, recalls}
 use Rattle.rht_ghost.proofs.Theory.Steps.{answered-map, Holding, mem, owners, owners_in, Moved, moved-map, StepWhere, answered_where, answered, reads, still_has}
-use Rattle.rht_ghost.proofs.Pieces.Locates.{known_locate, IsThereAt, first_passed, locate_step, LocateKnows, LocatedKnows, LocateSays, Recalls, locate_says, FutureIs, future_is}
+use Rattle.rht_ghost.proofs.Pieces.Locates.{known_locate, IsThereFor, first_passed, locate_step, LocateKnows, LocatedKnows, LocateSays, Recalls, locate_says, FutureIs, future_is}
 use Rattle.rht_ghost.proofs.Pieces.Locks.{unlock_step}
 use Rattle.rht_ghost.proofs.Pieces.Probes.{known_probe, known_found, place_of_probe, IsProbeFor, probed_by, ProbeKnows, probe_step}
 
@@ -77,18 +77,6 @@ module _ (port : ℕ) (own : Option KnownNode) where
   known_of_seek (at.Leaving table unlock future) =
       knows_of (known_future port future) (Locks unlock.place unlock.word)
 
--- the bucket that it may find missing is there
-abbrev pub seek_there : SeekAt → Memory → Type 0
-seek_there at.CurrentTable M = ⊥
-seek_there (at.Locating locate) M = IsThereAt locate.at M
-seek_there (at.Probing table shape probe) M = ⊥
-seek_there (at.Future table bucket) M = ⊥
-seek_there (at.Leaving table unlock future) M = ⊥
-
-abbrev pub seek_there_next : SeekAt × Next (Option FoundPort) → Memory → Type 0
-seek_there_next (at, Go) M = seek_there at M
-seek_there_next (at, Done sought) M = ⊥
-
 module _ (hn : Option ℕ) (absent : Answer) where
   -- what a call holds on the way beside its node: at most a lock, and the answer once it is known that the
   -- port is bound nowhere
@@ -103,6 +91,13 @@ module _ (hn : Option ℕ) (absent : Answer) where
   seek_holds (at, Go) = held_of_seek at
   seek_holds (at, Done None) = holds_seeking None (Some absent)
   seek_holds (at, Done (Some found)) = holds_seeking (Some found.bucket.place) None
+
+  -- the bucket is there that it may find missing, before an operation and after it
+  abbrev pub seek_there : ℕ → Option KnownNode → SeekAt → Memory → Type 0
+  seek_there port own at = IsThereFor (early_of_seek absent at) (known_of_seek port own at).table
+
+  abbrev pub seek_there_next : ℕ → Option KnownNode → SeekAt × Next (Option FoundPort) → Memory → Type 0
+  seek_there_next port own r = IsThereFor (seek_holds r).early (known_of_seek port own r.0).table
 
 module _ (env : Env) (mix : ℕ → ℕ → ℕ → ℕ) (c : ℕ) (call : Call) (port : ℕ) (hn : Option ℕ)
     (own : Option KnownNode) (absent : Answer) where
@@ -141,7 +136,8 @@ module _ (env : Env) (mix : ℕ → ℕ → ℕ → ℕ) (c : ℕ) (call : Call)
     abbrev pub SeekMoved : SeekAt → SeekAt × Next (Option FoundPort) → Type 0
     SeekMoved at r =
         let op = seek_plan_at env.geometry at in
-        StepWhere env mix (seek_there at M) (seek_there_next r (mem env mix (applied words op))) c call words G op
+        StepWhere env mix (seek_there hn absent port own at M)
+        (seek_there_next hn absent port own r (mem env mix (applied words op))) c call words G op
         (held_of_seek hn absent at) (seek_holds hn absent r) (SeekNext r)
 
     -- an operation of a piece after which the answer isn't known
@@ -166,7 +162,7 @@ module _ (env : Env) (mix : ℕ → ℕ → ℕ → ℕ) (c : ℕ) (call : Call)
     abbrev SaysThen : LocateModel → LocateModel × Next Located → Type 0
     SaysThen locate r =
         LocateSays env mix c (held_of_seek hn absent (at.Locating locate)) own Unlocked words G whole port call absent legal
-        locate.at (applied words (locate_plan locate)) r
+        locate.table locate.at (applied words (locate_plan locate)) r
 
     -- an operation after which nothing is known early
     goes_from : (locate : LocateModel) (r : SeekAt × Next (Option FoundPort)) (Knows : Memory → Ghost → Type 0)
@@ -181,7 +177,7 @@ module _ (env : Env) (mix : ℕ → ℕ → ℕ → ℕ) (c : ℕ) (call : Call)
     -- the bucket was looked for
     found_bucket : (locate next : LocateModel) (shape : ℕ) (bucket : LocatedBucket)
         → Recalls env mix c (held_of_seek hn absent (at.Locating locate)) own Unlocked words G whole port call absent legal
-        locate.at bucket
+        locate.table locate.at bucket
         → LocateMoved locate (LocatedKnows env mix c (held_of_seek hn absent (at.Locating locate)) own Unlocked port next.table
         shape bucket)
         → SeekMoved (at.Locating locate) (bucket_or_early env.geometry port next shape bucket)
@@ -193,7 +189,7 @@ module _ (env : Env) (mix : ℕ → ℕ → ℕ → ℕ) (c : ℕ) (call : Call)
         (λ M' G' k. record { knowing = record { only = k.only; means = k.means }; fits = tt }) step
     found_bucket locate next shape (buckets.Missing place None) says step =
         let h = held_of_seek hn absent (at.Locating locate) in
-        let There = IsThereAt locate.at M in
+        let There = seek_there hn absent port own (at.Locating locate) M in
         let kind = env.config.kind in
         answered_where env mix There ⊥ c call words G (locate_plan locate) h h (Some absent) None
         (SeekNext (at.Locating next, Done None))
@@ -208,8 +204,9 @@ module _ (env : Env) (mix : ℕ → ℕ → ℕ → ℕ) (c : ℕ) (call : Call)
     found_place locate (next, Go) step says =
         let h = held_of_seek hn absent (at.Locating locate) in
         let Knows : Memory → Ghost → Type 0 = SeekNext (at.Locating next, Go) in
-        answered_where env mix (IsThereAt locate.at M)
-        (IsThereAt next.at (mem env mix (applied words (locate_plan locate)))) c call words G (locate_plan locate) h h None
+        answered_where env mix (seek_there hn absent port own (at.Locating locate) M)
+        (seek_there hn absent port own (at.Locating next) (mem env mix (applied words (locate_plan locate))))
+        c call words G (locate_plan locate) h h None
         (early_of_locate absent next.at) Knows (inl (inl refl)) says (still_has refl)
         (moved-map env mix (λ M' G' w k. record { knowing = record { only = k.only; means = k.means }; fits = tt }) step)
     found_place locate (next, Done there) step says = found_bucket locate next there.shape there.bucket says step
@@ -224,11 +221,11 @@ module _ (env : Env) (mix : ℕ → ℕ → ℕ → ℕ) (c : ℕ) (call : Call)
         let table = k.means.table in
         record {
           knowing = plainly env mix k.only k.means.node (record {
-                passing = table.passing;
-                shape_is = tt;
-                bucket = table.bucket;
-                here = table.here;
-              }) k.means.bucket;
+            passing = table.passing;
+            shape_is = tt;
+            bucket = table.bucket;
+            here = table.here;
+          }) k.means.bucket;
           fits = tt;
         }
     seen_knows table shape probe end (Some node) M' G' k = k
@@ -310,8 +307,9 @@ module _ (env : Env) (mix : ℕ → ℕ → ℕ → ℕ) (c : ℕ) (call : Call)
     abbrev pub SeekStep : SeekModel → Type 0
     SeekStep m =
         let r = seek_after mix port m (old_of words (seek_plan m)) in
-        StepWhere env mix (seek_there m.at M)
-        (seek_there_next (r.0.at, r.1) (mem env mix (applied words (seek_plan m)))) c call words G (seek_plan m)
+        StepWhere env mix (seek_there hn absent port own m.at M)
+        (seek_there_next hn absent port own (r.0.at, r.1) (mem env mix (applied words (seek_plan m))))
+        c call words G (seek_plan m)
         (held_of_seek hn absent m.at) (seek_holds hn absent (r.0.at, r.1)) (SeekNext (r.0.at, r.1))
 
     pub seek_step : (m : SeekModel) → IsSeekIn env.geometry m → SeekKnows m.at M G → SeekStep m

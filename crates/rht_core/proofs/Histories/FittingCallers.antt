@@ -22,7 +22,7 @@ use Rattle.rht_core.proofs.Tracing.TracedRuns.{world-traced_of, traced_of-push}
 use Rattle.rht_core.proofs.Tracing.TracedCallers.{inv_now}
 use Rattle.rht_ghost.proofs.Theory.Frames.{Made}
 use Rattle.rht_ghost.proofs.Theory.Steps.{mem, owners-stay}
-use Rattle.rht_core.proofs.Machines.EarlyPages.{IsThere}
+use Rattle.rht_core.proofs.Machines.JobSteps.{IsThere}
 use Rattle.rht_core.proofs.Events.Invariants.{enrolled}
 use Rattle.rht_core.proofs.Events.PagesThere.{enrolled-there}
 use Rattle.rht_core.proofs.Meaning.BoundPorts.{stands_for_bound}
@@ -45,7 +45,7 @@ module _ (M : Type 0) (mix : ℕ → ℕ → ℕ → ℕ) (env : Env) where
 
   -- the page that a job may miss is there behind these events
   abbrev pub IsThereAt : List Event → Job → Type 0
-  IsThereAt events job = IsThere env mix job (mem env mix (R events).world.core.words)
+  IsThereAt events job = IsThere job (mem env mix (R events).world.core.words)
 
   pub record IsWorking (events : List Event) (c : ℕ) (job : Job) (trace : Trace)
       (es own : List Numbered) : Type 0 where
@@ -88,10 +88,10 @@ module _ (M : Type 0) (mix : ℕ → ℕ → ℕ → ℕ) (env : Env) where
 
     -- it does where it is there in the words that the event leaves
     pub there-next : (words : List ℕ) → (world_step mix (R events).world event).core.words ≡ words → (job : Job)
-        → IsThere env mix job (mem env mix words) → IsThereAt more job
+        → IsThere job (mem env mix words) → IsThereAt more job
     there-next words same job there =
         let after = ap (λ (r : Traced M). r.world.core.words) (traced_of-push M mix env events event) in
-        subst (λ ws. IsThere env mix job (mem env mix ws)) (sym (after ∙ same)) there
+        subst (λ ws. IsThere job (mem env mix ws)) (sym (after ∙ same)) there
 
     -- so it does where the event leaves the words
     pub there-same : (world_step mix (R events).world event).core.words ≡ (R events).world.core.words

@@ -37,7 +37,7 @@ use Rattle.rht_core.proofs.Tracing.TracedJobs.{busy-none, IsAtJob}
 use Rattle.rht_core.proofs.Tracing.RepliesInRuns.{Holds, Answered, runs-right}
 use Rattle.rht_ghost.proofs.Theory.Answering.{KnowsEarly, Says}
 use Rattle.rht_ghost.proofs.Theory.Steps.{mem, owners, ghost_after}
-use Rattle.rht_core.proofs.Machines.EarlyPages.{IsThereNext}
+use Rattle.rht_core.proofs.Machines.JobSteps.{IsThereNext}
 use Rattle.rht_core.proofs.Events.Invariants.{StepOf, step_of}
 use Rattle.rht_core.proofs.Events.PagesThere.{stepped-there}
 use Rattle.rht_core.proofs.Events.InvariantRuns.{HasInv, opening_ghost, opening_whole}
@@ -230,10 +230,11 @@ module _ (M : Type 0) (mix : ℕ → ℕ → ℕ → ℕ) (env : Env) where
         (held_next next_job).answer) after-is of.step.says)
 
     -- what is known early after it
-    knows : KnowsEarly kind c (call_of job) (IsThereAt M mix env events job) (IsThereNext env mix next_job (mem env mix (applied words op)))
+    knows : KnowsEarly kind c (call_of job) (IsThereAt M mix env events job)
+        (IsThereNext next_job (mem env mix (applied words op)))
         (at_end after_it) (held_of job).early (held_next next_job).early
     knows = subst (λ (b : Multimap). KnowsEarly kind c (call_of job) (IsThereAt M mix env events job)
-        (IsThereNext env mix next_job (mem env mix (applied words op))) b (held_of job).early
+        (IsThereNext next_job (mem env mix (applied words op))) b (held_of job).early
         (held_next next_job).early) after-is of.step.early
 
     -- the call of its book, and what is left of the job and of the call
@@ -319,11 +320,11 @@ module _ (M : Type 0) (mix : ℕ → ℕ → ℕ → ℕ) (env : Env) where
             own.es fitting.good (λ claims. absurd (let never = claims.may in cc)) says at.early at.tail
 
         early : IsEarly M mix env after_it c (call_of job) trace.begin
-            (IsThereNext env mix next_job (mem env mix (applied words op))) (held_next next_job).early
+            (IsThereNext next_job (mem env mix (applied words op))) (held_next next_job).early
         early =
             early-next M mix env events event c (call_of job) trace.begin at.begun trace.steps at.made did
             (count-traced_of M mix env events) (IsThereAt M mix env events job)
-            (IsThereNext env mix next_job (mem env mix (applied words op)))
+            (IsThereNext next_job (mem env mix (applied words op)))
             (held_of job).early (held_next next_job).early knows at.early
 
         -- where the job goes on
@@ -331,7 +332,7 @@ module _ (M : Type 0) (mix : ℕ → ℕ → ℕ → ℕ) (env : Env) where
             → IsEarly M mix env after_it c (call_of after) trace.begin (IsThereAt M mix env after_it after) (held_of after).early
         early_now after e same answer known =
             let here = subst (λ (q : Job × Next Ending). IsEarly M mix env after_it c (call_of job) trace.begin
-            (IsThereNext env mix q (mem env mix (applied words op))) (held_next q).early) e early in
+            (IsThereNext q (mem env mix (applied words op))) (held_next q).early) e early in
             elim (here answer known) [
               | inl there ↦ inl (there-next M mix env events event (applied words op) (step_words M mix r.world c op is) after there)
               | inr said ↦ inr (subst (λ (a : Call). IsSaid M mix env after_it c a trace.begin answer) (sym same) said)

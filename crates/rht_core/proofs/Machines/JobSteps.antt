@@ -1,6 +1,6 @@
 -- What a caller in a call knows by its job, and that each of its operations leads from what it knows to what it knows next.
 -- The inductions over runs go through this one step, with no case of a machine.
-use Rattle.std.proofs.Common.{◌≡◌, ℕ, ◌^◌, ◌<◌, List, length, Option, Bool, refl, inr}
+use Rattle.std.proofs.Common.{Option, None, ◌≡◌, ℕ, ◌^◌, ◌<◌, List, length, Bool, refl, inr}
 use Rattle.rht_words.specs.declared.env.Env.{Env}
 use Rattle.rht_words.specs.declared.machine.Next.{Next}
 use Rattle.rht_words.specs.declared.machine.Next.TheVariants.{Go, Done}
@@ -9,10 +9,10 @@ use Rattle.rht_words.specs.declared.op.Op.{Op}
 use Rattle.rht_words.specs.Operations.{old_of, applied}
 use Rattle.rht_words.specs.Places.{words_in}
 use Rattle.rht_words.proofs.Memory.{Memory}
-use Rattle.rht_model.specs.declared.history.Call.TheVariants.{Release, Rebind, All, Work}
+use Rattle.rht_model.specs.declared.history.Call.TheVariants.{Work}
 use Rattle.rht_model.specs.declared.history.Reply.{Reply}
 use Rattle.rht_model.specs.declared.history.Reply.TheVariants.{Counted}
-use Rattle.rht_model.specs.Answers.{plain}
+use Rattle.rht_model.specs.Answers.{Answer, plain}
 use Rattle.rht_model.specs.Endings.{Ending, plain_ending}
 use Rattle.rht_find.specs.Find.{IsFindAtIn}
 use Rattle.rht_find.specs.Find as find_at
@@ -23,7 +23,6 @@ use Rattle.rht_bind.specs.declared.bind.BindAt.{BindAt}
 use Rattle.rht_model.specs.Rooms.{Kept}
 use Rattle.rht_release.specs.All.{IsAllAtIn}
 use Rattle.rht_release.specs.All as all_at
-use Rattle.rht_release.specs.AllHeld.{held_of_all}
 use Rattle.rht_release.specs.declared.all.AllAt.{AllAt}
 use Rattle.rht_callers.specs.PortCounts.{count_plan_in}
 use Rattle.rht_core.specs.Jobs.{listing_ending, node_ending, Job, finds, binds, releases, rebinds, lists, works, counts, call_of, job_plan, job_next, job_after, held_of, held_next}
@@ -44,15 +43,15 @@ use Rattle.rht_ghost.proofs.Theory.Knowledge.{Knowing}
 use Rattle.rht_ghost.proofs.Theory.Reliance.{Rely}
 use Rattle.rht_ghost.proofs.Theory.KnowledgeKept.{Knowing-rely}
 use Rattle.rht_ghost.proofs.Theory.Steps.{mem, Holding, Step, StepWhere, step-map, reads}
-use Rattle.rht_core.proofs.Machines.EarlyPages.{IsThere, IsThereNext}
+use Rattle.rht_ghost.proofs.Pieces.Locates.{IsThereFor}
 use Rattle.rht_ghost.proofs.Theory.Knowns.{known_nothing}
-use Rattle.rht_find.proofs.FindSteps.{known_of_find, fits_find, find_there, find_there_next, find_holds, FindNext, find_step}
+use Rattle.rht_find.proofs.FindSteps.{known_of_find, fits_find, FindMoved, find_step}
 use Rattle.rht_bind.proofs.BindKnowledge.{known_of_bind, fits_bind, bind_holds, BindNext}
 use Rattle.rht_bind.proofs.BindSteps.{bind_step}
-use Rattle.rht_release.proofs.AllSteps.{known_of_all, fits_all, all_there, all_there_next, all_holds, AllNext, all_step}
-use Rattle.rht_release.proofs.ReleaseKnowledge.{known_of_release, fits_release, release_there, release_there_next, release_holds, ReleaseNext, nothing_known}
+use Rattle.rht_release.proofs.AllSteps.{known_of_all, fits_all, AllMoved, all_step}
+use Rattle.rht_release.proofs.ReleaseKnowledge.{known_of_release, fits_release, ReleaseMoved, nothing_known}
 use Rattle.rht_release.proofs.ReleaseSteps.{release_step}
-use Rattle.rht_release.proofs.RebindKnowledge.{known_of_rebind, fits_rebind, rebind_there, rebind_there_next, rebind_holds, RebindNext}
+use Rattle.rht_release.proofs.RebindKnowledge.{known_of_rebind, fits_rebind, RebindMoved}
 use Rattle.rht_release.proofs.RebindSteps.{rebind_step}
 use Rattle.rht_move.proofs.WorkKnowledge.{known_of_work, work_holds, WorkNext}
 use Rattle.rht_move.proofs.WorkMachine.{work_step}
@@ -66,6 +65,21 @@ known_of (releases port owner state) = known_of_release port owner state
 known_of (rebinds port owner new state) = known_of_rebind port owner new state
 known_of (works state) = known_of_work state
 known_of counts = known_nothing
+
+-- what it will answer should it miss a page on its way, known early; a bind that misses a page enters one
+abbrev pub early_of : Job → Option Answer
+early_of (binds port owner once state) = None
+early_of (works state) = None
+early_of job = (held_of job).early
+
+-- the page that the job may miss is there in these words
+abbrev pub IsThere : Job → Memory → Type 0
+IsThere job = IsThereFor (early_of job) (known_of job).table
+
+-- and after an operation; a call that has ended misses none
+abbrev pub IsThereNext : Job × Next Ending → Memory → Type 0
+IsThereNext (job, Go) M = IsThere job M
+IsThereNext (job, Done ending) M = ⊥
 
 -- nothing is held
 abbrev pub holds_no : Holding
@@ -134,7 +148,7 @@ module _ (env : Env) (mix : ℕ → ℕ → ℕ → ℕ) (c : ℕ) where
   -- an operation of a job, of which this is left
   abbrev pub JobStepOf : List ℕ → Ghost → Op → Job → Job × Next Ending → Type 0
   JobStepOf words G op job r =
-      StepWhere env mix (IsThere env mix job (mem env mix words)) (IsThereNext env mix r (mem env mix (applied words op)))
+      StepWhere env mix (IsThere job (mem env mix words)) (IsThereNext r (mem env mix (applied words op)))
       c (call_of job) words G op (held_of job) (held_next r) (JobNext r)
 
   -- what it knows outlives a step of anybody else
@@ -152,9 +166,7 @@ module _ (env : Env) (mix : ℕ → ℕ → ℕ → ℕ) (c : ℕ) where
     JobStep job = JobStepOf words G (job_plan env job) job (job_after mix env job (old_of words (job_plan env job)))
 
     finds_so : (port : ℕ) (state : FindAt) (r : FindAt × Next Reply)
-        → StepWhere env mix (find_there state (mem env mix words))
-        (find_there_next r (mem env mix (applied words (find_at.plan_at env state)))) c (call_of (finds port state)) words G
-        (find_at.plan_at env state) (held_of (finds port state)) (find_holds env mix c port r) (FindNext env mix c port r)
+        → FindMoved env mix c port words G all whole state r
         → JobStepOf words G (job_plan env (finds port state)) (finds port state) (job_next (finds port) plain_ending r)
     finds_so port state (next, Go) step =
         step-map env mix (λ M G' w k. record { built = tt; knowing = k.knowing; fits = k.fits }) step
@@ -167,21 +179,16 @@ module _ (env : Env) (mix : ℕ → ℕ → ℕ → ℕ) (c : ℕ) where
         step-map env mix (λ M G' w k. record { built = tt; knowing = k.knowing; fits = k.fits }) step
     binds_so port owner once state (next, Done reply) step = step
 
-    lists_so : (port : ℕ) (room : Kept ℕ) (state : AllAt) (after : Kept ℕ) (r : AllAt × Next (Unit {0}))
-        → StepWhere env mix (all_there state (mem env mix words))
-        (all_there_next r (mem env mix (applied words (all_at.plan_at env state)))) c (All port) words G
-        (all_at.plan_at env state) (held_of_all room.items state)
-        (all_holds env mix c port after r) (AllNext env mix c port after r)
+    lists_so : (port : ℕ) (room : Kept ℕ) (roomy : room.limit ≡ env.geometry.nodes) (state : AllAt)
+        (after : Kept ℕ) (r : AllAt × Next (Unit {0}))
+        → AllMoved env mix c port room roomy words G all whole state after r
         → JobStepOf words G (job_plan env (lists port room state)) (lists port room state) (job_next (lists port after) (listing_ending after) r)
-    lists_so port room state after (next, Go) step =
+    lists_so port room roomy state after (next, Go) step =
         step-map env mix (λ M' G' w k. record { built = tt; knowing = k.knowing; fits = k.fits }) step
-    lists_so port room state after (next, Done done) step = step
+    lists_so port room roomy state after (next, Done done) step = step
 
     releases_so : (port owner : ℕ) (state : ReleaseAt) (r : ReleaseAt × Next (Reply × Option ℕ))
-        → StepWhere env mix (release_there state (mem env mix words))
-        (release_there_next r (mem env mix (applied words (release_at.plan_at env state)))) c (Release port owner) words G
-        (release_at.plan_at env state) (held_of (releases port owner state))
-        (release_holds env mix c port owner r) (ReleaseNext env mix c port owner r)
+        → ReleaseMoved env mix c port owner words G state r
         → JobStepOf words G (job_plan env (releases port owner state)) (releases port owner state) (job_next (releases port owner) node_ending r)
     releases_so port owner state (next, Go) step =
         step-map env mix (λ M G' w k. record { built = tt; knowing = k.knowing; fits = k.fits }) step
@@ -189,11 +196,9 @@ module _ (env : Env) (mix : ℕ → ℕ → ℕ → ℕ) (c : ℕ) where
         let after = held.ended_with (plain end.0) in
         step-map env mix (λ M G' w k. nothing_known env mix c after end.1 M G' k) step
 
-    rebinds_so : env.config.kind ≡ Single → (port owner new : ℕ) (state : RebindAt) (r : RebindAt × Next (Reply × Option ℕ))
-        → StepWhere env mix (rebind_there state (mem env mix words))
-        (rebind_there_next r (mem env mix (applied words (rebind_at.plan_at env state)))) c (Rebind port owner new) words G
-        (rebind_at.plan_at env state) (held_of (rebinds port owner new state))
-        (rebind_holds env mix c port owner new r) (RebindNext env mix c port owner new r)
+    rebinds_so : env.config.kind ≡ Single → (port owner new : ℕ) (state : RebindAt)
+        (r : RebindAt × Next (Reply × Option ℕ))
+        → RebindMoved env mix c port owner new words G state r
         → JobStepOf words G (job_plan env (rebinds port owner new state)) (rebinds port owner new state) (job_next (rebinds port owner new) node_ending r)
     rebinds_so single port owner new state (next, Go) step =
         step-map env mix (λ M G' w k. record { built = single; knowing = k.knowing; fits = k.fits }) step
@@ -218,7 +223,8 @@ module _ (env : Env) (mix : ℕ → ℕ → ℕ → ℕ) (c : ℕ) where
         (bind_step env mix c port owner once within.port_in within.owner_in low words G all whole state within.at_in (record { knowing = knows.knowing; fits = knows.fits }))
     job_step (lists port room state) within knows =
         let old = old_of words (all_at.plan_at env state) in
-        lists_so port room state (all_at.room_after state room old) (all_at.after_at mix env port state old)
+        lists_so port room within.roomy state (all_at.room_after state room old)
+        (all_at.after_at mix env port state old)
         (all_step env mix c port room within.roomy words G all whole state within.at_in
         (record { knowing = knows.knowing; fits = knows.fits }))
     job_step (releases port owner state) within knows =

@@ -5,7 +5,7 @@ use Rattle.rht_words.specs.declared.env.Env.{Env}
 use Rattle.rht_words.specs.Places.{WorkLock, NextSerial, Slot, SlotWord, StateWord}
 use Rattle.rht_words.proofs.Memory.{Memory, IsWrite}
 use Rattle.rht_words.specs.TableWords.{IsTableWord}
-use Rattle.rht_ghost.proofs.Theory.Ghosts.{put, put-other, put-all, SlotOwner, SlotFree, SlotHeld, Live, Retired, Ghost, state_word, has_table, with_slot}
+use Rattle.rht_ghost.proofs.Theory.Ghosts.{put, put-other, put-all, SlotOwner, SlotFree, SlotHeld, Ghost, state_word, has_table, with_slot}
 use Rattle.rht_ghost.proofs.Theory.Wholes.{retired_stay, SlotsRight, Whole}
 use Rattle.rht_ghost.proofs.Theory.Knowledge.{HasSlot}
 use Rattle.rht_ghost.proofs.Theory.Frames.{Others, Made, same_tables, stale_write, same_owners}

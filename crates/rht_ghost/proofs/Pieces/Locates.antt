@@ -28,7 +28,7 @@ use Rattle.rht_nest.specs.declared.locate.LocateAt.TheVariants as locates
 use Rattle.rht_nest.specs.declared.locate.Located.{Located}
 use Rattle.rht_nest.specs.declared.locate.LocatedBucket.{LocatedBucket}
 use Rattle.rht_nest.specs.declared.locate.LocatedBucket.TheVariants as buckets
-use Rattle.rht_nest.specs.Early.{early_of_locate, answer_unless}
+use Rattle.rht_nest.specs.Early.{early_of_locate}
 use Rattle.rht_ghost.proofs.Theory.Ghosts.{Ghost, has_table, index_at, none-some}
 use Rattle.rht_ghost.proofs.Theory.Wholes.{TableRight, Whole, hash_in, home, place_at, word_index, future_in}
 use Rattle.rht_ghost.proofs.Theory.Passed.{hash-below, passed_first, unbound_at_last, unbound_missing, go_on, go_beyond}
@@ -45,12 +45,12 @@ known_locate port slot (locates.Seed shape) = Shaped port slot shape
 known_locate port slot (locates.Early shape place) = OnWay port slot shape place None
 known_locate port slot (locates.Entry shape early place) = OnWay port slot shape place early
 
--- the bucket that it may find missing is there, once it has loaded the future before the entries
-abbrev pub IsThereAt : LocateAt → Memory → Type 0
-IsThereAt locates.Shape M = ⊥
-IsThereAt (locates.Seed shape) M = ⊥
-IsThereAt (locates.Early shape place) M = ⊥
-IsThereAt (locates.Entry shape early place) M = IsPlaced M place
+-- Of a call that knows this answer early, should the bucket be missing to which it is on its way: the bucket is
+-- there.
+abbrev pub IsThereFor : Option Answer → KnownTable → Memory → Type 0
+IsThereFor None known M = ⊥
+IsThereFor (Some answer) (OnWay port slot shape place further) M = IsPlaced M place
+IsThereFor (Some answer) _ M = ⊥
 
 module _ (env : Env) (mix : ℕ → ℕ → ℕ → ℕ) (c : ℕ) (h : Holding) (node : Option KnownNode)
     (bucket : KnownBucket) where
@@ -332,45 +332,49 @@ module _ (env : Env) (mix : ℕ → ℕ → ℕ → ℕ) (c : ℕ) (h : Holding)
       abbrev now : Multimap
       now = owners env mix M G
 
-      abbrev KnowsFrom : LocateAt → LocateAt → List ℕ → Type 0
-      KnowsFrom at next after =
-          KnowsEarly env.config.kind c call (IsThereAt at M) (IsThereAt next (mem env mix after)) now
+      abbrev There : ℕ → LocateAt → Memory → Type 0
+      There slot at = IsThereFor (early_of_locate absent at) (known_locate port slot at)
+
+      abbrev KnowsFrom : ℕ → LocateAt → ℕ → LocateAt → List ℕ → Type 0
+      KnowsFrom slot at then next after =
+          KnowsEarly env.config.kind c call (There slot at M) (There then next (mem env mix after)) now
           (early_of_locate absent at) (early_of_locate absent next)
 
       -- where the bucket turns out to be missing the answer was known early, if no table was behind
-      pub record IsRecalled (at : LocateAt) : Type 0 where
+      pub record IsRecalled (slot : ℕ) (at : LocateAt) : Type 0 where
         pub known_early : early_of_locate absent at ≡ Some absent
-        pub missing : ¬ IsThereAt at M
+        pub missing : ¬ There slot at M
 
-      abbrev pub Recalls : LocateAt → LocatedBucket → Type 0
-      Recalls at (buckets.At place) = Unit {0}
-      Recalls at (buckets.Missing place None) = IsRecalled at
-      Recalls at (buckets.Missing place (Some next)) = Unit {0}
+      abbrev pub Recalls : ℕ → LocateAt → LocatedBucket → Type 0
+      Recalls slot at (buckets.At place) = Unit {0}
+      Recalls slot at (buckets.Missing place None) = IsRecalled slot at
+      Recalls slot at (buckets.Missing place (Some next)) = Unit {0}
 
       -- what an operation says early, which leaves these words
-      abbrev pub LocateSays : LocateAt → List ℕ → LocateModel × Next Located → Type 0
-      LocateSays at after (m, Go) = KnowsFrom at m.at after
-      LocateSays at after (m, Done located) = Recalls at located.bucket
+      abbrev pub LocateSays : ℕ → LocateAt → List ℕ → LocateModel × Next Located → Type 0
+      LocateSays slot at after (m, Go) = KnowsFrom slot at m.table m.at after
+      LocateSays slot at after (m, Done located) = Recalls slot at located.bucket
 
       -- nothing is known early after it
-      says_none : (at next : LocateAt) (after : List ℕ) → early_of_locate absent next ≡ None → KnowsFrom at next after
-      says_none at next after none =
-          none_early env.config.kind c call (IsThereAt at M) (IsThereAt next (mem env mix after)) now
+      says_none : (slot : ℕ) (at next : LocateAt) (after : List ℕ) → early_of_locate absent next ≡ None
+          → KnowsFrom slot at slot next after
+      says_none slot at next after none =
+          none_early env.config.kind c call (There slot at M) (There slot next (mem env mix after)) now
           (early_of_locate absent at) (early_of_locate absent next) none
 
       -- at the load of a future that leads to no table the port is bound nowhere, or its bucket is there
       foresees_now : (slot shape : ℕ) (place : PlaceModel) → IsOnWay env mix G port slot shape place None
           → (future : Option ℕ) → Leads slot future
-          → KnowsFrom (locates.Early shape place) (locates.Entry shape future place) words
+          → KnowsFrom slot (locates.Early shape place) slot (locates.Entry shape future place) words
       foresees_now slot shape place on (Some next) behind =
-          says_none (locates.Early shape place) (locates.Entry shape (Some next) place) words refl
+          says_none slot (locates.Early shape place) (locates.Entry shape (Some next) place) words refl
       foresees_now slot shape place on None last = go (home env mix G port (index_at G slot)) refl
         where
           read : read_place (words_of_pages M) place ≡ option_map (place_at env mix) (home env mix G port (index_at G slot))
           read = on_way_read env mix M G whole port slot shape place None on
 
           go : (word : Option ℕ) → home env mix G port (index_at G slot) ≡ word
-              → KnowsFrom (locates.Early shape place) (locates.Entry shape None place) words
+              → KnowsFrom slot (locates.Early shape place) slot (locates.Entry shape None place) words
           go None here =
               foresees env.config.kind c call ⊥ (IsPlaced M place) now None absent (legal (ap (owners_in env mix M)
               (unbound_missing env mix M G whole port (index_at G slot) on.shaped.passing.passed here last)))
@@ -380,23 +384,27 @@ module _ (env : Env) (mix : ℕ → ℕ → ℕ → ℕ) (c : ℕ) (h : Holding)
       -- an entry that leads to another one leads where the bucket is, or isn't
       stays_now : (slot shape : ℕ) (early : Option ℕ) (place next : PlaceModel)
           → IsOnWay env mix G port slot shape place early → IsOnWay env mix G port slot shape next early
-          → KnowsFrom (locates.Entry shape early place) (locates.Entry shape early next) words
-      stays_now slot shape early place next on further =
-          stays_early env.config.kind c call (IsPlaced M place) (IsPlaced M next) now (answer_unless absent early)
-          (λ there none. there (on_way_read env mix M G whole port slot shape place early on
-          ∙ sym (on_way_read env mix M G whole port slot shape next early further) ∙ none))
+          → KnowsFrom slot (locates.Entry shape early place) slot (locates.Entry shape early next) words
+      stays_now slot shape None place next on further =
+          stays_early env.config.kind c call (IsPlaced M place) (IsPlaced M next) now (Some absent)
+          (λ there none. there (on_way_read env mix M G whole port slot shape place None on
+          ∙ sym (on_way_read env mix M G whole port slot shape next None further) ∙ none))
+      stays_now slot shape (Some early) place next on further =
+          says_none slot (locates.Entry shape (Some early) place) (locates.Entry shape (Some early) next) words
+          refl
 
-      missing_says : (shape : ℕ) (early : Option ℕ) (place : PlaceModel) → place.geometry ≡ env.geometry
-          → led_by place ≡ None → Recalls (locates.Entry shape early place) (buckets.Missing place early)
-      missing_says shape (Some next) place same is = tt
-      missing_says shape None place same is =
+      missing_says : (slot shape : ℕ) (early : Option ℕ) (place : PlaceModel) → place.geometry ≡ env.geometry
+          → led_by place ≡ None → Recalls slot (locates.Entry shape early place) (buckets.Missing place early)
+      missing_says slot shape (Some next) place same is = tt
+      missing_says slot shape None place same is =
           record { known_early = refl; missing = λ there. there (read_behind place same None is) }
 
       entered_says : (m : LocateModel) (shape : ℕ) (early : Option ℕ) (place : PlaceModel) (page : ℕ)
           → place.geometry ≡ env.geometry → knowing (OnWay port m.table shape place early) M G
           → led_by place ≡ Some page → (start : Start PlaceModel ℕ) → entered place page ≡ start
           → let next = went_behind place start in
-          LocateSays (locates.Entry shape early place) words (entry_followed m shape early next.0 next.1)
+          LocateSays m.table (locates.Entry shape early place) words
+          (entry_followed m shape early next.0 next.1)
       entered_says m shape early place page same knows is (starts.Running next) e =
           let further = entered_knows port m shape early place page same knows is (starts.Running next) e in
           stays_now m.table shape early place next knows.means.table further.means.table
@@ -406,27 +414,28 @@ module _ (env : Env) (mix : ℕ → ℕ → ℕ → ℕ) (c : ℕ) (h : Holding)
           → place.geometry ≡ env.geometry → knowing (OnWay port m.table shape place early) M G
           → (entry : Option ℕ) → led_by place ≡ entry
           → let next = entry_seen place entry in
-          LocateSays (locates.Entry shape early place) words (entry_followed m shape early next.0 next.1)
-      entry_says m shape early place same knows None is = missing_says shape early place same is
+          LocateSays m.table (locates.Entry shape early place) words
+          (entry_followed m shape early next.0 next.1)
+      entry_says m shape early place same knows None is = missing_says m.table shape early place same is
       entry_says m shape early place same knows (Some page) is =
           entered_says m shape early place page same knows is (entered place page) refl
 
       says_at : (slot : ℕ) (at : LocateAt) → IsLocateAtIn env.geometry at → knowing (known_locate port slot at) M G
           → let m : LocateModel = record { geometry = env.geometry; table = slot; at = at } in
-          LocateSays at words (locate_after mix port m (old_of words (locate_plan m)))
+          LocateSays slot at words (locate_after mix port m (old_of words (locate_plan m)))
       says_at slot locates.Shape within knows =
-          says_none locates.Shape (locates.Seed (M (Slot slot ShapeWord))) words refl
+          says_none slot locates.Shape (locates.Seed (M (Slot slot ShapeWord))) words refl
       says_at slot (locates.Seed shape) within knows =
           let m : LocateModel = record { geometry = env.geometry; table = slot; at = locates.Seed shape } in
           let place = nested_place env.geometry shape (bucket_of mix port shape (M (Slot slot SeedWord))) in
-          by_test (λ t. LocateSays (locates.Seed shape) words (cond {A = LocateModel × Next Located} t
+          by_test (λ t. LocateSays slot (locates.Seed shape) words (cond {A = LocateModel × Next Located} t
           (record m { at = locates.Early shape place }, Go) (
             m,
             Done (located_at shape (flat_place env.geometry shape
                 (bucket_of mix port shape (M (Slot slot SeedWord))))),
           )))
           (is_nested shape)
-          (λ nested. says_none (locates.Seed shape) (locates.Early shape place) words refl) (λ flat. tt)
+          (λ nested. says_none slot (locates.Seed shape) (locates.Early shape place) words refl) (λ flat. tt)
       says_at slot (locates.Early shape place) within knows =
           let on = knows.means.table in
           foresees_now slot shape place on (slot_of (M (Slot slot FutureWord)))
@@ -436,13 +445,16 @@ module _ (env : Env) (mix : ℕ → ℕ → ℕ → ℕ) (c : ℕ) (h : Holding)
           entry_says m shape early place within.nested_in.place_in.geometry_same knows (led_by place) refl
 
       pub locate_says : (m : LocateModel) → IsLocateIn env.geometry m → knowing (known_locate port m.table m.at) M G
-          → LocateSays m.at (applied words (locate_plan m))
+          → LocateSays m.table m.at (applied words (locate_plan m))
           (locate_after mix port m (old_of words (locate_plan m)))
       locate_says m is knows =
           subst (λ g. let here : LocateModel = record { geometry = g; table = m.table; at = m.at } in
-          LocateSays m.at (applied words (locate_plan here)) (locate_after mix port here (old_of words (locate_plan here))))
+          LocateSays m.table m.at (applied words (locate_plan here))
+          (locate_after mix port here (old_of words (locate_plan here))))
           (sym is.geometry_same)
           (let here : LocateModel = record { geometry = env.geometry; table = m.table; at = m.at } in
-          subst (λ after. LocateSays m.at after (locate_after mix port here (old_of words (locate_plan here))))
+          subst
+          (λ after. LocateSays m.table m.at after
+          (locate_after mix port here (old_of words (locate_plan here))))
           (sym (locate_loads port m.table m.at))
           (says_at m.table m.at is.at_in knows))
