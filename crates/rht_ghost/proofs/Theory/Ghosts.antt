@@ -327,12 +327,7 @@ not_first-seatless (First j) is = absurd (cc)
 not_first-seatless (Leaving j) is = absurd (cc)
 not_first-seatless o is = refl
 
--- a node that is no port's is in no chain
-pub unused-not_first : (o : Owner) → is_used o ≡ false → is_first o ≡ false
-unused-not_first (First j) is = absurd (cc)
-unused-not_first (Leaving j) is = absurd (cc)
-unused-not_first _ is = refl
-
+-- a node that was taken out by one caller counts for no other
 pub taken_by_one : (c d : ℕ) → c ≢ d → is_taken_by c (Taken d) ≡ false
 taken_by_one c d ne = go (d == c) refl
   where
