@@ -7,7 +7,7 @@ use Rattle.std.proofs.lemmas.Nat.{pow_pos, and_le_l, and_le_r}
 use Rattle.std.proofs.lemmas.Nat.Bits.{bit_at_and, bit_at_not, bit_at-lt, bit_at-zero, bit_at-trailing_zeros, same_from_bits, same_from_bits_below, bit_at_mask_inside, bit_at_mask_below, bit_at_mask_above}
 use Rattle.rht_words.specs.Maps.{map_bits}
 use Rattle.rht_words.specs.Planned.{IsWord}
-use Rattle.rht_arena.specs.Runs.{run_bits}
+use Rattle.rht_arena.specs.PageRuns.{run_bits}
 
 -- a longer map has more bits in a word
 pub map_bits_rise : (few more index : ℕ) → map_bits few index ≤ map_bits (few + more) index

@@ -11,7 +11,7 @@ use Rattle.rht_words.specs.declared.geometry.Geometry.{Geometry}
 use Rattle.rht_words.specs.Places.{PageMap, place_of}
 use Rattle.rht_words.specs.Operations.{op_place, word_after}
 use Rattle.rht_words.specs.Machines.{Performed, went_on, ran}
-use Rattle.rht_arena.specs.Runs.{run_bits}
+use Rattle.rht_arena.specs.PageRuns.{run_bits}
 use Rattle.rht_arena.specs.GiveRun.{GiveRunModel, give_run_plan, give_run_after}
 use Rattle.rht_arena.specs.RunLaws.{page_place, page_bit, IsOfRun, GivesPage, GivingRunSetsItsBits}
 use Rattle.rht_arena.proofs.RunBits.{bit_at-run, bit_at-run_from, bit_at-run_until}

@@ -12,7 +12,7 @@ use Rattle.rht_words.specs.declared.machine.Next.{Next}
 use Rattle.rht_words.specs.Places.{PageMap, place_of}
 use Rattle.rht_arena.specs.declared.take_run.TakeRunAt.{TakeRunAt}
 use Rattle.rht_arena.specs.declared.take_run.TakeRunAt.TheVariants.{MapWord, Claim, GiveBack}
-use Rattle.rht_arena.specs.Runs.{run_bits}
+use Rattle.rht_arena.specs.PageRuns.{run_bits}
 use Rattle.rht_arena.specs.TakeRun.{TakeRunModel, take_run_plan_at, take_run_after_at, next_run, given_below, given_from, claimed, has_run, has_page, IsRunAt, IsTakeRunAtIn}
 use Rattle.rht_arena.specs.RunLaws.{page_place, has_after, has_next, HoldsWhatItTook}
 use Rattle.rht_arena.proofs.RunBits.{run_bits-fits, bit_at-run, bit_at-run_from, bit_at-run_until}

@@ -5,7 +5,7 @@ use Rattle.rht_words.specs.declared.geometry.Geometry.{Geometry}
 use Rattle.rht_words.specs.Places.{PageMap, IsAddress}
 use Rattle.rht_words.specs.Planned.{IsWord, IsPlannedIn}
 use Rattle.rht_words.proofs.PlannedWords.{planned-at, planned_load, bit_not-fits}
-use Rattle.rht_arena.specs.Runs.{run_bits, IsRunIn, IsRunWord}
+use Rattle.rht_arena.specs.PageRuns.{run_bits, IsRunIn, IsRunWord}
 use Rattle.rht_arena.specs.TakeRun.{TakeRunModel, take_run_plan, take_run_plan_at, IsTakeRunAtIn, IsTakeRunIn}
 use Rattle.rht_arena.specs.declared.take_run.TakeRunAt.{TakeRunAt}
 use Rattle.rht_arena.specs.declared.take_run.TakeRunAt.TheVariants.{MapWord, Claim, GiveBack}

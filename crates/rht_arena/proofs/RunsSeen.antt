@@ -18,7 +18,7 @@ use Rattle.rht_words.proofs.MachineRuns.{performed}
 use Rattle.rht_arena.specs.declared.take_run.TakeRunAt.{TakeRunAt}
 use Rattle.rht_arena.specs.declared.take_run.TakeRunAt.TheVariants.{MapWord, Claim, GiveBack}
 use Rattle.rht_arena.specs.Laws.{IsLook}
-use Rattle.rht_arena.specs.Runs.{run_bits, IsRunIn, IsRunWord}
+use Rattle.rht_arena.specs.PageRuns.{run_bits, IsRunIn, IsRunWord}
 use Rattle.rht_arena.specs.TakeRun.{TakeRunModel, first_run, take_run_plan, take_run_plan_at, take_run_after, take_run_after_at, next_run, given_below, given_from, claimed, has_run, IsRunAt, IsTakeRunAtIn}
 use Rattle.rht_arena.specs.RunLaws.{SeesRunTaken, AreRunsSeenInTurn, run_taking_ran, NoneOnlyWhereRunsTaken, NoneWhereRunsTakenInTurn}
 use Rattle.rht_arena.proofs.RunBits.{run_bits-fits, bit_at-run, bit_at-run_from, bit_at-run_until, has_each, lacks_bit}

@@ -5,7 +5,7 @@ use Rattle.std.specs.Int.Bits.{and_self}
 use Rattle.std.proofs.lemmas.Bool.{cond_both, ltb-true, leb-true, leb-false}
 use Rattle.rht_words.specs.declared.geometry.Geometry.{Geometry}
 use Rattle.rht_words.specs.declared.machine.Next.{Next}
-use Rattle.rht_arena.specs.Runs.{run_bits, IsRunIn}
+use Rattle.rht_arena.specs.PageRuns.{run_bits, IsRunIn}
 use Rattle.rht_arena.specs.TakeRun.{TakeRunModel, take_run_after, take_run_after_at, next_run, given_below, given_from, claimed, looked, cleared, has_run, IsRunAt, IsTakeRunAtIn, IsTakeRunIn, IsRunEndIn}
 use Rattle.rht_arena.specs.declared.take_run.TakeRunAt.{TakeRunAt}
 use Rattle.rht_arena.specs.declared.take_run.TakeRunAt.TheVariants.{MapWord, Claim, GiveBack}

@@ -19,7 +19,7 @@ use Rattle.rht_words.proofs.EachElement.{Any-append_left}
 use Rattle.rht_words.proofs.MachineRuns.{performed, kept_to_end}
 use Rattle.rht_arena.specs.declared.take_run.TakeRunAt.{TakeRunAt}
 use Rattle.rht_arena.specs.declared.take_run.TakeRunAt.TheVariants.{MapWord, Claim, GiveBack}
-use Rattle.rht_arena.specs.Runs.{run_bits, IsRunIn}
+use Rattle.rht_arena.specs.PageRuns.{run_bits, IsRunIn}
 use Rattle.rht_arena.specs.TakeRun.{TakeRunModel, first_run, take_run_plan, take_run_plan_at, take_run_after, take_run_after_at, next_run, given_below, given_from, claimed, looked, cleared, has_run, IsRunAt, IsTakeRunAtIn}
 use Rattle.rht_arena.specs.RunLaws.{IsOfRun, TakesPage, RunWasTaken, TakenRunWasFree}
 use Rattle.rht_arena.proofs.RunBits.{run_bits-fits, bit_at-run, has_each}

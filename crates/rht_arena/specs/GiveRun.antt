@@ -7,7 +7,7 @@ use Rattle.rht_words.specs.declared.machine.Next.{Next}
 use Rattle.rht_words.specs.declared.machine.Next.TheVariants.{Go, Done}
 use Rattle.rht_words.specs.declared.geometry.Geometry.{Geometry}
 use Rattle.rht_words.specs.Places.{PageMap, place_of}
-use Rattle.rht_arena.specs.Runs.{run_bits, IsRunIn, IsRunWord}
+use Rattle.rht_arena.specs.PageRuns.{run_bits, IsRunIn, IsRunWord}
 
 -- what contracts see of the machine: the run, and the word of the page map that comes next
 pub record GiveRunModel : Type 0 where

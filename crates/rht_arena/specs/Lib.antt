@@ -5,7 +5,7 @@ pub mod NewNode
 -- how a node is given back
 pub mod GiveNode
 -- runs of pages
-pub mod Runs
+pub mod PageRuns
 -- how a run of free pages is taken
 pub mod TakeRun
 -- how a run of pages is given back

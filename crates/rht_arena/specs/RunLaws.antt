@@ -10,7 +10,7 @@ use Rattle.rht_words.specs.declared.geometry.Geometry.{Geometry}
 use Rattle.rht_words.specs.Places.{PageMap, place_of}
 use Rattle.rht_words.specs.Operations.{op_place, word_after}
 use Rattle.rht_words.specs.Machines.{Performed, Ran, ran}
-use Rattle.rht_arena.specs.Runs.{is_in_run, IsRunIn}
+use Rattle.rht_arena.specs.PageRuns.{is_in_run, IsRunIn}
 use Rattle.rht_arena.specs.TakeRun.{TakeRunModel, first_run, take_run_plan, take_run_after, has_page, IsTakeRunAtIn}
 use Rattle.rht_arena.specs.GiveRun.{GiveRunModel, give_run_new, give_run_plan, give_run_after}
 use Rattle.rht_arena.specs.Laws.{IsLook}

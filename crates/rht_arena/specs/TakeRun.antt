@@ -12,7 +12,7 @@ use Rattle.rht_words.specs.declared.geometry.Geometry.{Geometry}
 use Rattle.rht_words.specs.Places.{PageMap, place_of}
 use Rattle.rht_arena.specs.declared.take_run.TakeRunAt.{TakeRunAt}
 use Rattle.rht_arena.specs.declared.take_run.TakeRunAt.TheVariants.{MapWord, Claim, GiveBack}
-use Rattle.rht_arena.specs.Runs.{run_bits, IsRunIn, IsRunWord}
+use Rattle.rht_arena.specs.PageRuns.{run_bits, IsRunIn, IsRunWord}
 
 -- what contracts see of the machine: how many pages the run is to have, and where its taking stands
 pub record TakeRunModel : Type 0 where

@@ -3,7 +3,7 @@
 ghost use Rattle.std.specs.Prelude.{◌≡◌, ◌<◌};
 ghost use Rattle.rht_words.specs.Operations.{op_place};
 ghost use Rattle.rht_words.specs.Places.{words_in};
-ghost use Rattle.rht_arena.specs.Runs.{IsRunIn};
+ghost use Rattle.rht_arena.specs.PageRuns.{IsRunIn};
 ghost use Rattle.rht_arena.specs.GiveRun.{give_run_new, give_run_plan, give_run_after};
 
 use crate::run_bits::run_bits;
@@ -21,7 +21,7 @@ pub struct GiveRun {
 
 impl Model for GiveRun {
     ghost use Rattle.rht_arena.specs.GiveRun.{GiveRunModel};
-    ghost use Rattle.rht_arena.specs.Runs.{IsRunIn, IsRunWord};
+    ghost use Rattle.rht_arena.specs.PageRuns.{IsRunIn, IsRunWord};
 
     ghost Value = { GiveRunModel };
 

@@ -1,7 +1,7 @@
 //! The bits of runs of pages in the words of the page map.
 
 ghost use Rattle.std.specs.Prelude.{◌≡◌, ◌+◌, ◌^◌, ◌<◌};
-ghost use Rattle.rht_arena.specs.Runs.{run_bits};
+ghost use Rattle.rht_arena.specs.PageRuns.{run_bits};
 
 use rht_words::map_bits;
 

@@ -5,7 +5,7 @@ ghost use Rattle.std.specs.Prelude.{◌≡◌, ◌<◌};
 ghost use Rattle.rht_words.specs.Operations.{op_place};
 ghost use Rattle.rht_words.specs.Places.{words_in};
 ghost use Rattle.rht_arena.specs.TakeRun.{first_run, take_run_new, take_run_plan, take_run_after, next_run, given_below, claimed, looked, cleared, IsRunAt, IsTakeRunAtIn, IsRunEndIn};
-ghost use Rattle.rht_arena.specs.Runs.{run_bits, IsRunIn};
+ghost use Rattle.rht_arena.specs.PageRuns.{run_bits, IsRunIn};
 
 use crate::run_bits::run_bits;
 use rht_words::{Geometry, Next, Op, Start};

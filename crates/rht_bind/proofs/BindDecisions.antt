@@ -36,7 +36,7 @@ use Rattle.rht_ghost.proofs.Theory.Knowledge.{plainly, HasLock, IsMember, Knowin
 use Rattle.rht_ghost.proofs.Theory.KnowledgeStays.{TableMeans-stay}
 use Rattle.rht_ghost.proofs.Theory.Frames.{Made, same_tables, same_grow, tables_stay}
 use Rattle.rht_ghost.proofs.Theory.Answering.{IsLegalOn, learns}
-use Rattle.rht_ghost.proofs.Theory.Steps.{by_test, mem, owners, owners_in, still_has, answered, reads, Arms, unchanged, moved}
+use Rattle.rht_ghost.proofs.Theory.Steps.{by_test, mem, owners, owners_in, still_has, answered, reads, Arms, unchanged, silent}
 use Rattle.rht_ghost.proofs.Theory.Readiness.{IsArming}
 use Rattle.rht_ghost.proofs.Moves.Quiet.{armed_passes, arm}
 use Rattle.rht_ghost.proofs.Pieces.Locates.{FutureIs, future_is, is_last}
@@ -92,7 +92,7 @@ module _ (env : Env) (mix : ℕ → ℕ → ℕ → ℕ) (c : ℕ) (port owner :
       let b = armed_by (G.bucket j) c in
       let same : (applied words op) ≡ words = unchanged words op refl in
       answered env mix None (inl refl) (still_has refl)
-      (moved env mix c words G op (holds_claimed claimed) (holds_claimed claimed)
+      (silent env mix c words G op (holds_claimed claimed) (holds_claimed claimed)
       (BindNext (at.Count claimed, Go)) (Arms j) whole ready tt
       (subst (λ w. Made env mix c M G (mem env mix w) G') (sym same) made)
       (record { holds = refl; leaves = inl (λ bit l. refl) })

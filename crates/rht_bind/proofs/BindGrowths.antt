@@ -40,7 +40,7 @@ use Rattle.rht_ghost.proofs.Theory.Wholes.{Whole}
 use Rattle.rht_ghost.proofs.Theory.Knowns.{Nowhere, Unlocked, MakesNothing, HasMade}
 use Rattle.rht_ghost.proofs.Theory.Knowledge.{plainly, Knowing}
 use Rattle.rht_ghost.proofs.Theory.Answering.{Tells, keeps}
-use Rattle.rht_ghost.proofs.Theory.Steps.{answered-map, Attaches, Holding, by_test, mem, owners, Moved, still_has, answered, reads, moved}
+use Rattle.rht_ghost.proofs.Theory.Steps.{answered-map, Attaches, Holding, by_test, mem, owners, SilentStep, still_has, answered, reads, silent}
 use Rattle.rht_ghost.proofs.Theory.Readiness.{IsAttaching}
 use Rattle.rht_ghost.proofs.Theory.TableFrames.{Knowing-retabled}
 use Rattle.rht_ghost.proofs.Moves.Slots.{slot_word-apart}
@@ -164,7 +164,7 @@ module _ (env : Env) (mix : ℕ → ℕ → ℕ → ℕ) (c : ℕ) (port owner :
   made_next : (growing : Growing) (size : ℕ) (make : MakeModel) (r : MakeAt × Next (Option (ℕ × ℕ)))
       → let h = holds_node (Some growing.attempt.node) None in
       let k = wants_table port owner growing in
-      Moved env mix c words G (make_plan make)
+      SilentStep env mix c words G (make_plan make)
       (holding env mix c h k (slot_of_make make.at) (pages_of_make make.exponent make.at))
       (holding env mix c h k (slot_made r) (made_with env mix c h k words G all whole make.exponent r))
       (knowing env mix c h k (slot_made r) (made_with env mix c h k words G all whole make.exponent r)
@@ -182,7 +182,7 @@ module _ (env : Env) (mix : ℕ → ℕ → ℕ → ℕ) (c : ℕ) (port owner :
       let same = pages_of_table-shape env.geometry table.1 step.knows.means.making.fits in
       answered-map env mix None (inl refl) (still_has refl)
       (λ M' G' w k. record { knowing = k; fits = tt })
-      (subst (λ pages. Moved env mix c words G (make_plan make) (held_of_bind (at.Making growing size make))
+      (subst (λ pages. SilentStep env mix c words G (make_plan make) (held_of_bind (at.Making growing size make))
       (holding env mix c h k (Some table.0) pages)
       (knowing env mix c h k (Some table.0) pages (HasMade table.0 table.1))) same step)
 
@@ -205,7 +205,7 @@ module _ (env : Env) (mix : ℕ → ℕ → ℕ → ℕ) (c : ℕ) (port owner :
       (r : UnmakeAt × Next (Unit {0}))
       → let h = holds_behind attempt.node answer in
       let k = knows_of port owner (own port owner attempt.node) Nowhere Unlocked in
-      Moved env mix c words G (unmake_plan unmake)
+      SilentStep env mix c words G (unmake_plan unmake)
       (holding env mix c h k (Some unmake.slot) (pages_of_unmake unmake.at))
       (holding env mix c h k (slot_given env mix c h k words G all whole unmake.slot r)
       (pages_given env mix c h k words G all whole r))
@@ -294,7 +294,7 @@ module _ (env : Env) (mix : ℕ → ℕ → ℕ → ℕ) (c : ℕ) (port owner :
         let k = known.knowing in
         rw (behind_holds attempt answer)
         (answered env mix (option_map plain answer) (attempt_tells n slot) (still_has refl)
-        (moved env mix c words G op has_table_made (holds_node (Some n) None) (BindNext (next, Go))
+        (silent env mix c words G op has_table_made (holds_node (Some n) None) (BindNext (next, Go))
         (Attaches slot shape seed serial) whole ready tt made
         (record {
           last = growing.table;

@@ -25,7 +25,7 @@ use Rattle.rht_bind.specs.BindHeld.{holds_node, holds_claimed}
 use Rattle.rht_bind.specs.declared.bind.Claimed.{Claimed}
 use Rattle.rht_bind.specs.declared.bind.BindAt.{BindAt}
 use Rattle.rht_bind.specs.declared.bind.BindAt.TheVariants as at
-use Rattle.rht_ghost.proofs.Theory.Ghosts.{put, put-same, put-other, put-all, Held, First, Ghost, is_taken_by}
+use Rattle.rht_ghost.proofs.Theory.Ghosts.{put, put-same, put-other, put-all, NodeHeld, First, Ghost, is_taken_by}
 use Rattle.rht_ghost.proofs.Theory.Wholes.{place_at, word_index, place_at-index, index-within, Whole}
 use Rattle.rht_ghost.proofs.Theory.Knowns.{AtHome, Armed}
 use Rattle.rht_ghost.proofs.Theory.Knowledge.{plainly, HasOnly, Knowing, idle_moves_none}
@@ -154,7 +154,7 @@ module _ (env : Env) (mix : ℕ → ℕ → ℕ → ℕ) (c : ℕ) (port owner :
         → HasOnly env mix c (ghost_after env mix c (Links n port j) G) None None None false None [] false
     nothing_left n j place is only = record {
       nodes =
-          put-all (λ m o. o ≡ Held c → ◌≡◌ {A = Option ℕ} None (Some m)) G.node n (First j)
+          put-all (λ m o. o ≡ NodeHeld c → ◌≡◌ {A = Option ℕ} None (Some m)) G.node n (First j)
           (λ e. absurd (cc))
           (λ m ne holds. let q = only.nodes m holds in absurd (ne (cc)));
       locks =

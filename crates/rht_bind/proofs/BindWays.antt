@@ -42,7 +42,7 @@ use Rattle.rht_ghost.proofs.Theory.Wholes.{Whole}
 use Rattle.rht_ghost.proofs.Theory.Knowns.{KnownTable, Known, Nowhere, Unlocked, Found, HasPages, OnWay}
 use Rattle.rht_ghost.proofs.Theory.Knowledge.{plainly, Knowing, TableMeans}
 use Rattle.rht_ghost.proofs.Theory.Answering.{learns}
-use Rattle.rht_ghost.proofs.Theory.Steps.{answered-map, mem, owners, Moved, still_has, reads}
+use Rattle.rht_ghost.proofs.Theory.Steps.{answered-map, mem, owners, SilentStep, still_has, reads}
 use Rattle.rht_ghost.proofs.Pieces.NewNodes as nodes
 use Rattle.rht_ghost.proofs.Pieces.RunPages.{first_run-none}
 use Rattle.rht_ghost.proofs.Pieces.Holdings.{holding, knowing}
@@ -74,7 +74,7 @@ module _ (env : Env) (mix : ℕ → ℕ → ℕ → ℕ) (c : ℕ) (port owner :
   node_made : (new : NewNodeModel) (r : NewNodeModel × Next (Option ℕ)) → r.0.key ≡ port
       → r.0.owner ≡ owner
       → (nodes.made_by (r.0.at, r.1) ≡ None → node_of_new new.at ≡ None)
-      → Moved env mix c words G (new_node_plan new) (holds_node (node_of_new new.at) None)
+      → SilentStep env mix c words G (new_node_plan new) (holds_node (node_of_new new.at) None)
       (holds_node (nodes.made_by (r.0.at, r.1)) None)
       (nodes.knowing env mix c held.holds_nothing Nowhere Unlocked (nodes.made_by (r.0.at, r.1))
       (nodes.known_made port owner (r.0.at, r.1)))
@@ -104,7 +104,7 @@ module _ (env : Env) (mix : ℕ → ℕ → ℕ → ℕ) (c : ℕ) (port owner :
       IsBindAtIn env here → BindKnows here M G → BindStep here
   filling new is known =
       let r = new_node_after new (old_of words (new_node_plan new)) in
-      let Made : ℕ → ℕ → Type 0 = λ key o. Moved env mix c words G (new_node_plan new)
+      let Made : ℕ → ℕ → Type 0 = λ key o. SilentStep env mix c words G (new_node_plan new)
       (holds_node (node_of_new new.at) None) (holds_node (nodes.made_by (r.0.at, r.1)) None)
       (nodes.knowing env mix c held.holds_nothing Nowhere Unlocked (nodes.made_by (r.0.at, r.1))
       (nodes.known_made key o (r.0.at, r.1))) in
@@ -162,7 +162,7 @@ module _ (env : Env) (mix : ℕ → ℕ → ℕ → ℕ) (c : ℕ) (port owner :
 
   -- the way to the bucket
   found_place : (attempt : Attempt) (locate : LocateModel) (r : LocateModel × Next Located)
-      → Moved env mix c words G (locate_plan locate) (holds_node (Some attempt.node) None)
+      → SilentStep env mix c words G (locate_plan locate) (holds_node (Some attempt.node) None)
       (holds_node (Some attempt.node) None)
       (LocateKnows env mix c (holds_node (Some attempt.node) None)
       (Some (own port owner attempt.node)) Unlocked port r)
@@ -220,7 +220,7 @@ module _ (env : Env) (mix : ℕ → ℕ → ℕ → ℕ) (c : ℕ) (port owner :
       let k = on_way attempt table shape place in
       let t = table_grown env mix c h k (OnWay port table shape place None)
       (behind_entry_of table shape place) r in
-      Moved env mix c words G (grow_plan grow) (holding env mix c h k None (pages_of_grow grow.at))
+      SilentStep env mix c words G (grow_plan grow) (holding env mix c h k None (pages_of_grow grow.at))
       (holding env mix c h k None (pages_grown r))
       (knowing env mix c h (record k { table = t }) None (pages_grown r) (known_grown r))
 
@@ -347,7 +347,7 @@ module _ (env : Env) (mix : ℕ → ℕ → ℕ → ℕ) (c : ℕ) (port owner :
 
   walked : (attempt : Attempt) (table shape : ℕ) (probe : ProbeModel) (r : ProbeModel × Next Probed)
       → r.0.key ≡ port
-      → Moved env mix c words G (probe_plan probe) (holds_node (Some attempt.node) (lock_of_probe probe.at))
+      → SilentStep env mix c words G (probe_plan probe) (holds_node (Some attempt.node) (lock_of_probe probe.at))
       (holds_node (Some attempt.node) (probed_by (r.0.at, r.1)))
       (ProbeKnows env mix c (holds_node (Some attempt.node) None)
       (Some (own port owner attempt.node)) port table (Some shape) words G all whole (r.0.at, r.1))

@@ -14,20 +14,9 @@ use Rattle.rht_core.specs.declared.event.Event.{Event}
 use Rattle.rht_callers.specs.Locals.{is_idle}
 use Rattle.rht_core.specs.Runs.{World, run_of, local_of, IsAdmitted}
 use Rattle.rht_stands.specs.Closing.{IsClosedOf}
+pub use Rattle.rht_model.specs.CallKinds.{is_bind}
 
 -- ---- one worker
-
--- the call is a bind
-abbrev pub is_bind : Call → Bool
-is_bind (Bind port owner once) = true
-is_bind (Find port) = false
-is_bind (All port) = false
-is_bind (Release port owner) = false
-is_bind (Rebind port owner new) = false
-is_bind (Walk from limit) = false
-is_bind Work = false
-is_bind Tidy = false
-is_bind Count = false
 
 -- The reply to this call asks for `work`: it says that there is something to do, or it refuses a bind until tables have been
 -- moved, or for want of a further table.

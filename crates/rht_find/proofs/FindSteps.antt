@@ -39,7 +39,7 @@ use Rattle.rht_ghost.proofs.Theory.Wholes.{word_index, Whole}
 use Rattle.rht_ghost.proofs.Theory.Knowns.{KnownTable, Nowhere, Passes, AtHome, KnownBucket, Unlocked, Locks, Missed, Member, Listing, Known, knows_plain}
 use Rattle.rht_ghost.proofs.Theory.Knowledge.{plainly, Knowing}
 use Rattle.rht_ghost.proofs.Theory.Answering.{KeepsAnswer, IsLegalOn, IsRight, KnowsEarly, TellsOrRecalls, none_early, keeps, learns, recalls}
-use Rattle.rht_ghost.proofs.Theory.Steps.{answered-map, Holding, mem, owners, owners_in, Moved, moved-map, StepWhere, answered_where, reads, HoldsNoneEarly, still_has}
+use Rattle.rht_ghost.proofs.Theory.Steps.{answered-map, Holding, mem, owners, owners_in, SilentStep, silent-map, StepWhere, answered_where, reads, HoldsNoneEarly, still_has}
 use Rattle.rht_ghost.proofs.Pieces.Locates.{known_locate, IsThereFor, first_passed, locate_step, LocateKnows, LocatedKnows, LocateSays, Recalls, locate_says, FutureIs, future_is}
 use Rattle.rht_ghost.proofs.Pieces.Locks.{unlock_step}
 use Rattle.rht_ghost.proofs.Pieces.Lists.{IsNextOf, list_next, list_among}
@@ -152,7 +152,7 @@ module _ (env : Env) (mix : ℕ → ℕ → ℕ → ℕ) (c : ℕ) (port : ℕ) 
     before locate = held_of_find (at.Locating locate)
 
     abbrev LocateMoved : LocateModel → (Memory → Ghost → Type 0) → Type 0
-    LocateMoved locate Knows = Moved env mix c words G (locate_plan locate) (before locate) (before locate) Knows
+    LocateMoved locate Knows = SilentStep env mix c words G (locate_plan locate) (before locate) (before locate) Knows
 
     -- an operation after which nothing is known early
     goes_from : (locate : LocateModel) (next : FindAt) (Knows : Memory → Ghost → Type 0)
@@ -191,7 +191,7 @@ module _ (env : Env) (mix : ℕ → ℕ → ℕ → ℕ) (c : ℕ) (port : ℕ) 
         (recalls kind c call None (There (Some absent)) now absent missing_right refl
         (subst (λ e. ¬ There e) says.known_early says.missing)))
         (none_early kind c call (There early) ⊥ now early None refl) (still_has refl)
-        (moved-map env mix (λ M' G' w k. plainly env mix k.only tt tt tt) step)
+        (silent-map env mix (λ M' G' w k. plainly env mix k.only tt tt tt) step)
 
     -- the way to the bucket
     found_place : (locate : LocateModel) (r : LocateModel × Next Located)
@@ -215,7 +215,7 @@ module _ (env : Env) (mix : ℕ → ℕ → ℕ → ℕ) (c : ℕ) (port : ℕ) 
         (subst (λ e. KnowsThem e is) (sym (early_is locate.at))
         (subst (KnowsThem (early_of_locate (plain Missing) locate.at)) (sym (early_is next.at)) says))
         (still_has refl)
-        (moved-map env mix (λ M' G' w k. record { knowing = record { only = k.only; means = k.means }; fits = tt }) step)
+        (silent-map env mix (λ M' G' w k. record { knowing = record { only = k.only; means = k.means }; fits = tt }) step)
     found_place locate (next, Done there) step says = found_bucket locate next there.shape there.bucket says step
 
     -- the end of a walk
@@ -243,7 +243,7 @@ module _ (env : Env) (mix : ℕ → ℕ → ℕ → ℕ) (c : ℕ) (port : ℕ) 
     seen_holds table bucket (Some node) = refl
 
     walked : (table : ℕ) (probe : ProbeModel) (r : ProbeModel × Next Probed) → r.0.key ≡ port
-        → Moved env mix c words G (probe_plan probe) (at_lock (lock_of_probe probe.at))
+        → SilentStep env mix c words G (probe_plan probe) (at_lock (lock_of_probe probe.at))
         (at_lock (probed_by (r.0.at, r.1))) (ProbeKnows env mix c held.holds_nothing None port table
         None words G all whole (r.0.at, r.1))
         → FindMoved (at.Probing table probe) (probed table r.0 r.1, Go)

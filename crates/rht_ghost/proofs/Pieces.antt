@@ -25,7 +25,7 @@ pub mod Holdings
 -- the pages that the taking and giving back of a run have
 pub mod RunPages
 -- a run of pages is taken and given back
-pub mod Runs
+pub mod PageRuns
 -- a page is entered behind an entry, or given back where one is there
 pub mod Grows
 -- an entry on the way to a port's bucket is one in use, and once it leads to a page the way goes on behind that

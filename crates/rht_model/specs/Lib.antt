@@ -8,6 +8,8 @@ pub mod Heads
 pub mod Pairs
 -- what a call answers on bindings, and what it changes
 pub mod Answers
+-- which kind of call it is
+pub mod CallKinds
 -- which replies each call may have
 pub mod Replies
 -- how a call ends

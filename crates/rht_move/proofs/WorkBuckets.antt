@@ -36,7 +36,7 @@ use Rattle.rht_ghost.proofs.Theory.Ghosts.{Ghost}
 use Rattle.rht_ghost.proofs.Theory.Wholes.{Whole}
 use Rattle.rht_ghost.proofs.Theory.Knowns.{MakesNothing, NoAim, From, KnownWork, Works, Rooted, Follows, Empties, Nears, Faces}
 use Rattle.rht_ghost.proofs.Theory.Answering.{Tells}
-use Rattle.rht_ghost.proofs.Theory.Steps.{Holding, mem, owners, Moved, Step}
+use Rattle.rht_ghost.proofs.Theory.Steps.{Holding, mem, owners, SilentStep, Step}
 use Rattle.rht_ghost.proofs.Pieces.WorkLoads.{future_seen, shape_seen, faces_seen, nears_seen, led_by, passed_by, nears_on, faces_behind, from_current}
 use Rattle.rht_ghost.proofs.Pieces.WorkSteps.{locked_by, LockWorks, work_loads, lock_work_step}
 use Rattle.rht_ghost.proofs.Pieces.WorkStores.{begin_moving_step}
@@ -91,7 +91,7 @@ module _ (env : Env) (mix : ℕ → ℕ → ℕ → ℕ) (c : ℕ) (words : List
   bucket_leads : (rehash : Rehash) (number : ℕ) (op : Op) (h : Holding)
       → Tells env.config.kind c calls.Work h.node now h.answer None → None ≡ h.node
       → number < size_of (unpacked rehash.shape)
-      → Moved env mix c words G op h (moving_at None)
+      → SilentStep env mix c words G op h (moving_at None)
       (knowing (moving_at None) (Empties (known_rehash rehash) number))
       → let next = bucket_of_root env.geometry rehash number in
       Step env mix c calls.Work words G op h (held_of_work next) (WorkNext (next, Go))
@@ -115,7 +115,7 @@ module _ (env : Env) (mix : ℕ → ℕ → ℕ → ℕ) (c : ℕ) (words : List
   pub next_leads : (rehash : Rehash) (number : ℕ) (op : Op) (h : Holding)
       → Tells env.config.kind c calls.Work h.node now h.answer None → None ≡ h.node
       → number < size_of (unpacked rehash.shape)
-      → Moved env mix c words G op h (moving_at None)
+      → SilentStep env mix c words G op h (moving_at None)
       (knowing (moving_at None) (Empties (known_rehash rehash) (number + 1)))
       → let next = next_bucket env.geometry rehash number in
       Step env mix c calls.Work words G op h (held_of_work next) (WorkNext (next, Go))
@@ -130,7 +130,7 @@ module _ (env : Env) (mix : ℕ → ℕ → ℕ → ℕ) (c : ℕ) (words : List
       let last : number + 1 ≡ size =
       (let above = ltb-false (number + 1) size f in omega (arith, above, below)) in
       leads next tells same refl refl
-      (subst (λ n. Moved env mix c words G op h (moving_at None)
+      (subst (λ n. SilentStep env mix c words G op h (moving_at None)
       (knowing (moving_at None) (Empties root n))) last step))
 
   pub root_shape : (root future : ℕ) (again : Bool) → WorkKnows (at.RootShape root future again) M G
@@ -196,7 +196,7 @@ module _ (env : Env) (mix : ℕ → ℕ → ℕ → ℕ) (c : ℕ) (words : List
 
   -- a bucket is locked
   locked_leads : (rehash : Rehash) (number : ℕ) (lock : LockModel) (r : LockModel × Next ℕ)
-      → Moved env mix c words G (lock_plan lock) (moving_at None) (moving_at (locked_by r))
+      → SilentStep env mix c words G (lock_plan lock) (moving_at None) (moving_at (locked_by r))
       (LockWorks env mix c (moving_at None) (known_rehash rehash) number r)
       → WorkMoved (at.Locking rehash number lock) (locked env.geometry rehash number r.0 r.1, Go)
   locked_leads rehash number lock (after, Go) step =

@@ -34,7 +34,7 @@ use Rattle.rht_ghost.proofs.Theory.Ghosts.{Ghost}
 use Rattle.rht_ghost.proofs.Theory.Wholes.{place_at-index, Whole}
 use Rattle.rht_ghost.proofs.Theory.Knowns.{MakesNothing, KnownAim, NoAim, From, Beyond, KnownPlace, KnownEntry, KnownWork, InBucket, Bare, AtEntry, AtTail, Aims}
 use Rattle.rht_ghost.proofs.Theory.Knowledge.{WorkMeans}
-use Rattle.rht_ghost.proofs.Theory.Steps.{Holding, mem, Moved, Step}
+use Rattle.rht_ghost.proofs.Theory.Steps.{Holding, mem, SilentStep, Step}
 use Rattle.rht_ghost.proofs.Pieces.WorkLoads.{aim_sought, first_known, next_known, from_current, aim_seen, aim_shape, aim_seed, word_seen, first_seen, next_seen, key_seen}
 use Rattle.rht_ghost.proofs.Pieces.WorkSteps.{knows_work}
 use Rattle.rht_ghost.proofs.Pieces.WorkStores.{second_by, SecondWorks, lock_second_step, leave_step, arrive_step, cut_step}
@@ -237,7 +237,7 @@ module _ (env : Env) (mix : ℕ → ℕ → ℕ → ℕ) (c : ℕ) (words : List
   second_leads : (emptying : Emptying) (entry : Entry) (table : ℕ) (lock : LockModel)
       (r : LockModel × Next ℕ)
       → let place = Some emptying.bucket.place in
-      Moved env mix c words G (lock_plan lock) (moving_at place) (holds_moving place (second_by r))
+      SilentStep env mix c words G (lock_plan lock) (moving_at place) (holds_moving place (second_by r))
       (SecondWorks env mix c (moving_at None) (known_rehash emptying.rehash) (known_place emptying)
       (known_entry entry) r)
       → WorkMoved (at.LockingSecond emptying entry table lock)
@@ -282,7 +282,7 @@ module _ (env : Env) (mix : ℕ → ℕ → ℕ → ℕ) (c : ℕ) (words : List
   -- behind the cutting off the next last entry is looked for in what is left of the bucket
   cut_leads : (emptying left : Emptying) (op : Op) (word : ℕ) → left ≡ with_word emptying word
       → let place = record (known_place emptying) { word = word } in
-      Moved env mix c words G op (moving_at (Some emptying.bucket.place))
+      SilentStep env mix c words G op (moving_at (Some emptying.bucket.place))
       (moving_at (Some emptying.bucket.place))
       (knowing (moving_at (Some emptying.bucket.place))
       (InBucket (known_rehash emptying.rehash) place NoAim))

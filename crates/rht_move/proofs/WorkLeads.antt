@@ -20,7 +20,7 @@ use Rattle.rht_ghost.proofs.Theory.Wholes.{Whole}
 use Rattle.rht_ghost.proofs.Theory.Knowns.{Known, MakesNothing, KnownWork}
 use Rattle.rht_ghost.proofs.Theory.Knowledge.{WorkMeans, Means, Only, Knowing}
 use Rattle.rht_ghost.proofs.Theory.Answering.{Tells}
-use Rattle.rht_ghost.proofs.Theory.Steps.{answered-map, Holding, mem, owners, Moved, moved-map, with_answer, Step, still_has}
+use Rattle.rht_ghost.proofs.Theory.Steps.{answered-map, Holding, mem, owners, SilentStep, silent-map, with_answer, Step, still_has}
 use Rattle.rht_ghost.proofs.Pieces.WorkSteps.{knows_work, work_loads}
 use Rattle.rht_words.specs.declared.config.Kind.{Kind}
 use Rattle.rht_move.proofs.WorkKnowledge.{known_of_work, WorkNext}
@@ -58,7 +58,7 @@ module _ {env : Env} {mix : ℕ → ℕ → ℕ → ℕ} {c : ℕ} {words : List
       (held_of_work next).answer
       → h'.node ≡ h.node
       → held_of_work next ≡ with_answer env mix h' (held_of_work next).answer → known_of_work next ≡ known
-      → Moved env mix c words G op h h' (λ M' G'. Knowing env mix c h' known M' G')
+      → SilentStep env mix c words G op h h' (λ M' G'. Knowing env mix c h' known M' G')
       → Step env mix c calls.Work words G op h (held_of_work next) (WorkNext env mix c (next, Go))
   leads {op = op} {h = h} {h' = h'} next tells same holds is moved =
       let answer = (held_of_work next).answer in
@@ -73,10 +73,10 @@ module _ {env : Env} {mix : ℕ → ℕ → ℕ → ℕ} {c : ℕ} {words : List
   pub learning : {op : Op} {h h' : Holding} (known more : KnownWork)
       → ((M' : Memory) (G' : Ghost) → Whole env mix M' G' → WorkMeans env mix c M' G' known
       → WorkMeans env mix c M' G' more)
-      → Moved env mix c words G op h h' (knowing env mix c h' known)
-      → Moved env mix c words G op h h' (knowing env mix c h' more)
+      → SilentStep env mix c words G op h h' (knowing env mix c h' known)
+      → SilentStep env mix c words G op h h' (knowing env mix c h' more)
   learning {h' = h'} known more learns step =
-      moved-map env mix
+      silent-map env mix
       (λ M' G' w k. knows_that env mix c h' M' G' known more k (learns M' G' w k.means.work)) step
 
   -- ---- loads that decide nothing of the answer

@@ -41,7 +41,7 @@ use Rattle.rht_ghost.proofs.Theory.Wholes.{Whole}
 use Rattle.rht_ghost.proofs.Theory.Knowns.{MakesNothing, NoAim, Onward, From, KnownWork, Works, Rooted}
 use Rattle.rht_ghost.proofs.Theory.Knowledge.{Knowing}
 use Rattle.rht_ghost.proofs.Theory.Answering.{Tells}
-use Rattle.rht_ghost.proofs.Theory.Steps.{answered-map, Holding, mem, owners, Moved, with_knowledge, Step, still_has}
+use Rattle.rht_ghost.proofs.Theory.Steps.{answered-map, Holding, mem, owners, SilentStep, with_knowledge, Step, still_has}
 use Rattle.rht_ghost.proofs.Pieces.Makes.{slot_made, made_with, known_made, make_step, slot_given, pages_given, known_given, unmake_step}
 use Rattle.rht_ghost.proofs.Pieces.Attaches.{attach_step, lose_attach_step}
 use Rattle.rht_ghost.proofs.Pieces.WorkLoads.{last_sought, root_seen, from_root, root_alone, other_behind, future_behind, last_seen}
@@ -161,7 +161,7 @@ module _ (env : Env) (mix : ℕ → ℕ → ℕ → ℕ) (c : ℕ) (words : List
 
   -- where there is none the call is refused, or the current table is moved
   none_made : (op : Op) (h : Holding) (wanted : Wanted) → h.node ≡ None → h.answer ≡ None
-      → Moved env mix c words G op h holds_work
+      → SilentStep env mix c words G op h holds_work
       (knowing holds_work (Rooted wanted.root (From wanted.last.table)))
       → Step env mix c calls.Work words G op h (held_of_work (not_made wanted))
       (WorkNext (not_made wanted, Go))
@@ -191,7 +191,7 @@ module _ (env : Env) (mix : ℕ → ℕ → ℕ → ℕ) (c : ℕ) (words : List
   made_leads : (wanted : Wanted) (make : MakeModel) (r : MakeAt × Next (Option (ℕ × ℕ)))
       → let known = knows_work MakesNothing (Rooted wanted.root (From wanted.last.table)) in
       let pages = made_with env mix c holds_work known words G all whole make.exponent r in
-      Moved env mix c words G (make_plan make) (held_of_work (at.Making wanted make))
+      SilentStep env mix c words G (make_plan make) (held_of_work (at.Making wanted make))
       (holds_table (slot_made r) pages)
       (λ M' G'. Knowing env mix c (holds_table (slot_made r) pages)
       (record known { making = known_made make.exponent make.seed r }) M' G')
@@ -205,7 +205,7 @@ module _ (env : Env) (mix : ℕ → ℕ → ℕ → ℕ) (c : ℕ) (words : List
       let next = at.Attaching wanted.root wanted.last.table table.0 table.1 in
       let is = pages_of_table-shape env.geometry table.1 step.knows.means.making.fits in
       leads next (inl refl) refl refl refl
-      (subst (λ ps. Moved env mix c words G (make_plan make) (held_of_work (at.Making wanted make))
+      (subst (λ ps. SilentStep env mix c words G (make_plan make) (held_of_work (at.Making wanted make))
       (holds_table (Some table.0) ps)
       (λ M' G'. Knowing env mix c (holds_table (Some table.0) ps) (known_of_work next) M' G')) is step)
 
@@ -236,7 +236,7 @@ module _ (env : Env) (mix : ℕ → ℕ → ℕ → ℕ) (c : ℕ) (words : List
       (λ t.
       let none = eqb-true word 0 t in
       let step =
-      subst (λ ps. Moved env mix c words G op (holds_table (Some slot) ps) holds_work
+      subst (λ ps. SilentStep env mix c words G op (holds_table (Some slot) ps) holds_work
       (knowing holds_work (Rooted root (From last)))) is
       (attach_step env mix c holds_work about words G all whole last slot shape
       known.means.work.more.aim_is.table none knows) in
@@ -254,7 +254,7 @@ module _ (env : Env) (mix : ℕ → ℕ → ℕ → ℕ) (c : ℕ) (words : List
       let next = at.Unmaking root (unmake_new env.geometry slot shape) in
       let some = eqb-false word 0 f in
       leads next (inl refl) refl refl refl
-      (subst (λ ps. Moved env mix c words G op (holds_table (Some slot) ps) (held_of_work next)
+      (subst (λ ps. SilentStep env mix c words G op (holds_table (Some slot) ps) (held_of_work next)
       (λ M' G'. Knowing env mix c (held_of_work next) (known_of_work next) M' G'))
       is (lose_attach_step env mix c holds_work
       (knows_work MakesNothing (Rooted root Onward)) words G all whole last slot
@@ -273,7 +273,7 @@ module _ (env : Env) (mix : ℕ → ℕ → ℕ → ℕ) (c : ℕ) (words : List
       → let about = knows_work MakesNothing (Rooted root Onward) in
       let pages = pages_given env mix c holds_work about words G all whole r in
       let slot = slot_given env mix c holds_work about words G all whole unmake.slot r in
-      Moved env mix c words G (unmake_plan unmake) (held_of_work (at.Unmaking root unmake))
+      SilentStep env mix c words G (unmake_plan unmake) (held_of_work (at.Unmaking root unmake))
       (holds_table slot pages)
       (λ M' G'. Knowing env mix c (holds_table slot pages)
       (record about { making = known_given env mix c holds_work about words G all whole unmake.slot r }) M'

@@ -10,7 +10,7 @@ use Rattle.rht_words.specs.declared.machine.Next.{Next}
 use Rattle.rht_words.specs.declared.machine.Next.TheVariants.{Go, Done}
 use Rattle.rht_words.specs.declared.geometry.Geometry.{Geometry}
 use Rattle.rht_words.specs.Machines.{Performed, Ran, went_on, ran}
-use Rattle.rht_arena.specs.Runs.{IsRunIn}
+use Rattle.rht_arena.specs.PageRuns.{IsRunIn}
 use Rattle.rht_arena.specs.TakeRun.{TakeRunModel, first_run, take_run_plan, take_run_after}
 use Rattle.rht_arena.specs.GiveRun.{GiveRunModel, give_run_new, give_run_plan}
 use Rattle.rht_arena.specs.RunLaws.{run_taking_ran, RunWasTaken, AreRunsSeenInTurn}

@@ -9,7 +9,7 @@ use Rattle.rht_words.specs.declared.machine.Next.TheVariants.{Go, Done}
 use Rattle.rht_words.specs.declared.machine.Start.TheVariants as starts
 use Rattle.rht_words.specs.declared.geometry.Geometry.{Geometry}
 use Rattle.rht_words.specs.Machines.{Performed, Ran, ran}
-use Rattle.rht_arena.specs.Runs.{IsRunIn}
+use Rattle.rht_arena.specs.PageRuns.{IsRunIn}
 use Rattle.rht_arena.specs.TakeRun.{TakeRunModel, take_run_new, take_run_plan, take_run_after, run_length, first_run}
 use Rattle.rht_arena.specs.RunLaws.{run_taking_ran}
 use Rattle.rht_nest.specs.Make.{MakeModel, make_plan, make_plan_at, make_after, may_nest, made_pages, made_shape, run_found, no_run, run_taken, run_started, top_taken}

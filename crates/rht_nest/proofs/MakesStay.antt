@@ -10,7 +10,7 @@ use Rattle.rht_words.specs.declared.machine.Next.TheVariants.{Go, Done}
 use Rattle.rht_words.specs.declared.machine.Start.TheVariants as starts
 use Rattle.rht_words.specs.Planned.{IsWord}
 use Rattle.rht_words.specs.Shapes.{unpacked, size_of}
-use Rattle.rht_arena.specs.Runs.{IsRunIn}
+use Rattle.rht_arena.specs.PageRuns.{IsRunIn}
 use Rattle.rht_arena.specs.TakeRun.{TakeRunModel, take_run_new, take_run_after, run_length, first_run}
 use Rattle.rht_arena.specs.GiveRun.{GiveRunModel, give_run_after, IsGiveRunIn}
 use Rattle.rht_arena.proofs.RunsStay.{TakeRunIsIn, take_run_stays, give_run_stays}

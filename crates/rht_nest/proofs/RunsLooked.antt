@@ -10,7 +10,7 @@ use Rattle.rht_words.specs.declared.geometry.Geometry.{Geometry}
 use Rattle.rht_words.specs.Machines.{Performed, Ran, went_on, ran}
 use Rattle.rht_arena.specs.declared.take_run.TakeRunAt.{TakeRunAt}
 use Rattle.rht_arena.specs.declared.take_run.TakeRunAt.TheVariants.{MapWord, Claim, GiveBack}
-use Rattle.rht_arena.specs.Runs.{IsRunIn}
+use Rattle.rht_arena.specs.PageRuns.{IsRunIn}
 use Rattle.rht_arena.specs.TakeRun.{TakeRunModel, first_run, take_run_plan, take_run_after, next_run, IsTakeRunAtIn, IsTakeRunIn}
 use Rattle.rht_arena.specs.RunLaws.{run_taking_ran, RunWasTaken, AreRunsSeenInTurn}
 use Rattle.rht_arena.proofs.RunsStay.{take_run_stays}

@@ -13,7 +13,7 @@ use Rattle.rht_words.specs.Places.{NextSerial, Slot, ShapeWord, SeedWord, Future
 use Rattle.rht_words.specs.Planned.{IsWord}
 use Rattle.rht_words.specs.declared.shape.Shape.{Shape}
 use Rattle.rht_words.specs.Shapes.{packed}
-use Rattle.rht_arena.specs.Runs.{IsRunIn}
+use Rattle.rht_arena.specs.PageRuns.{IsRunIn}
 use Rattle.rht_arena.specs.TakeRun.{TakeRunModel, first_run, take_run_new, take_run_plan, take_run_after, pages_of_take_run, IsTakeRunIn}
 use Rattle.rht_nest.specs.Tables.{exponent_made, flat_shape, nested_shape, table_pages, table_seed}
 use Rattle.rht_nest.specs.declared.make.MakeAt.{MakeAt}

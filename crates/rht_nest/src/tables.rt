@@ -1,7 +1,7 @@
 //! The shapes of tables, and the pages that they take when they are made.
 
 ghost use Rattle.std.specs.Prelude.{◌≡◌};
-ghost use Rattle.rht_arena.specs.Runs.{IsRunIn};
+ghost use Rattle.rht_arena.specs.PageRuns.{IsRunIn};
 ghost use Rattle.rht_nest.specs.Tables.{is_nested, table_pages, run_first, run_pages};
 
 use rht_words::{Geometry, Shape};

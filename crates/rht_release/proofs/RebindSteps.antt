@@ -34,7 +34,7 @@ use Rattle.rht_ghost.proofs.Theory.Wholes.{Whole}
 use Rattle.rht_ghost.proofs.Theory.Knowns.{KnownNode, Nowhere, Unlocked, LeadsTo, first_of_list}
 use Rattle.rht_ghost.proofs.Theory.Knowledge.{plainly, Knowing}
 use Rattle.rht_ghost.proofs.Theory.Answering.{IsLegalOn, IsRight, keeps, learns}
-use Rattle.rht_ghost.proofs.Theory.Steps.{answered-map, Holding, by_test, mem, owners, owners_in, Moved, StepWhere, step-map, reads, still_has}
+use Rattle.rht_ghost.proofs.Theory.Steps.{answered-map, Holding, by_test, mem, owners, owners_in, SilentStep, StepWhere, step-map, reads, still_has}
 use Rattle.rht_ghost.proofs.Pieces.Locates.{IsThereFor}
 use Rattle.rht_ghost.proofs.Pieces.NewNodes as nodes
 use Rattle.rht_ghost.proofs.Pieces.Locks.{unlock_step, unlock_taken}
@@ -108,7 +108,7 @@ module _ (env : Env) (mix : ℕ → ℕ → ℕ → ℕ) (c : ℕ) (port owner n
   abbrev MakingMoved : NewNodeModel → ℕ → ℕ → NewNodeModel × Next (Option ℕ) → Type 0
   MakingMoved fresh key first r =
       let there : NewNodeAt × Next (Option ℕ) = (r.0.at, r.1) in
-      Moved env mix c words G (new_node_plan fresh) (holds_new (node_of_new fresh.at))
+      SilentStep env mix c words G (new_node_plan fresh) (holds_new (node_of_new fresh.at))
       (holds_new (nodes.made_by there))
       (making (nodes.made_by there) (nodes.known_made key first there))
 

@@ -29,7 +29,7 @@ use Rattle.rht_ghost.proofs.Theory.Wholes.{chain_of, word_index, Whole}
 use Rattle.rht_ghost.proofs.Theory.Knowns.{Nowhere, TakenOut, LocksTakenOut, KnownList, Leads, LeadsTo, Promotes, first_of_list}
 use Rattle.rht_ghost.proofs.Theory.Knowledge.{plainly}
 use Rattle.rht_ghost.proofs.Theory.Answering.{keeps}
-use Rattle.rht_ghost.proofs.Theory.Steps.{answered-map, Lowers, LinksBehind, Holding, mem, moved, Step, step-map, answered, reads, still_has}
+use Rattle.rht_ghost.proofs.Theory.Steps.{answered-map, Lowers, LinksBehind, Holding, mem, silent, Step, step-map, answered, reads, still_has}
 use Rattle.rht_ghost.proofs.Moves.Quiet.{count_down}
 use Rattle.rht_ghost.proofs.Moves.TakenNodes.{chain_behind}
 use Rattle.rht_ghost.proofs.Pieces.Locks.{unlock_step, unlock_taken}
@@ -111,7 +111,7 @@ module _ (env : Env) (mix : ℕ → ℕ → ℕ → ℕ) (c : ℕ) (port owner :
       let next = promoting env.geometry found second in
       rw (begins_held env found false (link_of second))
       (answered env mix None (inl refl) (still_has refl)
-      (moved env mix c words G op (holds_bucket found) (holds_bucket found) (ReleaseNext (next, Go))
+      (silent env mix c words G op (holds_bucket found) (holds_bucket found) (ReleaseNext (next, Go))
       (LinksBehind second) whole tt tt made
       (record { on = refl; locked = λ e. cc; none = refl; holds = refl })
       (promoting_knows env mix c port owner M' G found second
@@ -240,7 +240,7 @@ module _ (env : Env) (mix : ℕ → ℕ → ℕ → ℕ) (c : ℕ) (port owner :
       is_write env.geometry words PortCount op all tt refl in
       answered env mix (Some (plain reply))
       (inl (record { reply = refl; owners = refl })) (still_has refl)
-      (moved env mix c words G op h h' Knows Lowers whole tt tt
+      (silent env mix c words G op h h' Knows Lowers whole tt tt
       (count_down env mix c M M' G whole low k.only.raising write)
       (record { subtracts = refl; high = refl; holds = refl })
       (plainly env mix (record {

@@ -26,7 +26,7 @@ use Rattle.rht_model.proofs.ReleasedOwners.{release_reply-there, owners_released
 use Rattle.rht_release.specs.ReleaseHeld.{holds_bucket, holds_removed}
 use Rattle.rht_release.specs.FoundPort.{relink_of}
 use Rattle.rht_release.specs.declared.found_port.FoundPort.{FoundPort}
-use Rattle.rht_ghost.proofs.Theory.Ghosts.{index_at, put-same, put-other, Bucket, Owner, Held, First, Taken, Ghost, is_taken_by, taken_by_one}
+use Rattle.rht_ghost.proofs.Theory.Ghosts.{index_at, put-same, put-other, Bucket, Owner, NodeHeld, First, Taken, Ghost, is_taken_by, taken_by_one}
 use Rattle.rht_ghost.proofs.Theory.Wholes.{list_of, place_at, word_index, place_at-index, MovesNone, Whole, outs as count_outs}
 use Rattle.rht_ghost.proofs.Theory.Knowns.{knows_plain, Nowhere, KnownBucket, TakenOut, LocksTakenOut, KnownList, CutsOut, LeadsTo, Promotes, Known, NoOwner, last_of, first_of_list}
 use Rattle.rht_ghost.proofs.Theory.Knowledge.{plainly, HasOnly, idle_moves_none, HoldsLock, IsAtHome, HasTakenOut, Knowing, IsFound, BucketMeans}
@@ -132,7 +132,7 @@ module _ (env : Env) (mix : ℕ → ℕ → ℕ → ℕ) (c : ℕ) (port owner :
       among : node < env.geometry.nodes
       untaken : is_taken_by c (G.node node) ≡ false
       with_other : IsTakenWith c node change.other change.other_owner G.node
-      not_held : change.other_owner ≢ Held c
+      not_held : change.other_owner ≢ NodeHeld c
       made : Made env mix c M G (after op) (changed G c change)
       ready : IsRebinding env mix change M G
       left : (lock ≡ Some found.bucket.place) ⊎ (lock ≡ None)
@@ -372,7 +372,7 @@ module _ (env : Env) (mix : ℕ → ℕ → ℕ → ℕ) (c : ℕ) (port owner :
       owner_is : owner_of (M (Node found.node OwnerWord)) ≡ owner
       before_in : IsNodeOrNone env.geometry found.before
       with_other : IsTakenWith c found.node change.other change.other_owner G.node
-      not_held : change.other_owner ≢ Held c
+      not_held : change.other_owner ≢ NodeHeld c
       made : Made env mix c M G (after (relink_op found link)) (changed G c change)
       ready : IsRebinding env mix change M G
 

@@ -31,7 +31,7 @@ use Rattle.rht_ghost.proofs.Theory.Wholes.{Whole}
 use Rattle.rht_ghost.proofs.Theory.Knowns.{KnownNode, KnownTable, Nowhere, Passes, AtHome, KnownBucket, Unlocked, Locks, Missed, Found, InList, KnownList, Known, knows_plain}
 use Rattle.rht_ghost.proofs.Theory.Knowledge.{plainly, Knowing}
 use Rattle.rht_ghost.proofs.Theory.Answering.{IsLegalOn, IsRight, TellsOrRecalls, none_early, keeps, learns, recalls}
-use Rattle.rht_ghost.proofs.Theory.Steps.{answered-map, Holding, mem, owners, owners_in, Moved, moved-map, StepWhere, answered_where, answered, reads, still_has}
+use Rattle.rht_ghost.proofs.Theory.Steps.{answered-map, Holding, mem, owners, owners_in, SilentStep, silent-map, StepWhere, answered_where, answered, reads, still_has}
 use Rattle.rht_ghost.proofs.Pieces.Locates.{known_locate, IsThereFor, first_passed, locate_step, LocateKnows, LocatedKnows, LocateSays, Recalls, locate_says, FutureIs, future_is}
 use Rattle.rht_ghost.proofs.Pieces.Locks.{unlock_step}
 use Rattle.rht_ghost.proofs.Pieces.Probes.{known_probe, known_found, place_of_probe, IsProbeFor, probed_by, ProbeKnows, probe_step}
@@ -144,7 +144,7 @@ module _ (env : Env) (mix : ℕ → ℕ → ℕ → ℕ) (c : ℕ) (call : Call)
     moves_on : {There There' : Type 0} (op : Op) (lock after : Option ℕ) (Knows : Memory → Ghost → Type 0)
         (r : SeekAt × Next (Option FoundPort))
         → ((M' : Memory) (G' : Ghost) → Whole env mix M' G' → Knows M' G' → SeekNext r M' G')
-        → Moved env mix c words G op (at_lock lock) (at_lock after) Knows
+        → SilentStep env mix c words G op (at_lock lock) (at_lock after) Knows
         → StepWhere env mix There There' c call words G op (at_lock lock) (at_lock after) (SeekNext r)
     moves_on op lock after Knows r more step =
         answered-map env mix None (inl refl) (still_has refl)
@@ -153,7 +153,7 @@ module _ (env : Env) (mix : ℕ → ℕ → ℕ → ℕ) (c : ℕ) (call : Call)
     -- the way to the bucket
     abbrev LocateMoved : LocateModel → (Memory → Ghost → Type 0) → Type 0
     LocateMoved locate Knows =
-        let h = held_of_seek hn absent (at.Locating locate) in Moved env mix c words G (locate_plan locate) h h Knows
+        let h = held_of_seek hn absent (at.Locating locate) in SilentStep env mix c words G (locate_plan locate) h h Knows
 
     -- what is known on it and what it says early, behind an operation
     abbrev KnowsThen : LocateModel → LocateModel × Next Located → Memory → Ghost → Type 0
@@ -196,7 +196,7 @@ module _ (env : Env) (mix : ℕ → ℕ → ℕ → ℕ) (c : ℕ) (call : Call)
         (subst (λ early. TellsOrRecalls kind c call hn early There now None (Some absent)) (sym says.known_early)
         (recalls kind c call hn There now absent right takes_none says.missing))
         (none_early kind c call There ⊥ now h.early None refl) (still_has refl)
-        (moved-map env mix (λ M' G' w k. plainly env mix k.only k.means.node tt tt) step)
+        (silent-map env mix (λ M' G' w k. plainly env mix k.only k.means.node tt tt) step)
 
     found_place : (locate : LocateModel) (r : LocateModel × Next Located)
         → LocateMoved locate (KnowsThen locate r) → SaysThen locate r
@@ -208,7 +208,7 @@ module _ (env : Env) (mix : ℕ → ℕ → ℕ → ℕ) (c : ℕ) (call : Call)
         (seek_there hn absent port own (at.Locating next) (mem env mix (applied words (locate_plan locate))))
         c call words G (locate_plan locate) h h None
         (early_of_locate absent next.at) Knows (inl (inl refl)) says (still_has refl)
-        (moved-map env mix (λ M' G' w k. record { knowing = record { only = k.only; means = k.means }; fits = tt }) step)
+        (silent-map env mix (λ M' G' w k. record { knowing = record { only = k.only; means = k.means }; fits = tt }) step)
     found_place locate (next, Done there) step says = found_bucket locate next there.shape there.bucket says step
 
     -- the end of a walk
@@ -236,7 +236,7 @@ module _ (env : Env) (mix : ℕ → ℕ → ℕ → ℕ) (c : ℕ) (call : Call)
     seen_holds table shape probe end (Some node) = refl
 
     walked : (table shape : ℕ) (probe : ProbeModel) (r : ProbeModel × Next Probed) → r.0.key ≡ port
-        → Moved env mix c words G (probe_plan probe) (at_lock (lock_of_probe probe.at))
+        → SilentStep env mix c words G (probe_plan probe) (at_lock (lock_of_probe probe.at))
         (at_lock (probed_by (r.0.at, r.1)))
         (ProbeKnows env mix c (at_lock None) own port table (Some shape) words G all whole (r.0.at, r.1))
         → SeekMoved (at.Probing table shape probe) (probed table shape r.0 r.1)

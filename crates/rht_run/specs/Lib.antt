@@ -13,7 +13,7 @@ pub mod Served
 -- a call that is driven from outside its pass
 pub mod Rides
 -- the states of the machines that hold a piece
-pub mod Frames
+pub mod PieceFrames
 -- pieces that are driven part by part
 pub mod Pieces
 -- the way to a port as a piece, and the machines that go it

@@ -10,7 +10,7 @@ ghost use Rattle.rht_nest.specs.Grow.{grow_new};
 ghost use Rattle.rht_nest.specs.Place.{entry_place};
 ghost use Rattle.rht_core.specs.Locals.{doing_after};
 ghost use Rattle.rht_run.specs.Rides.{IsBefore, IsRiding, HasEnded, Stepped};
-ghost use Rattle.rht_run.specs.Frames.{bind_at};
+ghost use Rattle.rht_run.specs.PieceFrames.{bind_at};
 
 use crate::pieces::{BindFilling, BindLocating, BindProbing, Whole};
 use crate::ride::{Ride, never};

@@ -4,7 +4,7 @@ ghost use Rattle.std.specs.Prelude.{◌≡◌};
 ghost use Rattle.rht_model.specs.declared.history.Call.TheVariants.{Find as FindCall};
 ghost use Rattle.rht_core.specs.Locals.{doing_after};
 ghost use Rattle.rht_run.specs.Rides.{IsBefore, IsRiding, HasEnded, Stepped};
-ghost use Rattle.rht_run.specs.Frames.{find_at};
+ghost use Rattle.rht_run.specs.PieceFrames.{find_at};
 
 use crate::pieces::{FindLocating, FindProbing, Whole};
 use crate::ride::{Ride, never};

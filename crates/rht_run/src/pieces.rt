@@ -19,7 +19,7 @@ ghost use Rattle.rht_core.specs.Locals.{does_nothing, doing_plan, doing_after, o
 ghost use Rattle.rht_core.specs.Laws.{IsDoingIn};
 ghost use Rattle.rht_run.specs.Rides.{piece_next};
 ghost use Rattle.rht_run.specs.Pieces.{port_locate_after};
-ghost use Rattle.rht_run.specs.Frames.{doing_piece, bind_at, bind_filling, bind_filled, bind_locating, bind_located, bind_probing, bind_probed, find_at, find_locating, find_located, find_probing, find_probed};
+ghost use Rattle.rht_run.specs.PieceFrames.{doing_piece, bind_at, bind_filling, bind_filled, bind_locating, bind_located, bind_probing, bind_probed, find_at, find_locating, find_located, find_probing, find_probed};
 
 use rht_arena::NewNode;
 use rht_bind::{Attempt, Bind};

@@ -11,7 +11,7 @@ ghost use Rattle.rht_release.specs.Rebind.{rebind_plan, IsRebindAtIn};
 ghost use Rattle.rht_release.specs.declared.rebind.RebindAt.TheVariants as rebinds;
 ghost use Rattle.rht_callers.specs.declared.local.Doing.TheVariants.{Idle, Releasing, Rebinding};
 ghost use Rattle.rht_core.specs.Locals.{without_node};
-ghost use Rattle.rht_run.specs.Frames.{doing_piece};
+ghost use Rattle.rht_run.specs.PieceFrames.{doing_piece};
 ghost use Rattle.rht_release.specs.declared.seek.SeekAt.TheVariants as seeks;
 ghost use Rattle.rht_run.specs.Seeks.{port_seek, port_seek_after, seek_located, seek_locating, seek_probed, seek_probing, release_at, release_told, release_sought, release_seeking, rebind_at, rebind_told, rebind_filled, rebind_filling, rebind_sought, rebind_seeking};
 

@@ -27,7 +27,7 @@ use Rattle.rht_core.specs.declared.event.Event.TheVariants.{Step}
 use Rattle.rht_core.specs.Runs.{Core, World, local_of, planned_in, core_step, run_of, IsAdmitted, IsAdmittedEvent}
 use Rattle.rht_core.specs.Traces.{Did}
 use Rattle.rht_core.specs.Laws.{IsRecorded}
-use Rattle.rht_core.proofs.Counting.FullTables.{find_raises, front_raises, relinking_raises, rebind_raises, all_raises, work_raises, taken}
+use Rattle.rht_core.proofs.Counting.FullTables.{find-unraised, front-unraised, relinking-unraised, rebind-unraised, all-unraised, work-unraised, taken}
 use Rattle.rht_core.proofs.Events.Worlds.{run_of-push}
 use Rattle.rht_ghost.proofs.Theory.Ghosts.{Ghost, taken_is}
 use Rattle.rht_ghost.proofs.Theory.Knowns.{KnownList, LeadsTo}
@@ -45,7 +45,7 @@ module _ (env : Env) (mix : ℕ → ℕ → ℕ → ℕ) (c : ℕ) (M : Memory) 
       → JobKnows env mix c (binds port owner once state) M G
       → (held_of_bind state).raised ≡ true → OwnNode env G c
   bind-own port owner once (at.Replacing list relink) knows is =
-      let none = front_raises list.claimed (has_relinked list.before relink.at) in absurd (cc)
+      let none = front-unraised list.claimed (has_relinked list.before relink.at) in absurd (cc)
   bind-own port owner once (at.Publish node table relink kick) knows is =
       let has = knows.knowing.means.node.has in
       record {
@@ -69,7 +69,7 @@ module _ (env : Env) (mix : ℕ → ℕ → ℕ → ℕ) (c : ℕ) (M : Memory) 
       → JobKnows env mix c (releases port owner state) M G
       → (held_of_release state).raised ≡ true → OwnNode env G c
   release-own port owner (release_at.Promoting found relink) knows is =
-      let none = relinking_raises found (has_relinked found.before relink.at) in absurd (cc)
+      let none = relinking-unraised found (has_relinked found.before relink.at) in absurd (cc)
   release-own port owner (release_at.Unlinking found relink) knows is =
       unlinking-own port owner found (LeadsTo None relink.link owner) (has_relinked found.before relink.at)
       knows.knowing.means.bucket is
@@ -77,12 +77,12 @@ module _ (env : Env) (mix : ℕ → ℕ → ℕ → ℕ) (c : ℕ) (M : Memory) 
   release-own port owner _ knows is = absurd (cc)
 
   job-own : (job : Job) → JobKnows env mix c job M G → (held_of job).raised ≡ true → OwnNode env G c
-  job-own (finds port state) knows is = let none = find_raises state in absurd (cc)
+  job-own (finds port state) knows is = let none = find-unraised state in absurd (cc)
   job-own (binds port owner once state) knows is = bind-own port owner once state knows is
-  job-own (lists port room state) knows is = let none = all_raises room.items state in absurd (cc)
+  job-own (lists port room state) knows is = let none = all-unraised room.items state in absurd (cc)
   job-own (releases port owner state) knows is = release-own port owner state knows is
-  job-own (rebinds port owner new state) knows is = let none = rebind_raises state in absurd (cc)
-  job-own (works state) knows is = let none = work_raises state in absurd (cc)
+  job-own (rebinds port owner new state) knows is = let none = rebind-unraised state in absurd (cc)
+  job-own (works state) knows is = let none = work-unraised state in absurd (cc)
   job-own counts knows is = absurd (cc)
 
   -- who has raised the count has a node of its own

@@ -15,7 +15,7 @@ use Rattle.rht_core.specs.Runs.{Core, World, local_of, view_of, run_of}
 use Rattle.rht_stands.specs.StandsFor.{in_force, nodes_of}
 use Rattle.rht_core.specs.Counts.{is_raising, raising, IsListed, IsPlaced, IsPageFree, IsPageOfSlot, IsPageInSlot, AreNoneHeld, taken_out, Counted, AtRest}
 use Rattle.rht_core.specs.TablePages.{IsPageOfTable}
-use Rattle.rht_ghost.proofs.Theory.Ghosts.{Owner, Free, Held, First, Leaving, Behind, Taken, PageOwner, PageFree, PageHeld, PageOf, SlotOwner, SlotFree, SlotHeld, Live, Retired, Ghost, has_table, index_at, state_word, is_used, IsUsed, lock_bit, seat-used}
+use Rattle.rht_ghost.proofs.Theory.Ghosts.{Owner, Free, NodeHeld, First, Leaving, Behind, Taken, PageOwner, PageFree, PageHeld, PageOf, SlotOwner, SlotFree, SlotHeld, Live, Retired, Ghost, has_table, index_at, state_word, is_used, IsUsed, lock_bit, seat-used}
 use Rattle.rht_ghost.proofs.Theory.Wholes.{AreRetired, key_of, firsts, raisers, outs, IsBuilt, Whole}
 use Rattle.rht_ghost.proofs.Theory.Entries.{page_within}
 use Rattle.rht_ghost.proofs.Theory.Steps.{mem}
@@ -78,7 +78,7 @@ module _ (env : Env) (mix : ℕ → ℕ → ℕ → ℕ) (words : List ℕ) (G :
   ))
 
   -- a node that no caller has is free, in a port's list, or out
-  placed : (n : ℕ) → n < env.geometry.nodes → ((c : ℕ) → G.node n ≢ Held c)
+  placed : (n : ℕ) → n < env.geometry.nodes → ((c : ℕ) → G.node n ≢ NodeHeld c)
       → IsPlaced env.geometry words out n
   placed n l unheld = go (G.node n) refl (whole.arena.built n)
     where
@@ -88,7 +88,7 @@ module _ (env : Env) (mix : ℕ → ℕ → ℕ → ℕ) (words : List ℕ) (G :
         (λ is. let q = sym (listed_used n is) ∙ ap is_used e in cc),
         (λ i. let q = sym (out_nodes-out env mix G whole.arena.built n i) ∙ ap is_out e in cc),
       )
-      go (Held c) e b = absurd (unheld c e)
+      go (NodeHeld c) e b = absurd (unheld c e)
       go (First j) e b =
           let at = whole.owned.first_at n j e in
           is_listed n (key_of (mem env mix words) n) l (ap is_used e) (ap is_out e)

@@ -81,14 +81,14 @@ module _ (mix : ℕ → ℕ → ℕ → ℕ) (env : Env) where
 -- ---- who loads has raised none
 
 -- a look-up raises none
-pub find_raises : (state : FindAt) → (held_of_find state).raised ≡ false
-find_raises find_at.CurrentTable = refl
-find_raises _ = refl
+pub find-unraised : (state : FindAt) → (held_of_find state).raised ≡ false
+find-unraised find_at.CurrentTable = refl
+find-unraised _ = refl
 
 -- nor does a bind that puts its node in front of a list
-pub front_raises : (claimed : Claimed) (stored : Bool) → (holds_replacing claimed stored).raised ≡ false
-front_raises claimed false = refl
-front_raises claimed true = refl
+pub front-unraised : (claimed : Claimed) (stored : Bool) → (holds_replacing claimed stored).raised ≡ false
+front-unraised claimed false = refl
+front-unraised claimed true = refl
 
 -- what stores the link into a bucket loads nothing
 relink_stores : (relink : RelinkModel) (state : RelinkAt) (place : ℕ)
@@ -99,55 +99,55 @@ relink_stores relink (relinks.Word word) place is = cc
 -- and there it loads nothing
 bind_loads-unraised : (e : Env) (place : ℕ) (state : BindAt) → plan_at e state ≡ Load place
     → (held_of_bind state).raised ≡ false
-bind_loads-unraised e place (at.Replacing list relink) is = front_raises list.claimed
+bind_loads-unraised e place (at.Replacing list relink) is = front-unraised list.claimed
     (has_relinked list.before relink.at)
 bind_loads-unraised e place (at.Publish node table relink kick) is = absurd
     (relink_stores relink relink.at place is)
 bind_loads-unraised e place _ is = refl
 
 -- a listing raises none
-pub all_raises : (owners : List ℕ) (state : AllAt) → (held_of_all owners state).raised ≡ false
-all_raises owners (all_at.Seeking seek) = refl
-all_raises owners _ = refl
+pub all-unraised : (owners : List ℕ) (state : AllAt) → (held_of_all owners state).raised ≡ false
+all-unraised owners (all_at.Seeking seek) = refl
+all-unraised owners _ = refl
 
 -- a release that has raised it, and is to lower it, loads nothing either
-pub relinking_raises : (found : FoundPort) (stored : Bool) → (holds_relinking found false stored).raised ≡ false
-relinking_raises found false = refl
-relinking_raises found true = refl
+pub relinking-unraised : (found : FoundPort) (stored : Bool) → (holds_relinking found false stored).raised ≡ false
+relinking-unraised found false = refl
+relinking-unraised found true = refl
 
 release_loads-unraised : (e : Env) (place : ℕ) (state : ReleaseAt) → release_plan_at e state ≡ Load place
     → (held_of_release state).raised ≡ false
 release_loads-unraised e place (release_at.Promoting found relink) is =
-    relinking_raises found (has_relinked found.before relink.at)
+    relinking-unraised found (has_relinked found.before relink.at)
 release_loads-unraised e place (release_at.Unlinking found relink) is = absurd
     (relink_stores relink relink.at place is)
 release_loads-unraised e place (release_at.Lowering node shape) is = absurd (cc)
 release_loads-unraised e place _ is = refl
 
 -- a rebind raises none
-replacing_raises : (node : ℕ) (found : FoundPort) (stored : Bool) → (holds_replacing_of node found stored).raised ≡ false
-replacing_raises node found false = refl
-replacing_raises node found true = refl
+replacing-unraised : (node : ℕ) (found : FoundPort) (stored : Bool) → (holds_replacing_of node found stored).raised ≡ false
+replacing-unraised node found false = refl
+replacing-unraised node found true = refl
 
-pub rebind_raises : (state : RebindAt) → (held_of_rebind state).raised ≡ false
-rebind_raises (rebind_at.Replacing node found relink) =
-    replacing_raises node found (has_relinked found.before relink.at)
-rebind_raises _ = refl
+pub rebind-unraised : (state : RebindAt) → (held_of_rebind state).raised ≡ false
+rebind-unraised (rebind_at.Replacing node found relink) =
+    replacing-unraised node found (has_relinked found.before relink.at)
+rebind-unraised _ = refl
 
 -- nor does a resizing
-pub work_raises : (state : WorkAt) → (held_of_work state).raised ≡ false
-work_raises work_at.WorkLock = refl
-work_raises _ = refl
+pub work-unraised : (state : WorkAt) → (held_of_work state).raised ≡ false
+work-unraised work_at.WorkLock = refl
+work-unraised _ = refl
 
 -- what loads has raised none
 load-unraised : (env : Env) (job : Job) (place : ℕ) → job_plan env job ≡ Load place
     → (held_of job).raised ≡ false
-load-unraised env (finds port state) place is = find_raises state
+load-unraised env (finds port state) place is = find-unraised state
 load-unraised env (binds port owner once state) place is = bind_loads-unraised env place state is
-load-unraised env (lists port room state) place is = all_raises room.items state
+load-unraised env (lists port room state) place is = all-unraised room.items state
 load-unraised env (releases port owner state) place is = release_loads-unraised env place state is
-load-unraised env (rebinds port owner new state) place is = rebind_raises state
-load-unraised env (works state) place is = work_raises state
+load-unraised env (rebinds port owner new state) place is = rebind-unraised state
+load-unraised env (works state) place is = work-unraised state
 load-unraised env counts place is = refl
 
 module _ (M : Type 0) (mix : ℕ → ℕ → ℕ → ℕ) (env : Env) where

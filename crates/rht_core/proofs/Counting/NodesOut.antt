@@ -9,13 +9,13 @@ use Rattle.rht_words.specs.declared.env.Env.{Env}
 use Rattle.rht_words.specs.Members.{In, NotIn, IsDistinct}
 use Rattle.rht_words.proofs.Members.{one_if, count_below, count_below-more, count_below-none, count_by-range}
 use Rattle.rht_words.proofs.EachElement.{AllByRecursion-weaker}
-use Rattle.rht_ghost.proofs.Theory.Ghosts.{Owner, Free, Held, First, Leaving, Behind, Taken, Ghost, is_taken_by, seat_of}
+use Rattle.rht_ghost.proofs.Theory.Ghosts.{Owner, Free, NodeHeld, First, Leaving, Behind, Taken, Ghost, is_taken_by, seat_of}
 use Rattle.rht_ghost.proofs.Theory.Wholes.{IsBuilt, outs}
 
 -- somebody has taken the node out
 abbrev pub is_out : Owner → Bool
 is_out Free = false
-is_out (Held c) = false
+is_out (NodeHeld c) = false
 is_out (First j) = false
 is_out (Leaving j) = false
 is_out (Behind k) = false

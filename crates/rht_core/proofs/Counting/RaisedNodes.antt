@@ -5,13 +5,13 @@ use Rattle.std.proofs.Common.{◌≡◌, ◌⊎◌, ℕ, zero, suc, ◌+◌, ◌
 use Rattle.std.proofs.lemmas.Bool.Decides.{nat_tests}
 use Rattle.rht_words.proofs.Members.{count_below, one_if, count_below-same, count_below-more, count_below-le, count_below-most}
 use Rattle.rht_words.specs.declared.env.Env.{Env}
-use Rattle.rht_ghost.proofs.Theory.Ghosts.{put, put-same, put-other, put-all, Owner, Free, Held, First, Leaving, Behind, Taken, Ghost, is_first}
+use Rattle.rht_ghost.proofs.Theory.Ghosts.{put, put-same, put-other, put-all, Owner, Free, NodeHeld, First, Leaving, Behind, Taken, Ghost, is_first}
 use Rattle.rht_ghost.proofs.Theory.Wholes.{firsts, raisers}
 
 -- the node is in a chain, or a caller below this one has it
 abbrev is_used_below : ℕ → Owner → Bool
 is_used_below bound Free = false
-is_used_below bound (Held c) = nat_lt c bound
+is_used_below bound (NodeHeld c) = nat_lt c bound
 is_used_below bound (First j) = true
 is_used_below bound (Leaving j) = true
 is_used_below bound (Behind k) = false
@@ -21,7 +21,7 @@ is_used_below bound (Taken c) = nat_lt c bound
 pub record OwnNode (env : Env) (G : Ghost) (c : ℕ) : Type 0 where
   pub node : ℕ
   pub among : node < env.geometry.nodes
-  pub mine : (G.node node ≡ Held c) ⊎ (G.node node ≡ Taken c)
+  pub mine : (G.node node ≡ NodeHeld c) ⊎ (G.node node ≡ Taken c)
 
 module _ (env : Env) (mix : ℕ → ℕ → ℕ → ℕ) (G : Ghost) (own : (c : ℕ) → G.raised c ≡ true
     → OwnNode env G c) where
@@ -35,18 +35,18 @@ module _ (env : Env) (mix : ℕ → ℕ → ℕ → ℕ) (G : Ghost) (own : (c :
   -- one caller more has a node more where it has raised the count
   rises : (bound : ℕ) (o : Owner) → is_used_below bound o ≡ true → is_used_below (suc bound) o ≡ true
   rises bound Free is = absurd (cc)
-  rises bound (Held c) is = grind (arith, nat_tests)
+  rises bound (NodeHeld c) is = grind (arith, nat_tests)
   rises bound (First j) is = refl
   rises bound (Leaving j) is = refl
   rises bound (Behind k) is = absurd (cc)
   rises bound (Taken c) is = grind (arith, nat_tests)
 
   -- a node of this caller is used by it, and by none below
-  unused_below : (bound : ℕ) (o : Owner) → (o ≡ Held bound) ⊎ (o ≡ Taken bound) → is_used_below bound o ≡ false
+  unused_below : (bound : ℕ) (o : Owner) → (o ≡ NodeHeld bound) ⊎ (o ≡ Taken bound) → is_used_below bound o ≡ false
   unused_below bound o (inl is) = ap (is_used_below bound) is ∙ grind (arith, nat_tests)
   unused_below bound o (inr is) = ap (is_used_below bound) is ∙ grind (arith, nat_tests)
 
-  used_here : (bound : ℕ) (o : Owner) → (o ≡ Held bound) ⊎ (o ≡ Taken bound) → is_used_below (suc bound) o ≡ true
+  used_here : (bound : ℕ) (o : Owner) → (o ≡ NodeHeld bound) ⊎ (o ≡ Taken bound) → is_used_below (suc bound) o ≡ true
   used_here bound o (inl is) = ap (is_used_below (suc bound)) is ∙ grind (arith, nat_tests)
   used_here bound o (inr is) = ap (is_used_below (suc bound)) is ∙ grind (arith, nat_tests)
 
@@ -76,7 +76,7 @@ module _ (env : Env) (mix : ℕ → ℕ → ℕ → ℕ) (G : Ghost) (own : (c :
     where
       first_or_none : (o : Owner) → is_used_below zero o ≡ is_first o
       first_or_none Free = refl
-      first_or_none (Held c) = grind (arith, nat_tests)
+      first_or_none (NodeHeld c) = grind (arith, nat_tests)
       first_or_none (First j) = refl
       first_or_none (Leaving j) = refl
       first_or_none (Behind k) = refl

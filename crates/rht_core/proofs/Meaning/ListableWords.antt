@@ -8,7 +8,7 @@ use Rattle.rht_core.specs.declared.event.Event.{Event}
 use Rattle.rht_core.specs.Runs.{run_of, IsAdmitted}
 use Rattle.rht_stands.specs.StandsFor.{nodes_of}
 use Rattle.rht_stands.specs.Closing.{IsListable}
-use Rattle.rht_ghost.proofs.Theory.Ghosts.{Owner, Free, Held, First, Leaving, Behind, Taken, Ghost, seat_of}
+use Rattle.rht_ghost.proofs.Theory.Ghosts.{Owner, Free, NodeHeld, First, Leaving, Behind, Taken, Ghost, seat_of}
 use Rattle.rht_ghost.proofs.Theory.Wholes.{key_of, Whole}
 use Rattle.rht_ghost.proofs.Theory.Steps.{mem}
 use Rattle.rht_ghost.proofs.Pieces.Lists.{list_among}
@@ -37,7 +37,7 @@ IsDistinct-flat_map f whose told each (x ∷ xs) distinct =
 -- the port of a node that is in a port's list: the one behind whose first node it is, or else that of its key
 abbrev port_by : Owner → ℕ → ℕ
 port_by Free key = key
-port_by (Held c) key = key
+port_by (NodeHeld c) key = key
 port_by (First j) key = key
 port_by (Leaving j) key = key
 port_by (Behind port) key = port

@@ -48,7 +48,7 @@ use Rattle.rht_core.proofs.Reasons.PagesMissed.{SawGrowing, SawGrown, grow-saw, 
 use Rattle.rht_core.proofs.Tracing.TracedJobs.{Performs, StandsIn}
 use Rattle.rht_core.proofs.Reasons.TablesWalked.{IsAside, grow_loads, IsNoRaise, no_load, aside, elsewhere, node_loads, probe_loads, relink_stores, came-current, came-future, walked-came, LastWalked-push, Walked, Walked-push, WalkedSeeing, WalkedSeeing-push, make_loads}
 use Rattle.rht_core.proofs.Reasons.KeyLoads.{no_key, no_key-grow}
-use Rattle.rht_core.proofs.Reasons.ChainsCounted.{HasCounted, HasCounted-push, CountedAt, CountedNext, probe-counted, long-counted}
+use Rattle.rht_core.proofs.Reasons.ChainsCounted.{HasCounted, HasCounted-push, WalkCounted, CountedNext, probe-counted, long-counted}
 use Rattle.rht_core.proofs.Reasons.AttachedTables.{no_attach, AttachedSo, AttachedSo-push, SawAttached, relink-none, unmake-none}
 use Rattle.rht_core.proofs.Reasons.UnraisedBinds.{grow-none, SawUnraised}
 use Rattle.rht_core.proofs.Reasons.RefusedBinds.{no_key-future, Behind-push, SawWhy, SawWhy-push, SawRoot, SawToMake, above-why, root-saw, making-saw}
@@ -218,7 +218,7 @@ module _ (env : Env) (words_at : ℕ → List ℕ) (mix : ℕ → ℕ → ℕ �
         let within = does.within.at_in.probe_in.at_in in
         let after = probe_after_at probe.geometry probe.key probe.at did.old in
         probed-saw env.config.kind attempt table shape probe after (steps ++ did ∷ [])
-        (WalkedSeeing-push env.geometry table shape (CountedAt env.geometry words_at shape probe.at)
+        (WalkedSeeing-push env.geometry table shape (WalkCounted env.geometry words_at shape probe.at)
         (CountedNext env.geometry words_at shape after) steps did
         (probe_loads env.geometry did probe.at within does.planned)
         (λ behind counted. probe-counted env mix words_at does.caller port does.words does.ghost does.whole

@@ -32,7 +32,7 @@ use Rattle.rht_core.specs.ResizeCauses.{SawNoPage}
 use Rattle.rht_words.specs.Machines.{GoesOrEnds}
 use Rattle.rht_core.proofs.Reasons.PagesMissed.{SawGrowing, SeesNoFuture, SeesMissing, SawNoPage-push}
 use Rattle.rht_core.proofs.Reasons.TablesWalked.{CameTo-append, Walked, WalkedSeeing, WalkedAt}
-use Rattle.rht_core.proofs.Reasons.ChainsCounted.{HasCounted, CountedAt}
+use Rattle.rht_core.proofs.Reasons.ChainsCounted.{HasCounted, WalkCounted}
 use Rattle.rht_core.proofs.Reasons.RefusedBinds.{Behind, SawWhy, SawRoot, SawRefusal, SawToMake, FollowedSeen, FollowedSeen-push, BusySeen, BusySeen-push, NoTableSeen, NoTableSeen-push}
 use Rattle.rht_core.proofs.Reasons.NewNodesSeen.{SawNew}
 use Rattle.rht_core.proofs.Reasons.RaisesSeen.{Raised, IsStill, Raised-push}
@@ -81,7 +81,7 @@ module _ (env : Env) (words_at : ℕ → List ℕ) (mix : ℕ → ℕ → ℕ �
       WalkedSeeing env.geometry table shape
       (SeesMissing env words_at mix port table shape (SawGrowing env.geometry grow.at)) steps
   SawAt (at.Probing attempt table shape probe) steps =
-      WalkedSeeing env.geometry table shape (CountedAt env.geometry words_at shape probe.at) steps
+      WalkedSeeing env.geometry table shape (WalkCounted env.geometry words_at shape probe.at) steps
   SawAt (at.FoundOwner claimed found) steps = Unit {0}
   SawAt (at.ListLink list) steps = Walked env.geometry list.claimed.table list.claimed.shape steps
   SawAt (at.ChainLink list) steps = Walked env.geometry list.claimed.table list.claimed.shape steps

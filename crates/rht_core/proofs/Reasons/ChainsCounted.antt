@@ -176,9 +176,9 @@ module _ (g : Geometry) (words_at : ℕ → List ℕ) where
   }
 
   -- while it takes the lock and walks the bucket
-  abbrev pub CountedAt : ℕ → ProbeAt → List Did → Type 0
-  CountedAt shape (probes.Locking lock) steps = HasCounted shape lock.place 0 steps
-  CountedAt shape (probes.Walking bucket walk) steps = HasCounted shape bucket.place walk.length steps
+  abbrev pub WalkCounted : ℕ → ProbeAt → List Did → Type 0
+  WalkCounted shape (probes.Locking lock) steps = HasCounted shape lock.place 0 steps
+  WalkCounted shape (probes.Walking bucket walk) steps = HasCounted shape bucket.place walk.length steps
 
   -- after an operation of the walk, and of all of that
   abbrev CountedWalk : ℕ → ℕ → LockedWalkModel × Next Seen → List Did → Type 0
@@ -186,7 +186,7 @@ module _ (g : Geometry) (words_at : ℕ → List ℕ) where
   CountedWalk shape place (walk, Done seen) steps = HasCounted shape place seen.length steps
 
   abbrev pub CountedNext : ℕ → ProbeAt × Next Probed → List Did → Type 0
-  CountedNext shape (at, Go) steps = CountedAt shape at steps
+  CountedNext shape (at, Go) steps = WalkCounted shape at steps
   CountedNext shape (at, Done probed) steps = HasCounted shape probed.bucket.place probed.seen.length steps
 
   -- the walk begins with no node counted
@@ -297,7 +297,7 @@ module _ (env : Env) (mix : ℕ → ℕ → ℕ → ℕ) (words_at : ℕ → Lis
   pub probe-counted : (table shape : ℕ) (h : Geometry) (key : ℕ) (state : ProbeAt) (steps : List Did) (did : Did)
       → IsProbeAtIn g state → IsAtHome env mix G port table (Some shape) (place_of_probe state)
       → BucketMeans env mix c M G (known_probe port state) → did.op ≡ probe_plan_at state
-      → words ≡ words_at did.index → BucketsStay env mix words_at G did.index → CountedAt g words_at shape state steps
+      → words ≡ words_at did.index → BucketsStay env mix words_at G did.index → WalkCounted g words_at shape state steps
       → CountedNext g words_at shape (probe_after_at h key state did.old) (steps ++ did ∷ [])
   probe-counted table shape h key (probes.Locking lock) steps did within home knows is now stay has =
       lock-counted g words_at shape h key lock lock.at did.old (steps ++ did ∷ [])

@@ -16,7 +16,7 @@ use Rattle.rht_words.specs.Places.{PageMap, place_of}
 use Rattle.rht_words.proofs.EachElement.{AllByRecursion-weaker}
 use Rattle.rht_words.proofs.MachineRuns.{performed}
 use Rattle.rht_arena.specs.Laws.{IsLook}
-use Rattle.rht_arena.specs.Runs.{run_bits}
+use Rattle.rht_arena.specs.PageRuns.{run_bits}
 use Rattle.rht_arena.specs.TakeRun.{TakeRunModel, take_run_plan, take_run_plan_at, take_run_after, take_run_after_at, next_run, given_below, given_from, claimed, has_run, IsTakeRunAtIn}
 use Rattle.rht_arena.specs.RunLaws.{page_place, page_bit, TakesPage, SeesRunTaken}
 use Rattle.rht_arena.specs.declared.take_run.TakeRunAt.{TakeRunAt}

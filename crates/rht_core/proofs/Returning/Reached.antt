@@ -10,7 +10,7 @@ use Rattle.rht_core.specs.Reach.{Standing, ReachesTable, at_table, at_current, b
 use Rattle.rht_stands.specs.StandsFor.{shape_of, bucket_in}
 use Rattle.rht_core.specs.TablePages.{IsPageOfTable}
 use Rattle.rht_core.proofs.Counting.TablePages.{pages_in_words}
-use Rattle.rht_ghost.proofs.Theory.Ghosts.{Ghost, Held, PageOf, has_table, is_first, held_not_used, seat-first}
+use Rattle.rht_ghost.proofs.Theory.Ghosts.{Ghost, NodeHeld, PageOf, has_table, is_first, held_not_used, seat-first}
 use Rattle.rht_ghost.proofs.Theory.Wholes.{place_at, Whole}
 use Rattle.rht_ghost.proofs.Theory.SeatedLinks.{next_of, link-next_of, head-seated}
 use Rattle.rht_ghost.proofs.Theory.Steps.{mem}
@@ -108,7 +108,7 @@ module _ (env : Env) (mix : ℕ → ℕ → ℕ → ℕ) (words : List ℕ) (G :
         right.list_leads before n (reaches-listed before reached) leads
 
     -- so it could reach no node that a caller has taken for itself, and none that no section may meet
-    pub safe-held : (d node : ℕ) → G.node node ≡ Held d → ReachesListed env.geometry words at node → ⊥
+    pub safe-held : (d node : ℕ) → G.node node ≡ NodeHeld d → ReachesListed env.geometry words at node → ⊥
     safe-held d node held reached =
         held_not_used (G.node node) d held (right.used node (reaches-listed node reached))
 

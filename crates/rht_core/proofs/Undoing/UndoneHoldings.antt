@@ -17,7 +17,7 @@ use Rattle.rht_model.specs.declared.history.Call.{Call}
 use Rattle.rht_arena.specs.Laws.{map_place, map_bit}
 use Rattle.rht_arena.specs.RunLaws.{page_place}
 use Rattle.rht_core.specs.Refused.{GivesBackNode, GivesBackSlot}
-use Rattle.rht_ghost.proofs.Theory.Ghosts.{Held, SlotHeld, lock_bit, state_word}
+use Rattle.rht_ghost.proofs.Theory.Ghosts.{NodeHeld, SlotHeld, lock_bit, state_word}
 use Rattle.rht_ghost.proofs.Theory.Wholes.{place_at}
 use Rattle.rht_ghost.proofs.Theory.Steps.{bare, Holding, mem, IsAside, DoesQuiet, DoesTakeNode, DoesGiveNode, DoesTakeLock, DoesDropLock, DoesTakeSlot, DoesGiveSlot, DoesTakeWork, DoesGiveWork}
 use Rattle.rht_core.proofs.Undoing.TurnedBits.{turned-far, turned-none, TurnsOne, turned-one, sets_lowest, clears_lowest, node_bit, locked_bit, work_bit, slot_bit, held_bits}
@@ -106,7 +106,7 @@ module _ {env : Env} {mix : ℕ → ℕ → ℕ → ℕ} {words_at : ℕ → Lis
             (sym is.clears.place ∙ at)));
       }
 
-  pub give_node : (n : ℕ) → step.ghost.node n ≡ Held step.caller
+  pub give_node : (n : ℕ) → step.ghost.node n ≡ NodeHeld step.caller
       → DoesGiveNode g n step.did.op step.before (bare step.after) → Kept step
   give_node n held does =
       let among = step.so_far.node_in n does.has in

@@ -7,7 +7,7 @@ use Rattle.rht_words.specs.Chains.{IsSegment}
 use Rattle.rht_words.specs.Places.{Address, Node, ChainLink, PageWord}
 use Rattle.rht_words.specs.Members.{In}
 use Rattle.rht_words.proofs.Memory.{Memory, IsWrite}
-use Rattle.rht_ghost.proofs.Theory.Ghosts.{none-some, put-all, Bucket, Held, First, Ghost, lock_bit, seat_of, table_at, some-same}
+use Rattle.rht_ghost.proofs.Theory.Ghosts.{none-some, put-all, Bucket, NodeHeld, First, Ghost, lock_bit, seat_of, table_at, some-same}
 use Rattle.rht_ghost.proofs.Theory.Wholes.{chain_of, key_of, place_at, stop, BucketRight, OutRight, Whole}
 use Rattle.rht_ghost.proofs.Theory.Passed.{home-within, held-no_entry}
 use Rattle.rht_ghost.proofs.Theory.Knowns.{last_of}
@@ -92,7 +92,7 @@ module _ (env : Env) (mix : ℕ → ℕ → ℕ → ℕ) where
                     none-some none (ap (λ k. seat_of (G.node k)) same ∙ ap seat_of first);
                 other_node = λ c n w ne f e.
                     let same : n ≡ p = cc in
-                    let q : First j ≡ Held c = sym first ∙ ap G.node (sym same) ∙ f in cc;
+                    let q : First j ≡ NodeHeld c = sym first ∙ ap G.node (sym same) ∙ f in cc;
               }
 
       cut_right : BucketRight env mix M' j rest_bucket

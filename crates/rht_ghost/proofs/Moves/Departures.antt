@@ -10,7 +10,7 @@ use Rattle.rht_words.proofs.Memory.{Memory, IsWrite}
 use Rattle.rht_words.proofs.LinksRead.{heads_come_back, plain_of-link}
 use Rattle.rht_words.proofs.ChainLemmas.{IsSegment-cut, IsSegment-members}
 use Rattle.rht_words.proofs.Members.{not_in_from, in_and_not, in-middle, In-append_left, In-append_cases, IsDistinct-cut, IsDistinct-left}
-use Rattle.rht_ghost.proofs.Theory.Ghosts.{put-same, put-other, put-all, Bucket, Held, First, Leaving, Ghost, seat_of, table_at, none-some, some-same}
+use Rattle.rht_ghost.proofs.Theory.Ghosts.{put-same, put-other, put-all, Bucket, NodeHeld, First, Leaving, Ghost, seat_of, table_at, none-some, some-same}
 use Rattle.rht_ghost.proofs.Theory.Wholes.{chain_of, key_of, place_at, home, stop, BucketRight, OutRight, IsHomeOf, IsFirstAt, IsLeavingAt, Whole}
 use Rattle.rht_ghost.proofs.Theory.Passed.{home-within, held-no_entry, member-no_entry}
 use Rattle.rht_ghost.proofs.Theory.Frames.{Made}
@@ -75,7 +75,7 @@ module _ (env : Env) (mix : ℕ → ℕ → ℕ → ℕ) where
             none-some none (ap (λ k. seat_of (G.node k)) same ∙ ap seat_of first);
         other_node = λ c n w ne f e.
             let same : n ≡ entry = cc in
-            let q : First j ≡ Held c = sym first ∙ ap G.node (sym same) ∙ f in cc;
+            let q : First j ≡ NodeHeld c = sym first ∙ ap G.node (sym same) ∙ f in cc;
       }
 
       left_right : BucketRight env mix M' j (left_by (G.bucket j) nodes entry)

@@ -11,7 +11,7 @@ use Rattle.rht_words.proofs.Memory.{Memory, IsWrite}
 use Rattle.rht_words.specs.Members.{In, NotIn}
 use Rattle.rht_words.proofs.Members.{not_in_from, count_below-more}
 use Rattle.rht_words.proofs.ChainLemmas.{IsSegment-members}
-use Rattle.rht_ghost.proofs.Theory.Ghosts.{put, put-same, put-other, put-all, Free, Held, First, Leaving, Behind, Ghost, is_first, is_used, is_taken_by, IsUsed, seat_of, seat_in, seat, seat-used, listed-used, held_not_used, held_by_one, none-some, some-same, table_at, is_entry}
+use Rattle.rht_ghost.proofs.Theory.Ghosts.{put, put-same, put-other, put-all, Free, NodeHeld, First, Leaving, Behind, Ghost, is_first, is_used, is_taken_by, IsUsed, seat_of, seat_in, seat, seat-used, listed-used, held_not_used, held_by_one, none-some, some-same, table_at, is_entry}
 use Rattle.rht_ghost.proofs.Theory.Wholes.{chain_of, list_of, key_of, place_at, home, stop, IsNoBucket, BucketRight, ArmedRight, IsHomeOf, IsFirstAt, IsBehindIn, IsBoundTo, Owned, ArenaRight, IsBuilt, Whole, none_out, out-seated, firsts, raisers}
 use Rattle.rht_ghost.proofs.Theory.Passed.{home-within, home-table, held-bucket, PassesStay, IsArmedFor, held-no_entry}
 use Rattle.rht_ghost.proofs.Theory.Knowledge.{ArmedFor, IsEmptied}
@@ -378,7 +378,7 @@ module _ (env : Env) (mix : ℕ → ℕ → ℕ → ℕ) where
             (λ empty. absurd (none-some empty.armed ready.armed.armed)) (λ i apart empty. empty)));
         no_work = λ works. works;
         no_node =
-            λ m. put-all (λ k o. o ≡ Held c → G.node k ≡ Held c) G.node n (First here) (λ e. absurd (cc))
+            λ m. put-all (λ k o. o ≡ NodeHeld c → G.node k ≡ NodeHeld c) G.node n (First here) (λ e. absurd (cc))
             (λ k kn h. h) m;
         no_lock =
             λ j. put-all (λ i b. b.holder ≡ Some c → (G.bucket i).holder ≡ Some c) G.bucket here

@@ -9,7 +9,7 @@ use Rattle.rht_words.specs.Places.{Address, PortCount, StateWord, NodeMap, Node,
 use Rattle.rht_words.specs.Members.{In}
 use Rattle.rht_words.proofs.Memory.{Memory, IsWrite}
 use Rattle.rht_words.proofs.ChainLemmas.{IsSegment-members}
-use Rattle.rht_ghost.proofs.Theory.Ghosts.{put, put-same, put-other, put-all, Owner, Free, Held, First, Leaving, Behind, Taken, Ghost, is_listed, is_used, is_taken_by, IsUsed, seat_of, seat_in, seat, table_at, is_entry, held_not_used, held_by_one, none-some, some-same}
+use Rattle.rht_ghost.proofs.Theory.Ghosts.{put, put-same, put-other, put-all, Owner, Free, NodeHeld, First, Leaving, Behind, Taken, Ghost, is_listed, is_used, is_taken_by, IsUsed, seat_of, seat_in, seat, table_at, is_entry, held_not_used, held_by_one, none-some, some-same}
 use Rattle.rht_ghost.proofs.Theory.Wholes.{list_of, key_of, IsNoBucket, BucketRight, ArmedRight, IsFirstAt, IsBehindIn, IsBoundTo, Owned, ArenaRight, IsBuilt, Whole, MovesNone, seated_at, out-seated, firsts, raisers}
 use Rattle.rht_ghost.proofs.Theory.Passed.{held-bucket, PassesStay, WasSeated}
 use Rattle.rht_ghost.proofs.Theory.Knowledge.{IsEmptied}
@@ -44,13 +44,13 @@ module _ (env : Env) (mix : ℕ → ℕ → ℕ → ℕ) (d : ℕ) (change : Cha
     pub no_behind : (n other : ℕ) → G.node n ≡ Behind other → Node n ChainLink ≢ a
     pub no_seatless : (n : ℕ) → seat_of (G'.node n) ≡ None → Node n ChainLink ≢ a
     pub other_list : (n other : ℕ) → other ≢ port → In n (G.bound other) → Node n ListLink ≢ a
-    pub other_node : (c n : ℕ) (w : NodeWord) → c ≢ d → G.node n ≡ Held c → Node n w ≢ a
+    pub other_node : (c n : ℕ) (w : NodeWord) → c ≢ d → G.node n ≡ NodeHeld c → Node n w ≢ a
     -- nor is it the link of a node that is in no list then
     pub stale_list : (n : ℕ) → IsUsed (G.node n) → is_listed (G'.node n) ≡ false → Node n ListLink ≢ a
 
   -- a node that gets another owner is one of the port's, or the caller's that is to be one; and it is a port's then, or was one
   pub record IsChanged (n : ℕ) (owner : Owner) : Type 0 where
-    pub before : In n (G.bound port) ⊎ (G.node n ≡ Held d)
+    pub before : In n (G.bound port) ⊎ (G.node n ≡ NodeHeld d)
     pub key_is : key_of M n ≡ port
     pub used : IsUsed owner
     pub stays : (i : ℕ) → owner ≢ Leaving i
@@ -71,7 +71,7 @@ module _ (env : Env) (mix : ℕ → ℕ → ℕ → ℕ) (d : ℕ) (change : Cha
     pub armed : (c : ℕ) → change.bucket.armed ≡ Some c
         → ((G.bucket here).armed ≡ Some c) × (change.bucket.holder ≡ (G.bucket here).holder)
     -- the one that is the first then was one of the port's nodes or the caller's, and is in the bucket
-    pub from : (n : ℕ) (behind : List ℕ) → change.nodes ≡ n ∷ behind → In n (G.bound port) ⊎ (G.node n ≡ Held d)
+    pub from : (n : ℕ) (behind : List ℕ) → change.nodes ≡ n ∷ behind → In n (G.bound port) ⊎ (G.node n ≡ NodeHeld d)
     pub sits : (n : ℕ) (behind : List ℕ) → change.nodes ≡ n ∷ behind → G'.node n ≡ First here
     pub one_changed : IsChanged change.one change.one_owner
     pub other_changed : IsChanged change.other change.other_owner
@@ -166,7 +166,7 @@ module _ (env : Env) (mix : ℕ → ℕ → ℕ → ℕ) (d : ℕ) (change : Cha
             let q : First i ≡ Behind port = sym first
             ∙ (whole.owned.bound_to port m behind b).each n k in absurd (cc)
 
-    held_kept : (c n : ℕ) → c ≢ d → G.node n ≡ Held c → IsKept n
+    held_kept : (c n : ℕ) → c ≢ d → G.node n ≡ NodeHeld c → IsKept n
     held_kept c n ne held = kept_from n (λ owner at. elim at.before [
       | inl there ↦ held_not_used (G.node n) c held (listed_used n there)
       | inr mine ↦ ne (held_by_one (G.node n) c d held mine)
@@ -192,7 +192,7 @@ module _ (env : Env) (mix : ℕ → ℕ → ℕ → ℕ) (d : ℕ) (change : Cha
             let seat = out-seated env mix M G i n (whole.moving.out i n out) in
             none-some (ap seat_of ((whole.owned.bound_to port m behind b).each n k)) seat.1
 
-    mine_not_out : (n i : ℕ) → G.node n ≡ Held d → (G.bucket i).out ≢ Some n
+    mine_not_out : (n i : ℕ) → G.node n ≡ NodeHeld d → (G.bucket i).out ≢ Some n
     mine_not_out n i mine out =
         let seat = out-seated env mix M G i n (whole.moving.out i n out) in
         none-some (ap seat_of mine) seat.1
@@ -458,7 +458,7 @@ module _ (env : Env) (mix : ℕ → ℕ → ℕ → ℕ) (d : ℕ) (change : Cha
             chains = rebound_words.chains;
           });
           no_work = λ works. works;
-          no_node = owners_all (λ n o. o ≡ Held c → G.node n ≡ Held c)
+          no_node = owners_all (λ n o. o ≡ NodeHeld c → G.node n ≡ NodeHeld c)
               (λ held. absurd (held_not_used change.one_owner c held is.one_changed.used))
               (λ held. absurd (held_not_used change.other_owner c held is.other_changed.used))
               (λ n apart other held. held);

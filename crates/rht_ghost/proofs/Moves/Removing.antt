@@ -11,7 +11,7 @@ use Rattle.rht_words.specs.Members.{In, NotIn, IsDistinct}
 use Rattle.rht_words.proofs.Memory.{Memory, IsWrite}
 use Rattle.rht_words.proofs.ChainLemmas.{IsSegment-cut, IsSegment-members}
 use Rattle.rht_words.proofs.Members.{not_in_from, in_and_not, in-middle, In-append_left, In-append_right, In-append_cases, NotIn-append, IsDistinct-cut, IsDistinct-without, IsDistinct-with, count_below, count_below-more, count_below-same}
-use Rattle.rht_ghost.proofs.Theory.Ghosts.{put, put-same, put-other, put-all, Bucket, Owner, Held, First, Leaving, Behind, Taken, Ghost, is_first, is_used, is_taken_by, seat_of, taken_by_one, held_not_used, table_at, none-some, not_first-seatless}
+use Rattle.rht_ghost.proofs.Theory.Ghosts.{put, put-same, put-other, put-all, Bucket, Owner, NodeHeld, First, Leaving, Behind, Taken, Ghost, is_first, is_used, is_taken_by, seat_of, taken_by_one, held_not_used, table_at, none-some, not_first-seatless}
 use Rattle.rht_ghost.proofs.Theory.Wholes.{chain_of, list_of, key_of, place_at, stop, MovesNone, none_out, IsHomeOf, BucketRight, IsFirstAt, IsBehindIn, IsBoundTo, IsBuilt, Whole, firsts, raisers}
 use Rattle.rht_ghost.proofs.Theory.Passed.{home-within, member-no_entry}
 use Rattle.rht_ghost.proofs.Theory.Knowns.{last_of}
@@ -345,7 +345,7 @@ module _ (env : Env) (mix : ℕ → ℕ → ℕ → ℕ) (d port j m : ℕ) (fro
     pub differs : x ≢ m
     pub key_is : key_of M x ≡ port
     pub chain_is : chain_of M x ≡ chain_of M m
-    pub from : (G.node x ≡ Held d) ⊎ In x behind
+    pub from : (G.node x ≡ NodeHeld d) ⊎ In x behind
     pub list : IsSegment (list_of M) (list_of M x) tail 0
     pub distinct : IsDistinct (x ∷ tail)
     pub used : is_used owner ≡ true

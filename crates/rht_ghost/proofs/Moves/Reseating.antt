@@ -9,7 +9,7 @@ use Rattle.rht_words.specs.Members.{In}
 use Rattle.rht_words.proofs.Memory.{Memory, IsWrite}
 use Rattle.rht_words.proofs.ChainLemmas.{IsSegment-members}
 use Rattle.rht_words.proofs.Members.{count_below-same}
-use Rattle.rht_ghost.proofs.Theory.Ghosts.{IsUsed, seat-used, put, put-same, put-other, put-all, Bucket, Owner, Free, Held, First, Leaving, Behind, Ghost, is_first, is_taken_by, seat_of, seat_in, seat, seated, seat-first, table_at, is_entry, none-some, some-same}
+use Rattle.rht_ghost.proofs.Theory.Ghosts.{IsUsed, seat-used, put, put-same, put-other, put-all, Bucket, Owner, Free, NodeHeld, First, Leaving, Behind, Ghost, is_first, is_taken_by, seat_of, seat_in, seat, seated, seat-first, table_at, is_entry, none-some, some-same}
 use Rattle.rht_ghost.proofs.Theory.Wholes.{list_of, key_of, IsNoBucket, BucketRight, ArmedRight, OutRight, MovingRight, IsNextFor, IsHomeOf, IsFirstAt, IsLeavingAt, Owned, ArenaRight, IsBuilt, Whole, IsSeatedAt, seated_at, firsts, raisers}
 use Rattle.rht_ghost.proofs.Theory.Passed.{held-bucket, PassesStay, WasOut, WasSeated}
 use Rattle.rht_ghost.proofs.Theory.Reliance.{bound_used}
@@ -36,7 +36,7 @@ module _ (env : Env) (mix : ℕ → ℕ → ℕ → ℕ) (d here entry : ℕ) (b
     pub other_link : (n i : ℕ) → i ≢ here → G.node n ≡ First i → Node n ChainLink ≢ a
     pub no_leaving : (n i : ℕ) → n ≢ entry → G.node n ≡ Leaving i → Node n ChainLink ≢ a
     pub no_seatless : (n : ℕ) → seat_of (G.node n) ≡ None → Node n ChainLink ≢ a
-    pub other_node : (c n : ℕ) (w : NodeWord) → c ≢ d → G.node n ≡ Held c → Node n w ≢ a
+    pub other_node : (c n : ℕ) (w : NodeWord) → c ≢ d → G.node n ≡ NodeHeld c → Node n w ≢ a
 
   -- the entry had a seat, and has one that is no earlier
   pub record IsReseat : Type 0 where

@@ -10,7 +10,7 @@ use Rattle.rht_words.proofs.BitChanges.{bit_at-cleared, bit_at-cleared_other, bi
 use Rattle.rht_words.proofs.Memory.{Memory, IsWrite}
 use Rattle.rht_words.specs.Members.{In}
 use Rattle.rht_words.proofs.Members.{count_below-same}
-use Rattle.rht_ghost.proofs.Theory.Ghosts.{put, put-other, put-all, Owner, Free, Held, First, Behind, Ghost, HasSeat, is_first, is_used, is_taken_by, IsUsed, seat_of, seat-used, none-some, behind_one, held_not_used, held_by_one, with_owner, Taken, is_listed, taken_by_one, IsListedNode, unlisted-not_first}
+use Rattle.rht_ghost.proofs.Theory.Ghosts.{put, put-other, put-all, Owner, Free, NodeHeld, First, Behind, Ghost, HasSeat, is_first, is_used, is_taken_by, IsUsed, seat_of, seat-used, none-some, behind_one, held_not_used, held_by_one, with_owner, Taken, is_listed, taken_by_one, IsListedNode, unlisted-not_first}
 use Rattle.rht_ghost.proofs.Theory.Wholes.{chain_of, key_of, ArenaRight, IsBuilt, Whole, seated_at, firsts as count_firsts, raisers}
 use Rattle.rht_ghost.proofs.Theory.SeatedLinks.{chain-seated}
 use Rattle.rht_ghost.proofs.Theory.Knowledge.{HasNode}
@@ -122,7 +122,7 @@ module _ (env : Env) (mix : ℕ → ℕ → ℕ → ℕ) where
             (λ s u l is. write.others (Slot s u) (l, is) (λ e. cc))
             (λ m u held. write.others (Node m u) held.among (λ e.
             let same : m ≡ n = cc in
-            let q : Held c ≡ Behind port = sym held.mine ∙ ap G.node same ∙ behind in cc));
+            let q : NodeHeld c ≡ Behind port = sym held.mine ∙ ap G.node same ∙ behind in cc));
       }
     where
       -- who has locked a bucket in which the node's port has its first node is the caller
@@ -253,7 +253,7 @@ module _ (env : Env) (mix : ℕ → ℕ → ℕ → ℕ) where
   pub take_node : (d i b : ℕ) (M M' : Memory) (G : Ghost) → Whole env mix M G
       → IsBitIn env.geometry.nodes i b → bit_at (M (NodeMap i)) b ≡ 1
       → IsWrite env.geometry M M' (NodeMap i) (bit_and (M (NodeMap i)) (bit_not w64 (bit_of b)))
-      → Made env mix d M G M' (with_owner G (64 * i + b) (Held d)) × (G.node (64 * i + b) ≡ Free)
+      → Made env mix d M G M' (with_owner G (64 * i + b) (NodeHeld d)) × (G.node (64 * i + b) ≡ Free)
   take_node d i b M M' G whole at found write =
       let n = 64 * i + b in
       let word : n / 64 ≡ i = omega (arith, at.within) in
@@ -262,41 +262,41 @@ module _ (env : Env) (mix : ℕ → ℕ → ℕ → ℕ) where
       let was : is_listed (G.node n) ≡ false = ap is_listed free in
       let stay = used_stay env mix M M' G (NodeMap i) (bit_and (M (NodeMap i)) (bit_not w64 (bit_of b)))
       whole write (λ m w e. cc) in
-      let same = reowned_chains G n (Held d) was refl in (
+      let same = reowned_chains G n (NodeHeld d) was refl in (
         record {
-          whole = reowned i b (bit_and (M (NodeMap i)) (bit_not w64 (bit_of b))) (Held d) M M' G whole at
+          whole = reowned i b (bit_and (M (NodeMap i)) (bit_not w64 (bit_of b))) (NodeHeld d) M M' G whole at
               tt write was refl (
                 (λ set. absurd (omega (arith, bit_at-cleared (M (NodeMap i)) b at.within, set))),
                 (λ e. absurd (cc)),
               )
               (λ k l ne. bit_at-cleared_other (M (NodeMap i)) b k at.within l ne);
-          stale = stale_write env mix M M' G (with_owner G n (Held d)) (NodeMap i)
+          stale = stale_write env mix M M' G (with_owner G n (NodeHeld d)) (NodeMap i)
               (bit_and (M (NodeMap i)) (bit_not w64 (bit_of b))) write
-              (reowned_owners env mix G n (Held d) (ap is_used free))
+              (reowned_owners env mix G n (NodeHeld d) (ap is_used free))
               (λ m u f e. cc) (λ m u f e. cc);
           others = λ c ne. record {
-            tables = tables_stay env mix M G (with_owner G n (Held d)) whole same.tables
-                (chains_passes env mix M G (with_owner G n (Held d)) whole same);
+            tables = tables_stay env mix M G (with_owner G n (NodeHeld d)) whole same.tables
+                (chains_passes env mix M G (with_owner G n (NodeHeld d)) whole same);
             locks = λ j h. refl;
             lists = λ j m h i. refl;
             chains = chains_stay env mix c M M' G (NodeMap i)
                 (bit_and (M (NodeMap i)) (bit_not w64 (bit_of b))) whole write (λ m used e. cc);
             keys = stay.keys;
             owners = stay.owners;
-            nodes = λ m has. put-other G.node n (Held d) m (λ e. let q = sym free ∙ ap G.node (sym e)
+            nodes = λ m has. put-other G.node n (NodeHeld d) m (λ e. let q = sym free ∙ ap G.node (sym e)
                 ∙ has.mine in cc) ∙ has.mine;
             words = λ m has w. write.others (Node m w) has.among (λ e. cc);
             raised = refl;
-            taken = put-all (λ k o. is_taken_by c o ≡ is_taken_by c (G.node k)) G.node n (Held d)
+            taken = put-all (λ k o. is_taken_by c o ≡ is_taken_by c (G.node k)) G.node n (NodeHeld d)
                 (sym (ap (is_taken_by c) free)) (λ k kn. refl);
             unbound = λ port τ j is. is.unbound;
-            holdings = holdings_stay env mix c M M' G (with_owner G n (Held d)) same.tables
+            holdings = holdings_stay env mix c M M' G (with_owner G n (NodeHeld d)) same.tables
                 (λ s w l is. write.others (Slot s w) (l, is) (λ e. cc));
-            work = work_stays env mix c M M' G (with_owner G n (Held d)) same.tables
-                (entries_stay env mix M M' G (with_owner G n (Held d)) whole stay same.used (λ j is. is));
+            work = work_stays env mix c M M' G (with_owner G n (NodeHeld d)) same.tables
+                (entries_stay env mix M M' G (with_owner G n (NodeHeld d)) whole stay same.used (λ j is. is));
             no_work = λ works. works;
             no_node =
-                λ m. put-all (λ k o. o ≡ Held c → G.node k ≡ Held c) G.node n (Held d)
+                λ m. put-all (λ k o. o ≡ NodeHeld c → G.node k ≡ NodeHeld c) G.node n (NodeHeld d)
                 (λ e. absurd (ne (cc))) (λ k kn h. h) m;
             no_lock = λ j h. h;
           };
@@ -348,7 +348,7 @@ module _ (env : Env) (mix : ℕ → ℕ → ℕ → ℕ) where
               (entries_stay env mix M M' G (with_owner G n Free) whole stay same.used (λ j is. is));
           no_work = λ works. works;
           no_node =
-              λ m. put-all (λ k o. o ≡ Held c → G.node k ≡ Held c) G.node n Free (λ e. absurd (cc))
+              λ m. put-all (λ k o. o ≡ NodeHeld c → G.node k ≡ NodeHeld c) G.node n Free (λ e. absurd (cc))
               (λ k kn h. h) m;
           no_lock = λ j h. h;
         };
@@ -383,7 +383,7 @@ module _ (env : Env) (mix : ℕ → ℕ → ℕ → ℕ) where
           keys = stay.keys;
           owners = stay.owners;
           nodes = λ m held. put-other G.node n Free m
-              (λ e. let q : Held c ≡ Taken d = sym held.mine ∙ ap G.node e ∙ mine in cc) ∙ held.mine;
+              (λ e. let q : NodeHeld c ≡ Taken d = sym held.mine ∙ ap G.node e ∙ mine in cc) ∙ held.mine;
           words = λ m held w. write.others (Node m w) held.among (λ e. cc);
           raised = refl;
           taken = put-all (λ k o. is_taken_by c o ≡ is_taken_by c (G.node k)) G.node n Free
@@ -395,7 +395,7 @@ module _ (env : Env) (mix : ℕ → ℕ → ℕ → ℕ) where
               (entries_stay env mix M M' G (with_owner G n Free) whole stay same.used (λ j is. is));
           no_work = λ works. works;
           no_node =
-              λ m. put-all (λ k o. o ≡ Held c → G.node k ≡ Held c) G.node n Free (λ e. absurd (cc))
+              λ m. put-all (λ k o. o ≡ NodeHeld c → G.node k ≡ NodeHeld c) G.node n Free (λ e. absurd (cc))
               (λ k kn h. h) m;
           no_lock = λ j h. h;
         }),

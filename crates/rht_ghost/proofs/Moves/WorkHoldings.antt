@@ -1,7 +1,7 @@
 -- What the caller that does the work has after each of its moves, and that it has nothing more.
 use Rattle.std.proofs.Common.{◌≡◌, ◌⊎◌, ℕ, List, Option, Some, None, Bool, true, sym, ◌∙◌, ap, inl, inr}
 use Rattle.rht_words.specs.declared.env.Env.{Env}
-use Rattle.rht_ghost.proofs.Theory.Ghosts.{put-all, Held, SlotHeld, First, Leaving, Retired, Ghost, index_at, some-same}
+use Rattle.rht_ghost.proofs.Theory.Ghosts.{put-all, NodeHeld, SlotHeld, First, Leaving, Retired, Ghost, index_at, some-same}
 use Rattle.rht_ghost.proofs.Theory.Wholes.{place_at, word_index, index-place_at}
 use Rattle.rht_ghost.proofs.Theory.Knowledge.{HasOnly}
 use Rattle.rht_ghost.proofs.Theory.Readiness.{linked_bucket}
@@ -17,7 +17,7 @@ module _ (env : Env) (mix : ℕ → ℕ → ℕ → ℕ) (c : ℕ) (G : Ghost) (
   pub left_only : (j : ℕ) (nodes : List ℕ) (entry : ℕ)
       → HasOnly env mix c (left G j nodes entry) node lock second raised slot pages worker
   left_only j nodes entry = record {
-    nodes = put-all (λ k o. o ≡ Held c → node ≡ Some k) G.node entry (Leaving j) (λ e. absurd (cc))
+    nodes = put-all (λ k o. o ≡ NodeHeld c → node ≡ Some k) G.node entry (Leaving j) (λ e. absurd (cc))
         (λ k ne. only.nodes k);
     locks = put-all (λ k b. b.holder ≡ Some c → LocksOne lock second k) G.bucket j
         (left_by (G.bucket j) nodes entry) (only.locks j) (λ k ne. only.locks k);
@@ -31,7 +31,7 @@ module _ (env : Env) (mix : ℕ → ℕ → ℕ → ℕ) (c : ℕ) (G : Ghost) (
   pub arrived_only : (i entry place : ℕ) → second ≡ Some place → place_at env mix i ≡ place
       → HasOnly env mix c (arrived G i entry) node lock None raised slot pages worker
   arrived_only i entry place is at = record {
-    nodes = put-all (λ k o. o ≡ Held c → node ≡ Some k) G.node entry (First i) (λ e. absurd (cc))
+    nodes = put-all (λ k o. o ≡ NodeHeld c → node ≡ Some k) G.node entry (First i) (λ e. absurd (cc))
         (λ k ne. only.nodes k);
     locks = put-all (λ k b. b.holder ≡ Some c → LocksOne lock None k) G.bucket i
         (linked_bucket (G.bucket i) entry) (λ e. absurd (cc))

@@ -21,7 +21,7 @@ use Rattle.rht_ghost.proofs.Theory.Knowns.{Known, MakesNothing, HasTaken, HasMad
 use Rattle.rht_ghost.proofs.Theory.Knowledge.{IsMade}
 use Rattle.rht_ghost.proofs.Theory.Readiness.{IsAttaching}
 use Rattle.rht_ghost.proofs.Theory.TableFrames.{Knowing-retabled}
-use Rattle.rht_ghost.proofs.Theory.Steps.{Attaches, Holding, mem, Moved, moved, loads}
+use Rattle.rht_ghost.proofs.Theory.Steps.{Attaches, Holding, mem, SilentStep, silent, loads}
 use Rattle.rht_ghost.proofs.Moves.Slots.{slot_word-apart}
 use Rattle.rht_ghost.proofs.Moves.Attaching.{is_page-for, attached_kept, attach}
 use Rattle.rht_words.proofs.FilteredLists.{range_with_len-from}
@@ -68,7 +68,7 @@ module _ (env : Env) (mix : ℕ → ℕ → ℕ → ℕ) (c : ℕ) where
     -- nothing was behind the table in this slot
     pub attach_step : (last slot shape : ℕ) → has_table (G.slot last) ≡ true → old_of words (attaching last slot) ≡ 0
         → knows_made slot shape M G
-        → Moved env mix c words G (attaching last slot) (holds_made slot shape) (holding env mix c h known None [])
+        → SilentStep env mix c words G (attaching last slot) (holds_made slot shape) (holding env mix c h known None [])
         (knowing env mix c h known None [] MakesNothing)
     attach_step last slot shape table found knows =
         let op = attaching last slot in
@@ -88,7 +88,7 @@ module _ (env : Env) (mix : ℕ → ℕ → ℕ → ℕ) (c : ℕ) where
         let seed = M (Slot slot SeedWord) in
         let serial = M (Slot slot SerialWord) in
         let ready : IsAttaching env mix c slot shape seed M G = record { made = made; seed_is = refl } in
-        moved env mix c words G op (holds_made slot shape) (holding env mix c h known None [])
+        silent env mix c words G op (holds_made slot shape) (holding env mix c h known None [])
         (knowing env mix c h known None [] MakesNothing) (Attaches slot shape seed serial) whole ready tt
         (attach env mix c slot shape seed serial τ M M' G whole ready is.attached none write)
         (record { last = last; within = l; attaching = refl; found = found; has = refl; holds = refl })
@@ -110,14 +110,14 @@ module _ (env : Env) (mix : ℕ → ℕ → ℕ → ℕ) (c : ℕ) where
     pub lose_attach_step : (last slot shape : ℕ) → old_of words (attaching last slot) ≢ 0 → knows_made slot shape M G
         → let pages = pages_of_give_run
         (give_run_new env.geometry (run_first env.geometry shape) (run_pages env.geometry shape)) in
-        Moved env mix c words G (attaching last slot) (holds_made slot shape)
+        SilentStep env mix c words G (attaching last slot) (holds_made slot shape)
         (holding env mix c h known (Some slot) pages)
         (knowing env mix c h known (Some slot) pages (HasTaken (bare_slot slot) pages))
     lose_attach_step last slot shape found knows =
         let op = attaching last slot in
         let made = knows.means.making in
         let pages = pages_of_table env.geometry shape in
-        subst (λ ps. Moved env mix c words G op (holds_made slot shape) (holding env mix c h known (Some slot) ps)
+        subst (λ ps. SilentStep env mix c words G op (holds_made slot shape) (holding env mix c h known (Some slot) ps)
         (knowing env mix c h known (Some slot) ps (HasTaken (bare_slot slot) ps))) (sym (given_pages M G slot shape made))
         (loads env mix c words G op (holds_made slot shape) (holding env mix c h known (Some slot) pages)
         (knowing env mix c h known (Some slot) pages (HasTaken (bare_slot slot) pages)) whole

@@ -30,12 +30,12 @@ use Rattle.rht_ghost.proofs.Theory.Knowns.{Known, KnownTable, KnownMaking, Makes
 use Rattle.rht_ghost.proofs.Theory.Knowledge.{TableMeans}
 use Rattle.rht_ghost.proofs.Theory.TableFrames.{Knowing-retabled}
 use Rattle.rht_ghost.proofs.Theory.Readiness.{IsEntering, entered}
-use Rattle.rht_ghost.proofs.Theory.Steps.{Enters, Holding, mem, Moved, moved, moved-map, loads}
+use Rattle.rht_ghost.proofs.Theory.Steps.{Enters, Holding, mem, SilentStep, silent, silent-map, loads}
 use Rattle.rht_ghost.proofs.Moves.Entering.{words_apart, entered_kept, leads_to, enter}
 use Rattle.rht_words.proofs.FilteredLists.{filter-none, false_from}
 use Rattle.rht_ghost.proofs.Pieces.RunPages.{is_between, between-is, given-range}
 use Rattle.rht_ghost.proofs.Pieces.Holdings.{holding, knowing}
-use Rattle.rht_ghost.proofs.Pieces.Runs.{RunMoved, run_step, GiveMoved, give_run_step}
+use Rattle.rht_ghost.proofs.Pieces.PageRuns.{RunMoved, run_step, GiveMoved, give_run_step}
 
 -- it begins with no page
 pub grows_from_none : (g : Geometry) (entry : ℕ) → pages_of_grow (grow_new g entry).at ≡ []
@@ -107,15 +107,15 @@ module _ (env : Env) (mix : ℕ → ℕ → ℕ → ℕ) (c : ℕ) (h : Holding)
 
     -- what an operation of the growing leads to
     abbrev pub GrowMoved : List ℕ → Op → GrowAt × Next (Option ℕ) → Type 0
-    GrowMoved pages op r = Moved env mix c words G op (holds pages) (holds (pages_grown r))
+    GrowMoved pages op r = SilentStep env mix c words G op (holds pages) (holds (pages_grown r))
         (knows_that (table_grown r) (pages_grown r) (known_grown r))
 
     -- with no pages left it makes nothing
     ended : (table : KnownTable) (pages : List ℕ) (op : Op)
-        → Moved env mix c words G op (holds pages) (holds []) (knows_that table [] (HasPages []))
-        → Moved env mix c words G op (holds pages) (holds []) (knows_that table [] MakesNothing)
+        → SilentStep env mix c words G op (holds pages) (holds []) (knows_that table [] (HasPages []))
+        → SilentStep env mix c words G op (holds pages) (holds []) (knows_that table [] MakesNothing)
     ended table pages op step =
-        moved-map env mix (λ M' G' now k. record {
+        silent-map env mix (λ M' G' now k. record {
           only = k.only;
           means = record {
             node = k.means.node;
@@ -134,7 +134,7 @@ module _ (env : Env) (mix : ℕ → ℕ → ℕ → ℕ) (c : ℕ) (h : Holding)
     taken pages op (take, Go) one step = step
     taken pages op (take, Done None) one step = ended near pages op step
     taken pages op (take, Done (Some page)) one step =
-        subst (λ m. Moved env mix c words G op (holds pages) (holds (range_with_len page m))
+        subst (λ m. SilentStep env mix c words G op (holds pages) (holds (range_with_len page m))
         (knows_that near (range_with_len page m) (HasPages (range_with_len page m)))) one step
 
     -- ---- it is entered
@@ -147,7 +147,7 @@ module _ (env : Env) (mix : ℕ → ℕ → ℕ → ℕ) (c : ℕ) (h : Holding)
 
     enter_step : (page : ℕ) → page < env.geometry.pages → old_of words (entering page) ≡ 0
         → knows_that near (own page) (HasPages (own page)) M G
-        → Moved env mix c words G (entering page) (holds (own page)) (holds []) (knows_that (behind page) [] MakesNothing)
+        → SilentStep env mix c words G (entering page) (holds (own page)) (holds []) (knows_that (behind page) [] MakesNothing)
     enter_step page among found knows =
         let op = entering page in
         let M' = mem env mix (applied words op) in
@@ -173,7 +173,7 @@ module _ (env : Env) (mix : ℕ → ℕ → ℕ → ℕ) (c : ℕ) (h : Holding)
         (put-all (λ q o. o ≡ PageHeld c → In q []) G.page page (PageOf τ) (λ e. absurd (cc))
         (λ q ne held. elim (knows.only.pages_in q held) [ inl e ↦ absurd (ne e) | inr none ↦ none ]))
         tt in
-        moved env mix c words G op (holds (own page)) (holds []) (knows_that (behind page) [] MakesNothing) (Enters j page)
+        silent env mix c words G op (holds (own page)) (holds []) (knows_that (behind page) [] MakesNothing) (Enters j page)
         whole ready tt made
         (record {
           entering = refl;
@@ -209,13 +209,13 @@ module _ (env : Env) (mix : ℕ → ℕ → ℕ → ℕ) (c : ℕ) (h : Holding)
         → knows_that near (own page) (HasPages (own page)) M G
         → let there = page_there env.geometry (old_of words (entering page)) in
         let pages = pages_of_give_run (give_run_new env.geometry page 1) in
-        Moved env mix c words G (entering page) (holds (own page)) (holds pages)
+        SilentStep env mix c words G (entering page) (holds (own page)) (holds pages)
         (knows_that (behind there) pages (HasPages pages))
     lose_step page among found knows =
         let op = entering page in
         let there = page_there env.geometry (old_of words op) in
         let lead = found_there (old_of words op) refl found (usable knows.means.table) in
-        subst (λ ps. Moved env mix c words G op (holds (own page)) (holds ps) (knows_that (behind there) ps (HasPages ps)))
+        subst (λ ps. SilentStep env mix c words G op (holds (own page)) (holds ps) (knows_that (behind there) ps (HasPages ps)))
         (sym (given-range env.geometry page 1 (omega (arith, among))))
         (loads env mix c words G op (holds (own page)) (holds (own page))
         (knows_that (behind there) (own page) (HasPages (own page))) whole

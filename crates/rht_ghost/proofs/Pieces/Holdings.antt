@@ -18,7 +18,7 @@ use Rattle.rht_ghost.proofs.Theory.Readiness.{ArePagesOf}
 use Rattle.rht_ghost.proofs.Theory.Knowns.{Known, KnownSlot, KnownMaking, MakesNothing, HasPages, HasTaken}
 use Rattle.rht_ghost.proofs.Theory.Knowledge.{SlotMeans, ArePagesMine, MakingMeans, Knowing}
 use Rattle.rht_ghost.proofs.Theory.TableFrames.{TablesKept, Knowing-retabled, same_kept}
-use Rattle.rht_ghost.proofs.Theory.Steps.{Quiet, TakesSlot, GivesSlot, TakesPages, GivesPages, Holding, ClearsBits, SetsBits, mem, Moved, moved, loads}
+use Rattle.rht_ghost.proofs.Theory.Steps.{Quiet, TakesSlot, GivesSlot, TakesPages, GivesPages, Holding, ClearsBits, SetsBits, mem, SilentStep, silent, loads}
 use Rattle.rht_ghost.proofs.Moves.Slots.{slot_word-apart, slots_kept, take_slot, give_slot, fill_slot, take_serial}
 use Rattle.rht_ghost.proofs.Moves.Pages.{map_word-apart, pages_kept, take_pages, give_pages}
 
@@ -80,7 +80,7 @@ module _ (env : Env) (mix : ℕ → ℕ → ℕ → ℕ) (c : ℕ) (h : Holding)
 
     -- the exchange that finds the slot free
     pub take_slot_step : (s : ℕ) → s < 8 → old_of words (slot_exchange s) ≡ 0 → knowing None [] MakesNothing M G
-        → Moved env mix c words G (slot_exchange s) (holding None []) (holding (Some s) [])
+        → SilentStep env mix c words G (slot_exchange s) (holding None []) (holding (Some s) [])
         (knowing (Some s) [] (HasTaken (bare_slot s) []))
     take_slot_step s l found knows =
         let op = slot_exchange s in
@@ -90,7 +90,7 @@ module _ (env : Env) (mix : ℕ → ℕ → ℕ → ℕ) (c : ℕ) (h : Holding)
         subst (λ v. IsWrite env.geometry M M' (Slot s StateWord) v) value
         (is_write env.geometry words (Slot s StateWord) op all (l, tt) refl) in
         let taken = take_slot env mix c s M M' G whole l found write in
-        moved env mix c words G op (holding None []) (holding (Some s) [])
+        silent env mix c words G op (holding None []) (holding (Some s) [])
         (knowing (Some s) [] (HasTaken (bare_slot s) [])) (TakesSlot s) whole taken.1 tt taken.0
         (record { within = l; taking = refl; free = found; none = refl; holds = refl })
         (Knowing-retabled env mix M M' G G.table G.attached (put G.slot s (SlotHeld c)) G.page whole
@@ -114,7 +114,7 @@ module _ (env : Env) (mix : ℕ → ℕ → ℕ → ℕ) (c : ℕ) (h : Holding)
     -- one that doesn't leaves the word
     pub lose_slot_step : (s : ℕ) (slot : Option ℕ) (pages : List ℕ) (making : KnownMaking)
         → old_of words (slot_exchange s) ≢ 0 → knowing slot pages making M G
-        → Moved env mix c words G (slot_exchange s) (holding slot pages) (holding slot pages)
+        → SilentStep env mix c words G (slot_exchange s) (holding slot pages) (holding slot pages)
         (knowing slot pages making)
     lose_slot_step s slot pages making found knows =
         let op = slot_exchange s in
@@ -123,7 +123,7 @@ module _ (env : Env) (mix : ℕ → ℕ → ℕ → ℕ) (c : ℕ) (h : Holding)
 
     -- the store that gives the slot back, once no page is left
     pub give_slot_step : (slot : KnownSlot) → knowing (Some slot.slot) [] (HasTaken slot []) M G
-        → Moved env mix c words G (Store (place_of env.geometry (Slot slot.slot StateWord)) 0)
+        → SilentStep env mix c words G (Store (place_of env.geometry (Slot slot.slot StateWord)) 0)
         (holding (Some slot.slot) []) (holding None []) (knowing None [] MakesNothing)
     give_slot_step slot knows =
         let s = slot.slot in
@@ -131,7 +131,7 @@ module _ (env : Env) (mix : ℕ → ℕ → ℕ → ℕ) (c : ℕ) (h : Holding)
         let M' = mem env mix (applied words op) in
         let has = knows.means.making.slot.has in
         let write = is_write env.geometry words (Slot s StateWord) op all (has.within, tt) refl in
-        moved env mix c words G op (holding (Some s) []) (holding None []) (knowing None [] MakesNothing)
+        silent env mix c words G op (holding (Some s) []) (holding None []) (knowing None [] MakesNothing)
         (GivesSlot s) whole has.mine tt (give_slot env mix c s M M' G whole has write)
         (record { within = has.within; giving = refl; has = refl; empty = refl; holds = refl })
         (Knowing-retabled env mix M M' G G.table G.attached (put G.slot s SlotFree) G.page whole
@@ -200,7 +200,7 @@ module _ (env : Env) (mix : ℕ → ℕ → ℕ → ℕ) (c : ℕ) (h : Holding)
 
     pub fill_slot_step : (slot : KnownSlot) (w : SlotWord) (value : ℕ) (pages : List ℕ) → IsTableWord w
         → knowing (Some slot.slot) pages (HasTaken slot pages) M G
-        → Moved env mix c words G (Store (place_of env.geometry (Slot slot.slot w)) value)
+        → SilentStep env mix c words G (Store (place_of env.geometry (Slot slot.slot w)) value)
         (holding (Some slot.slot) pages) (holding (Some slot.slot) pages)
         (knowing (Some slot.slot) pages (HasTaken (with_slot_word slot w value) pages))
     fill_slot_step slot w value pages of_table knows =
@@ -209,7 +209,7 @@ module _ (env : Env) (mix : ℕ → ℕ → ℕ → ℕ) (c : ℕ) (h : Holding)
         let M' = mem env mix (applied words op) in
         let has = knows.means.making.slot.has in
         let write = is_write env.geometry words (Slot s w) op all (has.within, slot_word_is w of_table) refl in
-        moved env mix c words G op (holding (Some s) pages) (holding (Some s) pages)
+        silent env mix c words G op (holding (Some s) pages) (holding (Some s) pages)
         (knowing (Some s) pages (HasTaken (with_slot_word slot w value) pages)) Quiet whole tt tt
         (fill_slot env mix c s w value M M' G whole has of_table write)
         (record {
@@ -234,7 +234,7 @@ module _ (env : Env) (mix : ℕ → ℕ → ℕ → ℕ) (c : ℕ) (h : Holding)
     -- ---- the next serial
 
     pub serial_step : (slot : KnownSlot) (pages : List ℕ) → knowing (Some slot.slot) pages (HasTaken slot pages) M G
-        → Moved env mix c words G (Add (place_of env.geometry NextSerial) 1) (holding (Some slot.slot) pages)
+        → SilentStep env mix c words G (Add (place_of env.geometry NextSerial) 1) (holding (Some slot.slot) pages)
         (holding (Some slot.slot) pages) (knowing (Some slot.slot) pages (HasTaken slot pages))
     serial_step slot pages knows =
         let op = Add (place_of env.geometry NextSerial) 1 in
@@ -245,7 +245,7 @@ module _ (env : Env) (mix : ℕ → ℕ → ℕ → ℕ) (c : ℕ) (h : Holding)
         let has = means.slot.has in
         let stays : (w : SlotWord) → IsSlotWord w → M' (Slot slot.slot w) ≡ M (Slot slot.slot w) =
         λ w is. write.others (Slot slot.slot w) (has.within, is) (λ e. cc) in
-        moved env mix c words G op (holding (Some slot.slot) pages) (holding (Some slot.slot) pages)
+        silent env mix c words G op (holding (Some slot.slot) pages) (holding (Some slot.slot) pages)
         (knowing (Some slot.slot) pages (HasTaken slot pages)) Quiet whole tt tt
         (take_serial env mix c value M M' G whole write)
         (record { holds = refl; leaves = inr (inr (inr refl)) })
@@ -303,7 +303,7 @@ module _ (env : Env) (mix : ℕ → ℕ → ℕ → ℕ) (c : ℕ) (h : Holding)
         → ClearsBits env.geometry index bits op (old_of words op)
         → ((p : ℕ) → In p after ↔ (In p pages ⊎ (has_bit index bits p ≡ true)))
         → knowing (slot_for slot) pages (taken_for slot pages) M G
-        → Moved env mix c words G op (holding (slot_for slot) pages) (holding (slot_for slot) after)
+        → SilentStep env mix c words G op (holding (slot_for slot) pages) (holding (slot_for slot) after)
         (knowing (slot_for slot) after (taken_for slot after))
     take_pages_step slot index bits op pages after l among clears more knows =
         let M' = mem env mix (applied words op) in
@@ -318,7 +318,7 @@ module _ (env : Env) (mix : ℕ → ℕ → ℕ → ℕ) (c : ℕ) (h : Holding)
         let others : (bit : ℕ) → bit < 64 → bit_at bits bit ≢ 1 → bit_at value bit ≡ bit_at (M (PageMap index)) bit =
         λ bit k is. clears.others bit k is ∙ ap (λ w. bit_at w bit) same in
         let taken = take_pages env mix c index bits value M M' G whole among found write clears.cleared others in
-        moved env mix c words G op (holding (slot_for slot) pages) (holding (slot_for slot) after)
+        silent env mix c words G op (holding (slot_for slot) pages) (holding (slot_for slot) after)
         (knowing (slot_for slot) after (taken_for slot after)) (TakesPages index bits) whole taken.1 tt taken.0
         (record { clears = clears; pages = more; holds = refl })
         (Knowing-retabled env mix M M' G G.table G.attached G.slot (put_in (has_bit index bits) (PageHeld c) G.page)
@@ -343,7 +343,7 @@ module _ (env : Env) (mix : ℕ → ℕ → ℕ → ℕ) (c : ℕ) (h : Holding)
         → ((p : ℕ) → has_bit index bits p ≡ true → In p pages)
         → ((p : ℕ) → In p after ↔ (In p pages × (has_bit index bits p ≡ false)))
         → knowing (slot_for slot) pages (taken_for slot pages) M G
-        → Moved env mix c words G op (holding (slot_for slot) pages) (holding (slot_for slot) after)
+        → SilentStep env mix c words G op (holding (slot_for slot) pages) (holding (slot_for slot) after)
         (knowing (slot_for slot) after (taken_for slot after))
     give_pages_step slot index bits op pages after l among sets had less knows =
         let M' = mem env mix (applied words op) in
@@ -357,7 +357,7 @@ module _ (env : Env) (mix : ℕ → ℕ → ℕ → ℕ) (c : ℕ) (h : Holding)
         record { among = among; owned = λ p there. has_pages p (had p there) } in
         let others : (bit : ℕ) → bit < 64 → bit_at bits bit ≢ 1 → bit_at value bit ≡ bit_at (M (PageMap index)) bit =
         λ bit k is. sets.others bit k is ∙ ap (λ w. bit_at w bit) same in
-        moved env mix c words G op (holding (slot_for slot) pages) (holding (slot_for slot) after)
+        silent env mix c words G op (holding (slot_for slot) pages) (holding (slot_for slot) after)
         (knowing (slot_for slot) after (taken_for slot after)) (GivesPages index bits) whole mine tt
         (give_pages env mix c index bits value M M' G whole mine write sets.set others)
         (record { sets = sets; had = had; pages = less; holds = refl })

@@ -7,7 +7,7 @@ use Rattle.rht_words.specs.Links.{link_of}
 use Rattle.rht_words.specs.Members.{In}
 use Rattle.rht_words.proofs.Members.{in-middle, not_in_from}
 use Rattle.rht_words.proofs.Memory.{Memory, IsWrite}
-use Rattle.rht_ghost.proofs.Theory.Ghosts.{put, put-same, put-all, Held, First, Behind, Bucket, Ghost, is_taken_by, held_not_used, with_owner}
+use Rattle.rht_ghost.proofs.Theory.Ghosts.{put, put-same, put-all, NodeHeld, First, Behind, Bucket, Ghost, is_taken_by, held_not_used, with_owner}
 use Rattle.rht_ghost.proofs.Theory.Wholes.{list_of, key_of, place_at, word_index, place_at-index, home, MovesNone, outs, Whole}
 use Rattle.rht_ghost.proofs.Theory.Passed.{Passed, stays_in}
 use Rattle.rht_ghost.proofs.Theory.Knowns.{Replaces, StandsAt}
@@ -115,9 +115,9 @@ module _ (env : Env) (mix : ℕ → ℕ → ℕ → ℕ) (c port place word firs
   pub front_only : HasOnly env mix c G (Some n) (Some place) None false None [] false
       → HasOnly env mix c fronted None (lock_left place before) None false None [] false
   front_only only = record {
-    nodes = put-all (λ m o. o ≡ Held c → ◌≡◌ {A = Option ℕ} None (Some m)) (put G.node first (Behind port))
+    nodes = put-all (λ m o. o ≡ NodeHeld c → ◌≡◌ {A = Option ℕ} None (Some m)) (put G.node first (Behind port))
         n (First j) (λ e. absurd (cc))
-        (λ m ne. put-all (λ k o. k ≢ n → o ≡ Held c → ◌≡◌ {A = Option ℕ} None (Some k)) G.node first
+        (λ m ne. put-all (λ k o. k ≢ n → o ≡ NodeHeld c → ◌≡◌ {A = Option ℕ} None (Some k)) G.node first
         (Behind port) (λ apart e. absurd (cc))
         (λ k other apart held. let q = only.nodes k held in absurd (apart (cc))) m ne);
     locks = put-all (λ i b. b.holder ≡ Some c → IsLeft before i) G.bucket j change.bucket (left before)

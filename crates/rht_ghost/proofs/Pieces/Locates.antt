@@ -36,7 +36,7 @@ use Rattle.rht_ghost.proofs.Theory.Knowns.{KnownNode, KnownTable, Passes, Shaped
 use Rattle.rht_ghost.proofs.Theory.Knowledge.{plainly, TableMeans, IsPassing, IsShaped, IsRightBehind, IsOnWay, IsMissed, Knowing}
 use Rattle.rht_ghost.proofs.Theory.WaysRead.{IsPlaced, words_of_pages, read_by_entry, flat_read, on_way_read, on_way_next, at_home, missing_home}
 use Rattle.rht_ghost.proofs.Theory.Answering.{IsLegalOn, KnowsEarly, none_early, foresees, stays_early}
-use Rattle.rht_ghost.proofs.Theory.Steps.{Holding, by_test, mem, owners, owners_in, unchanged, Moved, loads}
+use Rattle.rht_ghost.proofs.Theory.Steps.{Holding, by_test, mem, owners, owners_in, unchanged, SilentStep, loads}
 
 -- what is known on the way to the bucket of a port
 abbrev pub known_locate : ℕ → ℕ → LocateAt → KnownTable
@@ -302,7 +302,7 @@ module _ (env : Env) (mix : ℕ → ℕ → ℕ → ℕ) (c : ℕ) (h : Holding)
     locate_step_at : (port slot : ℕ) (at : LocateAt) → IsLocateAtIn env.geometry at
         → knowing (known_locate port slot at) M G
         → let m : LocateModel = record { geometry = env.geometry; table = slot; at = at } in
-        Moved env mix c words G (locate_plan m) h h (LocateKnows port
+        SilentStep env mix c words G (locate_plan m) h h (LocateKnows port
         (locate_after mix port m (old_of words (locate_plan m))))
     locate_step_at port slot locates.Shape within knows =
         loads env mix c words G _ h h _ whole refl refl (step_knows port slot locates.Shape within knows)
@@ -316,11 +316,11 @@ module _ (env : Env) (mix : ℕ → ℕ → ℕ → ℕ) (c : ℕ) (h : Holding)
 
     pub locate_step : (port : ℕ) (m : LocateModel) → IsLocateIn env.geometry m
         → knowing (known_locate port m.table m.at) M G
-        → Moved env mix c words G (locate_plan m) h h
+        → SilentStep env mix c words G (locate_plan m) h h
         (LocateKnows port (locate_after mix port m (old_of words (locate_plan m))))
     locate_step port m is knows =
         subst (λ g. let here : LocateModel = record { geometry = g; table = m.table; at = m.at } in
-        Moved env mix c words G (locate_plan here) h h
+        SilentStep env mix c words G (locate_plan here) h h
         (LocateKnows port (locate_after mix port here (old_of words (locate_plan here)))))
         (sym is.geometry_same) (locate_step_at port m.table m.at is.at_in knows)
 

@@ -13,7 +13,7 @@ use Rattle.rht_ghost.proofs.Theory.Knowledge.{plainly, HasLock, has_lock, Bucket
 use Rattle.rht_ghost.proofs.Theory.KnowledgeStays.{TableMeans-stay, NodeMeans-stay}
 use Rattle.rht_ghost.proofs.Theory.Frames.{tables_stay}
 use Rattle.rht_ghost.proofs.Theory.WholeFrames.{chains_passes}
-use Rattle.rht_ghost.proofs.Theory.Steps.{DropsLock, Holding, mem, Moved, moved}
+use Rattle.rht_ghost.proofs.Theory.Steps.{DropsLock, Holding, mem, SilentStep, silent}
 use Rattle.rht_ghost.proofs.Moves.Quiet.{IsUnworked, unworked_by, held_chains, drop_lock}
 use Rattle.rht_ghost.proofs.Theory.Passed.{held-no_entry}
 
@@ -67,7 +67,7 @@ module _ (env : Env) (mix : ℕ → ℕ → ℕ → ℕ) (c : ℕ) (h : Holding)
     -- the holder stores the bucket's word without the lock, and this is known of the bucket then
     unlock_to : h.worker ≡ false → (place word : ℕ) (bucket after : KnownBucket) → HasLock env mix c G place word → knowing (Some place) bucket M G
         → ((M' : Memory) → BucketMeans env mix c M' (with_holder G (word_index env mix place) None) after)
-        → Moved env mix c words G (Store place word) (holding (Some place)) (holding None) (knowing None after)
+        → SilentStep env mix c words G (Store place word) (holding (Some place)) (holding None) (knowing None after)
     unlock_to idle place word bucket after lock knows means =
         let op = Store place word in
         let j = word_index env mix place in
@@ -81,7 +81,7 @@ module _ (env : Env) (mix : ℕ → ℕ → ℕ → ℕ) (c : ℕ) (h : Holding)
         let none : MovesNone env mix G c =
         moves_none env mix M G whole c (λ works. let yes_ = knows.only.works works in cc) in
         let old : old_of words op ≡ word + 1 = ap (λ p. slice_index words p) (sym is) ∙ right.word_is ∙ ap (λ p. p + lock_bit (G.bucket j).holder) lock.plain ∙ ap (λ x. word + lock_bit x) lock.holder in
-        moved env mix c words G op (holding (Some place)) (holding None) (knowing None after) (DropsLock j) whole tt tt
+        silent env mix c words G op (holding (Some place)) (holding None) (knowing None after) (DropsLock j) whole tt tt
         (drop_lock env mix c j word M M' G whole within none lock.holder lock.plain write)
         (record {
           on = sym is;
@@ -102,20 +102,20 @@ module _ (env : Env) (mix : ℕ → ℕ → ℕ → ℕ) (c : ℕ) (h : Holding)
         (means M'))
 
     pub unlock_step : h.worker ≡ false → (place word : ℕ) → knowing (Some place) (Locks place word) M G
-        → Moved env mix c words G (Store place word) (holding (Some place)) (holding None) (knowing None Unlocked)
+        → SilentStep env mix c words G (Store place word) (holding (Some place)) (holding None) (knowing None Unlocked)
     unlock_step idle place word knows =
         unlock_to idle place word (Locks place word) Unlocked
         (has_lock env mix c G place word knows.means.bucket) knows (λ M'. tt)
 
     -- whether or not the caller is armed there
     pub unlock_any : h.worker ≡ false → (place word : ℕ) → knowing (Some place) (Unlocks place word) M G
-        → Moved env mix c words G (Store place word) (holding (Some place)) (holding None) (knowing None Unlocked)
+        → SilentStep env mix c words G (Store place word) (holding (Some place)) (holding None) (knowing None Unlocked)
     unlock_any idle place word knows =
         unlock_to idle place word (Unlocks place word) Unlocked knows.means.bucket knows (λ M'. tt)
 
     -- a node that the caller has taken out of a list stays so
     pub unlock_taken : h.worker ≡ false → (place word n : ℕ) → knowing (Some place) (LocksTakenOut place word n) M G
-        → Moved env mix c words G (Store place word) (holding (Some place)) (holding None) (knowing None (TakenOut n))
+        → SilentStep env mix c words G (Store place word) (holding (Some place)) (holding None) (knowing None (TakenOut n))
     unlock_taken idle place word n knows =
         let is = knows.means.bucket in
         unlock_to idle place word (LocksTakenOut place word n) (TakenOut n) (has_lock env mix c G place word is.lock)

@@ -15,7 +15,7 @@ use Rattle.rht_words.specs.declared.shape.Shape.{Shape}
 use Rattle.rht_words.specs.Shapes.{unpacked, size_of}
 use Rattle.rht_words.proofs.Memory.{Memory}
 use Rattle.rht_words.proofs.Members.{In-range_with_len}
-use Rattle.rht_arena.specs.Runs.{IsRunIn}
+use Rattle.rht_arena.specs.PageRuns.{IsRunIn}
 use Rattle.rht_arena.specs.TakeRun.{TakeRunModel, take_run_new, take_run_plan, take_run_after, first_run, run_length, pages_of_take_run}
 use Rattle.rht_arena.specs.GiveRun.{GiveRunModel, give_run_plan, give_run_after, pages_of_give_run}
 use Rattle.rht_arena.proofs.RunsStay.{take_run_stays}
@@ -30,10 +30,10 @@ use Rattle.rht_ghost.proofs.Theory.Ghosts.{Ghost}
 use Rattle.rht_ghost.proofs.Theory.Wholes.{Whole}
 use Rattle.rht_ghost.proofs.Theory.Knowns.{Known, KnownSlot, KnownMaking, MakesNothing, HasTaken, HasMade}
 use Rattle.rht_ghost.proofs.Theory.Knowledge.{IsFlatMade, IsNestedMade, MakingMeans}
-use Rattle.rht_ghost.proofs.Theory.Steps.{Holding, mem, Moved, moved-map}
+use Rattle.rht_ghost.proofs.Theory.Steps.{Holding, mem, SilentStep, silent-map}
 use Rattle.rht_ghost.proofs.Pieces.RunPages.{first_run-none}
 use Rattle.rht_ghost.proofs.Pieces.Holdings.{bare_slot, with_slot_word, holding, knowing, take_slot_step, lose_slot_step, give_slot_step, fill_slot_step, serial_step}
-use Rattle.rht_ghost.proofs.Pieces.Runs.{RunMoved, run_step, GiveMoved, give_run_step}
+use Rattle.rht_ghost.proofs.Pieces.PageRuns.{RunMoved, run_step, GiveMoved, give_run_step}
 
 -- ---- what is known
 
@@ -100,7 +100,7 @@ module _ (env : Env) (mix : ℕ → ℕ → ℕ → ℕ) (c : ℕ) (h : Holding)
 
     -- what an operation of the making leads to
     abbrev MakeMoved : Option ℕ → List ℕ → Op → MakeAt × Next (Option (ℕ × ℕ)) → Type 0
-    MakeMoved slot pages op r = Moved env mix c words G op (holds slot pages)
+    MakeMoved slot pages op r = SilentStep env mix c words G op (holds slot pages)
         (holds (slot_made r) (made_with exponent r))
         (knows_that (slot_made r) (made_with exponent r) (known_made exponent seed r))
 
@@ -196,22 +196,22 @@ module _ (env : Env) (mix : ℕ → ℕ → ℕ → ℕ) (c : ℕ) (h : Holding)
     -- with a slot taken, the taking of pages begins with none
     -- where there is no run, the taking of a top page begins with none, or the slot is to be given back
     none_found : (before : Option ℕ) (slot : ℕ) (pages : List ℕ) (op : Op) (nests : Bool)
-        → Moved env mix c words G op (holds before pages) (holds (Some slot) [])
+        → SilentStep env mix c words G op (holds before pages) (holds (Some slot) [])
         (knows_that (Some slot) [] (HasTaken (bare_slot slot) []))
         → MakeMoved before pages op (no_run env.geometry nests slot, Go)
     none_found before slot pages op true step =
-        subst (λ ps. Moved env mix c words G op (holds before pages) (holds (Some slot) ps)
+        subst (λ ps. SilentStep env mix c words G op (holds before pages) (holds (Some slot) ps)
         (knows_that (Some slot) ps (HasTaken (bare_slot slot) ps))) (sym (first_run-none env.geometry 1)) step
     none_found before slot pages op false step = step
 
     -- with a slot taken, the taking of pages begins with none
-    started : (slot : ℕ) (op : Op) (nests : Bool) → Moved env mix c words G op (holds None []) (holds (Some slot) [])
+    started : (slot : ℕ) (op : Op) (nests : Bool) → SilentStep env mix c words G op (holds None []) (holds (Some slot) [])
         (knows_that (Some slot) [] (HasTaken (bare_slot slot) []))
         → MakeMoved None [] op (run_started env.geometry nests slot (take_run_new env.geometry n), Go)
     started slot op nests step =
         cond_both (nat_le (run_length n) env.geometry.pages) (starts.Running (first_run env.geometry (run_length n)))
         (starts.Done None) (λ start. MakeMoved None [] op (run_started env.geometry nests slot start, Go))
-        (λ t. subst (λ ps. Moved env mix c words G op (holds None []) (holds (Some slot) ps)
+        (λ t. subst (λ ps. SilentStep env mix c words G op (holds None []) (holds (Some slot) ps)
         (knows_that (Some slot) ps (HasTaken (bare_slot slot) ps))) (sym (first_run-none env.geometry (run_length n))) step)
         (λ f. none_found None slot [] op nests step)
 
@@ -234,7 +234,7 @@ module _ (env : Env) (mix : ℕ → ℕ → ℕ → ℕ) (c : ℕ) (h : Holding)
     taken slot pages op nests (take, Go) many step = step
     taken slot pages op nests (take, Done None) many step = none_found (Some slot) slot pages op nests step
     taken slot pages op nests (take, Done (Some page)) many step =
-        subst (λ m. Moved env mix c words G op (holds (Some slot) pages) (holds (Some slot) (range_with_len page m))
+        subst (λ m. SilentStep env mix c words G op (holds (Some slot) pages) (holds (Some slot) (range_with_len page m))
         (knows_that (Some slot) (range_with_len page m) (HasTaken (bare_slot slot) (range_with_len page m)))) many step
 
     -- and so for a top page
@@ -244,7 +244,7 @@ module _ (env : Env) (mix : ℕ → ℕ → ℕ → ℕ) (c : ℕ) (h : Holding)
     top slot pages op (take, Go) many step = step
     top slot pages op (take, Done None) many step = step
     top slot pages op (take, Done (Some page)) many step =
-        subst (λ m. Moved env mix c words G op (holds (Some slot) pages) (holds (Some slot) (range_with_len page m))
+        subst (λ m. SilentStep env mix c words G op (holds (Some slot) pages) (holds (Some slot) (range_with_len page m))
         (knows_that (Some slot) (range_with_len page m) (HasTaken (bare_slot slot) (range_with_len page m)))) many step
 
     make_step_at : (state : MakeAt) → IsMakeAtIn env.geometry exponent allowed state
@@ -282,9 +282,9 @@ module _ (env : Env) (mix : ℕ → ℕ → ℕ → ℕ) (c : ℕ) (h : Holding)
         let slot_now = closed_slot exponent slot nested page (table_seed seed serial) in
         let step = fill_slot_step env mix c h known words G all whole slot_now SerialWord serial (range_with_len page (pages_taken exponent nested))
         tt knows in
-        subst (λ ps. Moved env mix c words G op (holds (Some slot) (range_with_len page (pages_taken exponent nested))) (holds (Some slot) ps)
+        subst (λ ps. SilentStep env mix c words G op (holds (Some slot) (range_with_len page (pages_taken exponent nested))) (holds (Some slot) ps)
         (knows_that (Some slot) ps (HasMade slot (made_shape exponent nested page)))) (sym (made_run nested page run))
-        (moved-map env mix (λ M' G' now k. record {
+        (silent-map env mix (λ M' G' now k. record {
           only = k.only;
           means = record {
             node = k.means.node;
@@ -299,14 +299,14 @@ module _ (env : Env) (mix : ℕ → ℕ → ℕ → ℕ) (c : ℕ) (h : Holding)
   pub make_step : (m : MakeModel) → IsMakeIn env.geometry m
       → knows_that (slot_of_make m.at) (pages_of_make m.exponent m.at) (known_of_make m.exponent m.seed m.at) M G
       → let r = make_after_at env.geometry m.exponent m.nested m.at (old_of words (make_plan m)) in
-      Moved env mix c words G (make_plan m) (holds (slot_of_make m.at) (pages_of_make m.exponent m.at))
+      SilentStep env mix c words G (make_plan m) (holds (slot_of_make m.at) (pages_of_make m.exponent m.at))
       (holds (slot_made r) (made_with m.exponent r))
       (knows_that (slot_made r) (made_with m.exponent r) (known_made m.exponent m.seed r))
   make_step m is knows =
       subst (λ g.
       let op = make_plan_at g m.exponent m.seed m.at in
       let r = make_after_at env.geometry m.exponent m.nested m.at (old_of words op) in
-      Moved env mix c words G op (holds (slot_of_make m.at) (pages_of_make m.exponent m.at))
+      SilentStep env mix c words G op (holds (slot_of_make m.at) (pages_of_make m.exponent m.at))
       (holds (slot_made r) (made_with m.exponent r))
       (knows_that (slot_made r) (made_with m.exponent r) (known_made m.exponent m.seed r))) (sym is.geometry_same)
       (make_step_at m.exponent m.seed m.nested is.least is.greatest m.at is.at_in knows)
@@ -327,7 +327,7 @@ module _ (env : Env) (mix : ℕ → ℕ → ℕ → ℕ) (c : ℕ) (h : Holding)
   pages_given (state, Done done) = []
 
   abbrev UnmakeMoved : ℕ → List ℕ → Op → UnmakeAt × Next (Unit {0}) → Type 0
-  UnmakeMoved slot pages op r = Moved env mix c words G op (holds (Some slot) pages)
+  UnmakeMoved slot pages op r = SilentStep env mix c words G op (holds (Some slot) pages)
       (holds (slot_given slot r) (pages_given r))
       (knows_that (slot_given slot r) (pages_given r) (known_given slot r))
 
@@ -351,7 +351,7 @@ module _ (env : Env) (mix : ℕ → ℕ → ℕ → ℕ) (c : ℕ) (h : Holding)
   pub unmake_step : (m : UnmakeModel) → IsUnmakeIn env.geometry m
       → knows_that (Some m.slot) (pages_of_unmake m.at) (HasTaken (bare_slot m.slot) (pages_of_unmake m.at)) M G
       → let r = unmake_after_at m.at (old_of words (unmake_plan m)) in
-      Moved env mix c words G (unmake_plan m) (holds (Some m.slot) (pages_of_unmake m.at))
+      SilentStep env mix c words G (unmake_plan m) (holds (Some m.slot) (pages_of_unmake m.at))
       (holds (slot_given m.slot r) (pages_given r))
       (knows_that (slot_given m.slot r) (pages_given r) (known_given m.slot r))
   unmake_step m is knows =

@@ -21,7 +21,7 @@ use Rattle.rht_arena.specs.NewNode.{NewNodeModel, new_node_plan, new_node_after,
 use Rattle.rht_arena.specs.declared.new_node.NewNodeAt.{NewNodeAt}
 use Rattle.rht_arena.specs.declared.new_node.NewNodeAt.TheVariants as news
 use Rattle.rht_arena.proofs.TakenWereFree.{claims}
-use Rattle.rht_ghost.proofs.Theory.Ghosts.{put-same, put-all, Owner, Free, Held, Ghost, IsUsed, is_used, is_taken_by, held_not_used, unused-unlisted, with_owner}
+use Rattle.rht_ghost.proofs.Theory.Ghosts.{put-same, put-all, Owner, Free, NodeHeld, Ghost, IsUsed, is_used, is_taken_by, held_not_used, unused-unlisted, with_owner}
 use Rattle.rht_ghost.proofs.Theory.Wholes.{Whole}
 use Rattle.rht_ghost.proofs.Theory.Knowns.{KnownNode, KnownTable, KnownBucket, knows_plain}
 use Rattle.rht_ghost.proofs.Theory.Knowledge.{plainly, IsPlain, NodeMeans, TableMeans, Knowing}
@@ -29,7 +29,7 @@ use Rattle.rht_ghost.proofs.Theory.Reliance.{members_used, TablesStay}
 use Rattle.rht_ghost.proofs.Theory.KnowledgeStays.{BucketMeans-own, TableMeans-stay, BucketMeans-stay}
 use Rattle.rht_ghost.proofs.Theory.Frames.{chains_stay, tables_stay}
 use Rattle.rht_ghost.proofs.Theory.WholeFrames.{same_chains, chains_passes}
-use Rattle.rht_ghost.proofs.Theory.Steps.{Quiet, TakesNode, GivesNode, by_test, Holding, mem, Moved, moved, loads}
+use Rattle.rht_ghost.proofs.Theory.Steps.{Quiet, TakesNode, GivesNode, by_test, Holding, mem, SilentStep, silent, loads}
 use Rattle.rht_ghost.proofs.Moves.TakenNodes.{reowned_chains, fill, take_node, give_node, retouch}
 
 -- a node of which no word is known
@@ -177,7 +177,7 @@ module _ (env : Env) (mix : ℕ → ℕ → ℕ → ℕ) (c : ℕ) (h : Holding)
     -- a word of a node that the caller has is stored
     pub fill_step : IsPlain env mix bucket → (known : KnownNode) (w : NodeWord) (value : ℕ)
         → knowing (Some known.node) (Some known) M G
-        → Moved env mix c words G (Store (place_of env.geometry (Node known.node w)) value)
+        → SilentStep env mix c words G (Store (place_of env.geometry (Node known.node w)) value)
         (holding (Some known.node)) (holding (Some known.node))
         (knowing (Some known.node) (Some (with_word known w value)))
     fill_step plain known w value knows =
@@ -187,7 +187,7 @@ module _ (env : Env) (mix : ℕ → ℕ → ℕ → ℕ) (c : ℕ) (h : Holding)
         let write = is_write env.geometry words (Node known.node w) op all has.among refl in
         let not_mine : (n : ℕ) → IsUsed (G.node n) → n ≢ known.node = λ n used e. held_not_used
         (G.node known.node) c has.mine (rw (sym e) used) in
-        moved env mix c words G op (holding (Some known.node)) (holding (Some known.node))
+        silent env mix c words G op (holding (Some known.node)) (holding (Some known.node))
         (knowing (Some known.node) (Some (with_word known w value))) Quiet whole tt tt
         (fill env mix c known.node w value M M' G whole has write)
         (record {
@@ -209,7 +209,7 @@ module _ (env : Env) (mix : ℕ → ℕ → ℕ → ℕ) (c : ℕ) (h : Holding)
         → bit_at (old_of words (And (place_of env.geometry (NodeMap index)) (bit_not w64 (bit_of bit))))
         bit ≡ 1
         → knowing None None M G
-        → Moved env mix c words G (And (place_of env.geometry (NodeMap index))
+        → SilentStep env mix c words G (And (place_of env.geometry (NodeMap index))
         (bit_not w64 (bit_of bit))) (holding None) (holding (Some (64 * index + bit)))
         (knowing (Some (64 * index + bit)) (Some (bare (64 * index + bit))))
     claim_taken index bit range free knows =
@@ -221,11 +221,11 @@ module _ (env : Env) (mix : ℕ → ℕ → ℕ → ℕ) (c : ℕ) (h : Holding)
         let write : IsWrite env.geometry M M' (NodeMap index) (bit_and word (bit_not w64 (bit_of bit))) =
         is_write env.geometry words (NodeMap index) op all low refl in
         let taken = take_node env mix c index bit M M' G whole range free write in
-        moved env mix c words G op (holding None) (holding (Some n)) (knowing (Some n) (Some (bare n)))
+        silent env mix c words G op (holding None) (holding (Some n)) (knowing (Some n) (Some (bare n)))
         (TakesNode n) whole taken.1 tt taken.0
         (record { taking = claims env.geometry index bit word range free; none = refl; holds = refl })
         (plainly env mix (record {
-            nodes = put-all (λ m o. o ≡ Held c → Some n ≡ Some m) G.node n (Held c) (λ e. refl)
+            nodes = put-all (λ m o. o ≡ NodeHeld c → Some n ≡ Some m) G.node n (NodeHeld c) (λ e. refl)
                 (λ m ne held. let q = knows.only.nodes m held in absurd (cc));
             locks = knows.only.locks;
             raising = knows.only.raising;
@@ -233,20 +233,20 @@ module _ (env : Env) (mix : ℕ → ℕ → ℕ → ℕ) (c : ℕ) (h : Holding)
             pages_in = knows.only.pages_in;
             works = knows.only.works;
           }) (record {
-              has = record { mine = put-same G.node n (Held c); among = range.below };
+              has = record { mine = put-same G.node n (NodeHeld c); among = range.below };
               chain = tt;
               key = tt;
               owner = tt;
               list = tt;
-            }) (tables-reowned n (Held c) (ap is_used taken.1) refl knows.means.table) (BucketMeans-own env mix c M M' G (with_owner G n (Held c))
+            }) (tables-reowned n (NodeHeld c) (ap is_used taken.1) refl knows.means.table) (BucketMeans-own env mix c M M' G (with_owner G n (NodeHeld c))
             (members_used env mix M G whole) (λ j holds. refl) (λ j m h i. refl)
             (chains_stay env mix c M M' G (NodeMap index) (bit_and word (bit_not w64 (bit_of bit)))
             whole write (λ m used e. cc))
             (λ m l used. write.others (Node m KeyWord) l (λ e. cc))
             (λ m l used. write.others (Node m OwnerWord) l (λ e. cc))
-            (put-all (λ m o. is_taken_by c o ≡ is_taken_by c (G.node m)) G.node n (Held c)
+            (put-all (λ m o. is_taken_by c o ≡ is_taken_by c (G.node m)) G.node n (NodeHeld c)
             (sym (ap (is_taken_by c) taken.1)) (λ m ne. refl))
-            (stays-reowned n (Held c) (ap is_used taken.1) refl) (λ port τ j is. is.unbound) bucket
+            (stays-reowned n (NodeHeld c) (ap is_used taken.1) refl) (λ port τ j is. is.unbound) bucket
             (λ x has. let none = knows.only.nodes x has.mine in absurd (cc)) knows.means.bucket))
 
     -- one that finds the bit clear leaves the word
@@ -254,7 +254,7 @@ module _ (env : Env) (mix : ℕ → ℕ → ℕ → ℕ) (c : ℕ) (h : Holding)
         → bit_at (old_of words (And (place_of env.geometry (NodeMap index)) (bit_not w64 (bit_of bit))))
         bit ≡ 0
         → knowing None None M G
-        → Moved env mix c words G (And (place_of env.geometry (NodeMap index))
+        → SilentStep env mix c words G (And (place_of env.geometry (NodeMap index))
         (bit_not w64 (bit_of bit))) (holding None) (holding None) (knowing None None)
     claim_lost index bit range clear knows =
         let op = And (place_of env.geometry (NodeMap index)) (bit_not w64 (bit_of bit)) in
@@ -268,7 +268,7 @@ module _ (env : Env) (mix : ℕ → ℕ → ℕ → ℕ) (c : ℕ) (h : Holding)
           | inl q ↦ rw q (bit_at-cleared word bit range.within ∙ sym clear)
           | inr ne ↦ bit_at-cleared_other word bit k range.within l ne
         ] in
-        moved env mix c words G op (holding None) (holding None) (knowing None None) Quiet whole tt tt
+        silent env mix c words G op (holding None) (holding None) (knowing None None) Quiet whole tt tt
         (retouch env mix c index (bit_and word (bit_not w64 (bit_of bit))) M M' G whole low write same)
         (record { holds = refl; leaves = inl same })
         (plainly env mix knows.only tt knows.means.table (BucketMeans-own env mix c M M' G G (members_used env mix M G whole)
@@ -282,7 +282,7 @@ module _ (env : Env) (mix : ℕ → ℕ → ℕ → ℕ) (c : ℕ) (h : Holding)
 
     -- what an operation of the taking leads to
     abbrev pub TakeMoved : Op → TakeNodeModel × Next (Option ℕ) → Type 0
-    TakeMoved op r = Moved env mix c words G op (holding None) (holding (taken_by r))
+    TakeMoved op r = SilentStep env mix c words G op (holding None) (holding (taken_by r))
         (knowing (taken_by r) (known_taken r))
 
     -- of a taking in this table, state by state
@@ -319,7 +319,7 @@ module _ (env : Env) (mix : ℕ → ℕ → ℕ → ℕ) (c : ℕ) (h : Holding)
     -- ---- a node is given back
 
     pub give_step : IsPlain env mix bucket → (known : KnownNode) → knowing (Some known.node) (Some known) M G
-        → Moved env mix c words G (Or (place_of env.geometry (NodeMap (known.node / 64)))
+        → SilentStep env mix c words G (Or (place_of env.geometry (NodeMap (known.node / 64)))
         (bit_of (known.node % 64))) (holding (Some known.node)) (holding None) (knowing None None)
     give_step plain known knows =
         let n = known.node in
@@ -327,12 +327,12 @@ module _ (env : Env) (mix : ℕ → ℕ → ℕ → ℕ) (c : ℕ) (h : Holding)
         let M' = mem env mix (applied words op) in
         let has = knows.means.node.has in
         let write = is_write env.geometry words (NodeMap (n / 64)) op all (omega (arith, has.among)) refl in
-        moved env mix c words G op (holding (Some n)) (holding None) (knowing None None) (GivesNode n)
+        silent env mix c words G op (holding (Some n)) (holding None) (knowing None None) (GivesNode n)
         whole knows.means.node.has.mine tt
         (give_node env mix c n M M' G whole has write)
         (record { giving = refl; has = refl; holds = refl })
         (plainly env mix (record {
-            nodes = put-all (λ m o. o ≡ Held c → ◌≡◌ {A = Option ℕ} None (Some m)) G.node n Free
+            nodes = put-all (λ m o. o ≡ NodeHeld c → ◌≡◌ {A = Option ℕ} None (Some m)) G.node n Free
                 (λ e. absurd (cc))
                 (λ m ne held. let q = knows.only.nodes m held in absurd (ne (cc)));
             locks = knows.only.locks;
@@ -355,11 +355,11 @@ module _ (env : Env) (mix : ℕ → ℕ → ℕ → ℕ) (c : ℕ) (h : Holding)
 
     abbrev pub NewMoved : ℕ → ℕ → Op → NewNodeAt × Next (Option ℕ) → Type 0
     NewMoved key owner op r =
-        Moved env mix c words G op (holding None) (holding (made_by r))
+        SilentStep env mix c words G op (holding None) (holding (made_by r))
         (knowing (made_by r) (known_made key owner r))
 
     taken_next : (key owner : ℕ) (op : Op) (r : TakeNodeModel × Next (Option ℕ)) → TakeMoved op r
-        → Moved env mix c words G op (holding None) (holding (made_by (node_taken r.0 r.1)))
+        → SilentStep env mix c words G op (holding None) (holding (made_by (node_taken r.0 r.1)))
         (knowing (made_by (node_taken r.0 r.1)) (known_made key owner (node_taken r.0 r.1)))
     taken_next key owner op (take, Go) step = step
     taken_next key owner op (take, Done None) step = step
@@ -369,7 +369,7 @@ module _ (env : Env) (mix : ℕ → ℕ → ℕ → ℕ) (c : ℕ) (h : Holding)
     abbrev pub NewStep : NewNodeModel → Type 0
     NewStep m =
         let r = new_node_after m (old_of words (new_node_plan m)) in
-        Moved env mix c words G (new_node_plan m) (holding (node_of_new m.at))
+        SilentStep env mix c words G (new_node_plan m) (holding (node_of_new m.at))
         (holding (made_by (r.0.at, r.1))) (knowing (made_by (r.0.at, r.1))
         (known_made m.key m.owner (r.0.at, r.1)))
 

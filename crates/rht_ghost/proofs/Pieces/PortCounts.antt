@@ -13,7 +13,7 @@ use Rattle.rht_ghost.proofs.Theory.Reliance.{members_used}
 use Rattle.rht_ghost.proofs.Theory.KnowledgeStays.{NodeMeans-stay, TableMeans-stay, BucketMeans-own}
 use Rattle.rht_ghost.proofs.Theory.Frames.{chains_stay, tables_stay}
 use Rattle.rht_ghost.proofs.Theory.WholeFrames.{same_chains, chains_passes}
-use Rattle.rht_ghost.proofs.Theory.Steps.{Raises, Holding, mem, Moved, moved}
+use Rattle.rht_ghost.proofs.Theory.Steps.{Raises, Holding, mem, SilentStep, silent}
 use Rattle.rht_ghost.proofs.Moves.Quiet.{count_up}
 
 module _ (env : Env) (mix : ℕ → ℕ → ℕ → ℕ) (c : ℕ) (h : Holding)
@@ -27,7 +27,7 @@ module _ (env : Env) (mix : ℕ → ℕ → ℕ → ℕ) (c : ℕ) (h : Holding)
   pub raise_step : (words : List ℕ) (G : Ghost) → length words ≡ words_in env.geometry
       → Whole env mix (mem env mix words) G
       → c < env.geometry.callers → knowing false (mem env mix words) G
-      → Moved env mix c words G (Add (place_of env.geometry PortCount) 1) (holding false) (holding true)
+      → SilentStep env mix c words G (Add (place_of env.geometry PortCount) 1) (holding false) (holding true)
       (knowing true)
   raise_step words G all whole low knows =
       let op = Add (place_of env.geometry PortCount) 1 in
@@ -38,7 +38,7 @@ module _ (env : Env) (mix : ℕ → ℕ → ℕ → ℕ) (c : ℕ) (h : Holding)
       is_write env.geometry words PortCount op all tt refl in
       let same = same_chains env mix G G'.raised in
       let stay = tables_stay env mix M G G' whole same.tables (chains_passes env mix M G G' whole same) in
-      moved env mix c words G op (holding false) (holding true) (knowing true) Raises whole tt tt
+      silent env mix c words G op (holding false) (holding true) (knowing true) Raises whole tt tt
       (count_up env mix c M M' G whole low knows.only.raising write)
       (record { adds = refl; low = refl; holds = refl })
       (plainly env mix (record {

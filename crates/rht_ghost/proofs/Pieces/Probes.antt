@@ -36,7 +36,7 @@ use Rattle.rht_ghost.proofs.Theory.Wholes.{chain_of, key_of, place_at, word_inde
 use Rattle.rht_ghost.proofs.Theory.Passed.{NoKey, home-bucket, held-no_entry}
 use Rattle.rht_ghost.proofs.Theory.Knowns.{KnownNode, AtHome, KnownBucket, Unlocked, Locks, Stands, Differs, Missed, Found, knows_plain, StandsAt}
 use Rattle.rht_ghost.proofs.Theory.Knowledge.{plainly, HoldsLock, IsStanding, IsReaching, BucketMeans, Knowing}
-use Rattle.rht_ghost.proofs.Theory.Steps.{bare, TakesLock, by_test, Holding, mem, Moved, moved, moved-map, loads}
+use Rattle.rht_ghost.proofs.Theory.Steps.{bare, TakesLock, by_test, Holding, mem, SilentStep, silent, silent-map, loads}
 use Rattle.rht_ghost.proofs.Moves.Quiet.{take_lock, unworked_free, free-still}
 use Rattle.rht_ghost.proofs.Moves.Relinking.{last_of-more}
 use Rattle.rht_ghost.proofs.Pieces.Locks.{with-holder}
@@ -274,7 +274,7 @@ module _ (env : Env) (mix : ℕ → ℕ → ℕ → ℕ) (c : ℕ) (h : Holding)
 
     abbrev pub WalkMoved : ℕ → ℕ → Op → LockedWalkModel × Next Seen → Type 0
     WalkMoved place word op r =
-        Moved env mix c words G op (holding (Some place)) (holding (Some place)) (WalkKnows place word r)
+        SilentStep env mix c words G op (holding (Some place)) (holding (Some place)) (WalkKnows place word r)
 
     -- state by state
     walk_step_at : (place word : ℕ) (before : Option ℕ) (count : ℕ) (at : LockedWalkAt)
@@ -359,7 +359,7 @@ module _ (env : Env) (mix : ℕ → ℕ → ℕ → ℕ) (c : ℕ) (h : Holding)
     LockKnows (lock, Done word) M' G' = knowing (Some lock.place) lock.place (Locks lock.place word) M' G'
 
     abbrev pub LockMoved : Op → LockModel × Next ℕ → Type 0
-    LockMoved op r = Moved env mix c words G op (holding None) (holding (locked_by r)) (LockKnows r)
+    LockMoved op r = SilentStep env mix c words G op (holding None) (holding (locked_by r)) (LockKnows r)
 
     -- the exchange that finds the word that it looks for takes the lock
     lock_taken_step : (place found : ℕ) → found % 2 ≡ 0
@@ -381,7 +381,7 @@ module _ (env : Env) (mix : ℕ → ℕ → ℕ → ℕ) (c : ℕ) (h : Holding)
         (home-bucket env mix M G whole port (index_at G slot) j at.passing.passed.attached at.here) here
         even write in
         let b = held_by (G.bucket j) (Some c) in
-        moved env mix c words G op (holding None) (holding (Some place))
+        silent env mix c words G op (holding None) (holding (Some place))
         (LockKnows (record { place = place; at = locks.Exchange found }, Done found)) (TakesLock j)
         whole tt tt taken.0
         (record {
@@ -451,11 +451,11 @@ module _ (env : Env) (mix : ℕ → ℕ → ℕ → ℕ) (c : ℕ) (h : Holding)
         (known_seen probed.bucket.place probed.bucket.word port probed.seen) M' G'
 
     abbrev pub ProbeMoved : Op → Option ℕ → ProbeAt × Next Probed → Type 0
-    ProbeMoved op lock r = Moved env mix c words G op (holding lock) (holding (probed_by r)) (ProbeKnows r)
+    ProbeMoved op lock r = SilentStep env mix c words G op (holding lock) (holding (probed_by r)) (ProbeKnows r)
 
     -- the walk begins once the lock was taken
     started : (op : Op) (lock : LockModel) (word : ℕ) (start : Start LockedWalkModel Seen)
-        → Moved env mix c words G op (holding None) (holding (Some lock.place))
+        → SilentStep env mix c words G op (holding None) (holding (Some lock.place))
         (StartKnows lock.place word start)
         → ProbeMoved op None (walk_or_seen lock (record { place = lock.place; word = word }) start)
     started op lock word (starts.Running walk) step = step
@@ -464,10 +464,10 @@ module _ (env : Env) (mix : ℕ → ℕ → ℕ → ℕ) (c : ℕ) (h : Holding)
     lock_next : (op : Op) (r : LockModel × Next ℕ) → LockMoved op r
         → ProbeMoved op None (lock_taken env.geometry port r.0 r.1)
     lock_next op (lock, Go) step =
-        moved-map env mix (λ M' G' w k. (k, tt)) step
+        silent-map env mix (λ M' G' w k. (k, tt)) step
     lock_next op (lock, Done word) step =
         started op lock word (locked_walk_new env.geometry lock.place word port)
-        (moved-map env mix (λ M' G' w k. walk_start M' G' w lock.place word k) step)
+        (silent-map env mix (λ M' G' w k. walk_start M' G' w lock.place word k) step)
 
     walk_next : (op : Op) (bucket : Locked) (r : LockedWalkModel × Next Seen)
         → WalkMoved bucket.place bucket.word op r

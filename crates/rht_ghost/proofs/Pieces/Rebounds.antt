@@ -9,7 +9,7 @@ use Rattle.rht_words.specs.Members.{In}
 use Rattle.rht_words.proofs.Members.{in-middle, In-append_left, count_below, count_below-more}
 use Rattle.rht_words.proofs.Memory.{Memory}
 use Rattle.rht_words.proofs.PlacesApart.{parts_in_order}
-use Rattle.rht_ghost.proofs.Theory.Ghosts.{put, put-same, put-other, put-all, Owner, Held, Taken, Ghost, is_used, is_taken_by}
+use Rattle.rht_ghost.proofs.Theory.Ghosts.{put, put-same, put-other, put-all, Owner, NodeHeld, Taken, Ghost, is_used, is_taken_by}
 use Rattle.rht_ghost.proofs.Theory.Wholes.{key_of, place_at, word_index, Whole}
 use Rattle.rht_ghost.proofs.Theory.Knowledge.{HasOnly, IsFound}
 use Rattle.rht_ghost.proofs.Theory.Reliance.{bound_used}
@@ -64,15 +64,15 @@ module _ (env : Env) (mix : ℕ → ℕ → ℕ → ℕ) (c : ℕ) (G : Ghost) w
   -- the lock still, or none, and no node.
   pub only_left : (change : Change) (place : ℕ) (has lock : Option ℕ) (raised : Bool)
       → place_at env mix change.place ≡ place
-      → change.one_owner ≢ Held c → change.other_owner ≢ Held c
+      → change.one_owner ≢ NodeHeld c → change.other_owner ≢ NodeHeld c
       → ((n : ℕ) → has ≡ Some n → (n ≡ change.one) ⊎ (n ≡ change.other))
       → (change.bucket.holder ≡ Some c → lock ≡ Some place)
       → HasOnly env mix c G has (Some place) None raised None [] false
       → HasOnly env mix c (changed G c change) None lock None change.raised None [] false
   only_left change place has lock raised is one other given holder only = record {
-    nodes = put-all (λ n o. o ≡ Held c → is_at None n) (put G.node change.one change.one_owner) change.other
+    nodes = put-all (λ n o. o ≡ NodeHeld c → is_at None n) (put G.node change.one change.one_owner) change.other
         change.other_owner (λ e. absurd (other e))
-        (λ n apart. put-all (λ m o. m ≢ change.other → o ≡ Held c → is_at None m) G.node change.one
+        (λ n apart. put-all (λ m o. m ≢ change.other → o ≡ NodeHeld c → is_at None m) G.node change.one
         change.one_owner (λ ne e. absurd (one e))
         (λ m ne far held. absurd (elim (given m (only.nodes m held)) [ inl e ↦ ne e | inr e ↦ far e ])) n apart);
     locks = put-all
@@ -98,7 +98,7 @@ module _ (env : Env) (mix : ℕ → ℕ → ℕ → ℕ) (c : ℕ) (G : Ghost) w
   -- the same of a caller that had no node
   pub only_rebound : (change : Change) (place : ℕ) (lock : Option ℕ) (raised : Bool)
       → place_at env mix change.place ≡ place
-      → change.one_owner ≢ Held c → change.other_owner ≢ Held c
+      → change.one_owner ≢ NodeHeld c → change.other_owner ≢ NodeHeld c
       → (change.bucket.holder ≡ Some c → lock ≡ Some place)
       → HasOnly env mix c G None (Some place) None raised None [] false
       → HasOnly env mix c (changed G c change) None lock None change.raised None [] false

@@ -11,7 +11,7 @@ use Rattle.rht_words.specs.declared.machine.Next.TheVariants.{Go, Done}
 use Rattle.rht_words.specs.Members.{In}
 use Rattle.rht_words.proofs.Members.{In-range_with_len, range_with_len-In}
 use Rattle.rht_words.proofs.FilteredLists.{false_from, same_tests, filter-In, In-filter, filter-same, filter-none, range_with_len-from, below-In, In-below}
-use Rattle.rht_arena.specs.Runs.{run_bits}
+use Rattle.rht_arena.specs.PageRuns.{run_bits}
 use Rattle.rht_arena.specs.GiveRun.{give_run_new, has_yet, pages_of_give_run}
 use Rattle.rht_words.specs.declared.geometry.Geometry.{Geometry}
 use Rattle.rht_arena.specs.TakeRun.{TakeRunModel, first_run, next_run, given_below, given_from, claimed, cleared, has_run, has_page, pages_of_take_run, IsRunAt}

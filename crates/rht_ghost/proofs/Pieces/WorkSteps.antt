@@ -16,7 +16,7 @@ use Rattle.rht_ghost.proofs.Theory.Ghosts.{put-all, Ghost, lock_bit, held_by, wi
 use Rattle.rht_ghost.proofs.Theory.Wholes.{place_at, word_index, place_at-index, index-within, Whole}
 use Rattle.rht_ghost.proofs.Theory.Knowns.{KnownMaking, MakesNothing, NoAim, KnownRehash, KnownPlace, KnownWork, Empties, Faces, InBucket, Bare, Known, Nowhere, Unlocked}
 use Rattle.rht_ghost.proofs.Theory.Knowledge.{HasOnly, WorkMeans, Knowing}
-use Rattle.rht_ghost.proofs.Theory.Steps.{bare, TakesLock, DropsLock, by_test, Holding, mem, Moved, moved, loads}
+use Rattle.rht_ghost.proofs.Theory.Steps.{bare, TakesLock, DropsLock, by_test, Holding, mem, SilentStep, silent, loads}
 use Rattle.rht_ghost.proofs.Moves.Working.{lock_work, unlock_work}
 use Rattle.rht_ghost.proofs.Theory.Passed.{held-no_entry}
 
@@ -53,7 +53,7 @@ module _ (env : Env) (mix : ℕ → ℕ → ℕ → ℕ) (c : ℕ) (h : Holding)
     pub work_loads : (lock : Option ℕ) (making : KnownMaking) (op : Op) (known more : KnownWork)
         → word_after (old_of words op) op ≡ old_of words op → working lock making known M G
         → (WorkMeans env mix c M G known → WorkMeans env mix c M G more)
-        → Moved env mix c words G op (holding lock) (holding lock) (working lock making more)
+        → SilentStep env mix c words G op (holding lock) (holding lock) (working lock making more)
     work_loads lock making op known more same knows learns =
         loads env mix c words G op (holding lock) (holding lock) (working lock making more) whole same refl (record {
           only = knows.only;
@@ -70,7 +70,7 @@ module _ (env : Env) (mix : ℕ → ℕ → ℕ → ℕ) (c : ℕ) (h : Holding)
 
     abbrev pub LockMoved : KnownRehash → ℕ → Op → LockModel × Next ℕ → Type 0
     LockMoved root number op r =
-        Moved env mix c words G op (holding None) (holding (locked_by r)) (LockWorks root number r)
+        SilentStep env mix c words G op (holding None) (holding (locked_by r)) (LockWorks root number r)
 
     -- what is held with another holder of the bucket
     held_only : (j : ℕ) (lock after holder : Option ℕ) → HasOnly env mix c G h.node lock h.second h.raised h.slot
@@ -114,7 +114,7 @@ module _ (env : Env) (mix : ℕ → ℕ → ℕ → ℕ) (c : ℕ) (h : Holding)
         (is_write env.geometry words (PageWord j) op all within (sym at)) in
         let worked = lock_work env mix c M G whole knows.means.work.works root number place found M' is here even
         write in
-        moved env mix c words G op (holding None) (holding (Some place))
+        silent env mix c words G op (holding None) (holding (Some place))
         (LockWorks root number (record { place = place; at = locks.Exchange found }, Done found)) (TakesLock j) whole
         tt tt worked.made
         (record {
@@ -161,7 +161,7 @@ module _ (env : Env) (mix : ℕ → ℕ → ℕ → ℕ) (c : ℕ) (h : Holding)
 
     pub unlock_work_step : h.second ≡ None → (root : KnownRehash) (at : KnownPlace)
         → working (Some at.place) MakesNothing (Bare root at) M G
-        → Moved env mix c words G (Store at.place at.word) (holding (Some at.place)) (holding None)
+        → SilentStep env mix c words G (Store at.place at.word) (holding (Some at.place)) (holding None)
         (working None MakesNothing (Empties root (at.number + 1)))
     unlock_work_step alone root at knows =
         let op = Store at.place at.word in
@@ -181,7 +181,7 @@ module _ (env : Env) (mix : ℕ → ℕ → ℕ → ℕ) (c : ℕ) (h : Holding)
         λ i holds. subst (λ s. (Some at.place ≡ Some (place_at env mix i)) ⊎ (s ≡ Some (place_at env mix i))) alone
         (knows.only.locks i holds) in
         let worked = unlock_work env mix c M G whole knows.means.work.works root at M' is locks write in
-        moved env mix c words G op (holding (Some at.place)) (holding None)
+        silent env mix c words G op (holding (Some at.place)) (holding None)
         (working None MakesNothing (Empties root (at.number + 1))) (DropsLock j) whole tt tt worked.made
         (record {
           on = sym there;

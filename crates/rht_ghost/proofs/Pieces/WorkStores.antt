@@ -1,5 +1,5 @@
 -- The operations by which the work changes what others see, as steps: the work lock is taken and given back, the bucket to which an entry
--- goes is locked, the entry is moved there, the work stops at a bucket, and the current table is left behind and retired.
+-- goes is locked, the entry is silent there, the work stops at a bucket, and the current table is left behind and retired.
 use Rattle.std.proofs.Common.{◌≡◌, ◌≢◌, ◌⊎◌, ℕ, ◌+◌, ◌*◌, ◌%◌, ◌<◌, ◌==◌, List, [], length, slice_index, Option, Some, None, Bool, true, false, cond, refl, sym, ◌∙◌, ap, subst, inl, inr, arith}
 use Rattle.std.proofs.lemmas.Bool.{eqb-true, eq-eqb, ne_eqb}
 use Rattle.rht_words.specs.declared.env.Env.{Env}
@@ -23,7 +23,7 @@ use Rattle.rht_ghost.proofs.Theory.Knowns.{MakesNothing, KnownAim, NoAim, KnownR
 use Rattle.rht_ghost.proofs.Theory.Knowledge.{Only, WorkMeans, Knowing}
 use Rattle.rht_ghost.proofs.Theory.Frames.{still}
 use Rattle.rht_ghost.proofs.Theory.Departures.{cut_plain}
-use Rattle.rht_ghost.proofs.Theory.Steps.{bare, DropsLock, TakesWork, GivesWork, BeginsMoving, TakesSecond, Leaves, Arrives, CutsOff, Publishes, Retires, cut_place, by_test, unchanged, Holding, mem, Moved, moved, loads}
+use Rattle.rht_ghost.proofs.Theory.Steps.{bare, DropsLock, TakesWork, GivesWork, BeginsMoving, TakesSecond, Leaves, Arrives, CutsOff, Publishes, Retires, cut_place, by_test, unchanged, Holding, mem, SilentStep, silent, loads}
 use Rattle.rht_ghost.proofs.Moves.Relinking.{last_in, relink_address}
 use Rattle.rht_ghost.proofs.Moves.WorkLocks.{take_work}
 use Rattle.rht_ghost.proofs.Moves.CutOffs.{cut_value}
@@ -86,7 +86,7 @@ module _ (env : Env) (mix : ℕ → ℕ → ℕ → ℕ) (c : ℕ) (h : Holding)
     -- ---- the work lock
 
     pub take_work_step : old_of words (work_exchange env mix) ≡ 0 → knowing false false NoWork M G
-        → Moved env mix c words G (work_exchange env mix) (at_work false false) (at_work true false) (knowing true false Works)
+        → SilentStep env mix c words G (work_exchange env mix) (at_work false false) (at_work true false) (knowing true false Works)
     take_work_step found knows =
         let op = work_exchange env mix in
         let value : word_after (old_of words op) op ≡ 1 = ap (λ w. cond (w == 0) 1 w) found in
@@ -94,7 +94,7 @@ module _ (env : Env) (mix : ℕ → ℕ → ℕ → ℕ) (c : ℕ) (h : Holding)
         subst (λ v. IsWrite env.geometry M (after op) WorkLock v) value
         (is_write env.geometry words WorkLock op all tt refl) in
         let worked = take_work_lock env mix c M G whole (after op) found write in
-        moved env mix c words G op (at_work false false) (at_work true false) (knowing true false Works) TakesWork whole
+        silent env mix c words G op (at_work false false) (at_work true false) (knowing true false Works) TakesWork whole
         (take_work env mix c M (after op) G whole found write).1 tt worked.made
         (record { taking = refl; free = found; idle = refl; holds = refl })
         (knows_so (at_work true false) Works (after op) _ (worker_only env mix c G h.node None None h.raised h.slot h.pages
@@ -102,7 +102,7 @@ module _ (env : Env) (mix : ℕ → ℕ → ℕ → ℕ) (c : ℕ) (h : Holding)
 
     -- where another caller has it nothing changes
     pub lose_work_step : old_of words (work_exchange env mix) ≢ 0 → knowing false false NoWork M G
-        → Moved env mix c words G (work_exchange env mix) (at_work false false) (at_work false false)
+        → SilentStep env mix c words G (work_exchange env mix) (at_work false false) (at_work false false)
         (knowing false false NoWork)
     lose_work_step found knows =
         let op = work_exchange env mix in
@@ -111,24 +111,24 @@ module _ (env : Env) (mix : ℕ → ℕ → ℕ → ℕ) (c : ℕ) (h : Holding)
 
     pub give_work_step : (moving : Bool) → knowing true moving Works M G
         → let op = Store (place_of env.geometry WorkLock) 0 in
-        Moved env mix c words G op (at_work true moving) (at_work false false) (knowing false false NoWork)
+        SilentStep env mix c words G op (at_work true moving) (at_work false false) (knowing false false NoWork)
     give_work_step moving knows =
         let op = Store (place_of env.geometry WorkLock) 0 in
         let works = knows.means.work.works in
         let worked = give_work_lock env mix c M G whole works (after op) knows.only.locks
         (is_write env.geometry words WorkLock op all tt refl) in
-        moved env mix c words G op (at_work true moving) (at_work false false) (knowing false false NoWork) GivesWork
+        silent env mix c words G op (at_work true moving) (at_work false false) (knowing false false NoWork) GivesWork
         whole works.0 tt worked.made (record { giving = refl; has = refl; holds = refl })
         (knows_so (at_work false false) NoWork (after op) _ (worker_only env mix c G h.node None None h.raised h.slot
         h.pages true knows.only None false (λ e. absurd (cc))) worked.means)
 
-    -- a load from which on entries are moved, and after which this is known
+    -- a load from which on entries are silent, and after which this is known
     pub begin_moving_step : (op : Op) (known more : KnownWork) → word_after (old_of words op) op ≡ old_of words op
         → G.worker ≡ Some c → knowing true false known M G
         → (WorkMeans env mix c M G known → WorkMeans env mix c M G more)
-        → Moved env mix c words G op (at_work true false) (at_work true true) (knowing true true more)
+        → SilentStep env mix c words G op (at_work true false) (at_work true true) (knowing true true more)
     begin_moving_step op known more same works knows learns =
-        moved env mix c words G op (at_work true false) (at_work true true) (knowing true true more) BeginsMoving whole
+        silent env mix c words G op (at_work true false) (at_work true true) (knowing true true more) BeginsMoving whole
         works tt (rw (unchanged words op same) (still env mix c M G whole))
         (record { leaves = same; has = refl; still = refl; holds = refl })
         (rw (unchanged words op same) (knows_so (at_work true true) more M G knows.only (learns knows.means.work)))
@@ -155,7 +155,7 @@ module _ (env : Env) (mix : ℕ → ℕ → ℕ → ℕ) (c : ℕ) (h : Holding)
     -- the lock of a bucket at which the work stops is dropped
     pub stop_step : (root : KnownRehash) (at : KnownPlace) (aim : KnownAim)
         → working (Some at.place) None (InBucket root at aim) M G
-        → Moved env mix c words G (Store at.place at.word) (holding (Some at.place) None) (holding None None)
+        → SilentStep env mix c words G (Store at.place at.word) (holding (Some at.place) None) (holding None None)
         (working None None Works)
     stop_step root at aim knows =
         let op = Store at.place at.word in
@@ -169,7 +169,7 @@ module _ (env : Env) (mix : ℕ → ℕ → ℕ → ℕ) (c : ℕ) (h : Holding)
         ∙ ap (λ p. p + lock_bit (G.bucket j).holder) lock.plain ∙ ap (λ x. at.word + lock_bit x) lock.holder in
         let worked = stop_work env mix c M G whole knows.means.work.works root at aim (after op) is knows.only.locks
         (is_write env.geometry words (PageWord j) op all within (sym there)) in
-        moved env mix c words G op (holding (Some at.place) None) (holding None None) (working None None Works)
+        silent env mix c words G op (holding (Some at.place) None) (holding None None) (working None None Works)
         (DropsLock j) whole tt tt worked.made
         (record {
           on = sym there;
@@ -190,7 +190,7 @@ module _ (env : Env) (mix : ℕ → ℕ → ℕ → ℕ) (c : ℕ) (h : Holding)
       -- the bucket to which the last entry goes is locked
       abbrev pub SecondMoved : KnownRehash → KnownPlace → KnownEntry → Op → LockModel × Next ℕ → Type 0
       SecondMoved root at entry op r =
-          Moved env mix c words G op (holding (Some at.place) None) (holding (Some at.place) (second_by r))
+          SilentStep env mix c words G op (holding (Some at.place) None) (holding (Some at.place) (second_by r))
           (SecondWorks root at entry r)
 
       second_taken : (root : KnownRehash) (at : KnownPlace) (entry : KnownEntry) (place found : ℕ) → found % 2 ≡ 0
@@ -212,7 +212,7 @@ module _ (env : Env) (mix : ℕ → ℕ → ℕ → ℕ) (c : ℕ) (h : Holding)
           let works = knows.means.work.works in
           let worked = lock_second_work env mix c M G whole works root at entry place found (after op)
           knows.means.work.more here even write in
-          moved env mix c words G op (holding (Some at.place) None) (holding (Some at.place) (Some place))
+          silent env mix c words G op (holding (Some at.place) None) (holding (Some at.place) (Some place))
           (SecondWorks root at entry r) (TakesSecond i) whole works.0 tt worked.made
           (record {
             on = sym there;
@@ -264,7 +264,7 @@ module _ (env : Env) (mix : ℕ → ℕ → ℕ → ℕ) (c : ℕ) (h : Holding)
       -- its link leads to the first entry of the other bucket
       pub leave_step : (root : KnownRehash) (at : KnownPlace) (entry : KnownEntry) (place word : ℕ)
           → working (Some at.place) (Some place) (Brings root at entry place word) M G
-          → Moved env mix c words G (Store (place_of env.geometry (Node entry.node ChainLink)) (head_of place word))
+          → SilentStep env mix c words G (Store (place_of env.geometry (Node entry.node ChainLink)) (head_of place word))
           (holding (Some at.place) (Some place)) (holding (Some at.place) (Some place))
           (working (Some at.place) (Some place) (TakesOut root at entry place word))
       leave_step root at entry place word knows =
@@ -280,7 +280,7 @@ module _ (env : Env) (mix : ℕ → ℕ → ℕ → ℕ) (c : ℕ) (h : Holding)
           let among = (whole.owned.first_at entry.node j (whole.owned.member j entry.node there)).among in
           let worked = leave_work env mix c M G whole works root at entry place word (after op) is
           (is_write env.geometry words (Node entry.node ChainLink) op all among refl) in
-          moved env mix c words G op held held (working (Some at.place) (Some place) (TakesOut root at entry place word))
+          silent env mix c words G op held held (working (Some at.place) (Some place) (TakesOut root at entry place word))
           (Leaves j (word_index env mix place) entry.node nodes) whole can tt worked.made
           (record { on = refl; moves = moves; holds = refl })
           (knows_so held (TakesOut root at entry place word) (after op) _
@@ -290,7 +290,7 @@ module _ (env : Env) (mix : ℕ → ℕ → ℕ → ℕ) (c : ℕ) (h : Holding)
       -- it is the first one there, and that bucket is unlocked
       pub arrive_step : (root : KnownRehash) (at : KnownPlace) (entry : KnownEntry) (place word : ℕ)
           → working (Some at.place) (Some place) (TakesOut root at entry place word) M G
-          → Moved env mix c words G (Store place (link_of entry.node)) (holding (Some at.place) (Some place))
+          → SilentStep env mix c words G (Store place (link_of entry.node)) (holding (Some at.place) (Some place))
           (holding (Some at.place) None) (working (Some at.place) None (HasBrought root at entry))
       arrive_step root at entry place word knows =
           let op = Store place (link_of entry.node) in
@@ -303,7 +303,7 @@ module _ (env : Env) (mix : ℕ → ℕ → ℕ → ℕ) (c : ℕ) (h : Holding)
           let can = can_arrive env mix c M G whole works root at entry place word is knows.only.locks in
           let worked = arrive_work env mix c M G whole works root at entry place word (after op) is knows.only.locks
           (is_write env.geometry words (PageWord i) op all (index-within env mix place lock.bucket) (sym there)) in
-          moved env mix c words G op (holding (Some at.place) (Some place)) (holding (Some at.place) None)
+          silent env mix c words G op (holding (Some at.place) (Some place)) (holding (Some at.place) None)
           (working (Some at.place) None (HasBrought root at entry)) (Arrives j i entry.node) whole can tt worked.made
           (record { on = sym there; moves = moves; has = ap Some (sym there); holds = refl })
           (knows_so (holding (Some at.place) None) (HasBrought root at entry) (after op) _
@@ -321,7 +321,7 @@ module _ (env : Env) (mix : ℕ → ℕ → ℕ → ℕ) (c : ℕ) (h : Holding)
 
       pub cut_step : (root : KnownRehash) (at : KnownPlace) (entry : KnownEntry)
           → working (Some at.place) None (HasBrought root at entry) M G
-          → Moved env mix c words G (cut_store env mix at.place entry.before) (holding (Some at.place) None)
+          → SilentStep env mix c words G (cut_store env mix at.place entry.before) (holding (Some at.place) None)
           (holding (Some at.place) None)
           (working (Some at.place) None (InBucket root (record at { word = cut_plain at.word entry.before }) NoAim))
       cut_step root at entry knows =
@@ -338,7 +338,7 @@ module _ (env : Env) (mix : ℕ → ℕ → ℕ → ℕ) (c : ℕ) (h : Holding)
           (whole.owned.first_at p j (whole.owned.member j p (last_in (G.bucket j).nodes p (sym is.out.last ∙ e)))).among in
           let worked = cut_work env mix c M G whole works root at entry (after op) is
           (cut_written j at.place before there (index-within env mix at.place bucket) among) in
-          moved env mix c words G op held held (working (Some at.place) None more) (CutsOff j entry.node before) whole
+          silent env mix c words G op held held (working (Some at.place) None more) (CutsOff j entry.node before) whole
           (can_cut env mix c M G whole works root at entry is) tt worked.made
           (record {
             on = ap (λ p. cut_place env.geometry p before) (sym there);
@@ -355,7 +355,7 @@ module _ (env : Env) (mix : ℕ → ℕ → ℕ → ℕ) (c : ℕ) (h : Holding)
       -- the next table is the current one, once every bucket is emptied
       pub publish_step : (root : KnownRehash) (count : ℕ) → count ≡ size_of (unpacked root.shape)
           → working None None (Empties root count) M G
-          → Moved env mix c words G (Store (place_of env.geometry CurrentTable) root.future) (holding None None)
+          → SilentStep env mix c words G (Store (place_of env.geometry CurrentTable) root.future) (holding None None)
           (holding None None) (working None None (LeavesBehind root.root))
       publish_step root count size knows =
           let op = Store (place_of env.geometry CurrentTable) root.future in
@@ -363,7 +363,7 @@ module _ (env : Env) (mix : ℕ → ℕ → ℕ → ℕ) (c : ℕ) (h : Holding)
           let is = knows.means.work.more in
           let worked = publish_work env mix c M G whole works root count (after op) is size
           (is_write env.geometry words CurrentTable op all tt refl) in
-          moved env mix c words G op (holding None None) (holding None None) (working None None (LeavesBehind root.root))
+          silent env mix c words G op (holding None None) (holding None None) (working None None (LeavesBehind root.root))
           Publishes whole (can_publish env mix c M G whole works root count is size) tt worked.made
           (record { on = refl; moves = moves; holds = refl })
           (knows_so (holding None None) (LeavesBehind root.root) (after op) _
@@ -371,7 +371,7 @@ module _ (env : Env) (mix : ℕ → ℕ → ℕ → ℕ) (c : ℕ) (h : Holding)
 
       -- and the one that was left behind is retired
       pub retire_step : (slot : ℕ) → working None None (LeavesBehind slot) M G
-          → Moved env mix c words G (Store (place_of env.geometry (Slot slot StateWord)) 2) (holding None None)
+          → SilentStep env mix c words G (Store (place_of env.geometry (Slot slot StateWord)) 2) (holding None None)
           (holding None None) (working None None Works)
       retire_step slot knows =
           let op = Store (place_of env.geometry (Slot slot StateWord)) 2 in
@@ -381,7 +381,7 @@ module _ (env : Env) (mix : ℕ → ℕ → ℕ → ℕ) (c : ℕ) (h : Holding)
           let within : slot < 8 = subst (λ s. s < 8) of.slot (whole.tables.each (index_at G slot) of.attached).slot_in in
           let worked = retire_work env mix c M G whole slot works (after op) is
           (is_write env.geometry words (Slot slot StateWord) op all (within, tt) refl) in
-          moved env mix c words G op (holding None None) (holding None None) (working None None Works) (Retires slot) whole
+          silent env mix c words G op (holding None None) (holding None None) (working None None Works) (Retires slot) whole
           (can_retire env mix c M G whole slot works is) tt worked.made
           (record { within = within; retiring = refl; moves = moves; holds = refl })
           (knows_so (holding None None) Works (after op) _

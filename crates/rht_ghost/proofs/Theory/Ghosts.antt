@@ -7,7 +7,7 @@ use Rattle.std.specs.Int.{bit_at}
 use Rattle.std.proofs.lemmas.Bool.{cases_eq, eqb-true, eq-eqb}
 use Rattle.rht_words.specs.Links.{entry_of}
 use Rattle.rht_words.specs.Shapes.{unpacked}
-use Rattle.rht_arena.specs.Runs.{is_in_run}
+use Rattle.rht_arena.specs.PageRuns.{is_in_run}
 use Rattle.rht_nest.specs.Tables.{is_nested, table_pages}
 
 -- ---- functions changed at one place
@@ -107,7 +107,7 @@ blank_bucket = record { nodes = []; plain = 0; holder = None; out = None; armed 
 -- node; or the call that took it out
 pub data Owner : Type 0 where
   Free : Owner
-  Held : ℕ → Owner
+  NodeHeld : ℕ → Owner
   First : ℕ → Owner
   Leaving : ℕ → Owner
   Behind : ℕ → Owner
@@ -157,7 +157,7 @@ lock_bit (Some c) = 1
 -- the node is in the chain of a bucket, whole or on the way out
 abbrev pub is_first : Owner → Bool
 is_first Free = false
-is_first (Held c) = false
+is_first (NodeHeld c) = false
 is_first (First j) = true
 is_first (Leaving j) = true
 is_first (Behind k) = false
@@ -166,7 +166,7 @@ is_first (Taken c) = false
 -- the node is a port's, its first one or one behind that, or was one and has been taken out
 abbrev pub is_used : Owner → Bool
 is_used Free = false
-is_used (Held c) = false
+is_used (NodeHeld c) = false
 is_used (First j) = true
 is_used (Leaving j) = true
 is_used (Behind k) = true
@@ -178,7 +178,7 @@ IsUsed owner = is_used owner ≡ true
 -- the node is in a port's list: its first one, or one behind that
 abbrev pub is_listed : Owner → Bool
 is_listed Free = false
-is_listed (Held c) = false
+is_listed (NodeHeld c) = false
 is_listed (First j) = true
 is_listed (Leaving j) = true
 is_listed (Behind k) = true
@@ -190,7 +190,7 @@ IsListedNode owner = is_listed owner ≡ true
 -- the node was taken out of a port's list by a call of this caller
 abbrev pub is_taken_by : ℕ → Owner → Bool
 is_taken_by c Free = false
-is_taken_by c (Held d) = false
+is_taken_by c (NodeHeld d) = false
 is_taken_by c (First j) = false
 is_taken_by c (Leaving j) = false
 is_taken_by c (Behind k) = false
@@ -199,7 +199,7 @@ is_taken_by c (Taken d) = d == c
 -- the bucket in which a node is that is some port's first
 abbrev pub seat_of : Owner → Option ℕ
 seat_of Free = None
-seat_of (Held c) = None
+seat_of (NodeHeld c) = None
 seat_of (First j) = Some j
 seat_of (Leaving j) = Some j
 seat_of (Behind k) = None
@@ -293,7 +293,7 @@ listed-used _ is = absurd (cc)
 -- one that is no port's is in no list
 pub unused-unlisted : (o : Owner) → is_used o ≡ false → is_listed o ≡ false
 unused-unlisted Free is = refl
-unused-unlisted (Held c) is = refl
+unused-unlisted (NodeHeld c) is = refl
 unused-unlisted _ is = absurd (cc)
 
 -- and one that is in no list is in no chain
@@ -341,17 +341,17 @@ taken_is c (Taken d) is = ap Taken (eqb-true d c is)
 taken_is c _ is = absurd (cc)
 
 -- one owner is not another
-pub held_not_used : (o : Owner) (d : ℕ) → o ≡ Held d → IsUsed o → ⊥
+pub held_not_used : (o : Owner) (d : ℕ) → o ≡ NodeHeld d → IsUsed o → ⊥
 held_not_used o d held used = let e = sym used ∙ ap is_used held in cc
 
 pub behind_one : (o : Owner) (k l : ℕ) → o ≡ Behind k → o ≡ Behind l → k ≡ l
 behind_one o k l first second = let e : Behind k ≡ Behind l = sym first ∙ second in cc
 
-pub held_not_first : (o : Owner) (d j : ℕ) → o ≡ Held d → o ≡ First j → ⊥
+pub held_not_first : (o : Owner) (d j : ℕ) → o ≡ NodeHeld d → o ≡ First j → ⊥
 held_not_first o d j held first = let e = sym held ∙ first in cc
 
-pub held_by_one : (o : Owner) (c d : ℕ) → o ≡ Held c → o ≡ Held d → c ≡ d
-held_by_one o c d first second = let e : Held c ≡ Held d = sym first ∙ second in cc
+pub held_by_one : (o : Owner) (c d : ℕ) → o ≡ NodeHeld c → o ≡ NodeHeld d → c ≡ d
+held_by_one o c d first second = let e : NodeHeld c ≡ NodeHeld d = sym first ∙ second in cc
 
 -- none is not some, and a thing is not another one
 pub none-some : {A : Type 0} {x : A} {o : Option A} → o ≡ None → o ≡ Some x → ⊥

@@ -13,7 +13,7 @@ use Rattle.rht_words.specs.Members.{In}
 use Rattle.rht_words.specs.declared.machine.Start.TheVariants as starts
 use Rattle.rht_nest.specs.Tables.{is_nested, table_pages}
 use Rattle.rht_nest.specs.Place.{PlaceModel, nested_place, entered}
-use Rattle.rht_ghost.proofs.Theory.Ghosts.{Bucket, Held, Leaving, Middle, PageHeld, PageOf, SlotHeld, Ghost, is_taken_by, has_table, index_at}
+use Rattle.rht_ghost.proofs.Theory.Ghosts.{Bucket, NodeHeld, Leaving, Middle, PageHeld, PageOf, SlotHeld, Ghost, is_taken_by, has_table, index_at}
 use Rattle.rht_ghost.proofs.Theory.Wholes.{AreRetired, chain_of, key_of, place_at, word_index, hash_in, home, pages_of, MovesNone, moves_none, IsFurther, Whole}
 use Rattle.rht_ghost.proofs.Theory.Passed.{NoKey, Passed}
 use Rattle.rht_ghost.proofs.Theory.Knowns.{knows_plain, Armed, KnownAim, NoAim, Onward, From, Beyond, KnownRehash, KnownPlace, Follows, Nears, Faces, InBucket, Bare, Aims, LeavesBehind, AtEntry, AtHome, AtNode, AtTail, Brings, Collected, CollectedTo, CutsOut, Differing, Differs, Empties, FirstLink, Found, HasBrought, HasMade, HasPages, HasTaken, InList, InSlot, IsAmong, IsCollected, IsCollectedTo, IsCutOut, IsLeading, IsLeadingTo, IsOtherOwner, IsOwnersNode, IsPromoting, Known, KnownBucket, KnownEntry, KnownList, KnownMaking, KnownNode, KnownSlot, KnownTable, KnownWork, Leads, LeadsTo, Listing, Locks, LocksTakenOut, MakesNothing, Matching, Member, Missed, NoWork, Nowhere, OnWay, Passes, Promotes, Replaces, Rooted, Shaped, Stands, StandsAt, StandsInList, Succeeds, TakenOut, TakesOut, Unlocked, Unlocks, WithShape, Works, last_of}
@@ -31,7 +31,7 @@ module _ (env : Env) (mix : ℕ → ℕ → ℕ → ℕ) where
   bucket_at G place = G.bucket (word_index env mix place)
 
   pub record HasNode (c : ℕ) (G : Ghost) (node : ℕ) : Type 0 where
-    pub mine : G.node node ≡ Held c
+    pub mine : G.node node ≡ NodeHeld c
     pub among : node < env.geometry.nodes
 
   pub record NodeMeans (c : ℕ) (M : Memory) (G : Ghost) (known : KnownNode) : Type 0 where
@@ -470,7 +470,7 @@ module _ (env : Env) (mix : ℕ → ℕ → ℕ → ℕ) where
   -- other slot and pages than these, and does the work only where this says so.
   pub record HasOnly (c : ℕ) (G : Ghost) (node lock second : Option ℕ) (raised : Bool) (slot : Option ℕ)
       (pages : List ℕ) (worker : Bool) : Type 0 where
-    pub nodes : (n : ℕ) → G.node n ≡ Held c → node ≡ Some n
+    pub nodes : (n : ℕ) → G.node n ≡ NodeHeld c → node ≡ Some n
     pub locks : (j : ℕ) → (G.bucket j).holder ≡ Some c
         → (lock ≡ Some (place_at env mix j)) ⊎ (second ≡ Some (place_at env mix j))
     pub raising : G.raised c ≡ raised

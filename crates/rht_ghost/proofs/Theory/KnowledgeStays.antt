@@ -7,7 +7,7 @@ use Rattle.rht_words.specs.Ports.{owner_of}
 use Rattle.rht_words.proofs.Memory.{Memory}
 use Rattle.rht_words.specs.Members.{In}
 use Rattle.rht_words.proofs.Members.{In-append_left, In-append_cases, in-middle}
-use Rattle.rht_ghost.proofs.Theory.Ghosts.{Held, Ghost, is_taken_by, has_table, index_at}
+use Rattle.rht_ghost.proofs.Theory.Ghosts.{NodeHeld, Ghost, is_taken_by, has_table, index_at}
 use Rattle.rht_ghost.proofs.Theory.Wholes.{chain_of, key_of, word_index, hash_in, home}
 use Rattle.rht_ghost.proofs.Theory.Passed.{NoKey, NoKey-same, hash-stays, home-stays}
 use Rattle.rht_ghost.proofs.Theory.Knowns.{Armed, AtHome, AtNode, Collected, CollectedTo, CutsOut, Differing, Differs, FirstLink, Found, InList, InSlot, IsAmong, IsLeading, IsOwnersNode, KnownBucket, KnownList, KnownNode, KnownTable, Leads, LeadsTo, Listing, Locks, LocksTakenOut, Matching, Member, Missed, NoOwner, Nowhere, OnWay, Passes, Promotes, Replaces, Shaped, Stands, StandsInList, Succeeds, TakenOut, Unlocked, Unlocks, WithShape, first_of_list, owners_of}
@@ -20,7 +20,7 @@ module _ (env : Env) (mix : ℕ → ℕ → ℕ → ℕ) where
 
   module _ (c : ℕ) (M M' : Memory) (G G' : Ghost) where
     -- of nodes: where the caller's stay its own, with their words
-    module _ (mine : (node : ℕ) → HasNode env mix c G node → G'.node node ≡ Held c)
+    module _ (mine : (node : ℕ) → HasNode env mix c G node → G'.node node ≡ NodeHeld c)
         (words : (node : ℕ) → HasNode env mix c G node → (word : NodeWord)
         → M' (Node node word) ≡ M (Node node word)) where
       known-stays : (node : ℕ) (word : NodeWord) (known : Option ℕ) → HasNode env mix c G node

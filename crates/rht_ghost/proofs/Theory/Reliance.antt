@@ -4,7 +4,7 @@ use Rattle.rht_words.specs.declared.env.Env.{Env}
 use Rattle.rht_words.specs.Places.{Slot, SlotWord, IsSlotWord, Node, NodeWord, ChainLink, KeyWord, OwnerWord}
 use Rattle.rht_words.proofs.Memory.{Memory}
 use Rattle.rht_words.specs.Members.{In}
-use Rattle.rht_ghost.proofs.Theory.Ghosts.{Held, Leaving, PageHeld, SlotHeld, Ghost, is_used, is_taken_by, IsUsed, seat-used, table_at}
+use Rattle.rht_ghost.proofs.Theory.Ghosts.{NodeHeld, Leaving, PageHeld, SlotHeld, Ghost, is_used, is_taken_by, IsUsed, seat-used, table_at}
 use Rattle.rht_ghost.proofs.Theory.Wholes.{chain_of, key_of, seated_at, Whole}
 use Rattle.rht_ghost.proofs.Theory.Passed.{Passed, TablesGrow}
 use Rattle.rht_ghost.proofs.Theory.Knowledge.{ArmedFor, HasNode, HasSlot, IsEmptied}
@@ -76,7 +76,7 @@ module _ (env : Env) (mix : ℕ → ℕ → ℕ → ℕ) where
     pub keys : WordStays KeyWord M G M'
     pub owners : WordStays OwnerWord M G M'
     -- the nodes that it has, with all their words
-    pub nodes : (node : ℕ) → HasNode env mix c G node → G'.node node ≡ Held c
+    pub nodes : (node : ℕ) → HasNode env mix c G node → G'.node node ≡ NodeHeld c
     pub words : (node : ℕ) → HasNode env mix c G node → (word : NodeWord) → M' (Node node word) ≡ M (Node node word)
     -- whether it has raised the count
     pub raised : G'.raised c ≡ G.raised c
@@ -89,7 +89,7 @@ module _ (env : Env) (mix : ℕ → ℕ → ℕ → ℕ) where
     pub work : G.worker ≡ Some c → WorkStays c M G M' G'
     -- nobody gives it a node, a lock or the work
     pub no_work : G'.worker ≡ Some c → G.worker ≡ Some c
-    pub no_node : (node : ℕ) → G'.node node ≡ Held c → G.node node ≡ Held c
+    pub no_node : (node : ℕ) → G'.node node ≡ NodeHeld c → G.node node ≡ NodeHeld c
     pub no_lock : (j : ℕ) → (G'.bucket j).holder ≡ Some c → (G.bucket j).holder ≡ Some c
 
   -- each member of a bucket is one of the nodes and a port's, as the whole has it, and so is each to which a port is bound

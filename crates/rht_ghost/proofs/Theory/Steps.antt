@@ -20,7 +20,7 @@ use Rattle.rht_model.specs.Multimap.{Multimap, Agree}
 use Rattle.rht_model.specs.Answers.{Answer, is_change}
 use Rattle.rht_arena.specs.Laws.{map_place, map_bit, IsTaking}
 use Rattle.rht_words.specs.TableWords.{IsTableWord}
-use Rattle.rht_ghost.proofs.Theory.Ghosts.{put, put-all, Owner, Free, Held, First, Leaving, PageFree, PageHeld, SlotFree, SlotHeld, Ghost, is_taken_by, with_holder, with_armed, with_owner, with_raised, with_slot, has_bit, with_pages, made_table, with_table}
+use Rattle.rht_ghost.proofs.Theory.Ghosts.{put, put-all, Owner, Free, NodeHeld, First, Leaving, PageFree, PageHeld, SlotFree, SlotHeld, Ghost, is_taken_by, with_holder, with_armed, with_owner, with_raised, with_slot, has_bit, with_pages, made_table, with_table}
 use Rattle.rht_ghost.proofs.Theory.Wholes.{place_at, outs, Whole}
 use Rattle.rht_ghost.proofs.Theory.Reliance.{bound_used}
 use Rattle.rht_ghost.proofs.Theory.Frames.{Made, still}
@@ -265,7 +265,7 @@ module _ (g : Geometry) where
     pub has : h.worker ≡ true
     pub holds : bare h' ≡ record (bare h) { worker = false; moving = false }
 
-  -- an operation that leaves its word, from which on entries are moved
+  -- an operation that leaves its word, from which on entries are silent
   pub record DoesBeginMoving (op : Op) (old : ℕ) (h h' : Holding) : Type 0 where
     pub leaves : word_after old op ≡ old
     pub has : h.worker ≡ true
@@ -321,7 +321,7 @@ module _ (env : Env) (mix : ℕ → ℕ → ℕ → ℕ) where
   -- the ghost after a move of a caller
   abbrev pub ghost_after : ℕ → Move → Ghost → Ghost
   ghost_after c Quiet G = G
-  ghost_after c (TakesNode n) G = with_owner G n (Held c)
+  ghost_after c (TakesNode n) G = with_owner G n (NodeHeld c)
   ghost_after c (GivesNode n) G = with_owner G n Free
   ghost_after c (TakesLock j) G = with_holder G j (Some c)
   ghost_after c (DropsLock j) G = with_holder G j None
@@ -364,7 +364,7 @@ module _ (env : Env) (mix : ℕ → ℕ → ℕ → ℕ) where
   abbrev pub ReadyFor : ℕ → Memory → Ghost → Move → Type 0
   ReadyFor c M G Quiet = Unit {0}
   ReadyFor c M G (TakesNode n) = G.node n ≡ Free
-  ReadyFor c M G (GivesNode n) = G.node n ≡ Held c
+  ReadyFor c M G (GivesNode n) = G.node n ≡ NodeHeld c
   ReadyFor c M G (TakesLock j) = Unit {0}
   ReadyFor c M G (DropsLock j) = Unit {0}
   ReadyFor c M G Raises = Unit {0}
@@ -517,7 +517,7 @@ module _ (env : Env) (mix : ℕ → ℕ → ℕ → ℕ) where
   LinksNone (Retires s) = Unit {0}
 
   -- An operation of a caller that leaves bindings, whatever is known of its call's answer.
-  pub record Moved (c : ℕ) (words : List ℕ) (G : Ghost) (op : Op) (h h' : Holding) (Knows : Memory
+  pub record SilentStep (c : ℕ) (words : List ℕ) (G : Ghost) (op : Op) (h h' : Holding) (Knows : Memory
       → Ghost → Type 0)
       : Type 0 where
     pub move : Move
@@ -549,7 +549,7 @@ module _ (env : Env) (mix : ℕ → ℕ → ℕ → ℕ) where
   -- nor does it take one out of a list
   same_outs : (c : ℕ) (move : Move) (M : Memory) (G : Ghost) → Whole env mix M G → LinksNone move → ReadyFor c M G move
       → outs env mix (ghost_after c move G) c ≡ outs env mix G c
-  same_outs c (TakesNode n) M G whole none ready = reowned-outs c n (Held c) G (ap (is_taken_by c) ready) refl
+  same_outs c (TakesNode n) M G whole none ready = reowned-outs c n (NodeHeld c) G (ap (is_taken_by c) ready) refl
   same_outs c (GivesNode n) M G whole none ready = reowned-outs c n Free G (ap (is_taken_by c) ready) refl
   same_outs c (Links n k j) M G whole none ready = absurd none
   same_outs c (Rebinds change) M G whole none ready = absurd none
@@ -560,13 +560,13 @@ module _ (env : Env) (mix : ℕ → ℕ → ℕ → ℕ) where
       reowned-outs c entry (First i) G (ap (is_taken_by c) can.leaving) refl
   same_outs c _ M G whole none ready = refl
 
-  pub moved : (c : ℕ) (words : List ℕ) (G : Ghost) (op : Op) (h h' : Holding) (Knows : Memory → Ghost
+  pub silent : (c : ℕ) (words : List ℕ) (G : Ghost) (op : Op) (h h' : Holding) (Knows : Memory → Ghost
       → Type 0) (move : Move)
       → Whole env mix (mem words) G → ReadyFor c (mem words) G move → LinksNone move
       → Made env mix c (mem words) G (mem (applied words op)) (ghost_after c move G)
       → Does move op (old_of words op) h h' → Knows (mem (applied words op)) (ghost_after c move G)
-      → Moved c words G op h h' Knows
-  moved c words G op h h' Knows move whole ready none made does knows = record {
+      → SilentStep c words G op h h' Knows
+  silent c words G op h h' Knows move whole ready none made does knows = record {
     move = move;
     ready = ready;
     binds_none = none;
@@ -578,10 +578,10 @@ module _ (env : Env) (mix : ℕ → ℕ → ℕ → ℕ) where
     knows = knows;
   }
 
-  pub moved-map : {c : ℕ} {words : List ℕ} {G : Ghost} {op : Op} {h h' : Holding} {Knows More : Memory → Ghost → Type 0}
+  pub silent-map : {c : ℕ} {words : List ℕ} {G : Ghost} {op : Op} {h h' : Holding} {Knows More : Memory → Ghost → Type 0}
       → ((M : Memory) (G' : Ghost) → Whole env mix M G' → Knows M G' → More M G')
-      → Moved c words G op h h' Knows → Moved c words G op h h' More
-  moved-map {c} {words} {G} {op} more step = record {
+      → SilentStep c words G op h h' Knows → SilentStep c words G op h h' More
+  silent-map {c} {words} {G} {op} more step = record {
     move = step.move;
     ready = step.ready;
     binds_none = step.binds_none;
@@ -596,7 +596,7 @@ module _ (env : Env) (mix : ℕ → ℕ → ℕ → ℕ) where
   pub loads : (c : ℕ) (words : List ℕ) (G : Ghost) (op : Op) (h h' : Holding) (Knows : Memory → Ghost
       → Type 0)
       → Whole env mix (mem words) G → word_after (old_of words op) op ≡ old_of words op → HoldsSame h h'
-      → Knows (mem words) G → Moved c words G op h h' Knows
+      → Knows (mem words) G → SilentStep c words G op h h' Knows
   loads c words G op h h' Knows whole same holds knows = record {
     move = Quiet;
     ready = tt;
@@ -611,8 +611,8 @@ module _ (env : Env) (mix : ℕ → ℕ → ℕ → ℕ) where
   -- the same operation, with something else that is known after it
   pub with_knowledge : (c : ℕ) (words : List ℕ) (G : Ghost) (op : Op) (h h' : Holding)
       (Knows More : Memory → Ghost → Type 0)
-      → (step : Moved c words G op h h' Knows) → More (mem (applied words op)) (ghost_after c step.move G)
-      → Moved c words G op h h' More
+      → (step : SilentStep c words G op h h' Knows) → More (mem (applied words op)) (ghost_after c step.move G)
+      → SilentStep c words G op h h' More
   with_knowledge c words G op h h' Knows More step more =
       record {
         move = step.move;
@@ -649,7 +649,7 @@ module _ (env : Env) (mix : ℕ → ℕ → ℕ → ℕ) where
       → TellsOrRecalls env.config.kind c call h.node h.early There (owners (mem words) G) h.answer answer
       → KnowsEarly env.config.kind c call There There' (owners (mem words) G) h.early early
       → HasNodeInTime h (with_known h' answer early)
-      → Moved c words G op h h' Knows → StepWhere There There' c call words G op h (with_known h' answer early) Knows
+      → SilentStep c words G op h h' Knows → StepWhere There There' c call words G op h (with_known h' answer early) Knows
   answered_where There There' c call words G op h h' answer early Knows tells knows in_time step =
       let kind = env.config.kind in
       let now = owners (mem words) G in
@@ -678,7 +678,7 @@ module _ (env : Env) (mix : ℕ → ℕ → ℕ → ℕ) where
       {Knows : Memory → Ghost → Type 0} (answer : Option Answer)
       → Tells env.config.kind c call h.node (owners (mem words) G) h.answer answer
       → HasNodeInTime h (with_answer h' answer)
-      → Moved c words G op h h' Knows → StepWhere There There' c call words G op h (with_answer h' answer) Knows
+      → SilentStep c words G op h h' Knows → StepWhere There There' c call words G op h (with_answer h' answer) Knows
   answered {There} {There'} {c} {call} {words} {G} {op} {h} {h'} {Knows} answer tells in_time step =
       answered_where There There' c call words G op h h' answer None Knows (inl tells)
       (none_early env.config.kind c call There There' (owners (mem words) G) h.early None refl) in_time step
@@ -689,8 +689,8 @@ module _ (env : Env) (mix : ℕ → ℕ → ℕ → ℕ) where
       → Tells env.config.kind c call h.node (owners (mem words) G) h.answer answer
       → HasNodeInTime h (with_answer h' answer)
       → ((M : Memory) (G' : Ghost) → Whole env mix M G' → Knows M G' → More M G')
-      → Moved c words G op h h' Knows → StepWhere There There' c call words G op h (with_answer h' answer) More
-  answered-map answer tells in_time more step = answered answer tells in_time (moved-map more step)
+      → SilentStep c words G op h h' Knows → StepWhere There There' c call words G op h (with_answer h' answer) More
+  answered-map answer tells in_time more step = answered answer tells in_time (silent-map more step)
 
   -- a load, after which nothing more is known of the answer, or it is told
   pub reads : {There There' : Type 0} {c : ℕ} {call : Call} {words : List ℕ} {G : Ghost} {op : Op} {h h' : Holding}

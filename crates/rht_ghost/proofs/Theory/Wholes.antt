@@ -12,7 +12,7 @@ use Rattle.rht_words.proofs.Memory.{Memory}
 use Rattle.rht_words.specs.Members.{In, IsDistinct}
 use Rattle.rht_words.proofs.Members.{count_below}
 use Rattle.rht_policy.specs.Mix.{bucket_of}
-use Rattle.rht_ghost.proofs.Theory.Ghosts.{Part, Row, Top, has_entries, Table, Bucket, blank_bucket, Owner, Free, Held, First, Leaving, Behind, Taken, Ghost, Live, Retired, lock_bit, state_word, is_first, is_taken_by, seat_of, seated, table_at, has_table, index_at, PageOwner, PageFree, PageHeld, PageOf, is_entry, entry_word}
+use Rattle.rht_ghost.proofs.Theory.Ghosts.{Part, Row, Top, has_entries, Table, Bucket, blank_bucket, Owner, Free, NodeHeld, First, Leaving, Behind, Taken, Ghost, Live, Retired, lock_bit, state_word, is_first, is_taken_by, seat_of, seated, table_at, has_table, index_at, PageOwner, PageFree, PageHeld, PageOf, is_entry, entry_word}
 use Rattle.rht_ghost.proofs.Theory.Ways.{first_page, child, followed, IsSpareIn, StandsAs, IsNestedShape}
 
 -- the links behind nodes
@@ -279,7 +279,7 @@ module _ (env : Env) (mix : ℕ → ℕ → ℕ → ℕ) where
   -- a node that was taken out of a list was so by one of the callers
   abbrev pub IsBuilt : Owner → Type 0
   IsBuilt Free = Unit {0}
-  IsBuilt (Held c) = Unit {0}
+  IsBuilt (NodeHeld c) = Unit {0}
   IsBuilt (First j) = Unit {0}
   IsBuilt (Leaving j) = Unit {0}
   IsBuilt (Behind k) = Unit {0}

@@ -1,7 +1,7 @@
 use Rattle.rht_nest.specs.Locate.{locate_new}
 use Rattle.rht_bind.specs.declared.bind.BindAt.TheVariants.{Locating}
 use Rattle.rht_run.specs.Rides.{IsRiding}
-use Rattle.rht_run.specs.Frames.{bind_at}
+use Rattle.rht_run.specs.PieceFrames.{bind_at}
 use Rattle.rht_run.proofs.table.Table.drive_bind.Given as goal
 
 -- the port's bucket in this table comes next

@@ -1,7 +1,7 @@
 use Rattle.rht_nest.specs.Locate.{locate_new}
 use Rattle.rht_find.specs.declared.find.FindAt.TheVariants.{Locating, ListLink}
 use Rattle.rht_run.specs.Rides.{IsRiding}
-use Rattle.rht_run.specs.Frames.{find_at}
+use Rattle.rht_run.specs.PieceFrames.{find_at}
 use Rattle.rht_run.proofs.table.Table.drive_find.Given as goal
 
 -- the port's bucket in this table comes next

@@ -15,7 +15,7 @@ use Rattle.rht_words.specs.Members.{In}
 use Rattle.rht_words.specs.Operations.{old_of}
 use Rattle.rht_words.specs.Places.{PageMap, place_of, words_in}
 use Rattle.rht_words.proofs.Memory.{Memory}
-use Rattle.rht_arena.specs.Runs.{run_bits, IsRunIn, IsRunWord}
+use Rattle.rht_arena.specs.PageRuns.{run_bits, IsRunIn, IsRunWord}
 use Rattle.rht_arena.specs.TakeRun.{TakeRunModel, take_run_plan, take_run_after, looked, has_run, pages_of_take_run, IsRunAt, IsTakeRunAtIn, IsTakeRunIn}
 use Rattle.rht_arena.specs.declared.take_run.TakeRunAt.{TakeRunAt}
 use Rattle.rht_arena.specs.declared.take_run.TakeRunAt.TheVariants as takes
@@ -24,7 +24,7 @@ use Rattle.rht_arena.proofs.RunBits.{run_bits-fits, bit_at-run, bit_at-run_from,
 use Rattle.rht_ghost.proofs.Theory.Ghosts.{Ghost, has_bit}
 use Rattle.rht_ghost.proofs.Theory.Wholes.{Whole}
 use Rattle.rht_ghost.proofs.Theory.Knowns.{Known, KnownSlot}
-use Rattle.rht_ghost.proofs.Theory.Steps.{Holding, mem, Moved, loads}
+use Rattle.rht_ghost.proofs.Theory.Steps.{Holding, mem, SilentStep, loads}
 use Rattle.rht_ghost.proofs.Moves.Pages.{has_bit-is, is_has_bit}
 use Rattle.rht_words.proofs.FilteredLists.{false_from, filter-In, In-filter, below-In, In-below}
 use Rattle.rht_ghost.proofs.Pieces.RunPages.{pages_behind, given_below-pages, cleared-more, given-had, given-less, found_within, given_within}
@@ -77,14 +77,14 @@ module _ (env : Env) (mix : ℕ → ℕ → ℕ → ℕ) (c : ℕ) (h : Holding)
 
   -- what an operation of the taking leads to
   abbrev pub RunMoved : Option KnownSlot → List ℕ → Op → TakeRunModel × Next (Option ℕ) → Type 0
-  RunMoved slot pages op r = Moved env mix c words G op (holds_pages slot pages)
+  RunMoved slot pages op r = SilentStep env mix c words G op (holds_pages slot pages)
       (holds_pages slot (pages_behind r)) (knows_pages slot (pages_behind r))
 
   -- a load of a word of the map, behind which the call has as many pages
   loads_run : (slot : Option KnownSlot) (pages after : List ℕ) (place : ℕ) → after ≡ pages → knows_pages slot pages M G
-      → Moved env mix c words G (Load place) (holds_pages slot pages) (holds_pages slot after) (knows_pages slot after)
+      → SilentStep env mix c words G (Load place) (holds_pages slot pages) (holds_pages slot after) (knows_pages slot after)
   loads_run slot pages after place same knows =
-      subst (λ ps. Moved env mix c words G (Load place) (holds_pages slot pages) (holds_pages slot ps)
+      subst (λ ps. SilentStep env mix c words G (Load place) (holds_pages slot pages) (holds_pages slot ps)
       (knows_pages slot ps)) (sym same)
       (loads env mix c words G (Load place) (holds_pages slot pages) (holds_pages slot pages) (knows_pages slot pages)
       whole refl refl knows)
@@ -166,7 +166,7 @@ module _ (env : Env) (mix : ℕ → ℕ → ℕ → ℕ) (c : ℕ) (h : Holding)
   given_behind (m, Done done) = []
 
   abbrev pub GiveMoved : Option KnownSlot → List ℕ → Op → GiveRunModel × Next (Unit {0}) → Type 0
-  GiveMoved slot pages op r = Moved env mix c words G op (holds_pages slot pages)
+  GiveMoved slot pages op r = SilentStep env mix c words G op (holds_pages slot pages)
       (holds_pages slot (given_behind r)) (knows_pages slot (given_behind r))
 
   -- a page that is still to be given back, and the other way round
