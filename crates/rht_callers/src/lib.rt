@@ -5,8 +5,8 @@
 //! Read `specs/Locals.antt` first.
 #![tactic(auto)]
 
-mod local;
 mod count;
+mod local;
 
-pub use count::{PortCount};
+pub use count::PortCount;
 pub use local::{Doing, Local};

@@ -12,9 +12,9 @@ pub mod laws;
 mod state;
 
 pub use book::Book;
-pub use rht_callers::{PortCount, Doing, Local};
-pub use rht_stands::{owners_of, ClosingRoom};
 pub use event::{Event, Stepped};
+pub use rht_callers::{Doing, Local, PortCount};
+pub use rht_stands::{ClosingRoom, owners_of};
 pub use state::State;
 
 #[cfg(test)]

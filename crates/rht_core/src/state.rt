@@ -10,11 +10,11 @@ ghost use Rattle.rht_core.specs.Runs.{core_of, core_step, local_of, begun, plann
 ghost use Rattle.rht_callers.specs.Locals.{fresh, is_idle, IsLocalOf};
 ghost use Rattle.rht_stands.specs.Closing.{current_size, IsClosedOf};
 
-use rht_stands::{ClosingRoom, current_size};
 use crate::event::{Event, Stepped};
 use rht_callers::Local;
 use rht_model::{Call, Closed};
 use rht_policy::Mix;
+use rht_stands::{ClosingRoom, current_size};
 use rht_words::{Config, Env, Op, apply, opening_word, places};
 use std::alloc::{AllocError, Global};
 use std::marker::Model;

@@ -224,13 +224,13 @@ module _ (env : Env) (mix : ℕ → ℕ → ℕ → ℕ) (c : ℕ) (port owner :
           in_time = still_has refl;
           outs = omega (arith, more);
           knows = plainly env mix (record {
-              nodes = only.nodes;
-              locks = only.locks;
-              raising = only.raising ∙ sym same;
-              slots = only.slots;
-              pages_in = only.pages_in;
-              works = only.works;
-            }) tt tt (takes.means (record {
+            nodes = only.nodes;
+            locks = only.locks;
+            raising = only.raising ∙ sym same;
+            slots = only.slots;
+            pages_in = only.pages_in;
+            works = only.works;
+          }) tt tt (takes.means (record {
             among = takes.among;
             taken = taken_then c node x x_owner G.node takes.with_other;
           }));

@@ -7,5 +7,5 @@
 mod bound;
 mod closing;
 
-pub use bound::{owners_of};
+pub use bound::owners_of;
 pub use closing::{ClosingRoom, current_size};

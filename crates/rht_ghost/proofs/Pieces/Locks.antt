@@ -53,16 +53,16 @@ module _ (env : Env) (mix : ℕ → ℕ → ℕ → ℕ) (c : ℕ) (h : Holding)
         let G' = with_holder G j holder in
         let same = held_chains env mix G j holder unworked in
         plainly env mix (record {
-            nodes = knows.only.nodes;
-            locks = only;
-            raising = knows.only.raising;
-            slots = knows.only.slots;
-            pages_in = knows.only.pages_in;
-            works = knows.only.works;
-          }) (NodeMeans-stay env mix c M M' G G' (λ n has. has.mine)
-                (λ n has w. write.others (Node n w) has.among (λ e. cc)) node knows.means.node) (TableMeans-stay env mix c M M' G G'
-                (tables_stay env mix M G G' whole same.tables (chains_passes env mix M G G' whole same))
-                table knows.means.table) means
+          nodes = knows.only.nodes;
+          locks = only;
+          raising = knows.only.raising;
+          slots = knows.only.slots;
+          pages_in = knows.only.pages_in;
+          works = knows.only.works;
+        }) (NodeMeans-stay env mix c M M' G G' (λ n has. has.mine)
+        (λ n has w. write.others (Node n w) has.among (λ e. cc)) node knows.means.node) (TableMeans-stay env mix c M M' G G'
+        (tables_stay env mix M G G' whole same.tables (chains_passes env mix M G G' whole same))
+        table knows.means.table) means
 
     -- the holder stores the bucket's word without the lock, and this is known of the bucket then
     unlock_to : h.worker ≡ false → (place word : ℕ) (bucket after : KnownBucket) → HasLock env mix c G place word → knowing (Some place) bucket M G

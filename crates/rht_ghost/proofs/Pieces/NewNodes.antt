@@ -195,12 +195,12 @@ module _ (env : Env) (mix : ℕ → ℕ → ℕ → ℕ) (c : ℕ) (h : Holding)
           leaves = inr (inl (record { node = known.node; word = w; has = refl; place = refl }));
         })
         (plainly env mix knows.only (word-known known w value M' knows.means.node write) knows.means.table (BucketMeans-stay env mix c M M' G G (members_used env mix M G whole)
-            (λ j holds. refl) (λ j n h i. refl)
-            (chains_stay env mix c M M' G (Node known.node w) value whole write
-            (λ n used e. not_mine n used (cc)))
-            (λ n l used. write.others (Node n KeyWord) l (λ e. not_mine n used (cc)))
-            (λ n l used. write.others (Node n OwnerWord) l (λ e. not_mine n used (cc))) (λ n. refl)
-            stays-same (λ port τ j is. is.unbound) bucket plain knows.means.bucket))
+        (λ j holds. refl) (λ j n h i. refl)
+        (chains_stay env mix c M M' G (Node known.node w) value whole write
+        (λ n used e. not_mine n used (cc)))
+        (λ n l used. write.others (Node n KeyWord) l (λ e. not_mine n used (cc)))
+        (λ n l used. write.others (Node n OwnerWord) l (λ e. not_mine n used (cc))) (λ n. refl)
+        stays-same (λ port τ j is. is.unbound) bucket plain knows.means.bucket))
 
     -- ---- a node is taken
 
@@ -225,29 +225,29 @@ module _ (env : Env) (mix : ℕ → ℕ → ℕ → ℕ) (c : ℕ) (h : Holding)
         (TakesNode n) whole taken.1 tt taken.0
         (record { taking = claims env.geometry index bit word range free; none = refl; holds = refl })
         (plainly env mix (record {
-            nodes = put-all (λ m o. o ≡ NodeHeld c → Some n ≡ Some m) G.node n (NodeHeld c) (λ e. refl)
-                (λ m ne held. let q = knows.only.nodes m held in absurd (cc));
-            locks = knows.only.locks;
-            raising = knows.only.raising;
-            slots = knows.only.slots;
-            pages_in = knows.only.pages_in;
-            works = knows.only.works;
-          }) (record {
-              has = record { mine = put-same G.node n (NodeHeld c); among = range.below };
-              chain = tt;
-              key = tt;
-              owner = tt;
-              list = tt;
-            }) (tables-reowned n (NodeHeld c) (ap is_used taken.1) refl knows.means.table) (BucketMeans-own env mix c M M' G (with_owner G n (NodeHeld c))
-            (members_used env mix M G whole) (λ j holds. refl) (λ j m h i. refl)
-            (chains_stay env mix c M M' G (NodeMap index) (bit_and word (bit_not w64 (bit_of bit)))
-            whole write (λ m used e. cc))
-            (λ m l used. write.others (Node m KeyWord) l (λ e. cc))
-            (λ m l used. write.others (Node m OwnerWord) l (λ e. cc))
-            (put-all (λ m o. is_taken_by c o ≡ is_taken_by c (G.node m)) G.node n (NodeHeld c)
-            (sym (ap (is_taken_by c) taken.1)) (λ m ne. refl))
-            (stays-reowned n (NodeHeld c) (ap is_used taken.1) refl) (λ port τ j is. is.unbound) bucket
-            (λ x has. let none = knows.only.nodes x has.mine in absurd (cc)) knows.means.bucket))
+          nodes = put-all (λ m o. o ≡ NodeHeld c → Some n ≡ Some m) G.node n (NodeHeld c) (λ e. refl)
+              (λ m ne held. let q = knows.only.nodes m held in absurd (cc));
+          locks = knows.only.locks;
+          raising = knows.only.raising;
+          slots = knows.only.slots;
+          pages_in = knows.only.pages_in;
+          works = knows.only.works;
+        }) (record {
+          has = record { mine = put-same G.node n (NodeHeld c); among = range.below };
+          chain = tt;
+          key = tt;
+          owner = tt;
+          list = tt;
+        }) (tables-reowned n (NodeHeld c) (ap is_used taken.1) refl knows.means.table) (BucketMeans-own env mix c M M' G (with_owner G n (NodeHeld c))
+        (members_used env mix M G whole) (λ j holds. refl) (λ j m h i. refl)
+        (chains_stay env mix c M M' G (NodeMap index) (bit_and word (bit_not w64 (bit_of bit)))
+        whole write (λ m used e. cc))
+        (λ m l used. write.others (Node m KeyWord) l (λ e. cc))
+        (λ m l used. write.others (Node m OwnerWord) l (λ e. cc))
+        (put-all (λ m o. is_taken_by c o ≡ is_taken_by c (G.node m)) G.node n (NodeHeld c)
+        (sym (ap (is_taken_by c) taken.1)) (λ m ne. refl))
+        (stays-reowned n (NodeHeld c) (ap is_used taken.1) refl) (λ port τ j is. is.unbound) bucket
+        (λ x has. let none = knows.only.nodes x has.mine in absurd (cc)) knows.means.bucket))
 
     -- one that finds the bit clear leaves the word
     claim_lost : (index bit : ℕ) → IsBitIn env.geometry.nodes index bit
@@ -272,13 +272,13 @@ module _ (env : Env) (mix : ℕ → ℕ → ℕ → ℕ) (c : ℕ) (h : Holding)
         (retouch env mix c index (bit_and word (bit_not w64 (bit_of bit))) M M' G whole low write same)
         (record { holds = refl; leaves = inl same })
         (plainly env mix knows.only tt knows.means.table (BucketMeans-own env mix c M M' G G (members_used env mix M G whole)
-            (λ j holds. refl) (λ j m h i. refl)
-            (chains_stay env mix c M M' G (NodeMap index) (bit_and word (bit_not w64 (bit_of bit)))
-            whole write (λ m used e. cc))
-            (λ m l used. write.others (Node m KeyWord) l (λ e. cc))
-            (λ m l used. write.others (Node m OwnerWord) l (λ e. cc)) (λ m. refl)
-            stays-same (λ port τ j is. is.unbound) bucket
-            (λ x has. let none = knows.only.nodes x has.mine in absurd (cc)) knows.means.bucket))
+        (λ j holds. refl) (λ j m h i. refl)
+        (chains_stay env mix c M M' G (NodeMap index) (bit_and word (bit_not w64 (bit_of bit)))
+        whole write (λ m used e. cc))
+        (λ m l used. write.others (Node m KeyWord) l (λ e. cc))
+        (λ m l used. write.others (Node m OwnerWord) l (λ e. cc)) (λ m. refl)
+        stays-same (λ port τ j is. is.unbound) bucket
+        (λ x has. let none = knows.only.nodes x has.mine in absurd (cc)) knows.means.bucket))
 
     -- what an operation of the taking leads to
     abbrev pub TakeMoved : Op → TakeNodeModel × Next (Option ℕ) → Type 0
@@ -332,24 +332,24 @@ module _ (env : Env) (mix : ℕ → ℕ → ℕ → ℕ) (c : ℕ) (h : Holding)
         (give_node env mix c n M M' G whole has write)
         (record { giving = refl; has = refl; holds = refl })
         (plainly env mix (record {
-            nodes = put-all (λ m o. o ≡ NodeHeld c → ◌≡◌ {A = Option ℕ} None (Some m)) G.node n Free
-                (λ e. absurd (cc))
-                (λ m ne held. let q = knows.only.nodes m held in absurd (ne (cc)));
-            locks = knows.only.locks;
-            raising = knows.only.raising;
-            slots = knows.only.slots;
-            pages_in = knows.only.pages_in;
-            works = knows.only.works;
-          }) tt (tables-reowned n Free (ap is_used has.mine) refl knows.means.table) (BucketMeans-stay env mix c M M' G (with_owner G n Free)
-            (members_used env mix M G whole) (λ j holds. refl) (λ j m h i. refl)
-            (chains_stay env mix c M M' G (NodeMap (n / 64))
-            (bit_or (M (NodeMap (n / 64))) (bit_of (n % 64))) whole write (λ m used e. cc))
-            (λ m l used. write.others (Node m KeyWord) l (λ e. cc))
-            (λ m l used. write.others (Node m OwnerWord) l (λ e. cc))
-            (put-all (λ m o. is_taken_by c o ≡ is_taken_by c (G.node m)) G.node n Free
-            (sym (ap (is_taken_by c) knows.means.node.has.mine)) (λ m ne. refl))
-            (stays-reowned n Free (ap is_used has.mine) refl) (λ port τ j is. is.unbound) bucket plain
-            knows.means.bucket))
+          nodes = put-all (λ m o. o ≡ NodeHeld c → ◌≡◌ {A = Option ℕ} None (Some m)) G.node n Free
+              (λ e. absurd (cc))
+              (λ m ne held. let q = knows.only.nodes m held in absurd (ne (cc)));
+          locks = knows.only.locks;
+          raising = knows.only.raising;
+          slots = knows.only.slots;
+          pages_in = knows.only.pages_in;
+          works = knows.only.works;
+        }) tt (tables-reowned n Free (ap is_used has.mine) refl knows.means.table) (BucketMeans-stay env mix c M M' G (with_owner G n Free)
+        (members_used env mix M G whole) (λ j holds. refl) (λ j m h i. refl)
+        (chains_stay env mix c M M' G (NodeMap (n / 64))
+        (bit_or (M (NodeMap (n / 64))) (bit_of (n % 64))) whole write (λ m used e. cc))
+        (λ m l used. write.others (Node m KeyWord) l (λ e. cc))
+        (λ m l used. write.others (Node m OwnerWord) l (λ e. cc))
+        (put-all (λ m o. is_taken_by c o ≡ is_taken_by c (G.node m)) G.node n Free
+        (sym (ap (is_taken_by c) knows.means.node.has.mine)) (λ m ne. refl))
+        (stays-reowned n Free (ap is_used has.mine) refl) (λ port τ j is. is.unbound) bucket plain
+        knows.means.bucket))
 
     -- ---- a new node, state by state
 

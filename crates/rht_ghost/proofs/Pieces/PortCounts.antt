@@ -42,23 +42,23 @@ module _ (env : Env) (mix : ℕ → ℕ → ℕ → ℕ) (c : ℕ) (h : Holding)
       (count_up env mix c M M' G whole low knows.only.raising write)
       (record { adds = refl; low = refl; holds = refl })
       (plainly env mix (record {
-          nodes = knows.only.nodes;
-          locks = knows.only.locks;
-          raising = put-same G.raised c true;
-          slots = knows.only.slots;
-          pages_in = knows.only.pages_in;
-          works = knows.only.works;
-        }) (NodeMeans-stay env mix c M M' G G' (λ n has. has.mine)
-              (λ n has w. write.others (Node n w) has.among (λ e. cc)) node knows.means.node) (TableMeans-stay env mix c M M' G G'
-              stay table knows.means.table) (BucketMeans-own env mix c M M' G G' (members_used env mix M G whole) (λ j holds. refl)
-          (λ j n h i. refl)
-          (chains_stay env mix c M M' G PortCount ((M PortCount + 1) % 2 ^ 64) whole write
-          (λ n used e. cc))
-          (λ n l used. write.others (Node n KeyWord) l (λ e. cc))
-          (λ n l used. write.others (Node n OwnerWord) l (λ e. cc)) (λ n. refl) stay
-          (λ port τ j is. is.unbound) bucket
-          (λ n has. (
-            record { mine = has.mine; among = has.among },
-            write.others (Node n ChainLink)
-                has.among (λ e. cc),
-          )) knows.means.bucket))
+        nodes = knows.only.nodes;
+        locks = knows.only.locks;
+        raising = put-same G.raised c true;
+        slots = knows.only.slots;
+        pages_in = knows.only.pages_in;
+        works = knows.only.works;
+      }) (NodeMeans-stay env mix c M M' G G' (λ n has. has.mine)
+      (λ n has w. write.others (Node n w) has.among (λ e. cc)) node knows.means.node) (TableMeans-stay env mix c M M' G G'
+      stay table knows.means.table) (BucketMeans-own env mix c M M' G G' (members_used env mix M G whole) (λ j holds. refl)
+      (λ j n h i. refl)
+      (chains_stay env mix c M M' G PortCount ((M PortCount + 1) % 2 ^ 64) whole write
+      (λ n used e. cc))
+      (λ n l used. write.others (Node n KeyWord) l (λ e. cc))
+      (λ n l used. write.others (Node n OwnerWord) l (λ e. cc)) (λ n. refl) stay
+      (λ port τ j is. is.unbound) bucket
+      (λ n has. (
+        record { mine = has.mine; among = has.among },
+        write.others (Node n ChainLink)
+            has.among (λ e. cc),
+      )) knows.means.bucket))
