@@ -22,7 +22,7 @@ use Rattle.rht_script.specs.declared.script.Sched.{Sched}
 use Rattle.rht_script.specs.declared.script.Sched.TheVariants.{Step, Skip, Finish}
 use Rattle.rht_script.specs.declared.cause.Cause.TheVariants.{NoTableLine, UnknownWord, OptionsDisagree}
 use Rattle.rht_script.specs.declared.options.Setting.{Setting}
-use Rattle.rht_script.specs.declared.options.Setting.TheVariants.{Nodes, Hint, Min, Max, Pages, Workers, Seed, Rewalks, Hashing, Shrink, Auto}
+use Rattle.rht_script.specs.declared.options.Setting.TheVariants.{Nodes, Hint, Min, Max, Pages, Workers, Seed, Rewalks}
 use Rattle.rht_script.specs.declared.options.Options.{Options}
 use Rattle.rht_script.specs.Spelling.{is_word, is_within, number_of, lines_of, is_skipped}
 use Rattle.rht_script.specs.TableLines.{numbered, kind_of, hash_of, switch_of, auto_of, setting_of, no_options, with_setting, options_from, configured, sizes_agree, has_room, config_of, table_of}
@@ -102,11 +102,7 @@ AreAllowed-with options (Seed number) are is =
     record { nodes = are.nodes; hint = are.hint; min = are.min; max = are.max; pages = are.pages; workers = are.workers; seed = is; rewalks = are.rewalks }
 AreAllowed-with options (Rewalks number) are is =
     record { nodes = are.nodes; hint = are.hint; min = are.min; max = are.max; pages = are.pages; workers = are.workers; seed = are.seed; rewalks = is }
-AreAllowed-with options (Hashing hash) are is =
-    record { nodes = are.nodes; hint = are.hint; min = are.min; max = are.max; pages = are.pages; workers = are.workers; seed = are.seed; rewalks = are.rewalks }
-AreAllowed-with options (Shrink shrink) are is =
-    record { nodes = are.nodes; hint = are.hint; min = are.min; max = are.max; pages = are.pages; workers = are.workers; seed = are.seed; rewalks = are.rewalks }
-AreAllowed-with options (Auto auto) are is =
+AreAllowed-with options _ are is =
     record { nodes = are.nodes; hint = are.hint; min = are.min; max = are.max; pages = are.pages; workers = are.workers; seed = are.seed; rewalks = are.rewalks }
 
 -- by induction over the words, two at a time
