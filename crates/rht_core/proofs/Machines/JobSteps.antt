@@ -68,9 +68,13 @@ known_of counts = known_nothing
 
 -- what it will answer should it miss a page on its way, known early; a bind that misses a page enters one
 abbrev pub early_of : Job → Option Answer
+early_of (finds port state) = (held_of (finds port state)).early
 early_of (binds port owner once state) = None
+early_of (lists port room state) = (held_of (lists port room state)).early
+early_of (releases port owner state) = (held_of (releases port owner state)).early
+early_of (rebinds port owner new state) = (held_of (rebinds port owner new state)).early
 early_of (works state) = None
-early_of job = (held_of job).early
+early_of counts = (held_of counts).early
 
 -- the page that the job may miss is there in these words
 abbrev pub IsThere : Job → Memory → Type 0
