@@ -11,7 +11,7 @@ use Rattle.rht_words.specs.Held as held
 use Rattle.rht_words.specs.Links.{link_of, plain_of}
 use Rattle.rht_words.specs.Ports.{owner_of}
 use Rattle.rht_words.specs.Operations.{op_place, applied}
-use Rattle.rht_words.specs.Places.{Node, ChainLink, OwnerWord, ListLink, PageWord, nodes_at, place_of, words_in}
+use Rattle.rht_words.specs.Places.{Node, ChainLink, OwnerWord, ListLink, PageWord, nodes_at, pages_at, place_of, words_in}
 use Rattle.rht_words.proofs.Memory.{Memory, IsWrite, is_write}
 use Rattle.rht_words.specs.Members.{In}
 use Rattle.rht_words.proofs.Members.{in-middle}
@@ -40,6 +40,7 @@ use Rattle.rht_ghost.proofs.Theory.Answering.{IsRight, keeps}
 use Rattle.rht_ghost.proofs.Theory.Steps.{answered-map, Rebinds, Holding, mem, owners, owners_in, owners_in-stay, still_has, Step, answered, reads}
 use Rattle.rht_ghost.proofs.Moves.Relinking.{relink_address, relink_value}
 use Rattle.rht_ghost.proofs.Pieces.ListFronts.{lock_left, change, fronted, front_known, front_made, front_only, front_locks, front_outs}
+use Rattle.rht_ghost.proofs.Pieces.Rebounds.{node_before_pages}
 use Rattle.rht_ghost.proofs.Pieces.NewNodes as nodes
 use Rattle.rht_ghost.proofs.Pieces.Locks.{unlock_step}
 use Rattle.rht_bind.proofs.BindKnowledge.{own, at_home, in_front, first_found, of_list, known_replacing, front_relink, IsRelinkAtOf}
@@ -57,12 +58,6 @@ begins place word link (Some node) = (refl, refl)
 abbrev holds_front : Bool → Option ℕ → Holding
 holds_front attached lock =
     record held.holds_nothing { lock = lock; answer = Some (plain (Bound attached)) }
-
--- the lock is left where a node is before, and otherwise the store drops it
-left_lock : (place : ℕ) (before : Option ℕ)
-    → (lock_left place before ≡ Some place) ⊎ (lock_left place before ≡ None)
-left_lock place None = inr refl
-left_lock place (Some node) = inl refl
 
 longer : (o : ℕ) (owners : List ℕ) → o ∷ owners ≡ owners → ⊥
 longer o owners e = let same = ap length e in absurd (omega (arith, same))
@@ -213,12 +208,19 @@ module _ (env : Env) (mix : ℕ → ℕ → ℕ → ℕ) (c : ℕ) (port owner :
         front_owner (Some node) write =
             write.others (Node list.claimed.attempt.node OwnerWord) k.means.node.has.among (λ e. cc)
 
+        -- the lock is left, and the store is on a node's word; or it is left no more, and nobody holds it
+        abbrev LeavesLock : Type 0
+        LeavesLock =
+            ((lock_left bucket.place list.before ≡ Some bucket.place) × (op_place op < pages_at env.geometry))
+            ⊎ ((lock_left bucket.place list.before ≡ None) × (op_place op ≡ place_at env mix (word_index env mix bucket.place))
+            × ((change env mix c port bucket.place bucket.word list.first list.claimed.attempt.node list.before M stored G whole k.means.bucket).bucket.holder ≡ None))
+
         front_stored : (After : Memory → Ghost → Type 0) → env.config.kind ≡ Listed
-            → nodes_at env.geometry ≤ op_place op → IsFrontWrite list.before
+            → nodes_at env.geometry ≤ op_place op → LeavesLock → IsFrontWrite list.before
             → (LeftInFront → After stored front)
             → Step env mix c call words G op (holds_claimed list.claimed)
             (holds_front list.claimed.attempt.attached (lock_left bucket.place list.before)) After
-        front_stored After listed behind_maps write knows =
+        front_stored After listed behind_maps leaves write knows =
             let n = list.claimed.attempt.node in
             let is = k.means.bucket in
             let rest = list.first ∷ is.behind in
@@ -249,7 +251,9 @@ module _ (env : Env) (mix : ℕ → ℕ → ℕ → ℕ) (c : ℕ) (port owner :
               does = record {
                 behind_maps = behind_maps;
                 lock = ap Some (sym back);
-                left_lock = left_lock bucket.place list.before;
+                left_lock = leaves;
+                left_second = refl;
+                left_worker = refl;
                 left_node = inr refl;
                 raised_is = sym k.only.raising;
                 changes = refl;
@@ -307,7 +311,7 @@ module _ (env : Env) (mix : ℕ → ℕ → ℕ → ℕ) (c : ℕ) (port owner :
           at.Replacing list (front_relink env list (relinks.Word word)),
           Done (Bound claimed.attempt.attached),
         )) known.fits.listed
-        (let order = parts_in_order env.geometry in omega (arith, back, order.nodes, order.pages))
+        (let order = parts_in_order env.geometry in omega (arith, back, order.nodes, order.pages)) (inr (refl, sym back, refl))
         (subst (IsWrite env.geometry M (mem env mix (applied words op)) (PageWord j)) value
         (is_write env.geometry words (PageWord j) op all (index-within env mix claimed.bucket.place there)
         (sym back)))
@@ -317,6 +321,7 @@ module _ (env : Env) (mix : ℕ → ℕ → ℕ → ℕ) (c : ℕ) (port owner :
         let op = Store (place_of env.geometry (Node node ChainLink)) (link_of claimed.attempt.node) in
         let next = at.Replacing list (front_relink env list (relinks.Word claimed.bucket.word)) in
         front_stored list op known.knowing (BindNext (next, Go)) known.fits.listed (omega arith)
+        (inl (refl, node_before_pages env.geometry node ChainLink is.relink_in.at_in))
         (subst (λ m. IsWrite env.geometry M (mem env mix (applied words op)) (Node m ChainLink)
         (link_of claimed.attempt.node)) known.fits.at_is
         (is_write env.geometry words (Node node ChainLink) op all is.relink_in.at_in refl))

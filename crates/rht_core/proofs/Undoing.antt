@@ -22,5 +22,11 @@ pub mod StoredShapes
 pub mod RefusableJobs
 -- in every run a call that was refused has undone what it did
 pub mod RefusedCalls
+-- what an operation does to locks
+pub mod LocksTurned
+-- in every run a call that has ended has let go of its locks
+pub mod LocksLetGo
 -- operations that leave something undone
 pub mod WorkedRefusals
+-- and those that keep a lock
+pub mod WorkedLocks

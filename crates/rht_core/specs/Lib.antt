@@ -55,3 +55,5 @@ pub mod Worked
 pub mod FewPorts
 -- what a call leaves that was refused
 pub mod Refused
+-- which locks a call has let go
+pub mod LetGo

@@ -5,6 +5,7 @@ ghost use Rattle.rht_core.specs.Causes.{Causes};
 ghost use Rattle.rht_core.specs.Counts.{Counted, AtRest};
 ghost use Rattle.rht_core.specs.FewPorts.{FewPorts, OneCaller};
 ghost use Rattle.rht_core.specs.Kicks.{Kicks};
+ghost use Rattle.rht_core.specs.LetGo.{LetGo};
 ghost use Rattle.rht_core.specs.ListedOwners.{ListedOwners};
 ghost use Rattle.rht_core.specs.NeverRefused.{RoomyTakesAll, OneWorkerAsModel};
 ghost use Rattle.rht_core.specs.NodesUsed.{Nodes};
@@ -225,6 +226,15 @@ pub fn at_rest<M: Mix>()
 /// entered none.
 pub fn refused<M: Mix>()
     ensures { Refused M M.mix_of }
+{}
+
+/// In every run each call that has ended, whatever its reply, has let go of the work lock, and of the lock
+/// of each bucket: it turned the lowest bit of the word an even number of times. The one exception is an
+/// entry of a nested table at which the call, a bind, entered a page that it had taken: the entry's word
+/// is another from then on, and locks no bucket. It says nothing of a call in progress, nor that a lock
+/// is ever given back.
+pub fn let_go<M: Mix>()
+    ensures { LetGo M M.mix_of }
 {}
 
 /// In every run a call is answered `NoNode` only where as many calls as there are nodes have taken one,

@@ -42,7 +42,7 @@ use Rattle.rht_ghost.proofs.Moves.Removing as removing
 use Rattle.rht_ghost.proofs.Moves.Removing.{IsFoundIn, CanReplace}
 use Rattle.rht_ghost.proofs.Pieces.Lists.{list_among}
 use Rattle.rht_ghost.proofs.Pieces.Rebounds.{IsTakenWith, taken_then, taken_more, only_left}
-use Rattle.rht_ghost.proofs.Pieces.Relinks.{lock_left, first_store, relink_write, relink_behind_maps, relink_leaves, holder_left, lock_kept}
+use Rattle.rht_ghost.proofs.Pieces.Relinks.{lock_left, first_store, relink_write, relink_behind_maps, relink_left_lock, relink_leaves, holder_left, lock_kept}
 use Rattle.rht_release.proofs.RebindKnowledge.{known_replacing, known_of_rebind, replaces, with_node}
 use Rattle.rht_release.proofs.RebindKnowledge as rebinds
 
@@ -274,10 +274,6 @@ module _ (env : Env) (mix : ℕ → ℕ → ℕ → ℕ) (c : ℕ) (port owner n
     taken_out : HasTakenOut env mix c G' m
     taken_out = record { among = among; taken = taken_then c m n (First j) G.node taken_with }
 
-    lock_or_none : (b : Option ℕ) → (lock_left place b ≡ Some place) ⊎ (lock_left place b ≡ None)
-    lock_or_none None = inr refl
-    lock_or_none (Some node) = inl refl
-
     only : HasOnly env mix c G' None (lock_left place before) None false None [] false
     only =
         let holder =
@@ -310,7 +306,10 @@ module _ (env : Env) (mix : ℕ → ℕ → ℕ → ℕ) (c : ℕ) (port owner n
       does = record {
         behind_maps = relink_behind_maps env mix place word (link_of n) before words all lock.bucket within;
         lock = ap Some (sym place_is);
-        left_lock = lock_or_none before;
+        left_lock = relink_left_lock env mix place word (link_of n) before words all lock.bucket within (place_at env mix j)
+            (G.bucket j) (front ++ ((n ∷ []) ++ rear));
+        left_second = refl;
+        left_worker = refl;
         left_node = inr refl;
         raised_is = sym k.only.raising;
         changes = refl;

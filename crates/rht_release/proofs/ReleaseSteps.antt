@@ -113,7 +113,7 @@ module _ (env : Env) (mix : ℕ → ℕ → ℕ → ℕ) (c : ℕ) (port owner :
       (answered env mix None (inl refl) (still_has refl)
       (silent env mix c words G op (holds_bucket found) (holds_bucket found) (ReleaseNext (next, Go))
       (LinksBehind second) whole tt tt made
-      (record { on = refl; locked = λ e. cc; none = refl; holds = refl })
+      (record { among = within; on = refl; locked = λ e. cc; none = refl; holds = refl })
       (promoting_knows env mix c port owner M' G found second
       (plainly env mix k.only tt k.means.table (record {
         found =

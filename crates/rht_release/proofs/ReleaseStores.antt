@@ -10,7 +10,7 @@ use Rattle.rht_words.specs.declared.op.Op.TheVariants.{Store}
 use Rattle.rht_words.specs.Links.{link_of}
 use Rattle.rht_words.specs.Ports.{owner_of}
 use Rattle.rht_words.specs.Operations.{op_place, applied}
-use Rattle.rht_words.specs.Places.{Node, OwnerWord, ListLink, IsBucketPlace, nodes_at, place_of, words_in}
+use Rattle.rht_words.specs.Places.{Node, OwnerWord, ListLink, IsBucketPlace, nodes_at, pages_at, place_of, words_in}
 use Rattle.rht_words.specs.Members.{In, NotIn}
 use Rattle.rht_words.proofs.Memory.{Memory, IsWrite, is_write}
 use Rattle.rht_words.proofs.Members.{in_and_not, in-middle, In-append_left, In-append_right, In-append_cases}
@@ -39,9 +39,9 @@ use Rattle.rht_ghost.proofs.Moves.Relinking.{relink_address, relink_value, relin
 use Rattle.rht_ghost.proofs.Moves.Removing.{IsFoundIn, CanReplace, unlink, replace, unlinking_known, replacing_known}
 use Rattle.rht_ghost.proofs.Moves.ListCuts.{cut_list, cutting_known}
 use Rattle.rht_ghost.proofs.Pieces.Lists.{segment_link, list_among, list_rest}
-use Rattle.rht_ghost.proofs.Pieces.Rebounds.{IsTakenWith, taken_then, taken_more, only_rebound, owners_kept, node_behind_maps}
+use Rattle.rht_ghost.proofs.Pieces.Rebounds.{IsTakenWith, taken_then, taken_more, only_rebound, owners_kept, node_behind_maps, node_before_pages}
 use Rattle.rht_release.proofs.Seeks.{home_of, in_list}
-use Rattle.rht_ghost.proofs.Pieces.Relinks.{lock_left, relink_write, relink_behind_maps, holder_left, lock_kept}
+use Rattle.rht_ghost.proofs.Pieces.Relinks.{lock_left, relink_write, relink_behind_maps, relink_left_lock, holder_left, lock_kept}
 
 -- what is known of the bucket alone
 abbrev pub here : KnownBucket → Known
@@ -135,7 +135,8 @@ module _ (env : Env) (mix : ℕ → ℕ → ℕ → ℕ) (c : ℕ) (port owner :
       not_held : change.other_owner ≢ NodeHeld c
       made : Made env mix c M G (after op) (changed G c change)
       ready : IsRebinding env mix change M G
-      left : (lock ≡ Some found.bucket.place) ⊎ (lock ≡ None)
+      left : ((lock ≡ Some found.bucket.place) × (op_place op < pages_at env.geometry))
+          ⊎ ((lock ≡ None) × (op_place op ≡ place_at env mix (word_index env mix found.bucket.place)) × (change.bucket.holder ≡ None))
       holder : change.bucket.holder ≡ Some c → lock ≡ Some found.bucket.place
       means : HasTakenOut env mix c (changed G c change) node
           → BucketMeans env mix c (after op) (changed G c change) known
@@ -212,6 +213,8 @@ module _ (env : Env) (mix : ℕ → ℕ → ℕ → ℕ) (c : ℕ) (port owner :
             behind_maps = takes.behind_maps;
             lock = ap Some (sym takes.there);
             left_lock = takes.left;
+            left_second = refl;
+            left_worker = refl;
             left_node = inl refl;
             raised_is = same;
             changes = refl;
@@ -331,7 +334,7 @@ module _ (env : Env) (mix : ℕ → ℕ → ℕ → ℕ) (c : ℕ) (port owner :
                     not_out = found_stays found nodes is.found k.means.table
                         (idle_moves_none env mix M G whole c k.only) bound;
                   })));
-              left = inl refl;
+              left = inl (refl, node_before_pages env.geometry before ListLink before_in);
               holder = λ e. refl;
               means = λ took. record {
                 lock = record {
@@ -407,17 +410,13 @@ module _ (env : Env) (mix : ℕ → ℕ → ℕ → ℕ) (c : ℕ) (port owner :
           not_held = takes.not_held;
           made = takes.made;
           ready = takes.ready;
-          left = left found.before;
+          left = relink_left_lock env mix place word link found.before words all lock.bucket takes.before_in
+              (place_at env mix j) (G.bucket j) nodes;
           holder = holder_left env mix place word link found.before c G lock change nodes refl refl;
           means = λ took. means (after op) (changed G c change) found.before took
               (lock_kept env mix place word link found.before c G lock change nodes refl refl);
         })
       where
-        left : (b : Option ℕ)
-            → let lock = lock_left found.bucket.place b in (lock ≡ Some found.bucket.place) ⊎ (lock ≡ None)
-        left None = inr refl
-        left (Some node) = inl refl
-
         means : (M' : Memory) (G' : Ghost) (b : Option ℕ) → HasTakenOut env mix c G' found.node
             → ((node : ℕ) → b ≡ Some node → HoldsLock env mix c G' found.bucket.place found.bucket.word)
             → BucketMeans env mix c M' G' (known_left found b)

@@ -280,7 +280,7 @@ module _ (env : Env) (mix : ℕ → ℕ → ℕ → ℕ) (c : ℕ) (M : Memory) 
     -- ---- which is no page of its own any more
 
     -- the giving back of a table enters none
-    unmake-enters : (h : Geometry) (slot : ℕ) (state : UnmakeAt) → did.op ≡ unmake_plan_at h slot state → ⊥
+    pub unmake-enters : (h : Geometry) (slot : ℕ) (state : UnmakeAt) → did.op ≡ unmake_plan_at h slot state → ⊥
     unmake-enters h slot (unmakes.Giving give) is = let same = sym is ∙ exchanges in cc
     unmake-enters h slot unmakes.SlotBack is = let same = sym is ∙ exchanges in cc
 

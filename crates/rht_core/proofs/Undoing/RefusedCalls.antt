@@ -337,7 +337,7 @@ module _ (M : Type 0) (mix : ℕ → ℕ → ℕ → ℕ) (env : Env) (events : 
 
   -- ---- each operation, and the beginning
 
-  goes : (job : Job) (steps : List Did) (did : Did) (performs : Performs mix env job did)
+  pub goes : (job : Job) (steps : List Did) (did : Did) (performs : Performs mix env job did)
       → performs.words ≡ words_before M mix env events did.index → Going job steps
       → Leads job (steps ++ did ∷ []) (job_after mix env job did.old)
   goes job steps did performs here (inl past) = past-leads (steps ++ did ∷ []) job did.old past
@@ -375,7 +375,7 @@ module _ (M : Type 0) (mix : ℕ → ℕ → ℕ → ℕ) (env : Env) (events : 
       (inr (inr (holds_none (rebinds port owner new (rebind_at.first_state env port new)) refl refl refl (λ place bit. refl) tt)))
   begins-rebind port owner new Listed job is = absurd (cc)
 
-  begins : (call : Call) (job : Job) → first_job env call ≡ Some job → Going job []
+  pub begins : (call : Call) (job : Job) → first_job env call ≡ Some job → Going job []
   begins (Find port) job is = of_first _ job is (inl refl)
   begins (Bind port owner once) job is =
       of_first _ job is

@@ -15,7 +15,7 @@ use Rattle.rht_core.specs.Refused.{turned, turns, IsTableWord, GivesBackNode, Gi
 use Rattle.rht_ghost.proofs.Theory.Steps.{Holding}
 use Rattle.rht_core.proofs.Undoing.TurnedBits.{turns-push, held_bits}
 
-one_more : (sum t x y : ℕ) → (sum + x) % 2 ≡ 0 → (t + x + y) % 2 ≡ 0 → (sum + t + y) % 2 ≡ 0
+pub one_more : (sum t x y : ℕ) → (sum + x) % 2 ≡ 0 → (t + x + y) % 2 ≡ 0 → (sum + t + y) % 2 ≡ 0
 one_more sum t x y so_far now = omega (arith, so_far, now)
 
 module _ (g : Geometry) (words_at : ℕ → List ℕ) (call : Call) where

@@ -80,7 +80,7 @@ module _ (g : Geometry) (words_at : ℕ → List ℕ) where
       absurd (omega (arith, lengths, sum))
 
   -- so an operation alone enters no page that was taken
-  never_taken : (one : Did) (entry page : ℕ) → EnteredWhenTaken g words_at entry page (one ∷ []) → ⊥
+  pub never_taken : (one : Did) (entry page : ℕ) → EnteredWhenTaken g words_at entry page (one ∷ []) → ⊥
   never_taken one entry page has =
       let took = has.took in
       no_split took.before took.behind took.at (sym (none_before one has.at has.before has.behind has.split) ∙ took.split)
@@ -91,7 +91,7 @@ module _ (g : Geometry) (words_at : ℕ → List ℕ) where
     abbrev bucket : ℕ
     bucket = place_of g (PageWord index)
 
-    abbrev locks_it : Did
+    abbrev pub locks_it : Did
     locks_it = done (Exchange bucket 0 1) 0
 
     behind_slots : (table : ℕ) → table < 8 → bucket ≡ place_of g (Slot table FutureWord) → ⊥

@@ -11,7 +11,7 @@ use Rattle.rht_words.specs.Members.{In, NotIn, IsDistinct}
 use Rattle.rht_words.proofs.Memory.{Memory, IsWrite}
 use Rattle.rht_words.proofs.ChainLemmas.{IsSegment-cut, IsSegment-members}
 use Rattle.rht_words.proofs.Members.{not_in_from, in_and_not, in-middle, In-append_left, In-append_right, In-append_cases, NotIn-append, IsDistinct-cut, IsDistinct-without, IsDistinct-with, count_below, count_below-more, count_below-same}
-use Rattle.rht_ghost.proofs.Theory.Ghosts.{put, put-same, put-other, put-all, Bucket, Owner, NodeHeld, First, Leaving, Behind, Taken, Ghost, is_first, is_used, is_taken_by, seat_of, taken_by_one, held_not_used, table_at, none-some, not_first-seatless}
+use Rattle.rht_ghost.proofs.Theory.Ghosts.{put, put-same, put-other, put-all, Bucket, Owner, NodeHeld, First, Leaving, Behind, Taken, Ghost, is_first, is_used, is_taken_by, seat_of, taken_by_one, held_not_used, table_at, none-some, not_first-seatless, lock_bit}
 use Rattle.rht_ghost.proofs.Theory.Wholes.{chain_of, list_of, key_of, place_at, stop, MovesNone, none_out, IsHomeOf, BucketRight, IsFirstAt, IsBehindIn, IsBoundTo, IsBuilt, Whole, firsts, raisers}
 use Rattle.rht_ghost.proofs.Theory.Passed.{home-within, member-no_entry}
 use Rattle.rht_ghost.proofs.Theory.Knowns.{last_of}
@@ -653,6 +653,7 @@ module _ (env : Env) (mix : ℕ → ℕ → ℕ → ℕ) (d port j m : ℕ) (fro
     split = found.split;
     left = relinked_row (place_at env mix j) link (G.bucket j) (front ++ ([] ++ rear)) before;
     none = refl;
+    locked = ap lock_bit found.holder;
     one = refl;
     other = refl;
     gone = refl;
@@ -670,6 +671,7 @@ module _ (env : Env) (mix : ℕ → ℕ → ℕ → ℕ) (d port j m : ℕ) (fro
     left = relinked_row (place_at env mix j) (link_of x) (G.bucket j) (front ++ ((x ∷ []) ++ rear)) before;
     now = refl;
     listed = λ n i. elim (can.listed n i) [ inl old ↦ inl old.0 | inr was ↦ inr was.0 ];
+    locked = ap lock_bit found.holder;
     differs = can.differs;
     owner = refl;
     gone = not_first-seatless owner can.no_first;

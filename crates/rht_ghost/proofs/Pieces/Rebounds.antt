@@ -4,7 +4,7 @@ use Rattle.std.proofs.Common.{◌≡◌, ◌≢◌, ◌⊎◌, ℕ, suc, ◌+◌
 use Rattle.std.proofs.lemmas.Bool.{cases_eq, eq-eqb}
 use Rattle.rht_words.specs.declared.env.Env.{Env}
 use Rattle.rht_words.specs.declared.geometry.Geometry.{Geometry}
-use Rattle.rht_words.specs.Places.{Node, NodeWord, IsBucketPlace, nodes_at, place_of}
+use Rattle.rht_words.specs.Places.{Node, NodeWord, ChainLink, KeyWord, OwnerWord, ListLink, IsBucketPlace, nodes_at, pages_at, place_of}
 use Rattle.rht_words.specs.Members.{In}
 use Rattle.rht_words.proofs.Members.{in-middle, In-append_left, count_below, count_below-more}
 use Rattle.rht_words.proofs.Memory.{Memory}
@@ -21,6 +21,13 @@ use Rattle.rht_ghost.proofs.Theory.Steps.{owners_in, owners_in-same}
 -- the words of nodes and of buckets stand behind the maps
 pub node_behind_maps : (g : Geometry) (node : ℕ) (word : NodeWord) → nodes_at g ≤ place_of g (Node node word)
 node_behind_maps g node word = omega arith
+
+-- and those of nodes before the pages
+pub node_before_pages : (g : Geometry) (node : ℕ) (word : NodeWord) → node < g.nodes → place_of g (Node node word) < pages_at g
+node_before_pages g node KeyWord among = let order = parts_in_order g in omega (arith, among, order.pages)
+node_before_pages g node OwnerWord among = let order = parts_in_order g in omega (arith, among, order.pages)
+node_before_pages g node ChainLink among = let order = parts_in_order g in omega (arith, among, order.pages)
+node_before_pages g node ListLink among = let order = parts_in_order g in omega (arith, among, order.pages)
 
 pub bucket_behind_maps : (g : Geometry) (place : ℕ) → IsBucketPlace g place → nodes_at g ≤ place
 bucket_behind_maps g place is = let order = parts_in_order g in omega (arith, is.0, order.pages)

@@ -1,25 +1,25 @@
 -- The stores of a relinking in a locked bucket: what the first one writes, which lock is left behind it,
 -- and how a machine's relinking stands.
-use Rattle.std.proofs.Common.{◌≡◌, ◌≢◌, ℕ, ◌<◌, ◌≤◌, List, length, Option, Some, None, Bool, true, false, refl, sym, ap, ◌∙◌, subst}
+use Rattle.std.proofs.Common.{◌≡◌, ◌≢◌, ◌⊎◌, ℕ, ◌<◌, ◌≤◌, List, length, Option, Some, None, Bool, true, false, refl, sym, ap, ◌∙◌, subst, inl, inr}
 use Rattle.rht_words.specs.declared.env.Env.{Env}
 use Rattle.rht_words.specs.declared.geometry.Geometry.{Geometry}
 use Rattle.rht_words.specs.declared.op.Op.{Op}
 use Rattle.rht_words.specs.Links.{plain_of}
 use Rattle.rht_words.specs.Operations.{op_place, applied}
-use Rattle.rht_words.specs.Places.{Node, NodeWord, ChainLink, PageWord, IsBucketPlace, nodes_at, words_in}
+use Rattle.rht_words.specs.Places.{Node, NodeWord, ChainLink, PageWord, IsBucketPlace, nodes_at, pages_at, words_in}
 use Rattle.rht_words.proofs.Memory.{Memory, IsWrite, is_write}
 use Rattle.rht_chain.specs.LockedWalk.{IsNodeOrNone}
 use Rattle.rht_chain.specs.Relink.{RelinkModel, relink_new, relink_plan, relink_at}
 use Rattle.rht_chain.specs.declared.relink.RelinkAt.{RelinkAt}
 use Rattle.rht_chain.specs.declared.relink.RelinkAt.TheVariants.{ChainLink as AtLink, Word}
 use Rattle.rht_chain.specs.Relink.{has_relinked}
-use Rattle.rht_ghost.proofs.Theory.Ghosts.{put, put-same, Ghost}
+use Rattle.rht_ghost.proofs.Theory.Ghosts.{put, put-same, Bucket, Ghost}
 use Rattle.rht_ghost.proofs.Theory.Wholes.{place_at, word_index, place_at-index, index-within}
 use Rattle.rht_ghost.proofs.Theory.Knowledge.{HoldsLock}
 use Rattle.rht_ghost.proofs.Theory.Steps.{mem}
 use Rattle.rht_ghost.proofs.Theory.Readiness.{Change, changed}
 use Rattle.rht_ghost.proofs.Moves.Relinking.{relink_address, relink_value, relinked}
-use Rattle.rht_ghost.proofs.Pieces.Rebounds.{node_behind_maps, bucket_behind_maps}
+use Rattle.rht_ghost.proofs.Pieces.Rebounds.{node_behind_maps, node_before_pages, bucket_behind_maps}
 
 -- ---- how a relinking stands
 
@@ -94,6 +94,20 @@ module _ (env : Env) (mix : ℕ → ℕ → ℕ → ℕ) (place word link : ℕ)
             → nodes_at env.geometry ≤ op_place (relink_plan (relink_new env.geometry place word b link))
         go None = bucket_behind_maps env.geometry place bucket
         go (Some node) = node_behind_maps env.geometry node ChainLink
+
+    -- the lock is left, and the store is on the link of the node before; or it is left no more, and the store is on the bucket's word
+    pub relink_left_lock : (p : ℕ) (b : Bucket) (nodes : List ℕ)
+        → ((lock_left place before ≡ Some place) × (op_place first_store < pages_at env.geometry))
+        ⊎ ((lock_left place before ≡ None) × (op_place first_store ≡ place_at env mix j)
+        × ((relinked p link b nodes before).holder ≡ None))
+    relink_left_lock p b nodes = go before before_in
+      where
+        go : (o : Option ℕ) → IsNodeOrNone env.geometry o
+            → let op = relink_plan (relink_new env.geometry place word o link) in
+            ((lock_left place o ≡ Some place) × (op_place op < pages_at env.geometry))
+            ⊎ ((lock_left place o ≡ None) × (op_place op ≡ place_at env mix j) × ((relinked p link b nodes o).holder ≡ None))
+        go None within = inr (refl, sym (place_at-index env mix place bucket), refl)
+        go (Some node) within = inl (refl, node_before_pages env.geometry node ChainLink within)
 
   -- a word of a node that is no link in a chain stays
   pub relink_leaves : (M M' : Memory)

@@ -5,7 +5,7 @@ use Rattle.rht_words.specs.Links.{link_of, head_of}
 use Rattle.rht_words.specs.Places.{Slot, SeedWord, Node, ListLink}
 use Rattle.rht_words.specs.Members.{In}
 use Rattle.rht_words.proofs.Memory.{Memory}
-use Rattle.rht_ghost.proofs.Theory.Ghosts.{put, Bucket, Owner, First, seat_of, is_used, PageOwner, Ghost, table_at, has_bit, PageHeld, PageOf, is_entry}
+use Rattle.rht_ghost.proofs.Theory.Ghosts.{put, Bucket, Owner, First, seat_of, is_used, PageOwner, Ghost, table_at, has_bit, PageHeld, PageOf, is_entry, lock_bit}
 use Rattle.rht_ghost.proofs.Theory.Wholes.{chain_of, key_of, place_at, MovesNone}
 use Rattle.rht_ghost.proofs.Theory.Knowledge.{HasNode, ArmedFor, IsMade}
 use Rattle.rht_ghost.proofs.Theory.Ways.{entered_table, IsInUse}
@@ -69,7 +69,7 @@ module _ (env : Env) (mix : ℕ → ℕ → ℕ → ℕ) where
 
   -- What is known when what a port is bound to changes. Its only node goes out of its bucket; or another node
   -- comes into the first one's place, which is nobody's or was behind that one, and those behind it were the
-  -- port's; or a node behind the first one goes out of the list.
+  -- port's; or a node behind the first one goes out of the list. The bucket is locked.
   pub record IsUnlinking (change : Change) (G : Ghost) : Type 0 where
     pub first : ℕ
     pub front : List ℕ
@@ -78,6 +78,7 @@ module _ (env : Env) (mix : ℕ → ℕ → ℕ → ℕ) where
     pub split : (G.bucket change.place).nodes ≡ front ++ first ∷ rear
     pub left : change.bucket.nodes ≡ front ++ rear
     pub none : change.nodes ≡ []
+    pub locked : lock_bit (G.bucket change.place).holder ≡ 1
     pub one : change.one ≡ first
     pub other : change.other ≡ first
     pub gone : seat_of change.other_owner ≡ None
@@ -92,6 +93,7 @@ module _ (env : Env) (mix : ℕ → ℕ → ℕ → ℕ) where
     pub left : change.bucket.nodes ≡ front ++ change.other ∷ rear
     pub now : change.nodes ≡ change.other ∷ tail
     pub listed : (n : ℕ) → In n tail → In n (change.one ∷ behind)
+    pub locked : lock_bit (G.bucket change.place).holder ≡ 1
     pub differs : change.other ≢ change.one
     pub owner : change.other_owner ≡ First change.place
     pub gone : seat_of change.one_owner ≡ None
@@ -106,6 +108,7 @@ module _ (env : Env) (mix : ℕ → ℕ → ℕ → ℕ) where
     pub bound_to : G.bound change.port ≡ first ∷ behind
     pub now : change.nodes ≡ first ∷ rest
     pub listed : (n : ℕ) → In n rest → In n behind
+    pub locked : lock_bit (G.bucket change.place).holder ≡ 1
     pub same : change.bucket ≡ G.bucket change.place
     pub one : change.one ≡ change.other
     pub seatless : seat_of (G.node change.other) ≡ None

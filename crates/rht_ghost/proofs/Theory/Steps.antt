@@ -11,7 +11,7 @@ use Rattle.rht_words.specs.Links.{future_of, entry_of}
 use Rattle.rht_words.specs.Maps.{bit_of}
 use Rattle.rht_words.specs.Ports.{owner_of}
 use Rattle.rht_words.specs.Operations.{op_place, old_of, word_after, applied}
-use Rattle.rht_words.specs.Places.{CurrentTable, WorkLock, PortCount, NextSerial, Slot, SlotWord, FutureWord, StateWord, PageMap, PageWord, Node, NodeWord, ChainLink, OwnerWord, nodes_at, place_of, word_at}
+use Rattle.rht_words.specs.Places.{CurrentTable, WorkLock, PortCount, NextSerial, Slot, SlotWord, FutureWord, StateWord, PageMap, PageWord, Node, NodeWord, ChainLink, OwnerWord, nodes_at, pages_at, place_of, word_at}
 use Rattle.rht_words.specs.Members.{In}
 use Rattle.rht_words.proofs.Members.{count_below-same, in-middle}
 use Rattle.rht_words.proofs.Memory.{Memory}
@@ -181,18 +181,23 @@ module _ (g : Geometry) where
     pub high : h.raised ≡ true
     pub holds : bare h' ≡ record (bare h) { raised = false }
 
-  -- The store is on a word of a node or of a bucket; the call has the node that it had, or none, and the lock or none. Its answer is
+  -- The store is on a word of a node or of a bucket; the call has the node that it had, or none. It has the lock that it had, and the
+  -- store is on a node's word, or it has none, and the store is on the bucket's word, whose lock nobody holds behind it. Its answer is
   -- known from then on, and says that bindings were changed.
-  pub record DoesRebind (raised : Bool) (place : ℕ) (op : Op) (h h' : Holding) : Type 0 where
+  pub record DoesRebind (raised : Bool) (place : ℕ) (holder : Option ℕ) (op : Op) (h h' : Holding) : Type 0 where
     pub behind_maps : nodes_at g ≤ op_place op
     pub lock : h.lock ≡ Some place
-    pub left_lock : (h'.lock ≡ h.lock) ⊎ (h'.lock ≡ None)
+    pub left_lock :
+        ((h'.lock ≡ h.lock) × (op_place op < pages_at g)) ⊎ ((h'.lock ≡ None) × (op_place op ≡ place) × (holder ≡ None))
+    pub left_second : h'.second ≡ h.second
+    pub left_worker : h'.worker ≡ h.worker
     pub left_node : (h'.node ≡ h.node) ⊎ (h'.node ≡ None)
     pub raised_is : h'.raised ≡ raised
     pub changes : SaysChange h'.answer
 
   -- the call has a lock and no node of its own
   pub record DoesLinkBehind (node : ℕ) (op : Op) (h h' : Holding) : Type 0 where
+    pub among : node < g.nodes
     pub on : op_place op ≡ place_of g (Node node ChainLink)
     pub locked : h.lock ≢ None
     pub none : h.node ≡ None
@@ -400,7 +405,7 @@ module _ (env : Env) (mix : ℕ → ℕ → ℕ → ℕ) where
   Does (Links n port j) op old h h' = DoesLink env.geometry n (place_at env mix j) op h (bare h')
   Does Lowers op old h h' = DoesLower env.geometry op h (bare h')
   Does (Rebinds change) op old h h' = DoesRebind env.geometry change.raised
-      (place_at env mix change.place) op h h'
+      (place_at env mix change.place) change.bucket.holder op h h'
   Does (LinksBehind n) op old h h' = DoesLinkBehind env.geometry n op h (bare h')
   Does (Arms j) op old h h' = DoesQuiet env.geometry op old h (bare h')
   Does (TakesSlot s) op old h h' = DoesTakeSlot env.geometry s op old h (bare h')

@@ -1,0 +1,386 @@
+-- In every run each call that has ended has let go of the work lock and of the locks of buckets.
+--
+-- Of each lock that a call holds it has turned the bit an odd number of times, and of each other one an even number; but for the entries at
+-- which it entered pages. Once it has ended it holds none.
+use Rattle.std.proofs.Common.{◌≡◌, ◌⊎◌, ℕ, ◌+◌, ◌*◌, ◌%◌, ◌<◌, Bool, true, false, List, [], ◌∷◌, ◌++◌, Option, Some, None, refl, sym, ap, ◌∙◌, subst, inl, inr, arith}
+use Rattle.std.specs.List.{AllByRecursion}
+use Rattle.std.proofs.lemmas.List.{append_assoc}
+use Rattle.rht_words.specs.declared.env.Env.{Env}
+use Rattle.rht_words.specs.declared.config.Kind.{Kind}
+use Rattle.rht_words.specs.declared.config.Kind.TheVariants.{Single, Listed}
+use Rattle.rht_words.specs.declared.geometry.Geometry.{Geometry}
+use Rattle.rht_words.specs.declared.machine.Next.{Next}
+use Rattle.rht_words.specs.declared.machine.Next.TheVariants.{Go, Done}
+use Rattle.rht_words.specs.declared.op.Op.TheVariants.{Exchange}
+use Rattle.rht_words.specs.declared.op.Op.{Op}
+use Rattle.rht_words.specs.Links.{entry_of, future_of}
+use Rattle.rht_words.specs.Machines.{GoesOrEnds}
+use Rattle.rht_words.specs.Members.{In}
+use Rattle.rht_words.specs.Operations.{op_place, old_of}
+use Rattle.rht_words.specs.Places.{WorkLock, Slot, FutureWord, PageWord, place_of}
+use Rattle.rht_words.proofs.Memory.{Memory}
+use Rattle.rht_words.proofs.PlacesApart.{parts_in_order}
+use Rattle.rht_model.specs.declared.history.Call.{Call}
+use Rattle.rht_model.specs.declared.history.Call.TheVariants.{Bind, Find, All, Release, Rebind, Walk, Work, Tidy, Count}
+use Rattle.rht_model.specs.Endings.{Ending, ending_in}
+use Rattle.rht_find.specs.FindHeld.{held_of_find}
+use Rattle.rht_find.specs.declared.find.FindAt.{FindAt}
+use Rattle.rht_find.specs.declared.find.FindAt.TheVariants as finding
+use Rattle.rht_bind.specs.BindHeld as bind_held
+use Rattle.rht_bind.specs.BindHeld.{held_of_bind}
+use Rattle.rht_bind.specs.declared.bind.Claimed.{Claimed}
+use Rattle.rht_bind.specs.declared.bind.BindAt.{BindAt}
+use Rattle.rht_bind.specs.declared.bind.BindAt.TheVariants as binding
+use Rattle.rht_chain.specs.Relink.{has_relinked}
+use Rattle.rht_release.specs.declared.found_port.FoundPort.{FoundPort}
+use Rattle.rht_release.specs.AllHeld.{held_of_all}
+use Rattle.rht_release.specs.declared.all.AllAt.{AllAt}
+use Rattle.rht_release.specs.declared.all.AllAt.TheVariants as listing
+use Rattle.rht_release.specs.ReleaseHeld.{held_of_release, holds_relinking}
+use Rattle.rht_release.specs.declared.release.ReleaseAt.{ReleaseAt}
+use Rattle.rht_release.specs.declared.release.ReleaseAt.TheVariants as releasing
+use Rattle.rht_release.specs.RebindHeld as rebind_held
+use Rattle.rht_release.specs.RebindHeld.{held_of_rebind}
+use Rattle.rht_release.specs.declared.rebind.RebindAt.{RebindAt}
+use Rattle.rht_release.specs.declared.rebind.RebindAt.TheVariants as rebinding
+use Rattle.rht_move.specs.WorkHeld.{held_of_work}
+use Rattle.rht_move.specs.Work.{IsWorkAtIn}
+use Rattle.rht_move.specs.declared.work.WorkAt.{WorkAt}
+use Rattle.rht_move.specs.declared.work.WorkAt.TheVariants as working
+use Rattle.rht_core.specs.declared.event.Event.{Event}
+use Rattle.rht_core.specs.Jobs.{Job, finds, binds, lists, releases, rebinds, works, counts, call_of, first_rebind, first_job, job_plan, job_after, held_of, held_next}
+use Rattle.rht_core.specs.Traces.{Did, Past, traced_of}
+use Rattle.rht_core.specs.Seen.{words_before}
+use Rattle.rht_core.specs.Refused.{turns, IsMissingEntry}
+use Rattle.rht_core.specs.LetGo.{HasEnteredAt, HasLetGo, LetGo}
+use Rattle.rht_ghost.proofs.Theory.Ghosts.{Ghost}
+use Rattle.rht_ghost.proofs.Theory.Steps.{Holding, mem, Does, Move, TakesNode, GivesNode, Links, Rebinds, SaysChange}
+use Rattle.rht_core.proofs.Machines.JobSteps.{JobIn}
+use Rattle.rht_core.proofs.Events.JobsOfCallers.{same_call}
+use Rattle.rht_core.proofs.Tracing.TracedJobs.{Performs, LeadsOn, IsEndedSo, jobs_keep_in}
+use Rattle.rht_core.proofs.Undoing.TurnedBits.{turns-push}
+use Rattle.rht_core.proofs.Undoing.UndoneSoFar.{one_more}
+use Rattle.rht_core.proofs.Undoing.EnteredWords.{entering_missing}
+use Rattle.rht_core.proofs.Undoing.PastRefusal.{is_past}
+use Rattle.rht_core.proofs.Undoing.RefusableJobs.{enters, unmake-enters}
+use Rattle.rht_core.proofs.Undoing.RefusedCalls as refusals
+use Rattle.rht_core.proofs.Undoing.LocksTurned.{IsLockPlace, lock_bits, Turning, TurnsEvenly, EntersHere, turns_evenly}
+
+-- ---- which job enters a page
+
+module _ (page : ℕ) where
+  -- a job without pages enters none
+  find-none : (state : FindAt) → In page (held_of_find state).pages → ⊥
+  find-none finding.CurrentTable i = i
+  find-none _ i = i
+
+  all-none : (owners : List ℕ) (state : AllAt) → In page (held_of_all owners state).pages → ⊥
+  all-none owners (listing.Seeking seek) i = i
+  all-none owners _ i = i
+
+  front-none : (claimed : Claimed) (stored : Bool) → In page (bind_held.holds_replacing claimed stored).pages → ⊥
+  front-none claimed true i = i
+  front-none claimed false i = i
+
+  replacing-none : (node : ℕ) (found : FoundPort) (stored : Bool)
+      → In page (rebind_held.holds_replacing node found stored).pages → ⊥
+  replacing-none node found true i = i
+  replacing-none node found false i = i
+
+  relinking-none : (found : FoundPort) (raised stored : Bool) → In page (holds_relinking found raised stored).pages → ⊥
+  relinking-none found raised true i = i
+  relinking-none found raised false i = i
+
+  release-none : (state : ReleaseAt) → In page (held_of_release state).pages → ⊥
+  release-none (releasing.Promoting found relink) i =
+      relinking-none found false (has_relinked found.before relink.at) i
+  release-none (releasing.Unlinking found relink) i =
+      relinking-none found true (has_relinked found.before relink.at) i
+  release-none _ i = i
+
+  rebind-none : (state : RebindAt) → In page (held_of_rebind state).pages → ⊥
+  rebind-none (rebinding.Replacing node found relink) i =
+      replacing-none node found (has_relinked found.before relink.at) i
+  rebind-none _ i = i
+
+-- The job may still be refused, and hasn't told an answer that says that bindings were changed.
+pub record IsEarly (job : Job) : Type 0 where
+  pub not_past : is_past job ≡ false
+  pub untold : SaysChange (held_of job).answer → ⊥
+
+module _ (env : Env) (mix : ℕ → ℕ → ℕ → ℕ) (c : ℕ) (M : Memory) (G : Ghost) (did : Did) (entry page : ℕ)
+    (exchanges : did.op ≡ Exchange (place_of env.geometry (PageWord entry)) 0 (entry_of page)) where
+  bind-early : (port owner : ℕ) (once : Bool) (state : BindAt) → did.op ≡ job_plan env (binds port owner once state)
+      → In page (held_of_bind state).pages → IsEarly (binds port owner once state)
+  bind-early port owner once (binding.Making growing size make) is had = record { not_past = refl; untold = λ says. says }
+  bind-early port owner once (binding.Attaching growing slot shape) is had = record { not_past = refl; untold = λ says. says }
+  bind-early port owner once (binding.Entering attempt table shape place grow) is had =
+      record { not_past = refl; untold = λ says. says }
+  bind-early port owner once (binding.Unmaking attempt unmake answer) is had =
+      absurd (unmake-enters env mix c M G did entry page exchanges unmake.geometry unmake.slot unmake.at is)
+  bind-early port owner once (binding.Replacing list relink) is had =
+      absurd (front-none page list.claimed (has_relinked list.before relink.at) had)
+  bind-early port owner once _ is had = absurd had
+
+  -- the future of a table in a slot is no word of a page
+  attaching-none : (last slot : ℕ) → last < 8
+      → did.op ≡ Exchange (place_of env.geometry (Slot last FutureWord)) 0 (future_of slot) → ⊥
+  attaching-none last slot low is =
+      let same : place_of env.geometry (Slot last FutureWord) ≡ place_of env.geometry (PageWord entry) = ap op_place (sym is ∙ exchanges) in
+      let order = parts_in_order env.geometry in
+      absurd (omega (arith, low, same, order.pages, order.nodes, order.page_map))
+
+  work-early : (state : WorkAt) → IsWorkAtIn env state → did.op ≡ job_plan env (works state) → In page (held_of_work state).pages
+      → IsEarly (works state)
+  work-early (working.Making wanted make) within is had = record { not_past = refl; untold = λ says. says }
+  work-early (working.Attaching root last slot shape) within is had = absurd (attaching-none last slot within.last_in is)
+  work-early (working.Unmaking root unmake) within is had =
+      absurd (unmake-enters env mix c M G did entry page exchanges unmake.geometry unmake.slot unmake.at is)
+  work-early _ within is had = absurd had
+
+  early : (job : Job) → JobIn env mix c job → did.op ≡ job_plan env job → In page (held_of job).pages → IsEarly job
+  early (finds port state) within is had = absurd (find-none page state had)
+  early (binds port owner once state) within is had = bind-early port owner once state is had
+  early (lists port room state) within is had = absurd (all-none page room.items state had)
+  early (releases port owner state) within is had = absurd (release-none page state had)
+  early (rebinds port owner new state) within is had = absurd (rebind-none page state had)
+  early (works state) within is had = work-early state within is had
+  early counts within is had = absurd had
+
+-- ---- the node of a call
+
+module _ (env : Env) (mix : ℕ → ℕ → ℕ → ℕ) (op : Op) (old : ℕ) (h h' : Holding)
+    (among : (node : ℕ) → h.node ≡ Some node → node < env.geometry.nodes) where
+  -- one that it has behind a move is there
+  node_then : (move : Move) → Does env mix move op old h h' → (node : ℕ) → h'.node ≡ Some node → node < env.geometry.nodes
+  node_then (TakesNode n) does node is =
+      let same : n ≡ node = (let has : h'.node ≡ Some n = ap (λ (x : Holding). x.node) does.holds in let both = sym has ∙ is in cc) in
+      subst (λ m. m < env.geometry.nodes) same does.taking.within
+  node_then (GivesNode n) does node is =
+      absurd (let none : h'.node ≡ None = ap (λ (x : Holding). x.node) does.holds in let both = sym none ∙ is in cc)
+  node_then (Links n port j) does node is =
+      absurd (let none : h'.node ≡ None = ap (λ (x : Holding). x.node) does.holds in let both = sym none ∙ is in cc)
+  node_then (Rebinds change) does node is = elim does.left_node [
+    | inl same ↦ among node (sym same ∙ is)
+    | inr none ↦ absurd (let both = sym none ∙ is in cc)
+  ]
+  node_then _ does node is = among node (sym (ap (λ (x : Holding). x.node) does.holds) ∙ is)
+
+module _ (M : Type 0) (mix : ℕ → ℕ → ℕ → ℕ) (env : Env) (events : List Event) where
+  abbrev g : Geometry
+  g = env.geometry
+
+  abbrev words_at : ℕ → List ℕ
+  words_at = words_before M mix env events
+
+  -- ---- what is kept of a call
+
+  -- a page was entered at this place
+  pub record HasEntered (call : Call) (steps : List Did) (place : ℕ) : Type 0 where
+    pub index : ℕ
+    pub here : place ≡ place_of g (PageWord index)
+    pub entered : HasEnteredAt g words_at call steps index
+
+  abbrev pub Turned : Call → Holding → List Did → Type 0
+  Turned call h steps =
+      (place : ℕ) → IsLockPlace g place
+      → HasEntered call steps place ⊎ ((turns place 0 steps + lock_bits g h place) % 2 ≡ 0)
+
+  pub record HasTurned (job : Job) (steps : List Did) : Type 0 where
+    pub turned : Turned (call_of job) (held_of job) steps
+    pub node_in : (node : ℕ) → (held_of job).node ≡ Some node → node < g.nodes
+
+  abbrev pub Now : Job → List Did → Type 0
+  Now job steps = refusals.Going M mix env events job steps × HasTurned job steps
+
+  abbrev pub Gone : Call → Ending → List Did → Type 0
+  Gone call ending steps =
+      refusals.Ended M mix env events call ending steps
+      × ((place : ℕ) → IsLockPlace g place → HasEntered call steps place ⊎ (turns place 0 steps % 2 ≡ 0))
+
+  -- ---- an operation
+
+  entered-more : (call : Call) (steps : List Did) (did : Did) (place : ℕ) → HasEntered call steps place
+      → HasEntered call (steps ++ did ∷ []) place
+  entered-more call steps did place is =
+      let has = is.entered.entered in
+      record {
+        index = is.index;
+        here = is.here;
+        entered = record {
+          may = is.entered.may;
+          page = is.entered.page;
+          entered = record {
+            before = has.before;
+            at = has.at;
+            behind = has.behind ++ did ∷ [];
+            split = ap (λ before. before ++ did ∷ []) has.split ∙ append_assoc has.before (has.at ∷ has.behind) (did ∷ []);
+            enters = has.enters;
+            took = has.took;
+          };
+        };
+      }
+
+  nothing_held : (n : ℕ) → (n + (0 + 0 + 0)) % 2 ≡ 0 → n % 2 ≡ 0
+  nothing_held n even = omega (arith, even)
+
+  module _ (job : Job) (steps : List Did) (did : Did) (performs : Performs mix env job did)
+      (here : performs.words ≡ words_at did.index) (kept : Now job steps) where
+    abbrev all : List Did
+    all = steps ++ did ∷ []
+
+    abbrev next : Job × Next Ending
+    next = job_after mix env job did.old
+
+    abbrev step : Turning env mix
+    step = record {
+      did = did;
+      before = held_of job;
+      after = held_next next;
+      caller = performs.caller;
+      words = performs.words;
+      ghost = performs.ghost;
+      all = performs.all;
+      whole = performs.whole;
+      found = performs.found;
+      node_in = kept.1.node_in;
+    }
+
+    abbrev does : Does env mix performs.step.move did.op did.old (held_of job) (held_next next)
+    does = subst (λ old. Does env mix performs.step.move did.op old (held_of job) (held_next next)) (sym performs.found) performs.step.does
+
+    -- what it enters it had taken
+    enters_now : (place : ℕ) → EntersHere step place → HasEntered (call_of job) all place
+    enters_now place e =
+        let there = mem env mix performs.words in
+        let is_early = early env mix performs.caller there performs.ghost did e.entry e.page e.does.entering job performs.within
+        performs.planned e.does.had in
+        let unset : there (PageWord e.entry) ≡ 0 =
+        sym (ap (old_of performs.words) e.does.entering) ∙ sym performs.found ∙ e.does.found in
+        elim kept.0 [
+          | inl past ↦ absurd (let both = sym is_early.not_past ∙ past in cc)
+          | inr going ↦ elim going [
+            | inl says ↦ absurd (is_early.untold says)
+            | inr may ↦ record {
+              index = e.entry;
+              here = e.here;
+              entered = record {
+                may = enters env mix performs.caller there performs.ghost did e.entry e.page e.does.entering job is_early.not_past
+                    performs.planned e.does.had;
+                page = e.page;
+                entered = record {
+                  before = steps;
+                  at = did;
+                  behind = [];
+                  split = refl;
+                  enters = record {
+                    page_in = e.ready.among;
+                    entry_in = e.ready.within;
+                    missing = subst (λ ws. IsMissingEntry g ws e.entry) here
+                        (entering_missing env mix performs.caller e.entry e.page performs.words performs.ghost performs.whole e.ready unset);
+                    exchanges = e.does.entering;
+                    found = e.does.found;
+                  };
+                  took = may.undoes.took e.page e.does.had;
+                };
+              };
+            }
+          ]
+        ]
+
+    turned_then : Turned (call_of job) (held_next next) all
+    turned_then place is = elim (kept.1.turned place is) [
+      | inl entered ↦ inl (entered-more (call_of job) steps did place entered)
+      | inr even ↦ elim (turns_evenly step performs.step.move performs.step.ready performs.step.made.whole does place is) [
+        | inl enters_it ↦ inl (enters_now place enters_it)
+        | inr now ↦ inr (
+            ap (λ n. (n + lock_bits g (held_next next) place) % 2) (turns-push place 0 steps did)
+            ∙ one_more (turns place 0 steps) _ (lock_bits g (held_of job) place) (lock_bits g (held_next next) place) even now)
+      ]
+    ]
+
+    node_next : (node : ℕ) → (held_next next).node ≡ Some node → node < g.nodes
+    node_next = node_then env mix did.op did.old (held_of job) (held_next next) kept.1.node_in performs.step.move does
+
+    by_next : (r : Job × Next Ending) → call_of r.0 ≡ call_of job → Turned (call_of job) (held_next r) all
+        → ((node : ℕ) → (held_next r).node ≡ Some node → node < g.nodes)
+        → LeadsOn M mix env (refusals.Going M mix env events) (refusals.Ended M mix env events) job all r
+        → LeadsOn M mix env Now Gone job all r
+    by_next (after, Go) same turned node_in leads = (
+      leads,
+      record {
+        turned = subst (λ call. Turned call (held_of after) all) (sym same) turned;
+        node_in = node_in;
+      },
+    )
+    by_next (after, Done ending) same turned node_in leads = (
+      leads,
+      λ place is. elim (turned place is) [
+        | inl entered ↦ inl entered
+        | inr even ↦ inr (nothing_held (turns place 0 all) even)
+      ],
+    )
+
+    goes_on : LeadsOn M mix env Now Gone job all next
+    goes_on =
+        by_next next (same_call mix env job did.old) turned_then node_next
+        (refusals.goes M mix env events job steps did performs here kept.0)
+
+  -- ---- the beginning
+
+  holds_none : (job : Job) → (held_of job).node ≡ None → ((place : ℕ) → lock_bits g (held_of job) place ≡ 0) → HasTurned job []
+  holds_none job node none = record {
+    turned = λ place is. inr (ap (λ n. (0 + n) % 2) (none place));
+    node_in = λ n is. absurd (let both = sym node ∙ is in cc);
+  }
+
+  of_first : (first job : Job) → Some first ≡ Some job → HasTurned first [] → HasTurned job []
+  of_first first job is turned = let same : first ≡ job = cc in subst (λ j. HasTurned j []) same turned
+
+  begins-rebind : (port owner new : ℕ) (kind : Kind) (job : Job) → first_rebind env port owner new kind ≡ Some job → HasTurned job []
+  begins-rebind port owner new Single job is = of_first _ job is (holds_none _ refl (λ place. refl))
+  begins-rebind port owner new Listed job is = absurd (cc)
+
+  begins : (call : Call) (job : Job) → first_job env call ≡ Some job → HasTurned job []
+  begins (Rebind port owner new) job is = begins-rebind port owner new env.config.kind job is
+  begins (Find port) job is = of_first _ job is (holds_none _ refl (λ place. refl))
+  begins (Bind port owner once) job is = of_first _ job is (holds_none _ refl (λ place. refl))
+  begins (All port) job is = of_first _ job is (holds_none _ refl (λ place. refl))
+  begins (Release port owner) job is = of_first _ job is (holds_none _ refl (λ place. refl))
+  begins Work job is = of_first _ job is (holds_none _ refl (λ place. refl))
+  begins Count job is = of_first _ job is (holds_none _ refl (λ place. refl))
+  begins _ job is = absurd (cc)
+
+  -- ---- the law
+
+  let_go-ended : (past : Past) → IsEndedSo M mix env Now Gone past → HasLetGo M mix env events past
+  let_go-ended past (ended, gone) = record {
+    work = elim (gone (place_of g WorkLock) (inl refl)) [
+      | inl entered ↦
+          let order = parts_in_order g in
+          let at = entered.here in
+          absurd (omega (arith, at, order.pages, order.nodes, order.page_map))
+      | inr even ↦ even
+    ];
+    buckets = λ index low. elim (gone (place_of g (PageWord index)) (inr (index, low, refl))) [
+      | inl entered ↦
+          let at = entered.here in
+          let same : entered.index ≡ index = omega (arith, at) in
+          inl (subst (HasEnteredAt g words_at past.done.call past.steps) same entered.entered)
+      | inr even ↦ inr even
+    ];
+  }
+
+  each : (calls : List Past) → AllByRecursion (IsEndedSo M mix env Now Gone) calls → AllByRecursion (HasLetGo M mix env events) calls
+  each [] ended = tt
+  each (past ∷ calls) ended = (let_go-ended past ended.0, each calls ended.1)
+
+pub let_go : (M : Type 0) (mix : ℕ → ℕ → ℕ → ℕ) → LetGo M mix
+let_go M mix env events c admitted =
+    let keeping =
+    jobs_keep_in M mix env (Now M mix env events) (Gone M mix env events) events
+    (record {
+      begins = λ call job is. (refusals.begins M mix env events call job is, begins M mix env events call job is);
+      goes = λ job steps did performs here kept. goes_on M mix env events job steps did performs here kept;
+    }) c admitted in
+    each M mix env events ((traced_of {M = M} mix env events).traces c).past keeping.past

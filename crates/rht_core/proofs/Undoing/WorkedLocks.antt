@@ -1,0 +1,41 @@
+-- Operations after which a call that has ended keeps a lock, the fewest of each kind: a resizing that locks an empty bucket and never
+-- stores its word back, so that whoever has loaded the old table waits for ever; a bind that does so; and any call that takes the work
+-- lock. Of the first one nothing was said before, since its reply isn't one that changes nothing.
+use Rattle.std.proofs.Common.{◌≡◌, ℕ, ◌+◌, ◌*◌, ◌%◌, ◌<◌, List, [], ◌∷◌, true, refl, ap}
+use Rattle.rht_words.specs.declared.geometry.Geometry.{Geometry}
+use Rattle.rht_words.specs.declared.op.Op.TheVariants.{Exchange}
+use Rattle.rht_words.specs.Places.{WorkLock, PageWord, place_of}
+use Rattle.rht_model.specs.declared.history.Call.{Call}
+use Rattle.rht_model.specs.declared.history.Call.TheVariants.{Bind, Work}
+use Rattle.rht_core.specs.Traces.{Did}
+use Rattle.rht_core.specs.Refused.{turns}
+use Rattle.rht_core.specs.LetGo.{HasEnteredAt}
+use Rattle.rht_core.proofs.Undoing.TurnedBits.{turned-here}
+use Rattle.rht_core.proofs.Undoing.WorkedRefusals.{locks_it, never_taken}
+
+-- the call turned the lowest bit of this word of a page an odd number of times, and entered no page there
+pub record KeepsBucket (g : Geometry) (words_at : ℕ → List ℕ) (call : Call) (steps : List Did) (index : ℕ) : Type 0 where
+  pub within : index < 64 * g.pages
+  pub odd : turns (place_of g (PageWord index)) 0 steps % 2 ≡ 1
+  pub unentered : HasEnteredAt g words_at call steps index → ⊥
+
+module _ (g : Geometry) (words_at : ℕ → List ℕ) (index : ℕ) (within : index < 64 * g.pages) where
+  abbrev lock : Did
+  lock = locks_it g words_at index within
+
+  odd_once : turns (place_of g (PageWord index)) 0 (lock ∷ []) % 2 ≡ 1
+  odd_once = ap (λ n. (n + 0) % 2) (turned-here (place_of g (PageWord index)) 0 lock refl)
+
+  pub never_stored_back : KeepsBucket g words_at Work (lock ∷ []) index
+  never_stored_back = record { within = within; odd = odd_once; unentered = λ is. is.may }
+
+  pub bind_keeps_lock : (port owner : ℕ) → KeepsBucket g words_at (Bind port owner true) (lock ∷ []) index
+  bind_keeps_lock port owner = record {
+    within = within;
+    odd = odd_once;
+    unentered = λ is. never_taken g words_at lock index is.page is.entered;
+  }
+
+-- the work lock, taken and never given back
+pub work_kept : (g : Geometry) → turns (place_of g WorkLock) 0 (record { index = 0; op = Exchange (place_of g WorkLock) 0 1; old = 0 } ∷ []) % 2 ≡ 1
+work_kept g = refl

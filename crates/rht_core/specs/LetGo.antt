@@ -1,0 +1,35 @@
+-- What a call that has ended has let go: the work lock and the locks of buckets, whatever its reply.
+-- A lock is the lowest bit of its word. A bit that a call's operations turned an even number of times is as if the call had never been,
+-- whatever others do to it; so of each lock that it took it has given back as many as it took.
+use Rattle.std.specs.Prelude.{◌≡◌, ℕ, ◌*◌, ◌%◌, ◌<◌, ◌⊎◌, List}
+use Rattle.std.specs.List.{AllByRecursion}
+use Rattle.rht_words.specs.declared.env.Env.{Env}
+use Rattle.rht_words.specs.declared.geometry.Geometry.{Geometry}
+use Rattle.rht_words.specs.Places.{WorkLock, PageWord, place_of}
+use Rattle.rht_model.specs.declared.history.Call.{Call}
+use Rattle.rht_core.specs.declared.event.Event.{Event}
+use Rattle.rht_core.specs.Runs.{IsAdmitted}
+use Rattle.rht_core.specs.Traces.{Did, Past, traced_of}
+use Rattle.rht_core.specs.Seen.{words_before}
+use Rattle.rht_core.specs.Refused.{turns, MayAttach, EnteredWhenTaken}
+
+-- a bind entered a page at this entry, when it had taken the page: the entry's word is another from then on, and locks no bucket
+pub record HasEnteredAt (g : Geometry) (words_at : ℕ → List ℕ) (call : Call) (steps : List Did) (entry : ℕ) : Type 0 where
+  pub may : MayAttach call
+  pub page : ℕ
+  pub entered : EnteredWhenTaken g words_at entry page steps
+
+module _ (M : Type 0) (mix : ℕ → ℕ → ℕ → ℕ) where
+  -- A call has let go of the work lock, and of the lock of each bucket. Where the word of a page is an entry its lowest bit is no lock: it
+  -- is left turned only where the call itself entered a page there.
+  pub record HasLetGo (env : Env) (events : List Event) (past : Past) : Type 0 where
+    pub work : turns (place_of env.geometry WorkLock) 0 past.steps % 2 ≡ 0
+    pub buckets : (index : ℕ) → index < 64 * env.geometry.pages
+        → HasEnteredAt env.geometry (words_before M mix env events) past.done.call past.steps index
+        ⊎ (turns (place_of env.geometry (PageWord index)) 0 past.steps % 2 ≡ 0)
+
+  -- in every run each call that has ended has let go of its locks
+  abbrev pub LetGo : Type 0
+  LetGo =
+      (env : Env) (events : List Event) (c : ℕ) → IsAdmitted env.config.kind events
+      → AllByRecursion (HasLetGo env events) ((traced_of {M = M} mix env events).traces c).past
