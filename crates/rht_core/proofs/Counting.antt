@@ -17,6 +17,8 @@ pub mod CoveredNodes
 pub mod NodesUsed
 -- the pages of a table, as the words have them
 pub mod TablePages
+-- the words of buckets that nobody has locked
+pub mod RestingBuckets
 -- the count of ports, and a table that nobody uses
 pub mod CountedRuns
 -- where one of the calls that serve commands found no node, more commands need one than there are nodes

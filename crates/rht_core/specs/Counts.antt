@@ -65,13 +65,15 @@ module _ (g : Geometry) (words : List ℕ) where
     pub many : length out ≡ count
     pub placed : (node : ℕ) → node < g.nodes → IsPlaced out node
 
-  -- at this place stands the word of a bucket of a table in force
-  pub record IsBucketInForce (place : ℕ) : Type 0 where
-    pub table : ℕ
+  -- the table in this slot is in force, or the slot isn't free
+  abbrev pub HasTable : ℕ → Type 0
+  HasTable slot = In slot (in_force g words) ⊎ ((slot < 8) × (word_at g words (Slot slot StateWord) ≢ 0))
+
+  -- at this place stands the word of a bucket of the table whose shape stands in this slot
+  pub record IsBucketOfSlot (slot place : ℕ) : Type 0 where
     pub bucket : ℕ
-    pub of_table : In table (in_force g words)
-    pub within : bucket < size_of (unpacked (shape_of g words table))
-    pub there : bucket_in g words (shape_of g words table) bucket ≡ Some place
+    pub within : bucket < size_of (unpacked (shape_of g words slot))
+    pub there : bucket_in g words (shape_of g words slot) bucket ≡ Some place
 
   -- the page's bit is set
   abbrev pub IsPageFree : ℕ → Type 0
@@ -103,11 +105,14 @@ abbrev pub taken_out : {M : Type 0} → World M → ℕ
 taken_out w =
     sum_by (λ c. count_by (λ done. takes_out done.reply) (w.books c).finished) (range_with_len 0 w.core.env.geometry.callers)
 
--- No bucket in force is locked; as many nodes are out as were taken out, and no others; in a table of one owner each no port's
--- list has a second node; the count of ports is the number of those bound; no caller has the work lock, a slot or pages; and each
--- table that was left behind is retired
+-- No bucket of a table in force, or in a slot that isn't free, is locked, and the word of each bucket of a retired one is 0; as many
+-- nodes are out as were taken out, and no others; in a table of one owner each no port's list has a second node; the count of ports is
+-- the number of those bound; no caller has the work lock, a slot or pages; and each table that was left behind is retired
 pub record IsAtRest (env : Env) (words : List ℕ) (out : ℕ) : Type 0 where
-  pub unlocked : (place : ℕ) → IsBucketInForce env.geometry words place → slice_index words place % 2 ≡ 0
+  pub unlocked : (slot place : ℕ) → HasTable env.geometry words slot → IsBucketOfSlot env.geometry words slot place
+      → slice_index words place % 2 ≡ 0
+  pub emptied : (slot place : ℕ) → slot < 8 → word_at env.geometry words (Slot slot StateWord) ≡ 2
+      → IsBucketOfSlot env.geometry words slot place → slice_index words place ≡ 0
   pub nodes : AreOut env.geometry words out
   pub single : env.config.kind ≡ Single → (port : ℕ) → length (nodes_of env.geometry words port) ≤ 1
   pub counted : AreAllBound (stands_for env.geometry words) (word_at env.geometry words PortCount)

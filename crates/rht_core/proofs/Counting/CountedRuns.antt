@@ -1,13 +1,13 @@
 -- The count of ports, and a table that nobody uses.
 -- As many different ports are bound as there are nodes in chains, and no more. A caller has raised the count exactly where its
 -- job has. While nobody is in a call nobody has a lock or a node.
-use Rattle.std.proofs.Common.{◌≡◌, ◌≢◌, ◌⊎◌, ℕ, ◌+◌, ◌%◌, ◌<◌, ◌≤◌, true, length, slice_index, subst, false, List, [], ◌∷◌, Option, Some, None, refl, sym, ◌∙◌, ap, inl, inr, arith}
+use Rattle.std.proofs.Common.{◌≡◌, ◌≢◌, ◌⊎◌, ℕ, ◌+◌, ◌<◌, ◌≤◌, true, length, subst, false, List, [], ◌∷◌, Option, Some, None, refl, sym, ◌∙◌, ap, inl, inr, arith}
 use Rattle.std.specs.Prelude.{count_by, sum_by}
 use Rattle.std.specs.List.{range_with_len}
 use Rattle.std.proofs.lemmas.Bool.{cases_lt}
 use Rattle.rht_words.specs.declared.env.Env.{Env}
 use Rattle.rht_words.specs.declared.config.Kind.TheVariants.{Single}
-use Rattle.rht_words.specs.Places.{PortCount, Slot, ShapeWord, StateWord, PageWord, word_at}
+use Rattle.rht_words.specs.Places.{PortCount, Slot, ShapeWord, StateWord, word_at}
 use Rattle.rht_words.specs.Members.{In}
 use Rattle.rht_words.proofs.Members.{count_by-range, count_below-same, count_below-none}
 use Rattle.rht_core.specs.Jobs.{job_of}
@@ -24,12 +24,13 @@ use Rattle.rht_core.proofs.Events.Invariants.{Inv, idle_knows}
 use Rattle.rht_core.proofs.Events.InvariantRuns.{has_inv}
 use Rattle.rht_core.proofs.Events.BooksInRuns.{ended_outs, idle-says, has_books}
 use Rattle.rht_core.proofs.Meaning.TablesInForce.{table_in_force}
-use Rattle.rht_core.proofs.Meaning.BoundPorts.{bucket_in_force, listed_bound}
+use Rattle.rht_core.proofs.Meaning.BoundPorts.{listed_bound}
 use Rattle.rht_core.proofs.Counting.CountedPorts.{firsts-AreAllBound}
 use Rattle.rht_core.proofs.Counting.CountedNodes.{count_few}
 use Rattle.rht_core.proofs.Counting.NodesOut.{is_out, out_nodes, out_nodes-distinct, out_nodes-among, out_nodes-many, out_nodes-in, out_nodes-out, sum_by-same, seat-is_out}
 use Rattle.rht_core.proofs.Counting.FullTables.{raises}
 use Rattle.rht_core.proofs.Counting.TablePages.{pages_in_words}
+use Rattle.rht_core.proofs.Counting.RestingBuckets.{state_has, bucket_unlocked, bucket_emptied}
 
 module _ (env : Env) (mix : ℕ → ℕ → ℕ → ℕ) (words : List ℕ) (G : Ghost)
     (whole : Whole env mix (mem env mix words) G) where
@@ -113,12 +114,6 @@ module _ (env : Env) (mix : ℕ → ℕ → ℕ → ℕ) (words : List ℕ) (G :
   has_state (SlotHeld c) has is = absurd (cc)
   has_state (Live τ) has is = absurd (omega arith)
   has_state (Retired τ) has is = absurd (omega arith)
-
-  state_has : (o : SlotOwner) → ((c : ℕ) → o ≢ SlotHeld c) → state_word o ≢ 0 → has_table o ≡ true
-  state_has SlotFree unheld is = absurd (is refl)
-  state_has (SlotHeld c) unheld is = absurd (unheld c refl)
-  state_has (Live τ) unheld is = refl
-  state_has (Retired τ) unheld is = refl
 
   page_placed : (p : ℕ) → p < env.geometry.pages → ((c : ℕ) → G.page p ≢ PageHeld c)
       → IsPageFree env.geometry words p ⊎ IsPageInSlot env.geometry words p
@@ -242,16 +237,13 @@ module _ (M : Type 0) (mix : ℕ → ℕ → ℕ → ℕ) where
       (range_with_len 0 env.geometry.callers)
       ∙ ap (λ (e : Env). sum_by (λ c. ended_outs (w.books c)) (range_with_len 0 e.geometry.callers))
       (sym has.inv.same_env) in
+      let no_slot : (c s : ℕ) → G.slot s ≢ SlotHeld c = λ c s is. let none = (knows c).only.slots s is in cc in
+      let no_lock : (c j : ℕ) → (G.bucket j).holder ≢ Some c =
+      λ c j h. elim ((knows c).only.locks j h) [ inl e ↦ absurd (cc) | inr e ↦ absurd (cc) ] in
       record {
-        unlocked = λ place is.
-            let at = bucket_in_force env mix core.words G has.inv.whole is.table is.bucket place is.of_table
-            is.within is.there in
-            let j = at.index in
-            let right = (has.inv.whole.buckets j at.within at.plain).locked in
-            subst (λ p. slice_index core.words p % 2 ≡ 0) (sym at.place_is)
-            (even_word (G.bucket j).holder (G.bucket j).plain
-            (word_at env.geometry core.words (PageWord j)) right.word_is right.even
-            (λ c h. elim ((knows c).only.locks j h) [ inl e ↦ absurd (cc) | inr e ↦ absurd (cc) ]));
+        unlocked = λ slot place there is. bucket_unlocked env mix core.words G has.inv.whole no_slot no_lock slot place there is;
+        emptied = λ slot place low retired is.
+            bucket_emptied env mix core.words G has.inv.whole no_slot no_lock slot place low retired is;
         nodes = record {
           out = out_nodes env mix G built;
           distinct = out_nodes-distinct env mix G built;
@@ -264,11 +256,6 @@ module _ (M : Type 0) (mix : ℕ → ℕ → ℕ → ℕ) where
         counted = rw all (firsts-AreAllBound env mix core.words G has.inv.whole);
         none_held = none_held env mix core.words G has.inv.whole
             (λ c works. let none = (knows c).only.works works in cc)
-            (λ c s is. let none = (knows c).only.slots s is in cc)
+            no_slot
             (λ c p is. (knows c).only.pages_in p is);
       }
-    where
-      even_word : (holder : Option ℕ) (plain word : ℕ) → word ≡ plain + lock_bit holder → plain % 2 ≡ 0
-          → ((c : ℕ) → holder ≢ Some c) → word % 2 ≡ 0
-      even_word None plain word is even none = omega arith
-      even_word (Some c) plain word is even none = absurd (none c refl)

@@ -2,7 +2,7 @@
 --
 -- Of each lock that a call holds it has turned the bit an odd number of times, and of each other one an even number; but for the entries at
 -- which it entered pages. Once it has ended it holds none.
-use Rattle.std.proofs.Common.{◌≡◌, ◌⊎◌, ℕ, ◌+◌, ◌*◌, ◌%◌, ◌<◌, Bool, true, false, List, [], ◌∷◌, ◌++◌, Option, Some, None, refl, sym, ap, ◌∙◌, subst, inl, inr, arith}
+use Rattle.std.proofs.Common.{◌≡◌, ◌⊎◌, ℕ, ◌+◌, ◌%◌, ◌<◌, Bool, true, false, List, [], ◌∷◌, ◌++◌, Some, None, refl, sym, ap, ◌∙◌, subst, inl, inr, arith}
 use Rattle.std.specs.List.{AllByRecursion}
 use Rattle.std.proofs.lemmas.List.{append_assoc}
 use Rattle.rht_words.specs.declared.env.Env.{Env}
@@ -14,15 +14,14 @@ use Rattle.rht_words.specs.declared.machine.Next.TheVariants.{Go, Done}
 use Rattle.rht_words.specs.declared.op.Op.TheVariants.{Exchange}
 use Rattle.rht_words.specs.declared.op.Op.{Op}
 use Rattle.rht_words.specs.Links.{entry_of, future_of}
-use Rattle.rht_words.specs.Machines.{GoesOrEnds}
 use Rattle.rht_words.specs.Members.{In}
 use Rattle.rht_words.specs.Operations.{op_place, old_of}
 use Rattle.rht_words.specs.Places.{WorkLock, Slot, FutureWord, PageWord, place_of}
 use Rattle.rht_words.proofs.Memory.{Memory}
 use Rattle.rht_words.proofs.PlacesApart.{parts_in_order}
 use Rattle.rht_model.specs.declared.history.Call.{Call}
-use Rattle.rht_model.specs.declared.history.Call.TheVariants.{Bind, Find, All, Release, Rebind, Walk, Work, Tidy, Count}
-use Rattle.rht_model.specs.Endings.{Ending, ending_in}
+use Rattle.rht_model.specs.declared.history.Call.TheVariants.{Bind, Find, All, Release, Rebind, Work, Count}
+use Rattle.rht_model.specs.Endings.{Ending}
 use Rattle.rht_find.specs.FindHeld.{held_of_find}
 use Rattle.rht_find.specs.declared.find.FindAt.{FindAt}
 use Rattle.rht_find.specs.declared.find.FindAt.TheVariants as finding
@@ -64,7 +63,7 @@ use Rattle.rht_core.proofs.Undoing.EnteredWords.{entering_missing}
 use Rattle.rht_core.proofs.Undoing.PastRefusal.{is_past}
 use Rattle.rht_core.proofs.Undoing.RefusableJobs.{enters, unmake-enters}
 use Rattle.rht_core.proofs.Undoing.RefusedCalls as refusals
-use Rattle.rht_core.proofs.Undoing.LocksTurned.{IsLockPlace, lock_bits, Turning, TurnsEvenly, EntersHere, turns_evenly}
+use Rattle.rht_core.proofs.Undoing.LocksTurned.{IsLockPlace, lock_bits, Turning, EntersHere, turns_evenly}
 
 -- ---- which job enters a page
 
