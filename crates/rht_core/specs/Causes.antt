@@ -16,10 +16,10 @@ use Rattle.rht_model.specs.declared.history.Call.TheVariants.{Bind, Find, All, R
 use Rattle.rht_model.specs.declared.history.Reply.{Reply}
 use Rattle.rht_model.specs.declared.history.Reply.TheVariants.{Bound, Exists, Found, Missing, Listed, Released, Absent, Rebound, TooBig, Again, Busy, NoTable, NoNode, Pending, Elsewhere, Walked, Moved, Idle, Clear, Counted}
 use Rattle.rht_arena.specs.Laws.{SeesTaken}
-use Rattle.rht_move.specs.Choice.{is_sparse}
 use Rattle.rht_core.specs.declared.event.Event.{Event}
 use Rattle.rht_core.specs.Runs.{IsAdmitted}
 use Rattle.rht_core.specs.Traces.{Did, Past, performed_of, traced_of}
+use Rattle.rht_core.specs.Due.{is_due_to_shrink}
 use Rattle.rht_core.specs.Seen.{LastWalked, CountedAt, SawCount, words_before}
 use Rattle.rht_core.specs.ResizeCauses.{AttachesSome, HasFollowed, SawBusy, SawNoTable, SawNoPage}
 use Rattle.rht_core.specs.WorkCauses.{SawElsewhere, SawNoTableDue, SawNothingDue, SawMoved}
@@ -149,7 +149,7 @@ IsLowering g did = did.op ≡ Sub (place_of g PortCount) 1
 -- and by the lowered count a table of this shape is due to shrink
 pub record IsSparseBy (env : Env) (shape : ℕ) (did : Did) : Type 0 where
   pub lowered : IsLowering env.geometry did
-  pub due : is_sparse env (did.old - 1) (size_of (unpacked shape)) ≡ true
+  pub due : is_due_to_shrink env (did.old - 1) (size_of (unpacked shape)) ≡ true
 
 -- A release says that there is something to do for `work` exactly where, behind the last table that it walked, it lowered the count
 -- and that table is due to shrink by this. It has lowered none before.

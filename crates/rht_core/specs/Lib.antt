@@ -16,6 +16,8 @@ pub mod Replies
 pub mod Laws
 -- what a call's operations show of tables and of the count
 pub mod Seen
+-- what is due for a table
+pub mod Due
 -- why a call was refused
 pub mod Causes
 pub mod Kicks

@@ -12,9 +12,9 @@ use Rattle.rht_words.specs.Places.{CurrentTable, WorkLock, PortCount, Slot, Shap
 use Rattle.rht_words.specs.Shapes.{unpacked, size_of}
 use Rattle.rht_nest.specs.MakeLaws.{StoresInSlot}
 use Rattle.rht_nest.specs.Tables.{is_nested}
-use Rattle.rht_move.specs.Choice.{choice_of}
 use Rattle.rht_move.specs.declared.work.choice.Choice.{Choice}
 use Rattle.rht_move.specs.declared.work.choice.Choice.TheVariants as choices
+use Rattle.rht_core.specs.Due.{due}
 use Rattle.rht_core.specs.Seen.{LoadsWord}
 use Rattle.rht_core.specs.ResizeCauses.{Loaded, Attaches, SawNoRoom}
 use Rattle.rht_core.specs.Traces.{Did, performed_of}
@@ -72,7 +72,7 @@ pub record HasChosen (env : Env) (choice : Choice) (steps : List Did) : Type 0 w
   pub futures_read : AreFuturesRead env.geometry root last futures
   pub shape_read : Loaded env.geometry (Slot last ShapeWord) shape.old shape
   pub count_read : Loaded env.geometry PortCount count.old count
-  pub chosen : choice_of env count.old shape.old (root == last) ≡ choice
+  pub chosen : due env count.old shape.old (root == last) ≡ choice
 
 -- ---- rows
 

@@ -10,12 +10,12 @@ use Rattle.rht_policy.specs.Thresholds.{is_above_75}
 use Rattle.rht_model.specs.declared.history.Call.TheVariants.{Work}
 use Rattle.rht_model.specs.declared.history.Reply.TheVariants.{Moved, Idle}
 use Rattle.rht_nest.specs.Tables.{is_nested}
-use Rattle.rht_move.specs.Choice.{is_sparse}
 use Rattle.rht_core.specs.declared.event.Event.{Event}
 use Rattle.rht_callers.specs.Locals.{is_idle}
 use Rattle.rht_core.specs.Runs.{local_of, run_of, IsAdmitted}
 use Rattle.rht_core.specs.Traces.{Did, Past, traced_of, behind_call}
 use Rattle.rht_stands.specs.StandsFor.{in_force, shape_of, stands_for, AreAllBound}
+use Rattle.rht_core.specs.Due.{is_due_to_shrink}
 use Rattle.rht_core.specs.WorkCauses.{StoresCurrent}
 
 -- Nothing is due: one table is in force, and it is flat; the ports bound are neither too many for its size, where it may grow,
@@ -27,7 +27,7 @@ pub record IsSettled (env : Env) (words : List ℕ) : Type 0 where
   pub alone : in_force env.geometry words ≡ table ∷ []
   pub flat : is_nested (shape_of env.geometry words table) ≡ false
   pub not_full : is_above_75 ports (size_of (unpacked (shape_of env.geometry words table))) env.config.max ≡ false
-  pub not_sparse : is_sparse env ports (size_of (unpacked (shape_of env.geometry words table))) ≡ false
+  pub not_sparse : is_due_to_shrink env ports (size_of (unpacked (shape_of env.geometry words table))) ≡ false
   pub unlocked : word_at env.geometry words WorkLock ≡ 0
 
 -- one of these operations made this table the current one, which it is behind them; before them another one was
