@@ -1,5 +1,6 @@
 -- The text that `run` and `gen` print for what a script says: that of a run of a table which serves the script's commands.
--- Beside the run stands what it means for who knows ports and owners alone: a history of the replies, and where no command is refused.
+-- Beside the run stands what it means for who knows ports and owners alone: a history of the replies to commands about bindings, and when
+-- none of these is refused.
 -- The size is that of the current table in the last words of the run (`IsClosedOf`): growing and shrinking decide which one that is, and
 -- where the script doesn't say manual, workers do that by themselves.
 use Rattle.std.specs.Prelude.{◌≡◌, ℕ, Bool, List, map}
@@ -50,8 +51,9 @@ pub record IsRunText (printed : List (List Ending) → Closed → List ℕ) (sai
   pub served : IsServedBy said.config.hash said.config said.auto said.commands endings closed
   -- and they are what is printed
   pub written : text ≡ printed endings closed
-  -- the replies are those of a legal history of the commands, which leaves what is printed as bound; where a command is refused
-  -- for want of a node the script has more binds and rebinds than nodes, and where the table is full it was
+  -- the replies to commands about bindings are those of a legal history, which leaves what is printed as bound; `NoNode` comes only
+  -- where the script has more binds and rebinds than nodes, and `TooBig` only where some first entries leave the table full, but for one
+  -- port for each worker but one
   pub history : List Entry
   pub told : IsTold said.config said.commands endings closed history
   -- and the history fits the run: its entries have a moment each, in their order, between the command's beginning and its end, and
@@ -60,10 +62,11 @@ pub record IsRunText (printed : List (List Ending) → Closed → List ℕ) (sai
   -- where there is one worker the history has the commands in the order of the script
   pub in_order : said.config.callers ≡ 1
       → history ≡ entries_told 0 (map (λ command. command.1) said.commands) (endings_by 0 endings)
-  -- where the table is roomy for the commands, none about bindings is refused, and the size that is printed is the one with which the
-  -- table begins
+  -- where the binds have at most 15 different ports, and the table has 64 first buckets or more, doesn't shrink and has a node for each
+  -- bind and rebind, no command about bindings is refused, and the size that is printed is the one with which the table begins
   pub roomy : IsRoomyFor said.config said.commands → AreAllTaken said.config said.commands endings closed
-  -- where one worker binds few ports at a time in a table that is large enough, each command about bindings is answered as the model
-  -- answers it, in the order of the script, and what is printed as bound is what the model leaves
+  -- where there is one worker, by the model fewer than 16 ports are bound after each command, and the table has 16 first buckets or more,
+  -- doesn't shrink and has a node for each bind and rebind, each command about bindings is answered as the model answers it, in the order
+  -- of the script, and what is printed as bound is what the model leaves
   pub small : IsSmallFor said.config (map (λ command. command.1) said.commands)
       → AreAsModel said.config.kind (map (λ command. command.1) said.commands) (endings_by 0 endings) closed

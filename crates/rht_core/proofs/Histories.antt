@@ -24,7 +24,7 @@ pub mod ToldHistories
 pub mod AnsweredInOrder
 -- some commands with how they ended
 pub mod WorkedAnswers
--- in a run whose table is large enough for the commands that it serves none is refused
+-- binds of few ports in a table with buckets and nodes enough: no command about bindings is refused
 pub mod NeverRefused
 -- a resizing that was alone and answers that it moved made another table the current one
 pub mod LoneResizings

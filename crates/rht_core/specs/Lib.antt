@@ -47,7 +47,7 @@ pub mod RunHistories
 pub mod Serving
 -- what a run tells that serves commands
 pub mod ToldHistories
--- and that no command is refused where the table is large enough
+-- and for which tables and commands none about bindings is refused
 pub mod NeverRefused
 -- why a resizing was answered as it was
 pub mod WorkCauses

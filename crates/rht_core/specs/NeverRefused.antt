@@ -1,5 +1,7 @@
--- Where a table is large enough for the commands that a run serves, none of them about bindings is refused; and where there is one worker,
--- each is answered as the model answers it. It is said in the words of the commands alone: no word of a table and no event of the run.
+-- Of the commands that a run serves none about bindings is refused where four things are so: at most 15 different ports among the binds,
+-- 64 first buckets or more, no shrinking, and a node for each bind and each rebind.
+-- And where one worker's commands leave fewer than 16 ports bound, each about bindings is answered as the model answers it.
+-- It is said in the words of the commands alone: no word of a table and no event of the run.
 use Rattle.std.specs.Prelude.{◌≡◌, ℕ, ◌+◌, ◌<◌, ◌≤◌, is_some, IfSome, Bool, true, false, List, [], ◌∷◌, length, take, count_by}
 use Rattle.std.specs.List.{AllByRecursion}
 use Rattle.rht_words.specs.declared.config.Config.{Config}
@@ -18,7 +20,7 @@ use Rattle.rht_core.specs.Serving.{calls_of, IsServedRun}
 use Rattle.rht_stands.specs.StandsFor.{AreBound}
 use Rattle.rht_core.specs.ToldHistories.{endings_by}
 
--- ---- any number of workers
+-- ---- all workers of a table, of whom a run has 1 to 16
 
 -- The table begins with 64 buckets or more and doesn't shrink, it has as many nodes as there are commands that bind or rebind, or more,
 -- and the commands that bind name 15 ports at most.
@@ -82,7 +84,7 @@ pub record AreAsModel (kind : Kind) (calls : List Call) (endings : List Ending) 
 -- ---- the law
 
 module _ (M : Type 0) (mix : ℕ → ℕ → ℕ → ℕ) where
-  -- in every run that serves commands for which its table is roomy no command about bindings is refused
+  -- in every run that serves commands for which its table is roomy no command about bindings is refused, and the size stays as it began
   abbrev pub RoomyTakesAll : Type 0
   RoomyTakesAll =
       (config : Config) (auto : Bool) (commands : List (ℕ × Call)) (endings : List (List Ending)) (closed : Closed)

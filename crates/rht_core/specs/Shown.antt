@@ -73,8 +73,8 @@ module _ (M : Type 0) (mix : ℕ → ℕ → ℕ → ℕ) where
       }) indexes
       → length indexes < 2 ^ 63
 
-  -- in every run each full walk shows rightly, and each call of it has kept at most as many pairs as there
-  -- are nodes
+  -- in every run in which few serials were taken, each full walk shows rightly the bindings from the beginning
+  -- of its first call to behind its last one
   abbrev pub Shown : Type 0
   Shown =
       (env : Env) (events : List Event) (c : ℕ) (first : Past) (pasts : List Past)

@@ -69,7 +69,8 @@ pub record IsTold (config : Config) (commands : List (ℕ × Call)) (endings : L
   -- a command finds no node only where there are more binds and rebinds than nodes
   pub no_node : (caller : ℕ)
       → AllByRecursion (λ ending. ending.answer.reply ≡ NoNode → IsOutnumbered config commands) (endings_by caller endings)
-  -- a command finds the table full only where it was, but for what other workers did meanwhile
+  -- a command is answered `TooBig` only with a count as high as the most ports or higher, and where some first entries leave so many
+  -- bound, or fewer by at most one for each worker but one
   pub full : (caller count : ℕ)
       → AllByRecursion (λ ending. ending.answer.reply ≡ TooBig count → WasFull config history count) (endings_by caller endings)
 

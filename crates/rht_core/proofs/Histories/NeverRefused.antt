@@ -1,6 +1,7 @@
--- Where a table is large enough for the commands that a run serves, none of them about bindings is refused.
+-- Of the commands that a run serves none about bindings is refused, where the binds have at most 15 different ports, and the table has 64 first
+-- buckets or more, doesn't shrink, and has a node for each bind and rebind. One worker needs 16 buckets, and ports fewer than 16 at a time.
 --
--- Any number of workers: the finished calls are the commands and `work`s, so the run has few ports, and no bind is refused but for want of a
+-- All workers: the finished calls are the commands and `work`s, so the run has few ports, and no bind is refused but for want of a
 -- node, nor is a table made. That no command wants for a node is what the history tells where there are as many nodes.
 --
 -- One worker: by induction over the events, fewer than 16 ports are bound behind each. The entries below an event leave what is bound behind
@@ -155,7 +156,7 @@ module _ (M : Type 0) (mix : ℕ → ℕ → ℕ → ℕ) (env : Env) (auto : Bo
   abbrev w : World M
   w = run_of mix env events
 
-  -- ---- any number of workers
+  -- ---- all workers
 
   has_few_ports : IsRoomyFor env.config commands → HasFewPorts env w
   has_few_ports roomy = record {
