@@ -195,7 +195,8 @@ pub fn counted<M: Mix>()
     ensures { Counted M M.mix_of }
 {}
 
-/// In every run, while nobody is in a call, no bucket of a table in force is locked; each node is free,
+/// In every run, while nobody is in a call, no bucket is locked of a table that is in force or stands in
+/// a slot that isn't free, and the word of each bucket of a retired table is 0; each node is free,
 /// in the list of a port, or out, and never two of these; those that are out are as many as the calls
 /// that were answered `Released` or `Rebound`; in a table of one owner for each port no list has a
 /// second node; the count is the number of ports that are bound; the work lock is free; each page is
