@@ -7,6 +7,7 @@ use Rattle.rht_words.specs.Opening.{opening_word}
 use Rattle.rht_words.specs.Places.{CurrentTable, NextSerial, Slot, SlotWord, IsSlotWord, word_at}
 use Rattle.rht_words.specs.Sizes.{first_size}
 use Rattle.rht_model.specs.Answers.{is_refusal}
+use Rattle.rht_model.specs.Multimap.{Port}
 use Rattle.rht_model.specs.declared.finished.Finished.{Finished}
 use Rattle.rht_model.specs.declared.history.Call.{Call}
 use Rattle.rht_model.specs.declared.history.Call.TheVariants.{Bind, Find, All, Release, Rebind, Walk, Work, Tidy, Count}
@@ -19,7 +20,7 @@ use Rattle.rht_stands.specs.StandsFor.{AreBound}
 use Rattle.rht_core.specs.RunHistories.{bindings_behind}
 
 -- a bind binds one of these ports; any other call binds none that isn't bound
-abbrev pub BindsAmong : List ℕ → Call → Type 0
+abbrev pub BindsAmong : List Port → Call → Type 0
 BindsAmong ports (Bind port owner once) = In port ports
 BindsAmong ports (Find port) = Unit {0}
 BindsAmong ports (All port) = Unit {0}
@@ -31,7 +32,7 @@ BindsAmong ports Tidy = Unit {0}
 BindsAmong ports Count = Unit {0}
 
 -- so do a caller's calls that have ended, and the one in progress
-pub record AreCallsAmong (ports : List ℕ) (book : Book) : Type 0 where
+pub record AreCallsAmong (ports : List Port) (book : Book) : Type 0 where
   pub ended : AllByRecursion (λ done. BindsAmong ports done.call) book.finished
   pub progress : IfSome book.call (BindsAmong ports)
 
@@ -40,7 +41,7 @@ pub record AreCallsAmong (ports : List ℕ) (book : Book) : Type 0 where
 pub record HasFewPorts {M : Type 0} (env : Env) (w : World M) : Type 0 where
   pub first : 64 ≤ first_size env.config
   pub keeps_size : env.config.shrink ≡ false
-  pub ports : List ℕ
+  pub ports : List Port
   pub few : length ports ≤ 15
   pub among : (c : ℕ) → AreCallsAmong ports (w.books c)
 

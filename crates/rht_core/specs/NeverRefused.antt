@@ -9,7 +9,7 @@ use Rattle.rht_words.specs.declared.config.Kind.{Kind}
 use Rattle.rht_words.specs.Sizes.{first_size}
 use Rattle.rht_model.specs.declared.bindings.Closed.{Closed}
 use Rattle.rht_model.specs.declared.history.Call.{Call}
-use Rattle.rht_model.specs.Multimap.{Multimap, unbound}
+use Rattle.rht_model.specs.Multimap.{Port, Multimap, unbound}
 use Rattle.rht_model.specs.Answers.{port_of, answer_of, bindings_after, is_refusal}
 use Rattle.rht_model.specs.Endings.{Ending}
 use Rattle.rht_model.specs.Histories.{without_kick}
@@ -28,7 +28,7 @@ pub record IsRoomyFor (config : Config) (commands : List (ℕ × Call)) : Type 0
   pub first : 64 ≤ first_size config
   pub keeps_size : config.shrink ≡ false
   pub nodes : count_by (λ command. needs_node command.1) commands ≤ config.nodes
-  pub ports : List ℕ
+  pub ports : List Port
   pub few : length ports ≤ 15
   pub among : AllByRecursion (λ command. BindsAmong ports command.1) commands
 

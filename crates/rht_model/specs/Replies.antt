@@ -5,6 +5,7 @@ use Rattle.rht_model.specs.declared.history.Call.TheVariants.{Bind, Find, All, R
 use Rattle.rht_model.specs.declared.history.Reply.{Reply}
 use Rattle.rht_model.specs.declared.history.Reply.TheVariants.{Bound, Exists, Found, Missing, Listed, Released, Absent, Rebound, TooBig, Again, Busy, NoTable, NoNode, Pending, Elsewhere, Walked, Moved, Idle, Clear, Counted}
 use Rattle.rht_model.specs.declared.history.Reply.TheVariants as replies
+use Rattle.rht_model.specs.Multimap.{Port}
 
 -- ---- the replies of each call
 
@@ -80,7 +81,7 @@ AreOwnersWith (Listed len) owners = length owners ≡ len
 AreOwnersWith _ owners = owners ≡ []
 
 -- these pairs come with it: as many as Walked says, and none with another one
-abbrev pub ArePairsWith : Reply → List (ℕ × ℕ) → Type 0
+abbrev pub ArePairsWith : Reply → List (Port × ℕ) → Type 0
 ArePairsWith (Walked len next) pairs = length pairs ≡ len
 ArePairsWith _ pairs = pairs ≡ []
 

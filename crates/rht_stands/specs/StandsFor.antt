@@ -9,7 +9,7 @@ use Rattle.rht_words.specs.Ports.{word_of, owner_of}
 use Rattle.rht_words.specs.Shapes.{size_of, unpacked}
 use Rattle.rht_words.specs.Places.{CurrentTable, Slot, ShapeWord, FutureWord, Node, ChainLink, KeyWord, OwnerWord, ListLink, PageWord, word_at}
 use Rattle.rht_nest.specs.Place.{place_in}
-use Rattle.rht_model.specs.Multimap.{Multimap}
+use Rattle.rht_model.specs.Multimap.{Port, Multimap}
 
 module _ (g : Geometry) (words : List ℕ) where
   -- the current table and those to which futures lead from it
@@ -78,7 +78,7 @@ module _ (g : Geometry) (words : List ℕ) where
 
 -- so many different ports are bound
 pub record AreBound (bindings : Multimap) (count : ℕ) : Type 0 where
-  pub ports : List ℕ
+  pub ports : List Port
   pub distinct : IsDistinct ports
   pub bound : AllByRecursion (λ port. bindings port ≢ []) ports
   pub many : length ports ≡ count
