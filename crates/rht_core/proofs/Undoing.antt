@@ -4,7 +4,7 @@ pub mod TurnedBits
 pub mod EnteredWords
 -- what a call has undone so far of what it turned
 pub mod UndoneSoFar
--- an operation of a call that may still be refused
+-- an operation of a call that may still be refused, or end without a change
 pub mod GoingBack
 -- what becomes of the bits where the call takes or gives back a node, a lock or a slot
 pub mod UndoneHoldings
@@ -14,13 +14,15 @@ pub mod UndonePages
 pub mod UndoneTables
 -- and so by each move
 pub mod UndoneMoves
--- the states behind which no refusal comes
+-- the states behind which no refusal comes, nor another reply that says that nothing was changed
 pub mod PastRefusal
 -- which shape a bind has stored for the table that it attaches
 pub mod StoredShapes
--- what a job holds and does that may still be refused
+-- what a job holds and does that may still be refused, or end without a change
 pub mod RefusableJobs
--- in every run a call that was refused has undone what it did
+-- what it does with a lock and no node
+pub mod LockedJobs
+-- in every run a call that changes nothing by its reply has undone what it did
 pub mod RefusedCalls
 -- what an operation does to locks
 pub mod LocksTurned

@@ -1,4 +1,5 @@
--- What a call leaves that changes nothing: one that was refused, or found its port bound, or found no owner to replace.
+-- What a call leaves that changes nothing: one that was refused, found its port bound, or found no owner to replace or to release; one
+-- that only looks, as a look-up, a listing and a count do; and a resizing that had nothing to do.
 -- A bit that its operations turned an even number of times is as if the call had never been, whatever others do to it.
 use Rattle.std.specs.Prelude.{◌≡◌, ◌≢◌, ℕ, ◌+◌, ◌*◌, ◌/◌, ◌%◌, ◌<◌, ◌⊎◌, ◌==◌, Bool, true, Some, List, [], ◌∷◌, ◌++◌, if◌then◌else◌}
 use Rattle.std.specs.List.{AllByRecursion, Any}
@@ -13,9 +14,9 @@ use Rattle.rht_words.specs.Operations.{op_place, word_after}
 use Rattle.rht_words.specs.Places.{CurrentTable, NextSerial, Slot, SlotWord, ShapeWord, FutureWord, StateWord, PageMap, PageWord, Node, NodeWord, words_in, place_of, word_at}
 use Rattle.rht_words.specs.Shapes.{unpacked, size_of}
 use Rattle.rht_model.specs.declared.history.Call.{Call}
-use Rattle.rht_model.specs.declared.history.Call.TheVariants.{Bind, Rebind}
+use Rattle.rht_model.specs.declared.history.Call.TheVariants.{Bind}
 use Rattle.rht_model.specs.declared.history.Reply.{Reply}
-use Rattle.rht_model.specs.declared.history.Reply.TheVariants.{Exists, Absent}
+use Rattle.rht_model.specs.declared.history.Reply.TheVariants.{Exists, Absent, Found, Missing, Listed, Idle, Counted}
 use Rattle.rht_model.specs.Answers.{is_refusal}
 use Rattle.rht_arena.specs.Laws.{map_place, map_bit}
 use Rattle.rht_arena.specs.RunLaws.{TakesPage, GivesPage}
@@ -30,10 +31,16 @@ use Rattle.rht_core.specs.ResizeCauses.{Attaches}
 use Rattle.rht_core.specs.RunHistories.{ChangesBindings}
 pub use Rattle.rht_words.specs.TableWords.{IsTableWord}
 
--- a call that ends with this reply changes nothing: it was refused, or its port was bound, or it replaced no owner
+-- a call that ends with this reply changes nothing: it was refused, or its port was bound, or it replaced or released no owner, or it only
+-- looked, or had nothing to do
 abbrev pub changes_nothing : Call → Reply → Bool
 changes_nothing call (Exists owner) = true
-changes_nothing (Rebind port owner new) Absent = true
+changes_nothing call Absent = true
+changes_nothing call (Found owner) = true
+changes_nothing call Missing = true
+changes_nothing call (Listed len) = true
+changes_nothing call Idle = true
+changes_nothing call (Counted count) = true
 changes_nothing call reply = is_refusal reply
 
 -- ---- bits that operations turn
@@ -190,8 +197,8 @@ IsExcepted g words_at call steps place bit =
     ⊎ (MayAttach call × (IsOfAttached g steps place bit ⊎ IsOfEntered g words_at steps place bit))
 
 module _ (M : Type 0) (mix : ℕ → ℕ → ℕ → ℕ) where
-  -- A call has undone what it did. None of its operations changed what the words stand for, and each bit of each word was turned an
-  -- even number of times, but for those that may be left turned. So the call holds no lock, and gave back the node that it took.
+  -- A call has undone what it did, or did nothing. None of its operations changed what the words stand for, and each bit of each word was
+  -- turned an even number of times, but for those that may be left turned. So the call holds no lock, and gave back the node that it took.
   pub record IsUndone (env : Env) (events : List Event) (past : Past) : Type 0 where
     pub bindings : AllByRecursion (λ did. ¬ ChangesBindings M mix env events did) past.steps
     pub even : (place bit : ℕ) → place < words_in env.geometry → bit < 64

@@ -22,7 +22,7 @@ use Rattle.rht_core.specs.Traces.{Did}
 use Rattle.rht_core.specs.Refused.{turned, turns, IsTableWord, StoresLast, MayAttach}
 use Rattle.rht_ghost.proofs.Theory.Ghosts.{Ghost, PageHeld}
 use Rattle.rht_ghost.proofs.Theory.Wholes.{place_at, Whole}
-use Rattle.rht_ghost.proofs.Theory.Steps.{bare, Holding, mem}
+use Rattle.rht_ghost.proofs.Theory.Steps.{bare, Holding, LeavesBits, mem}
 use Rattle.rht_core.proofs.Undoing.TurnedBits.{node_bit, locked_bit, work_bit, slot_bit, pages_bit, held_bits}
 use Rattle.rht_core.proofs.Undoing.UndoneSoFar.{IsOfOwnNode, IsOfOwnSlot, IsLeft, Undoes, StillHas, Takes, Keeps}
 
@@ -60,16 +60,17 @@ pub record MayAttachWith (g : Geometry) (call : Call) (slot : ℕ) (pages : List
   pub among : (page : ℕ) → In page pages → page < g.pages
   pub of_shape : (page : ℕ) → In page pages → In page (pages_of_shape shape)
 
--- The call may be refused before an operation and behind it, where it holds this: it has raised no count,
--- moves nothing, and has a node where it has a lock. Its pages are its own, and it attaches and enters only
--- what it may.
+-- The call may be refused before an operation and behind it, where it holds this: it has raised no count
+-- and moves nothing. Where it has a lock and no node, the operation leaves its word, or drops the lock. Its
+-- pages are its own, and it attaches and enters only what it may.
 pub record MayGoBack (g : Geometry) (call : Call) (steps : List Did) (did : Did) (before after : Holding)
     (c : ℕ) (G : Ghost) : Type 0 where
   pub low : before.raised ≡ false
   pub low_then : after.raised ≡ false
   pub still : before.moving ≡ false
   pub still_then : after.moving ≡ false
-  pub locked_has : before.lock ≢ None → before.node ≢ None
+  pub locked_leaves : before.lock ≢ None → before.node ≡ None
+      → LeavesBits did.op did.old ⊎ (after.lock ≡ None)
   pub mine : (page : ℕ) → In page before.pages → G.page page ≡ PageHeld c
   pub attaches : (last slot : ℕ) → last < 8
       → did.op ≡ Exchange (place_of g (Slot last FutureWord)) 0 (future_of slot) → before.slot ≡ Some slot

@@ -1,7 +1,7 @@
 -- The states behind which a call ends with no refusal any more, nor with another reply that says that nothing was changed: a bind and a
--- rebind that publish their node, and a resizing that has made its table or needed none. Look-ups, listings, releases and readings of the
--- count are in such a state from the first.
-use Rattle.std.proofs.Common.{◌≡◌, ℕ, ◌+◌, ◌==◌, Bool, true, false, Option, Some, None, refl, nat_lt}
+-- rebind that publish their node, a release that takes its node out, and a resizing that has made its table or finds one to move. Look-ups,
+-- listings and readings of the count come to no such state.
+use Rattle.std.proofs.Common.{◌≡◌, ◌≢◌, ℕ, ◌+◌, ◌==◌, Bool, true, false, Option, Some, None, refl, nat_lt}
 use Rattle.std.proofs.lemmas.Bool.{cond_both}
 use Rattle.rht_words.specs.declared.env.Env.{Env}
 use Rattle.rht_words.specs.declared.geometry.Geometry.{Geometry}
@@ -10,7 +10,7 @@ use Rattle.rht_words.specs.declared.machine.Next.TheVariants.{Go, Done}
 use Rattle.rht_words.specs.Links.{slot_of, node_of, head_of, unlocked}
 use Rattle.rht_words.specs.Shapes.{size_of, unpacked}
 use Rattle.rht_model.specs.declared.history.Call.{Call}
-use Rattle.rht_model.specs.declared.history.Call.TheVariants.{Bind, Rebind, Work}
+use Rattle.rht_model.specs.declared.history.Call.TheVariants.{Bind, Release, Rebind, Work}
 use Rattle.rht_model.specs.declared.history.Reply.{Reply}
 use Rattle.rht_nest.specs.Place.{PlaceModel, flat_place, nested_place, place_after}
 use Rattle.rht_nest.specs.declared.place.Bucket.{Bucket}
@@ -22,8 +22,11 @@ use Rattle.rht_bind.specs.Bind as bind_at
 use Rattle.rht_bind.specs.declared.bind.FoundList.{FoundList}
 use Rattle.rht_bind.specs.declared.bind.BindAt.{BindAt}
 use Rattle.rht_bind.specs.declared.bind.BindAt.TheVariants as binding
+use Rattle.rht_release.specs.Release as release_at
 use Rattle.rht_release.specs.Rebind as rebind_at
 use Rattle.rht_release.specs.declared.found_port.FoundPort.{FoundPort}
+use Rattle.rht_release.specs.declared.release.ReleaseAt.{ReleaseAt}
+use Rattle.rht_release.specs.declared.release.ReleaseAt.TheVariants as releasing
 use Rattle.rht_release.specs.declared.rebind.RebindAt.{RebindAt}
 use Rattle.rht_release.specs.declared.rebind.RebindAt.TheVariants as rebinding
 use Rattle.rht_nest.specs.Tables.{is_nested}
@@ -80,10 +83,34 @@ rebind_is_past (rebinding.Link node found link) = false
 rebind_is_past (rebinding.Unlocking node table unlock) = false
 rebind_is_past (rebinding.Giving give) = false
 
+-- a release that has taken a node out
+abbrev pub removed_is_past : Option ℕ → Bool
+removed_is_past None = false
+removed_is_past (Some node) = true
+
+abbrev pub release_is_past : ReleaseAt → Bool
+release_is_past (releasing.Seeking seek) = false
+release_is_past (releasing.Owner found node before) = false
+release_is_past (releasing.ListLink found node) = false
+release_is_past (releasing.LinkBehind found node before) = true
+release_is_past (releasing.CuttingOut found node before link) = true
+release_is_past (releasing.ChainLink found second) = true
+release_is_past (releasing.SecondLink found second link) = true
+release_is_past (releasing.Promoting found relink) = true
+release_is_past (releasing.Unlinking found relink) = true
+release_is_past (releasing.Lowering node shape) = true
+release_is_past (releasing.Unlocking table unlock removed) = removed_is_past removed
+
 abbrev pub outcome_is_past : Outcome → Bool
 outcome_is_past (NoTable size) = false
-outcome_is_past Idle = true
+outcome_is_past Idle = false
 outcome_is_past (Moved again) = true
+
+-- where a table was due, the current one has a future
+abbrev pub due_is_past : Due → Bool
+due_is_past dues.Nothing = false
+due_is_past dues.Attached = true
+due_is_past dues.Later = true
 
 abbrev pub work_is_past : WorkAt → Bool
 work_is_past at.WorkLock = false
@@ -93,7 +120,7 @@ work_is_past (at.Count root last) = false
 work_is_past (at.Making wanted make) = false
 work_is_past (at.Attaching root last slot shape) = true
 work_is_past (at.Unmaking root unmake) = true
-work_is_past (at.RootFuture root due) = true
+work_is_past (at.RootFuture root due) = due_is_past due
 work_is_past (at.RootShape root future again) = true
 work_is_past (at.Entry rehash number place) = true
 work_is_past (at.Locking rehash number lock) = true
@@ -113,13 +140,13 @@ work_is_past (at.Retiring root again) = true
 work_is_past (at.LettingGo outcome) = outcome_is_past outcome
 
 abbrev pub is_past : Job → Bool
-is_past (finds port state) = true
+is_past (finds port state) = false
 is_past (binds port owner once state) = bind_is_past state
-is_past (lists port room state) = true
-is_past (releases port owner state) = true
+is_past (lists port room state) = false
+is_past (releases port owner state) = release_is_past state
 is_past (rebinds port owner new state) = rebind_is_past state
 is_past (works state) = work_is_past state
-is_past counts = true
+is_past counts = false
 
 -- ---- it stays past that
 
@@ -130,6 +157,9 @@ StaysPast past reply call (state, Done end) = changes_nothing call (reply end) �
 
 abbrev same_reply : Reply → Reply
 same_reply reply = reply
+
+abbrev end_reply : Reply × Option ℕ → Reply
+end_reply end = end.0
 
 module _ (port owner : ℕ) (once : Bool) where
   abbrev BindPast : BindAt × Next Reply → Type 0
@@ -152,10 +182,50 @@ module _ (port owner : ℕ) (once : Bool) where
       published-past node table kick (relink_after relink).0 (relink_after relink).1
   bind-past mix env _ old past = absurd (cc)
 
-module _ (port owner new : ℕ) where
-  abbrev end_reply : Reply × Option ℕ → Reply
-  end_reply end = end.0
+module _ (port owner : ℕ) where
+  abbrev ReleasePast : ReleaseAt × Next (Reply × Option ℕ) → Type 0
+  ReleasePast r = StaysPast release_is_past end_reply (Release port owner) r
 
+  taken-past : (g : Geometry) (found : FoundPort) (node link : ℕ) (before : Option ℕ)
+      → release_is_past (release_at.cut_or_chain g found node link before) ≡ true
+  taken-past g found node link None = refl
+  taken-past g found node link (Some before) = refl
+
+  linked-past : (g : Geometry) (found : FoundPort) (link : ℕ) (second : Option ℕ)
+      → release_is_past (release_at.unlink_or_promote g found link second) ≡ true
+  linked-past g found link None = refl
+  linked-past g found link (Some second) = refl
+
+  promoted-past : (found : FoundPort) (relink : RelinkModel) (next : Next (Unit {0}))
+      → ReleasePast (release_at.promoted found relink next)
+  promoted-past found relink Go = refl
+  promoted-past found relink (Done done) = refl
+
+  unlinked-past : (found : FoundPort) (relink : RelinkModel) (next : Next (Unit {0}))
+      → release_is_past (release_at.unlinked found relink next) ≡ true
+  unlinked-past found relink Go = refl
+  unlinked-past found relink (Done done) = refl
+
+  removed-past : (removed : Option ℕ) → removed_is_past removed ≡ true
+      → changes_nothing (Release port owner) (release_at.removed_reply removed) ≡ false
+  removed-past None past = absurd (cc)
+  removed-past (Some node) past = refl
+
+  pub release-past : (mix : ℕ → ℕ → ℕ → ℕ) (env : Env) (state : ReleaseAt) (old : ℕ) → release_is_past state ≡ true
+      → ReleasePast (release_at.after_at mix env port owner state old)
+  release-past mix env (releasing.Seeking seek) old past = absurd (cc)
+  release-past mix env (releasing.Owner found node before) old past = absurd (cc)
+  release-past mix env (releasing.ListLink found node) old past = absurd (cc)
+  release-past mix env (releasing.LinkBehind found node before) old past = taken-past env.geometry found node old before
+  release-past mix env (releasing.ChainLink found second) old past = linked-past env.geometry found old second
+  release-past mix env (releasing.Promoting found relink) old past =
+      promoted-past found (relink_after relink).0 (relink_after relink).1
+  release-past mix env (releasing.Unlinking found relink) old past =
+      unlinked-past found (relink_after relink).0 (relink_after relink).1
+  release-past mix env (releasing.Unlocking table unlock removed) old past = removed-past removed past
+  release-past mix env _ old past = refl
+
+module _ (port owner new : ℕ) where
   abbrev RebindPast : RebindAt × Next (Reply × Option ℕ) → Type 0
   RebindPast r = StaysPast rebind_is_past end_reply (Rebind port owner new) r
 
@@ -179,9 +249,9 @@ unmade-past : (root : ℕ) (unmake : UnmakeModel) (next : Next (Unit {0})) → w
 unmade-past root unmake Go = refl
 unmade-past root unmake (Done done) = refl
 
-future-past : (root : ℕ) (due : Due) (future : Option ℕ) → work_is_past (future_or_idle root due future) ≡ true
-future-past root due None = refl
-future-past root due (Some future) = refl
+future-past : (root : ℕ) (due : Due) (future : Option ℕ) → future ≢ None → work_is_past (future_or_idle root due future) ≡ true
+future-past root due None some = absurd (some refl)
+future-past root due (Some future) some = refl
 
 root-past : (g : Geometry) (rehash : Rehash) (number : ℕ) → work_is_past (bucket_of_root g rehash number) ≡ true
 root-past g rehash number =
@@ -243,39 +313,41 @@ retiring-past rehash (Some next) = refl
 
 ended-past : (mix : ℕ → ℕ → ℕ → ℕ) (env : Env) (outcome : Outcome) (old : ℕ) → outcome_is_past outcome ≡ true
     → WorkPast (after_at mix env (at.LettingGo outcome) old)
-ended-past mix env Idle old past = refl
+ended-past mix env Idle old past = absurd (cc)
 ended-past mix env (NoTable size) old past = absurd (cc)
 ended-past mix env (Moved again) old past = refl
 
+-- where a table was due the future of the current one is found
 pub work-past : (mix : ℕ → ℕ → ℕ → ℕ) (env : Env) (state : WorkAt) (old : ℕ) → work_is_past state ≡ true
+    → ((root : ℕ) (due : Due) → state ≡ at.RootFuture root due → due_is_past due ≡ true → slot_of old ≢ None)
     → WorkPast (after_at mix env state old)
-work-past mix env at.WorkLock old past = absurd (cc)
-work-past mix env at.CurrentTable old past = absurd (cc)
-work-past mix env (at.LastTable root seek) old past = absurd (cc)
-work-past mix env (at.Count root last) old past = absurd (cc)
-work-past mix env (at.Making wanted make) old past = absurd (cc)
-work-past mix env (at.Attaching root last slot shape) old past =
+work-past mix env at.WorkLock old past some = absurd (cc)
+work-past mix env at.CurrentTable old past some = absurd (cc)
+work-past mix env (at.LastTable root seek) old past some = absurd (cc)
+work-past mix env (at.Count root last) old past some = absurd (cc)
+work-past mix env (at.Making wanted make) old past some = absurd (cc)
+work-past mix env (at.Attaching root last slot shape) old past some =
     cond_both (old == 0) (at.RootFuture root dues.Attached) (at.Unmaking root (unmake_new env.geometry slot shape))
     (λ state. work_is_past state ≡ true) (λ t. refl) (λ f. refl)
-work-past mix env (at.Unmaking root unmake) old past = unmade-past root (unmake_after unmake old).0 (unmake_after unmake old).1
-work-past mix env (at.RootFuture root due) old past = future-past root due (slot_of old)
-work-past mix env (at.RootShape root future again) old past =
+work-past mix env (at.Unmaking root unmake) old past some = unmade-past root (unmake_after unmake old).0 (unmake_after unmake old).1
+work-past mix env (at.RootFuture root due) old past some = future-past root due (slot_of old) (some root due refl past)
+work-past mix env (at.RootShape root future again) old past some =
     root-past env.geometry (record { root = root; future = future; shape = old; again = again }) 0
-work-past mix env (at.Entry rehash number place) old past =
+work-past mix env (at.Entry rehash number place) old past some =
     passed-past env.geometry rehash number (place_after place old).0 (place_after place old).1
-work-past mix env (at.Locking rehash number lock) old past =
+work-past mix env (at.Locking rehash number lock) old past some =
     locked-past env.geometry rehash number (lock_after lock old).0 (lock_after lock old).1
-work-past mix env (at.EntryTable emptying seek) old past =
+work-past mix env (at.EntryTable emptying seek) old past some =
     entry_table-past emptying (last_table_after seek old).0 (last_table_after seek old).1
-work-past mix env (at.BucketWord emptying target) old past =
+work-past mix env (at.BucketWord emptying target) old past some =
     entry-past env.geometry (with_word emptying (unlocked old)) target
     (node_of env.geometry.nodes (head_of emptying.bucket.place (unlocked old)))
-work-past mix env (at.Walking emptying target walk) old past =
+work-past mix env (at.Walking emptying target walk) old past some =
     walked-past emptying target (last_entry_after walk old).0 (last_entry_after walk old).1
-work-past mix env (at.LockingSecond emptying entry table lock) old past =
+work-past mix env (at.LockingSecond emptying entry table lock) old past some =
     second_locked-past emptying entry table (lock_after lock old).0 (lock_after lock old).1
-work-past mix env (at.CuttingOff emptying entry) old past = cut-past env.geometry emptying entry.before
-work-past mix env (at.Unlocking rehash number unlock stop) old past = unlocked-past env.geometry rehash number stop
-work-past mix env (at.NewFuture rehash) old past = retiring-past rehash (slot_of old)
-work-past mix env (at.LettingGo outcome) old past = ended-past mix env outcome old past
-work-past mix env _ old past = refl
+work-past mix env (at.CuttingOff emptying entry) old past some = cut-past env.geometry emptying entry.before
+work-past mix env (at.Unlocking rehash number unlock stop) old past some = unlocked-past env.geometry rehash number stop
+work-past mix env (at.NewFuture rehash) old past some = retiring-past rehash (slot_of old)
+work-past mix env (at.LettingGo outcome) old past some = ended-past mix env outcome old past
+work-past mix env _ old past some = refl

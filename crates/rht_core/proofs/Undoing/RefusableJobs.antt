@@ -1,7 +1,7 @@
--- What a job holds and does that may still be refused: it has raised no count and moves nothing, it has a node where it has a lock, its
--- pages are its own, the one exchange of a future is that of a bind which attaches the table that it has made, and a page that it
--- enters is none of its own any more.
-use Rattle.std.proofs.Common.{◌≡◌, ◌≢◌, ℕ, ◌+◌, ◌<◌, Bool, false, List, Option, Some, None, refl, sym, ◌∙◌, subst, arith}
+-- What a job holds and does that may still be refused, or that ends without a change: it has raised no count and moves nothing. Where it
+-- takes nodes or makes tables it has a node where it has a lock, and else it holds a lock at most. Its pages are its own, the one exchange
+-- of a future is that of a bind which attaches the table that it has made, and a page that it enters is none of its own any more.
+use Rattle.std.proofs.Common.{◌≡◌, ◌≢◌, ℕ, ◌+◌, ◌<◌, Bool, false, List, [], Option, Some, None, refl, sym, ◌∙◌, subst, arith}
 use Rattle.rht_words.specs.declared.env.Env.{Env}
 use Rattle.rht_words.specs.declared.geometry.Geometry.{Geometry}
 use Rattle.rht_words.specs.declared.op.Op.TheVariants.{Exchange}
@@ -28,12 +28,21 @@ use Rattle.rht_nest.specs.declared.grow.GrowAt.TheVariants as grows
 use Rattle.rht_nest.specs.Unmake.{unmake_plan_at}
 use Rattle.rht_nest.specs.declared.unmake.UnmakeAt.{UnmakeAt}
 use Rattle.rht_nest.specs.declared.unmake.UnmakeAt.TheVariants as unmakes
+use Rattle.rht_find.specs.FindHeld.{held_of_find}
+use Rattle.rht_find.specs.declared.find.FindAt.{FindAt}
+use Rattle.rht_find.specs.declared.find.FindAt.TheVariants as finding
 use Rattle.rht_bind.specs.Bind.{behind_page, grown}
 use Rattle.rht_bind.specs.Growing.{has_attached, ended_attempt, behind_attempt}
 use Rattle.rht_bind.specs.declared.bind.Attempt.{Attempt}
 use Rattle.rht_bind.specs.BindHeld.{held_of_bind}
 use Rattle.rht_bind.specs.declared.bind.BindAt.{BindAt}
 use Rattle.rht_bind.specs.declared.bind.BindAt.TheVariants as binding
+use Rattle.rht_release.specs.AllHeld.{held_of_all}
+use Rattle.rht_release.specs.declared.all.AllAt.{AllAt}
+use Rattle.rht_release.specs.declared.all.AllAt.TheVariants as listing
+use Rattle.rht_release.specs.ReleaseHeld.{held_of_release}
+use Rattle.rht_release.specs.declared.release.ReleaseAt.{ReleaseAt}
+use Rattle.rht_release.specs.declared.release.ReleaseAt.TheVariants as releasing
 use Rattle.rht_release.specs.RebindHeld.{held_of_rebind}
 use Rattle.rht_release.specs.declared.rebind.RebindAt.{RebindAt}
 use Rattle.rht_release.specs.declared.rebind.RebindAt.TheVariants as rebinding
@@ -41,7 +50,8 @@ use Rattle.rht_move.specs.WorkHeld.{held_of_work}
 use Rattle.rht_move.specs.LastTable.{LastTableModel}
 use Rattle.rht_move.specs.declared.last_table.Last.{Last}
 use Rattle.rht_move.specs.declared.work.Wanted.{Wanted}
-use Rattle.rht_move.specs.declared.work.Outcome.TheVariants.{NoTable}
+use Rattle.rht_move.specs.declared.work.Outcome.TheVariants.{NoTable, Idle}
+use Rattle.rht_move.specs.declared.work.Due.TheVariants.{Nothing}
 use Rattle.rht_move.specs.declared.work.WorkAt.{WorkAt}
 use Rattle.rht_move.specs.declared.work.WorkAt.TheVariants as working
 use Rattle.rht_core.specs.Jobs.{Job, finds, binds, lists, releases, rebinds, works, counts, call_of, job_plan, job_after, held_of, held_next}
@@ -55,7 +65,7 @@ use Rattle.rht_words.proofs.FilteredLists.{range_with_len-from}
 use Rattle.rht_core.proofs.Machines.JobSteps.{JobKnows}
 use Rattle.rht_core.proofs.Reasons.AttachedTables.{make-none, unmake-none}
 use Rattle.rht_core.proofs.Undoing.GoingBack.{MayAttachWith}
-use Rattle.rht_core.proofs.Undoing.PastRefusal.{bind_is_past, rebind_is_past, work_is_past, is_past}
+use Rattle.rht_core.proofs.Undoing.PastRefusal.{bind_is_past, release_is_past, rebind_is_past, work_is_past, is_past}
 use Rattle.rht_core.proofs.Undoing.StoredShapes.{HasStored}
 
 -- ---- what it holds
@@ -63,19 +73,23 @@ use Rattle.rht_core.proofs.Undoing.StoredShapes.{HasStored}
 pub record IsRefusable (h : Holding) : Type 0 where
   pub low : h.raised ≡ false
   pub still : h.moving ≡ false
+
+-- a bind, a rebind and a resizing have a node where they have a lock
+pub record LocksWithNode (h : Holding) : Type 0 where
+  pub refusable : IsRefusable h
   pub locked_has : h.lock ≢ None → h.node ≢ None
 
-has_node : {h : Holding} → h.raised ≡ false → h.moving ≡ false → (node : ℕ) → h.node ≡ Some node → IsRefusable h
+has_node : {h : Holding} → h.raised ≡ false → h.moving ≡ false → (node : ℕ) → h.node ≡ Some node → LocksWithNode h
 has_node low still node is = record {
-  low = low;
-  still = still;
+  refusable = record { low = low; still = still };
   locked_has = λ locked none. let both_ways = sym is ∙ none in cc;
 }
 
-has_no_lock : {h : Holding} → h.raised ≡ false → h.moving ≡ false → h.lock ≡ None → IsRefusable h
-has_no_lock low still none = record { low = low; still = still; locked_has = λ locked. absurd (locked none) }
+has_no_lock : {h : Holding} → h.raised ≡ false → h.moving ≡ false → h.lock ≡ None → LocksWithNode h
+has_no_lock low still none =
+    record { refusable = record { low = low; still = still }; locked_has = λ locked. absurd (locked none) }
 
-bind-refusable : (state : BindAt) → bind_is_past state ≡ false → IsRefusable (held_of_bind state)
+pub bind-refusable : (state : BindAt) → bind_is_past state ≡ false → LocksWithNode (held_of_bind state)
 bind-refusable (binding.Replacing list relink) may = absurd (cc)
 bind-refusable (binding.Publish node table relink kick) may = absurd (cc)
 bind-refusable (binding.Probing attempt table shape probe) may = has_node refl refl attempt.node refl
@@ -91,7 +105,7 @@ bind-refusable (binding.Unlocking attempt table unlock next) may = has_node refl
 bind-refusable (binding.UnlockingFull growing unlock) may = has_node refl refl growing.attempt.node refl
 bind-refusable _ may = has_no_lock refl refl refl
 
-rebind-refusable : (state : RebindAt) → rebind_is_past state ≡ false → IsRefusable (held_of_rebind state)
+pub rebind-refusable : (state : RebindAt) → rebind_is_past state ≡ false → LocksWithNode (held_of_rebind state)
 rebind-refusable (rebinding.Replacing node found relink) may = absurd (cc)
 rebind-refusable (rebinding.Filling new) may = has_no_lock refl refl refl
 rebind-refusable (rebinding.Seeking node seek) may = has_node refl refl node refl
@@ -101,14 +115,17 @@ rebind-refusable (rebinding.Link node found link) may = has_node refl refl node 
 rebind-refusable (rebinding.Unlocking node table unlock) may = has_node refl refl node refl
 rebind-refusable (rebinding.Giving give) may = has_no_lock refl refl refl
 
--- a resizing that may still be refused looks for the last table, makes one, or ends for want of one
+-- a resizing that may still be refused, or has nothing to do, looks for the last table, makes one, or ends for want of one; or it finds that
+-- none was due, and looks for a future of the current one
 pub data IsEarlyWork : WorkAt → Type 0 where
   at_lock : IsEarlyWork working.WorkLock
   at_current : IsEarlyWork working.CurrentTable
   at_last : (root : ℕ) (seek : LastTableModel) → IsEarlyWork (working.LastTable root seek)
   at_count : (root : ℕ) (last : Last) → IsEarlyWork (working.Count root last)
   at_making : (wanted : Wanted) (make : MakeModel) → IsEarlyWork (working.Making wanted make)
+  at_future : (root : ℕ) → IsEarlyWork (working.RootFuture root Nothing)
   at_end : (size : ℕ) → IsEarlyWork (working.LettingGo (NoTable size))
+  at_idle : IsEarlyWork (working.LettingGo Idle)
 
 pub early_work : (state : WorkAt) → work_is_past state ≡ false → IsEarlyWork state
 early_work working.WorkLock may = at_lock
@@ -116,18 +133,60 @@ early_work working.CurrentTable may = at_current
 early_work (working.LastTable root seek) may = at_last root seek
 early_work (working.Count root last) may = at_count root last
 early_work (working.Making wanted make) may = at_making wanted make
+early_work (working.RootFuture root Nothing) may = at_future root
 early_work (working.LettingGo (NoTable size)) may = at_end size
+early_work (working.LettingGo Idle) may = at_idle
 early_work _ may = absurd (cc)
 
-work-refusable : (state : WorkAt) → IsEarlyWork state → IsRefusable (held_of_work state)
+pub work-refusable : (state : WorkAt) → IsEarlyWork state → LocksWithNode (held_of_work state)
 work-refusable state at_lock = has_no_lock refl refl refl
 work-refusable state _ = has_no_lock refl refl refl
 
+-- the jobs that take no node and make no table
+abbrev TakesNothing : Job → Type 0
+TakesNothing (finds port state) = Unit {0}
+TakesNothing (binds port owner once state) = ⊥
+TakesNothing (lists port room state) = Unit {0}
+TakesNothing (releases port owner state) = Unit {0}
+TakesNothing (rebinds port owner new state) = ⊥
+TakesNothing (works state) = ⊥
+TakesNothing counts = Unit {0}
+
+-- such a one may hold a lock, and nothing else
+record HoldsLockAlone (h : Holding) : Type 0 where
+  refusable : IsRefusable h
+  slot : h.slot ≡ None
+  pages : h.pages ≡ []
+
+lock_alone : {h : Holding} → h.raised ≡ false → h.moving ≡ false → h.slot ≡ None → h.pages ≡ [] → HoldsLockAlone h
+lock_alone low still slot pages = record { refusable = record { low = low; still = still }; slot = slot; pages = pages }
+
+find-alone : (state : FindAt) → HoldsLockAlone (held_of_find state)
+find-alone finding.CurrentTable = lock_alone refl refl refl refl
+find-alone _ = lock_alone refl refl refl refl
+
+all-alone : (owners : List ℕ) (state : AllAt) → HoldsLockAlone (held_of_all owners state)
+all-alone owners (listing.Seeking seek) = lock_alone refl refl refl refl
+all-alone owners _ = lock_alone refl refl refl refl
+
+release-alone : (state : ReleaseAt) → release_is_past state ≡ false → HoldsLockAlone (held_of_release state)
+release-alone (releasing.Promoting found relink) may = absurd (cc)
+release-alone (releasing.Unlinking found relink) may = absurd (cc)
+release-alone (releasing.Lowering node shape) may = absurd (cc)
+release-alone _ may = lock_alone refl refl refl refl
+
+alone : (job : Job) → TakesNothing job → is_past job ≡ false → HoldsLockAlone (held_of job)
+alone (finds port state) takes may = find-alone state
+alone (lists port room state) takes may = all-alone room.items state
+alone (releases port owner state) takes may = release-alone state may
+alone counts takes may = lock_alone refl refl refl refl
+alone _ takes may = absurd takes
+
 pub refusable : (job : Job) → is_past job ≡ false → IsRefusable (held_of job)
-refusable (binds port owner once state) may = bind-refusable state may
-refusable (rebinds port owner new state) may = rebind-refusable state may
-refusable (works state) may = work-refusable state (early_work state may)
-refusable _ may = absurd (cc)
+refusable (binds port owner once state) may = (bind-refusable state may).refusable
+refusable (rebinds port owner new state) may = (rebind-refusable state may).refusable
+refusable (works state) may = (work-refusable state (early_work state may)).refusable
+refusable job may = (alone job tt may).refusable
 
 -- what it has stored for a table that it makes
 abbrev pub JobStored : Env → Job → List Did → Type 0
@@ -195,7 +254,7 @@ module _ (env : Env) (mix : ℕ → ℕ → ℕ → ℕ) (c : ℕ) (M : Memory) 
   mine (binds port owner once state) may knows page i = bind-mine port owner once state may knows page i
   mine (rebinds port owner new state) may knows page i = rebind-mine state may page i
   mine (works state) may knows page i = work-mine state (early_work state may) knows page i
-  mine _ may knows page i = absurd (cc)
+  mine job may knows page i = absurd (subst (In page) (alone job tt may).pages i)
 
   -- ---- which exchange of a future it makes
 
@@ -240,7 +299,7 @@ module _ (env : Env) (mix : ℕ → ℕ → ℕ → ℕ) (c : ℕ) (M : Memory) 
     attaches (binds port owner once state) may knows stored is has = bind-attaches port owner once state may knows stored is has
     attaches (rebinds port owner new state) may knows stored is has = absurd (rebind-slot state may has)
     attaches (works state) may knows stored is has = absurd (work-attaches state (early_work state may) is has)
-    attaches _ may knows stored is has = absurd (cc)
+    attaches job may knows stored is has = absurd (let none = sym (alone job tt may).slot ∙ has in cc)
 
   -- ---- which page it enters
 
@@ -275,7 +334,7 @@ module _ (env : Env) (mix : ℕ → ℕ → ℕ → ℕ) (c : ℕ) (M : Memory) 
     enters (binds port owner once state) may is i = tt
     enters (rebinds port owner new state) may is i = absurd (rebind-enters state may i)
     enters (works state) may is i = absurd (work-enters state (early_work state may) is i)
-    enters _ may is i = absurd (cc)
+    enters job may is i = absurd (subst (In page) (alone job tt may).pages i)
 
     -- ---- which is no page of its own any more
 
@@ -328,4 +387,4 @@ module _ (env : Env) (mix : ℕ → ℕ → ℕ → ℕ) (c : ℕ) (M : Memory) 
     gone (binds port owner once state) may is had i = bind-gone port owner once state may is had i
     gone (rebinds port owner new state) may is had i = rebind-enters state may had
     gone (works state) may is had i = work-enters state (early_work state may) is had
-    gone _ may is had i = absurd (cc)
+    gone job may is had i = subst (In page) (alone job tt may).pages had

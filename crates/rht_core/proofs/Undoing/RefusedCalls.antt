@@ -1,9 +1,10 @@
--- In every run a call that was refused, or found its port bound, or found no owner to replace, has undone what it did.
+-- In every run a call has undone what it did that was refused, or found its port bound, or found no owner to replace or to release. And so
+-- has one that only looked, or had nothing to do.
 --
--- While a call may still be refused its operations have changed nothing that the words stand for, and the bits that they turned an odd
+-- While a call may still end so its operations have changed nothing that the words stand for, and the bits that they turned an odd
 -- number of times are those of what it holds, but for those that may be left. An operation that changes bindings tells an answer that
--- says so, and behind that the call isn't refused. Once it has ended it holds nothing.
-use Rattle.std.proofs.Common.{◌≡◌, ◌⊎◌, ℕ, suc, ◌+◌, ◌%◌, ◌<◌, Bool, true, false, List, [], ◌∷◌, ◌++◌, take, refl, sym, ap, ◌∙◌, subst, inl, inr, arith}
+-- says so, and behind that the call doesn't end so. Once it has ended it holds nothing.
+use Rattle.std.proofs.Common.{◌≡◌, ◌≢◌, ◌⊎◌, ℕ, suc, ◌+◌, ◌%◌, ◌<◌, Bool, true, false, List, [], ◌∷◌, ◌++◌, take, refl, sym, ap, ◌∙◌, subst, inl, inr, arith}
 use Rattle.std.specs.Prelude.{Option, Some, None}
 use Rattle.std.specs.List.{AllByRecursion}
 use Rattle.rht_words.specs.declared.env.Env.{Env}
@@ -13,46 +14,55 @@ use Rattle.rht_words.specs.declared.geometry.Geometry.{Geometry}
 use Rattle.rht_words.specs.declared.machine.Next.{Next}
 use Rattle.rht_words.specs.declared.machine.Next.TheVariants.{Go, Done}
 use Rattle.rht_words.specs.Members.{In}
-use Rattle.rht_words.specs.Operations.{applied}
+use Rattle.rht_words.specs.Links.{slot_of}
+use Rattle.rht_words.specs.Operations.{old_of, applied}
+use Rattle.rht_words.specs.Places.{Slot, FutureWord}
 use Rattle.rht_words.proofs.EachElement.{AllByRecursion-push}
 use Rattle.rht_model.specs.declared.history.Call.{Call}
-use Rattle.rht_model.specs.declared.history.Call.TheVariants.{Bind, Find, All, Release, Rebind, Walk, Work, Tidy, Count}
+use Rattle.rht_model.specs.declared.history.Call.TheVariants.{Bind, Find, All, Release, Rebind, Work, Count}
 use Rattle.rht_model.specs.declared.history.Reply.{Reply}
 use Rattle.rht_model.specs.declared.history.Reply.TheVariants as replies
 use Rattle.rht_model.specs.Answers.{Answer, is_change}
-use Rattle.rht_model.specs.Endings.{Ending, plain_ending, ending_in}
+use Rattle.rht_model.specs.Endings.{Ending, plain_ending}
 use Rattle.rht_model.specs.Multimap.{Multimap, Agree}
 use Rattle.rht_model.proofs.UnchangedBindings.{left_by-unchanged}
+use Rattle.rht_find.specs.Find as find_at
 use Rattle.rht_bind.specs.Bind as bind_at
+use Rattle.rht_release.specs.All as all_at
+use Rattle.rht_release.specs.Release as release_at
 use Rattle.rht_release.specs.Rebind as rebind_at
 use Rattle.rht_move.specs.Work as work_at
+use Rattle.rht_move.specs.declared.work.Due.{Due}
+use Rattle.rht_move.specs.declared.work.Due.TheVariants as dues
 use Rattle.rht_move.specs.declared.work.WorkAt.TheVariants as works_at
 use Rattle.rht_core.specs.declared.event.Event.{Event}
 use Rattle.rht_core.specs.declared.event.Event.TheVariants.{Step as Steps}
-use Rattle.rht_core.specs.Jobs.{Job, binds, rebinds, works, call_of, first_rebind, first_job, job_plan, job_after, job_next, node_ending, held_of, held_next}
+use Rattle.rht_core.specs.Jobs.{Job, finds, binds, lists, releases, rebinds, works, counts, listing_ending, call_of, first_rebind, first_job, job_plan, job_after, job_next, node_ending, held_of, held_next}
 use Rattle.rht_core.specs.Runs.{World, run_of}
 use Rattle.rht_core.specs.Traces.{Did, Past, traced_of}
 use Rattle.rht_core.specs.Seen.{words_before}
 use Rattle.rht_stands.specs.StandsFor.{stands_for}
 use Rattle.rht_core.specs.RunHistories.{ChangesBindings}
-use Rattle.rht_core.specs.Replies.{IsReplyTo, IsFindReply, IsAllReply, IsReleaseReply, IsCountReply}
 use Rattle.rht_core.specs.Laws.{IsRecorded, IsPastCall}
 use Rattle.rht_core.specs.Refused.{changes_nothing, turns, IsExcepted, IsUndone, Refused}
 use Rattle.rht_ghost.proofs.Theory.Answering.{entry_of, same_reply, known_so, unknown_before, Says, ChangesBindings as ChangesThem}
+use Rattle.rht_ghost.proofs.Theory.Knowns.{Onward, Rooted}
+use Rattle.rht_ghost.proofs.Theory.Knowledge.{WorkMeans}
+use Rattle.rht_ghost.proofs.Pieces.WorkLoads.{has_future}
 use Rattle.rht_ghost.proofs.Theory.Steps.{Holding, mem, ghost_after, Does, SaysChange}
 use Rattle.rht_core.proofs.Meaning.BoundPorts.{stands_for_bound}
 use Rattle.rht_core.proofs.Events.Worlds.{run_of-next, step_words}
-use Rattle.rht_core.proofs.Events.JobsOfCallers.{same_call, each_goes}
+use Rattle.rht_core.proofs.Events.JobsOfCallers.{same_call}
 use Rattle.rht_core.proofs.Tracing.TracedJobs.{Performs, LeadsOn, IsEndedSo, jobs_keep_in}
 use Rattle.rht_core.proofs.Tracing.TracesAtEvents.{at_events}
-use Rattle.rht_core.proofs.Tracing.RepliesInRuns.{Holds, Answered, runs-right}
 use Rattle.rht_core.proofs.Undoing.TurnedBits.{held_bits}
 use Rattle.rht_core.proofs.Undoing.UndoneSoFar.{Undoes, GoneWhereEntered, Undoes-push}
 use Rattle.rht_core.proofs.Undoing.GoingBack.{GoesBack}
 use Rattle.rht_core.proofs.Undoing.UndoneMoves.{kept_by}
-use Rattle.rht_core.proofs.Undoing.PastRefusal.{is_past, StaysPast, bind-past, rebind-past, work-past}
+use Rattle.rht_core.proofs.Undoing.PastRefusal.{due_is_past, is_past, StaysPast, bind-past, release-past, rebind-past, work-past}
 use Rattle.rht_core.proofs.Undoing.StoredShapes.{bind-stored}
 use Rattle.rht_core.proofs.Undoing.RefusableJobs.{refusable, mine, JobStored, attaches, enters, gone}
+use Rattle.rht_core.proofs.Undoing.LockedJobs.{locked-leaves}
 
 -- ---- answers that say that bindings were changed
 
@@ -87,6 +97,24 @@ module _ (kind : Kind) (c : ℕ) (call : Call) (before after : Multimap) where
       (record { bound = λ kick l e. refl; released = λ kick l e. refl }) one other same is)
       early There before after (Some was) (Some now) says (λ answer none known. absurd (cc)) so
 
+-- ---- a resizing that knows of a future
+
+module _ (env : Env) (mix : ℕ → ℕ → ℕ → ℕ) where
+  -- the current table has one, so its word leads to a slot
+  onward_some : (root : ℕ) (due : Due) (did : Did) → (performs : Performs mix env (works (works_at.RootFuture root due)) did)
+      → WorkMeans env mix performs.caller (mem env mix performs.words) performs.ghost (Rooted root Onward) → slot_of did.old ≢ None
+  onward_some root due did performs knows none =
+      let found : did.old ≡ mem env mix performs.words (Slot root FutureWord) =
+      performs.found ∙ ap (old_of performs.words) performs.planned in
+      has_future env mix performs.caller (mem env mix performs.words) performs.ghost performs.whole root knows
+      (sym (ap slot_of found) ∙ none)
+
+  due_some : (root : ℕ) (due : Due) (did : Did) → Performs mix env (works (works_at.RootFuture root due)) did
+      → due_is_past due ≡ true → slot_of did.old ≢ None
+  due_some root dues.Nothing did performs past = absurd (cc)
+  due_some root dues.Attached did performs past = onward_some root dues.Attached did performs performs.knows.knowing.means.work
+  due_some root dues.Later did performs past = onward_some root dues.Later did performs performs.knows.knowing.means.work
+
 module _ (M : Type 0) (mix : ℕ → ℕ → ℕ → ℕ) (env : Env) (events : List Event) where
   abbrev g : Geometry
   g = env.geometry
@@ -117,44 +145,8 @@ module _ (M : Type 0) (mix : ℕ → ℕ → ℕ → ℕ) (env : Env) (events : 
   abbrev pub Undone : Call → Ending → List Did → Type 0
   Undone call ending steps = changes_nothing call ending.answer.reply ≡ true → HasUndone call steps
 
-  abbrev pub Ended : Call → Ending → List Did → Type 0
-  Ended (Find port) ending steps = Unit {0}
-  Ended (All port) ending steps = Unit {0}
-  Ended (Release port owner) ending steps = Unit {0}
-  Ended Count ending steps = Unit {0}
-  Ended (Bind port owner once) ending steps = Undone (Bind port owner once) ending steps
-  Ended (Rebind port owner new) ending steps = Undone (Rebind port owner new) ending steps
-  Ended (Walk from limit) ending steps = Undone (Walk from limit) ending steps
-  Ended Work ending steps = Undone Work ending steps
-  Ended Tidy ending steps = Undone Tidy ending steps
-
-  -- the calls that a machine may refuse
-  abbrev may_be_refused : Call → Bool
-  may_be_refused (Bind port owner once) = true
-  may_be_refused (Find port) = false
-  may_be_refused (All port) = false
-  may_be_refused (Release port owner) = false
-  may_be_refused (Rebind port owner new) = true
-  may_be_refused (Walk from limit) = false
-  may_be_refused Work = true
-  may_be_refused Tidy = false
-  may_be_refused Count = false
-
-  always_past : (job : Job) → may_be_refused (call_of job) ≡ false → is_past job ≡ true
-  always_past (binds port owner once state) may = absurd (cc)
-  always_past (rebinds port owner new state) may = absurd (cc)
-  always_past (works state) may = absurd (cc)
-  always_past _ may = refl
-
-  ended-so : (call : Call) (ending : Ending) (steps : List Did) → Undone call ending steps → Ended call ending steps
-  ended-so (Find port) ending steps undone = tt
-  ended-so (All port) ending steps undone = tt
-  ended-so (Release port owner) ending steps undone = tt
-  ended-so Count ending steps undone = tt
-  ended-so _ ending steps undone = undone
-
   abbrev Leads : Job → List Did → Job × Next Ending → Type 0
-  Leads job all next = LeadsOn M mix env Going Ended job all next
+  Leads job all next = LeadsOn M mix env Going Undone job all next
 
   -- ---- behind a refusal's last chance
 
@@ -168,28 +160,31 @@ module _ (M : Type 0) (mix : ℕ → ℕ → ℕ → ℕ) (env : Env) (events : 
         → Leads start all (job_next job ending r)
     said-leads start job ending (state, Go) past = inl past
     said-leads start job ending (state, Done end) past =
-        ended-so (call_of start) (ending end) all (λ nothing. absurd (both_say (call_of start) (ending end).answer.reply past nothing))
+        λ nothing. absurd (both_say (call_of start) (ending end).answer.reply past nothing)
 
-    past-leads : (job : Job) (old : ℕ) → is_past job ≡ true → Leads job all (job_after mix env job old)
-    past-leads (binds port owner once state) old past =
-        said-leads (binds port owner once state) (binds port owner once) plain_ending (bind_at.after_at mix env port once state old)
-        (bind-past port owner once mix env state old past)
-    past-leads (rebinds port owner new state) old past =
+    past-leads : (job : Job) (did : Did) → Performs mix env job did → is_past job ≡ true
+        → Leads job all (job_after mix env job did.old)
+    past-leads (binds port owner once state) did performs past =
+        said-leads (binds port owner once state) (binds port owner once) plain_ending
+        (bind_at.after_at mix env port once state did.old) (bind-past port owner once mix env state did.old past)
+    past-leads (releases port owner state) did performs past =
+        said-leads (releases port owner state) (releases port owner) node_ending
+        (release_at.after_at mix env port owner state did.old) (release-past port owner mix env state did.old past)
+    past-leads (rebinds port owner new state) did performs past =
         said-leads (rebinds port owner new state) (rebinds port owner new) node_ending
-        (rebind_at.after_at mix env port owner state old) (rebind-past port owner new mix env state old past)
-    past-leads (works state) old past =
-        said-leads (works state) works plain_ending (work_at.after_at mix env state old) (work-past mix env state old past)
-    past-leads job old past =
-        each_goes (λ after. Going after all) (λ ending. Ended (call_of job) ending all) (call_of job) (job_after mix env job old)
-        (same_call mix env job old) (λ other same. inl (always_past other (ap may_be_refused same))) (λ ending. tt)
+        (rebind_at.after_at mix env port owner state did.old) (rebind-past port owner new mix env state did.old past)
+    past-leads (works state) did performs past =
+        said-leads (works state) works plain_ending (work_at.after_at mix env state did.old)
+        (work-past mix env state did.old past
+        (λ root due is. due_some env mix root due did (subst (λ s. Performs mix env (works s) did) is performs)))
+    past-leads _ did performs past = absurd (cc)
 
     -- ---- behind an answer that says that bindings were changed
 
     change-leads : (job : Job) (next : Job × Next Ending) → SaysChange (held_next next).answer → Leads job all next
     change-leads job (after, Go) says = inr (inl says)
     change-leads job (after, Done ending) says =
-        ended-so (call_of job) ending all
-        (λ nothing. absurd (change-not_nothing (call_of job) ending.answer.reply says nothing))
+        λ nothing. absurd (change-not_nothing (call_of job) ending.answer.reply says nothing)
 
   -- ---- while it may be refused
 
@@ -212,7 +207,14 @@ module _ (M : Type 0) (mix : ℕ → ℕ → ℕ → ℕ) (env : Env) (events : 
       next-stored (steps ++ did ∷ []) (rebinds port owner new) node_ending (rebind_at.after_at mix env port owner state did.old) tt
   stored_then (works state) steps did may is stored =
       next-stored (steps ++ did ∷ []) works plain_ending (work_at.after_at mix env state did.old) tt
-  stored_then _ steps did may is stored = absurd (cc)
+  stored_then (finds port state) steps did may is stored =
+      next-stored (steps ++ did ∷ []) (finds port) plain_ending (find_at.after_at mix env port state did.old) tt
+  stored_then (lists port room state) steps did may is stored =
+      let after = all_at.room_after state room did.old in
+      next-stored (steps ++ did ∷ []) (lists port after) (listing_ending after) (all_at.after_at mix env port state did.old) tt
+  stored_then (releases port owner state) steps did may is stored =
+      next-stored (steps ++ did ∷ []) (releases port owner) node_ending (release_at.after_at mix env port owner state did.old) tt
+  stored_then counts steps did may is stored = tt
 
   -- a call that has ended holds nothing
   nothing_held : (n : ℕ) → (n + 0) % 2 ≡ 0 → n % 2 ≡ 0
@@ -253,7 +255,7 @@ module _ (M : Type 0) (mix : ℕ → ℕ → ℕ → ℕ) (env : Env) (events : 
       | inl says ↦ change-leads all job (after, Done ending) says
       | inr left ↦ elim (undoes refl refl) [
         | inl says ↦ change-leads all job (after, Done ending) says
-        | inr now ↦ ended-so (call_of job) ending all (λ nothing. record {
+        | inr now ↦ λ nothing. record {
           even = λ place bit low. elim (now.even place bit low) [
             | inl some ↦ elim some [
               | inl excepted ↦ inl excepted
@@ -265,7 +267,7 @@ module _ (M : Type 0) (mix : ℕ → ℕ → ℕ → ℕ) (env : Env) (events : 
             | inr even ↦ inr (nothing_held (turns place bit all) even)
           ];
           still = AllByRecursion-push LeavesBindings steps did kept.still left;
-        })
+        }
       ]
     ]
 
@@ -313,7 +315,7 @@ module _ (M : Type 0) (mix : ℕ → ℕ → ℕ → ℕ) (env : Env) (events : 
               low_then = low_then;
               still = holds.still;
               still_then = still_then;
-              locked_has = holds.locked_has;
+              locked_leaves = locked-leaves env mix did.op did.old job may performs.planned;
               mine = mine env mix performs.caller (mem env mix performs.words) performs.ghost job may performs.knows;
               attaches = λ last slot low exchanges has.
                   attaches env mix performs.caller (mem env mix performs.words) performs.ghost steps did last slot
@@ -340,7 +342,7 @@ module _ (M : Type 0) (mix : ℕ → ℕ → ℕ → ℕ) (env : Env) (events : 
   pub goes : (job : Job) (steps : List Did) (did : Did) (performs : Performs mix env job did)
       → performs.words ≡ words_before M mix env events did.index → Going job steps
       → Leads job (steps ++ did ∷ []) (job_after mix env job did.old)
-  goes job steps did performs here (inl past) = past-leads (steps ++ did ∷ []) job did.old past
+  goes job steps did performs here (inl past) = past-leads (steps ++ did ∷ []) job did performs past
   goes job steps did performs here (inr (inl says)) =
       change-leads (steps ++ did ∷ []) job (job_after mix env job did.old)
       (change_stays env.config.kind performs.caller (call_of job) _ _ _ _ (held_of job).answer
@@ -348,7 +350,7 @@ module _ (M : Type 0) (mix : ℕ → ℕ → ℕ → ℕ) (env : Env) (events : 
   goes job steps did performs here (inr (inr kept)) = by_case (is_past job) refl
     where
       by_case : (t : Bool) → is_past job ≡ t → Leads job (steps ++ did ∷ []) (job_after mix env job did.old)
-      by_case true past = past-leads (steps ++ did ∷ []) job did.old past
+      by_case true past = past-leads (steps ++ did ∷ []) job did performs past
       by_case false may = leads_on job steps did may kept performs here
 
   of_first : (first job : Job) → Some first ≡ Some job → Going first [] → Going job []
@@ -356,8 +358,8 @@ module _ (M : Type 0) (mix : ℕ → ℕ → ℕ → ℕ) (env : Env) (events : 
 
   -- at first nothing is held, and nothing was turned
   holds_none : (job : Job) → (held_of job).node ≡ None → (held_of job).slot ≡ None → (held_of job).pages ≡ []
-      → ((place bit : ℕ) → held_bits g (held_of job) place bit ≡ 0) → JobStored env job [] → MayBeRefused job []
-  holds_none job node slot pages none stored = record {
+      → ((place bit : ℕ) → held_bits g (held_of job) place bit ≡ 0) → JobStored env job [] → Going job []
+  holds_none job node slot pages none stored = inr (inr (record {
     undoes = record {
       even = λ place bit low. inr (ap (λ n. (0 + n) % 2) (none place bit));
       node_in = λ n is. absurd (let both = sym node ∙ is in cc);
@@ -367,55 +369,27 @@ module _ (M : Type 0) (mix : ℕ → ℕ → ℕ → ℕ) (env : Env) (events : 
     };
     still = tt;
     stored = stored;
-  }
+  }))
 
   begins-rebind : (port owner new : ℕ) (kind : Kind) (job : Job) → first_rebind env port owner new kind ≡ Some job → Going job []
   begins-rebind port owner new Single job is =
       of_first _ job is
-      (inr (inr (holds_none (rebinds port owner new (rebind_at.first_state env port new)) refl refl refl (λ place bit. refl) tt)))
+      (holds_none (rebinds port owner new (rebind_at.first_state env port new)) refl refl refl (λ place bit. refl) tt)
   begins-rebind port owner new Listed job is = absurd (cc)
 
   pub begins : (call : Call) (job : Job) → first_job env call ≡ Some job → Going job []
-  begins (Find port) job is = of_first _ job is (inl refl)
+  begins (Find port) job is = of_first _ job is (holds_none _ refl refl refl (λ place bit. refl) tt)
   begins (Bind port owner once) job is =
       of_first _ job is
-      (inr (inr (holds_none (binds port owner once (bind_at.first_state env port owner)) refl refl refl (λ place bit. refl) tt)))
-  begins (All port) job is = of_first _ job is (inl refl)
-  begins (Release port owner) job is = of_first _ job is (inl refl)
+      (holds_none (binds port owner once (bind_at.first_state env port owner)) refl refl refl (λ place bit. refl) tt)
+  begins (All port) job is = of_first _ job is (holds_none _ refl refl refl (λ place bit. refl) tt)
+  begins (Release port owner) job is = of_first _ job is (holds_none _ refl refl refl (λ place bit. refl) tt)
   begins (Rebind port owner new) job is = begins-rebind port owner new env.config.kind job is
-  begins Work job is = of_first _ job is (inr (inr (holds_none (works works_at.WorkLock) refl refl refl (λ place bit. refl) tt)))
-  begins Count job is = of_first _ job is (inl refl)
+  begins Work job is = of_first _ job is (holds_none _ refl refl refl (λ place bit. refl) tt)
+  begins Count job is = of_first _ job is (holds_none counts refl refl refl (λ place bit. refl) tt)
   begins _ job is = absurd (cc)
 
   -- ---- the law
-
-  -- replies of calls that are never refused
-  find-changes : (port : ℕ) (reply : Reply) → IsFindReply reply → changes_nothing (Find port) reply ≡ true → ⊥
-  find-changes port (replies.Found owner) right nothing = cc
-  find-changes port replies.Missing right nothing = cc
-  find-changes port _ right nothing = absurd right
-
-  all-changes : (port : ℕ) (reply : Reply) → IsAllReply reply → changes_nothing (All port) reply ≡ true → ⊥
-  all-changes port (replies.Listed len) right nothing = cc
-  all-changes port _ right nothing = absurd right
-
-  release-changes : (port owner : ℕ) (reply : Reply) → IsReleaseReply reply → changes_nothing (Release port owner) reply ≡ true → ⊥
-  release-changes port owner (replies.Released kick) right nothing = cc
-  release-changes port owner replies.Absent right nothing = cc
-  release-changes port owner _ right nothing = absurd right
-
-  count-changes : (reply : Reply) → IsCountReply reply → changes_nothing Count reply ≡ true → ⊥
-  count-changes (replies.Counted count) right nothing = cc
-  count-changes _ right nothing = absurd right
-
-  undone-by : (call : Call) (ending : Ending) (steps : List Did) → Ended call ending steps → IsReplyTo call ending.answer.reply
-      → changes_nothing call ending.answer.reply ≡ true → HasUndone call steps
-  undone-by (Find port) ending steps ended right nothing = absurd (find-changes port ending.answer.reply right nothing)
-  undone-by (All port) ending steps ended right nothing = absurd (all-changes port ending.answer.reply right nothing)
-  undone-by (Release port owner) ending steps ended right nothing =
-      absurd (release-changes port owner ending.answer.reply right nothing)
-  undone-by Count ending steps ended right nothing = absurd (count-changes ending.answer.reply right nothing)
-  undone-by _ ending steps ended right nothing = ended nothing
 
   module _ (c : ℕ) where
     -- behind an operation's event the words are as it left them
@@ -437,25 +411,24 @@ module _ (M : Type 0) (mix : ℕ → ℕ → ℕ → ℕ) (env : Env) (events : 
       still-there steps leaves_all.1 recorded.1,
     )
 
-    each : (calls : List Past) → AllByRecursion (IsEndedSo M mix env Going Ended) calls
-        → AllByRecursion (IsEndedSo M mix env (Holds M mix env) (Answered M mix env)) calls
+    each : (calls : List Past) → AllByRecursion (IsEndedSo M mix env Going Undone) calls
         → AllByRecursion (IsPastCall M mix env events c) calls
         → AllByRecursion (λ past. changes_nothing past.done.call past.done.reply ≡ true → IsUndone M mix env events past) calls
-    each [] ended right were = tt
-    each (past ∷ calls) ended right were = (
+    each [] ended were = tt
+    each (past ∷ calls) ended were = (
       λ nothing.
-          let undone = undone-by past.done.call (ending_in past.done) past.steps ended.0 right.0.reply nothing in
+          let undone = ended.0 nothing in
           record {
             bindings = still-there past.steps undone.still were.0.steps;
             even = λ place bit within low. undone.even place bit low;
           },
-      each calls ended.1 right.1 were.1,
+      each calls ended.1 were.1,
     )
 
 pub refused : (M : Type 0) (mix : ℕ → ℕ → ℕ → ℕ) → Refused M mix
 refused M mix env events c admitted =
     let keeping =
-    jobs_keep_in M mix env (Going M mix env events) (Ended M mix env events) events
+    jobs_keep_in M mix env (Going M mix env events) (Undone M mix env events) events
     (record { begins = begins M mix env events; goes = goes M mix env events }) c admitted in
     each M mix env events c ((traced_of {M = M} mix env events).traces c).past keeping.past
-    (runs-right M mix env events c admitted).past (at_events M mix env events admitted c).past
+    (at_events M mix env events admitted c).past

@@ -3,7 +3,7 @@
 use Rattle.std.proofs.Common.{◌⊎◌, ℕ, List, sym, ap, ◌∙◌, inl, inr}
 use Rattle.rht_words.specs.declared.env.Env.{Env}
 use Rattle.rht_model.specs.declared.history.Call.{Call}
-use Rattle.rht_ghost.proofs.Theory.Steps.{Holding, Move, Quiet, TakesNode, GivesNode, TakesLock, DropsLock, Raises, Links, Lowers, Rebinds, LinksBehind, Arms, TakesSlot, GivesSlot, TakesPages, GivesPages, TakesWork, GivesWork, BeginsMoving, mem, Does, ReadyFor, SaysChange}
+use Rattle.rht_ghost.proofs.Theory.Steps.{bare, Holding, LeavesBits, DoesLinkBehind, Move, Quiet, TakesNode, GivesNode, TakesLock, DropsLock, Raises, Links, Lowers, Rebinds, LinksBehind, Arms, TakesSlot, GivesSlot, TakesPages, GivesPages, TakesWork, GivesWork, BeginsMoving, mem, Does, ReadyFor, SaysChange}
 use Rattle.rht_ghost.proofs.Theory.Steps as moves
 use Rattle.rht_core.proofs.Undoing.GoingBack.{GoesBack, Kept}
 use Rattle.rht_core.proofs.Undoing.UndoneHoldings.{quiet, take_node, give_node, take_lock, drop_lock, take_work, give_work, take_slot, give_slot}
@@ -12,6 +12,15 @@ use Rattle.rht_core.proofs.Undoing.UndoneTables.{attach, enter}
 
 module _ {env : Env} {mix : ℕ → ℕ → ℕ → ℕ} {words_at : ℕ → List ℕ} {call : Call}
     (step : GoesBack env mix words_at call) where
+  -- a link behind a first node that is stored keeps the lock, so it leaves its word
+  behind_leaves : (n : ℕ)
+      → DoesLinkBehind env.geometry n step.did.op step.before (bare step.after)
+      → LeavesBits step.did.op step.did.old
+  behind_leaves n does = elim (step.may.locked_leaves does.locked does.none) [
+    | inl leaves ↦ leaves
+    | inr dropped ↦ absurd (does.locked (sym (ap (λ (x : Holding). x.lock) does.holds) ∙ dropped))
+  ]
+
   -- the operation changed bindings, by the answer, or it keeps what the call undoes
   pub kept_by : (move : Move) → ReadyFor env mix step.caller (mem env mix step.words) step.ghost move
       → Does env mix move step.did.op step.did.old step.before step.after
@@ -28,7 +37,8 @@ module _ {env : Env} {mix : ℕ → ℕ → ℕ → ℕ} {words_at : ℕ → Lis
   kept_by (Links n port j) ready does = absurd (let e = sym step.may.low ∙ does.raised in cc)
   kept_by Lowers ready does = absurd (let e = sym step.may.low ∙ does.high in cc)
   kept_by (Rebinds change) ready does = inl does.changes
-  kept_by (LinksBehind n) ready does = absurd (step.may.locked_has does.locked does.none)
+  kept_by (LinksBehind n) ready does =
+      inr (quiet step (record { holds = does.holds; leaves = inl (behind_leaves n does) }))
   kept_by (TakesSlot s) ready does = inr (take_slot step s does)
   kept_by (GivesSlot s) ready does = inr (give_slot step s ready does)
   kept_by (TakesPages index pages_bits) ready does = inr (take_pages step index pages_bits ready does)

@@ -1,8 +1,10 @@
--- Operations after which a refused call hasn't undone what it did, the fewest of each kind: a bind that never unlocks an empty bucket,
--- or enters a page that it never took, which is the same exchange; one that enters a page where none is missing; one that leaks a slot
--- which it had made a table in and given back before; and a resizing that leaves the work lock taken.
-use Rattle.std.proofs.Common.{◌≡◌, ◌⊎◌, ℕ, ◌+◌, ◌*◌, ◌/◌, ◌%◌, ◌<◌, true, List, [], ◌∷◌, ◌++◌, length, length-append, refl, sym, ap, ◌∙◌, subst, inl, inr, arith}
+-- Operations after which a call that changes nothing hasn't undone what it did, the fewest of each kind: a bind that never unlocks an empty
+-- bucket, or enters a page that it never took, which is the same exchange; one that enters a page where none is missing; one that leaks a
+-- slot which it had made a table in and given back before; a resizing that leaves the work lock taken; and a look-up that leaves its
+-- bucket locked.
+use Rattle.std.proofs.Common.{◌≡◌, ◌⊎◌, ℕ, ◌+◌, ◌*◌, ◌/◌, ◌%◌, ◌<◌, Bool, true, List, [], ◌∷◌, ◌++◌, length, length-append, refl, sym, ap, ◌∙◌, subst, inl, inr, arith}
 use Rattle.std.specs.List.{AllByRecursion, Any}
+use Rattle.rht_words.specs.declared.env.Env.{Env}
 use Rattle.rht_words.specs.declared.geometry.Geometry.{Geometry}
 use Rattle.rht_words.specs.declared.op.Op.{Op}
 use Rattle.rht_words.specs.declared.op.Op.TheVariants.{Store, Exchange, And}
@@ -10,10 +12,16 @@ use Rattle.rht_words.specs.Places.{NextSerial, WorkLock, Slot, SlotWord, FutureW
 use Rattle.rht_words.proofs.EachElement.{AllByRecursion-cut}
 use Rattle.rht_words.proofs.PlacesApart.{parts_in_order}
 use Rattle.rht_model.specs.declared.history.Call.{Call}
-use Rattle.rht_model.specs.declared.history.Call.TheVariants.{Bind, Work}
-use Rattle.rht_core.specs.Traces.{Did}
+use Rattle.rht_model.specs.declared.history.Call.TheVariants.{Bind, Find, Work}
+use Rattle.rht_model.specs.declared.history.Reply.{Reply}
+use Rattle.rht_model.specs.declared.history.Reply.TheVariants.{Found, Missing}
+use Rattle.rht_model.specs.Answers.{is_refusal}
+use Rattle.rht_model.specs.Endings.{plain_ending, ended_with}
+use Rattle.rht_core.specs.declared.event.Event.{Event}
+use Rattle.rht_core.specs.Traces.{Did, Past}
+use Rattle.rht_core.specs.Seen.{words_before}
 use Rattle.rht_core.specs.ResizeCauses.{Attaches}
-use Rattle.rht_core.specs.Refused.{turned, turns, IsTableWord, GivesBackNode, GivesBackSlot, AttachedWith, IsMissingEntry, EntersPage, EnteredWhenTaken, IsExcepted}
+use Rattle.rht_core.specs.Refused.{changes_nothing, turned, turns, IsTableWord, GivesBackNode, GivesBackSlot, AttachedWith, IsMissingEntry, EntersPage, EnteredWhenTaken, IsExcepted, IsUndone}
 use Rattle.rht_core.proofs.Histories.Behind.{Any-push_cases, Any-none}
 use Rattle.rht_core.proofs.Undoing.TurnedBits.{turned-here, turned-far}
 
@@ -109,21 +117,24 @@ module _ (g : Geometry) (words_at : ℕ → List ℕ) where
     gives_no_slot : (slot : ℕ) → GivesBackSlot g slot locks_it → ⊥
     gives_no_slot slot is = let gives = is.gives in absurd (cc)
 
-    pub never_unlocked : (port owner : ℕ) → Breaks g words_at (Bind port owner true) (locks_it ∷ []) bucket 0
-    never_unlocked port owner = record {
+    lock_kept : (call : Call) → Breaks g words_at call (locks_it ∷ []) bucket 0
+    lock_kept call = record {
       place_in = omega (arith, within);
       bit_in = omega arith;
       odd = ap (λ n. (n + 0) % 2) (turned-here bucket 0 locks_it refl);
       unexcepted = unexcepted;
     }
       where
-        unexcepted : IsExcepted g words_at (Bind port owner true) (locks_it ∷ []) bucket 0 → ⊥
+        unexcepted : IsExcepted g words_at call (locks_it ∷ []) bucket 0 → ⊥
         unexcepted (inl serial) = behind_serial serial
         unexcepted (inr (inl node)) = gives_no_node node.node (one_only (GivesBackNode g node.node) locks_it node.given)
         unexcepted (inr (inr (inl slot))) = gives_no_slot slot.slot (one_only (GivesBackSlot g slot.slot) locks_it slot.given)
         unexcepted (inr (inr (inr (may, inl it)))) =
             none_attached (locks_it ∷ []) (other_exchange bucket 1 0 behind_slots, tt) it.table it.slot it.shape it.attached
         unexcepted (inr (inr (inr (may, inr it)))) = never_taken locks_it it.entry it.page it.entered
+
+    pub never_unlocked : (port owner : ℕ) → Breaks g words_at (Bind port owner true) (locks_it ∷ []) bucket 0
+    never_unlocked port owner = lock_kept (Bind port owner true)
 
     -- ---- a bind that enters a page where none is missing, whatever it took before from the first word of the map
 
@@ -255,3 +266,53 @@ module _ (g : Geometry) (words_at : ℕ → List ℕ) where
           let there = node.there in absurd (omega (arith, there, order.page_map, order.nodes))
       unexcepted (inr (inr (inl slot))) = let there = slot.there in absurd (omega (arith, there))
       unexcepted (inr (inr (inr attached))) = attached.0
+
+-- ---- a look-up that leaves its bucket locked
+
+module _ (M : Type 0) (mix : ℕ → ℕ → ℕ → ℕ) (env : Env) (events : List Event) where
+  abbrev words_then : ℕ → List ℕ
+  words_then = words_before M mix env events
+
+  -- a call with operations that break it hasn't undone what it did
+  not_undone : (past : Past) (place bit : ℕ) → Breaks env.geometry words_then past.done.call past.steps place bit
+      → IsUndone M mix env events past → ⊥
+  not_undone past place bit breaks undone = elim (undone.even place bit breaks.place_in breaks.bit_in) [
+    | inl excepted ↦ breaks.unexcepted excepted
+    | inr even ↦ let odd = breaks.odd in absurd (omega (arith, odd, even))
+  ]
+
+  -- what the law says of a call, where it speaks of the calls that this picks out
+  abbrev Says : (Call → Reply → Bool) → Past → Type 0
+  Says speaks_of past = speaks_of past.done.call past.done.reply ≡ true → IsUndone M mix env events past
+
+  -- of refusals alone
+  abbrev is_refused : Call → Reply → Bool
+  is_refused call reply = is_refusal reply
+
+  module _ (port index : ℕ) (within : index < 64 * env.geometry.pages) where
+    -- the look-up locks an empty bucket, and ends
+    abbrev looked_up : Reply → Past
+    looked_up reply = record {
+      done = ended_with (Find port) (plain_ending reply);
+      begin = 0;
+      steps = locks_it env.geometry words_then index within ∷ [];
+    }
+
+    breaks_it : (reply : Reply) → IsUndone M mix env events (looked_up reply) → ⊥
+    breaks_it reply =
+        not_undone (looked_up reply) (bucket env.geometry words_then index within) 0
+        (lock_kept env.geometry words_then index within (Find port))
+
+    -- a law of refusals alone says nothing of it
+    pub found_passed : (owner : ℕ) → Says is_refused (looked_up (Found owner))
+    found_passed owner refused = absurd (cc)
+
+    pub missing_passed : Says is_refused (looked_up Missing)
+    missing_passed refused = absurd (cc)
+
+    -- the law refuses it
+    pub found_broken : (owner : ℕ) → Says changes_nothing (looked_up (Found owner)) → ⊥
+    found_broken owner says = breaks_it (Found owner) (says refl)
+
+    pub missing_broken : Says changes_nothing (looked_up Missing) → ⊥
+    missing_broken says = breaks_it Missing (says refl)
