@@ -194,7 +194,7 @@ module _ (M : Type 0) (mix : ℕ → ℕ → ℕ → ℕ) (env : Env) (events : 
 
   abbrev pub Gone : Call → Ending → List Did → Type 0
   Gone call ending steps =
-      refusals.Ended M mix env events call ending steps
+      refusals.Undone M mix env events call ending steps
       × ((place : ℕ) → IsLockPlace g place → HasEntered call steps place ⊎ (turns place 0 steps % 2 ≡ 0))
 
   -- ---- an operation
@@ -303,7 +303,7 @@ module _ (M : Type 0) (mix : ℕ → ℕ → ℕ → ℕ) (env : Env) (events : 
 
     by_next : (r : Job × Next Ending) → call_of r.0 ≡ call_of job → Turned (call_of job) (held_next r) all
         → ((node : ℕ) → (held_next r).node ≡ Some node → node < g.nodes)
-        → LeadsOn M mix env (refusals.Going M mix env events) (refusals.Ended M mix env events) job all r
+        → LeadsOn M mix env (refusals.Going M mix env events) (refusals.Undone M mix env events) job all r
         → LeadsOn M mix env Now Gone job all r
     by_next (after, Go) same turned node_in leads = (
       leads,
