@@ -78,8 +78,9 @@ fn each_reply_keeps_the_lists_beside_it(rt: HostRuntime) -> Result<(), Fail> {
 /// Compares the pairs with those that are wanted.
 fn assert_pairs(rt: &impl Abort, bindings: &Bindings, want: &[(u32, &[u32])]) {
     assert!(rt; bindings.len() == want.len() && bindings.is_empty() == want.is_empty());
-    for (i, (port, owners)) in want.iter().enumerate() {
-        assert_row(rt, i, bindings.port(i), *port);
+    for i in 0..want.len() {
+        let (port, owners) = want[i];
+        assert_row(rt, i, bindings.port(i), port);
         assert_list(rt, bindings.owners(i), owners);
     }
 }
@@ -372,16 +373,24 @@ const LISTED: [(&[Line], bool); 16] = [
     ),
 ];
 
+/// Asserts of each history of such a table whether it is legal.
+fn assert_legal(
+    rt: &impl Abort,
+    alloc: Global,
+    kind: Kind,
+    histories: &[(&[Line], bool)],
+) -> Result<(), AllocError> {
+    for i in 0..histories.len() {
+        let (lines, want) = histories[i];
+        assert_row(rt, (kind, i), legal(alloc, kind, lines)?, want);
+    }
+    Ok(())
+}
+
 #[test]
 fn legal_histories(rt: HostRuntime) -> Result<(), Fail> {
-    for (i, (lines, want)) in SINGLE.iter().enumerate() {
-        let legal = legal(rt.alloc(), Kind::Single, lines)?;
-        assert_row(&rt, (Kind::Single, i), legal, *want);
-    }
-    for (i, (lines, want)) in LISTED.iter().enumerate() {
-        let legal = legal(rt.alloc(), Kind::Listed, lines)?;
-        assert_row(&rt, (Kind::Listed, i), legal, *want);
-    }
+    assert_legal(&rt, rt.alloc(), Kind::Single, &SINGLE)?;
+    assert_legal(&rt, rt.alloc(), Kind::Listed, &LISTED)?;
     Ok(())
 }
 
