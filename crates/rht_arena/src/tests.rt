@@ -3,11 +3,104 @@
 //! place 281 on.
 
 use super::{GiveNode, GiveRun, NewNode, TakeNode, TakeRun, TakeRunAt};
-use rht_words::{Geometry, Next, Op, Start, assert_performs};
+use rht_words::{Geometry, Next, Op, Start};
+use std::fmt::Debug;
+use std::process::Abort;
 use std::test::Fail;
 
 /// All bits of a word.
 const ALL: u64 = 18_446_744_073_709_551_615;
+
+/// A machine, as a test drives it. With it one helper asserts for all machines, which is proved once.
+trait Machine {
+    type Answer;
+
+    fn plan(&self) -> Op;
+
+    fn take(&mut self, old: u64) -> Next<Self::Answer>;
+}
+
+impl Machine for TakeNode {
+    type Answer = Option<u32>;
+
+    fn plan(&self) -> Op {
+        self.plan()
+    }
+
+    fn take(&mut self, old: u64) -> Next<Option<u32>> {
+        self.take(old)
+    }
+}
+
+impl Machine for GiveNode {
+    type Answer = ();
+
+    fn plan(&self) -> Op {
+        self.plan()
+    }
+
+    fn take(&mut self, old: u64) -> Next<()> {
+        self.take(old)
+    }
+}
+
+impl Machine for NewNode {
+    type Answer = Option<u32>;
+
+    fn plan(&self) -> Op {
+        self.plan()
+    }
+
+    fn take(&mut self, old: u64) -> Next<Option<u32>> {
+        self.take(old)
+    }
+}
+
+impl Machine for TakeRun {
+    type Answer = Option<u32>;
+
+    fn plan(&self) -> Op {
+        self.plan()
+    }
+
+    fn take(&mut self, old: u64) -> Next<Option<u32>> {
+        self.take(old)
+    }
+}
+
+impl Machine for GiveRun {
+    type Answer = ();
+
+    fn plan(&self) -> Op {
+        self.plan()
+    }
+
+    fn take(&mut self, old: u64) -> Next<()> {
+        self.take(old)
+    }
+}
+
+/// Asserts that a machine performs these operations, which find these words, and that it is at its
+/// end, with this answer, behind the last one and not before.
+fn assert_performs<M>(rt: &impl Abort, machine: M, steps: &[(Op, u64)], answer: M::Answer)
+where
+    M: Machine + Drop,
+    M::Answer: Copy + Debug + PartialEq,
+{
+    let mut machine = machine;
+    let mut next = Next::Go;
+    for (op, old) in steps {
+        let as_said = next == Next::Go && machine.plan() == *op;
+        assert!(rt; as_said, "{op:?} is next, to {answer:?}");
+        next = machine.take(*old);
+    }
+    assert!(rt; next == Next::Done(answer), "{answer:?} behind {steps:?}");
+}
+
+/// Asserts that a value is this one.
+fn assert_same<T: Copy + Debug + PartialEq>(rt: &impl Abort, found: T, want: T) {
+    assert_eq!(rt; found, want);
+}
 
 #[test]
 fn nodes_are_taken_from_the_lowest_on(rt: HostRuntime) -> Result<(), Fail> {
@@ -65,7 +158,7 @@ fn nodes_are_taken_from_the_lowest_on(rt: HostRuntime) -> Result<(), Fail> {
     ];
     for (nodes, steps, want) in cases {
         let geometry = Geometry::new(nodes, 4, 1).ok_or("within limits")?;
-        assert_performs!(rt; TakeNode::new(geometry), steps => want);
+        assert_performs(&rt, TakeNode::new(geometry), steps, want);
     }
     Ok(())
 }
@@ -75,7 +168,7 @@ fn a_node_is_given_back_by_its_bit(rt: HostRuntime) -> Result<(), Fail> {
     let geometry = Geometry::new(65, 4, 1).ok_or("within limits")?;
     for (node, place, mask) in [(0, 280, 1), (5, 280, 32), (64, 281, 1)] {
         let steps = [(Op::or(place, mask), 0)];
-        assert_performs!(rt; GiveNode::new(geometry, node), &steps => ());
+        assert_performs(&rt, GiveNode::new(geometry, node), &steps, ());
     }
     Ok(())
 }
@@ -84,9 +177,13 @@ fn a_node_is_given_back_by_its_bit(rt: HostRuntime) -> Result<(), Fail> {
 fn a_step_by_value_is_the_step(rt: HostRuntime) -> Result<(), Fail> {
     let machine = TakeNode::new(Geometry::new(8, 4, 1).ok_or("within limits")?);
     let (claiming, next) = machine.after(255);
-    assert_eq!(rt; (claiming.plan(), next), (Op::and(280, ALL - 1), Next::Go));
+    assert_same(
+        &rt,
+        (claiming.plan(), next),
+        (Op::and(280, ALL - 1), Next::Go),
+    );
     let (_, next) = claiming.after(255);
-    assert_eq!(rt; next, Next::Done(Some(0)));
+    assert_same(&rt, next, Next::Done(Some(0)));
     Ok(())
 }
 
@@ -108,7 +205,7 @@ fn a_new_node_is_taken_and_filled(rt: HostRuntime) -> Result<(), Fail> {
         (&[(Op::load(280), 0)], None),
     ];
     for (steps, want) in cases {
-        assert_performs!(rt; NewNode::new(geometry, 5, 9), steps => want);
+        assert_performs(&rt, NewNode::new(geometry, 5, 9), steps, want);
     }
     Ok(())
 }
@@ -203,7 +300,7 @@ fn runs_are_taken_whole(rt: HostRuntime) -> Result<(), Fail> {
         let Start::Running(machine) = TakeRun::new(geometry, length) else {
             return Err("there is such a run".into());
         };
-        assert_performs!(rt; machine, steps => want);
+        assert_performs(&rt, machine, steps, want);
     }
     Ok(())
 }
@@ -217,7 +314,7 @@ fn one_page_is_a_run(rt: HostRuntime) -> Result<(), Fail> {
         (Op::load(281), 14),
         (Op::and(281, ALL - 2), 14),
     ];
-    assert_performs!(rt; TakeRun::of_one_page(geometry), &steps => Some(1));
+    assert_performs(&rt, TakeRun::of_one_page(geometry), &steps, Some(1));
     Ok(())
 }
 
@@ -271,7 +368,7 @@ fn runs_of_several_words_are_given_back_from_the_last_on(rt: HostRuntime) -> Res
         let Start::Running(machine) = TakeRun::new(geometry, 128) else {
             return Err("there is such a run".into());
         };
-        assert_performs!(rt; machine, steps => want);
+        assert_performs(&rt, machine, steps, want);
     }
     Ok(())
 }
@@ -279,16 +376,17 @@ fn runs_of_several_words_are_given_back_from_the_last_on(rt: HostRuntime) -> Res
 #[test]
 fn there_is_no_run_of_more_pages_than_there_are(rt: HostRuntime) -> Result<(), Fail> {
     let geometry = Geometry::new(8, 7, 1).ok_or("within limits")?;
-    assert_eq!(rt; TakeRun::new(geometry, 8), Start::Done(None));
-    assert_eq!(rt; TakeRun::new(geometry, u32::MAX), Start::Done(None));
+    assert_same(&rt, TakeRun::new(geometry, 8), Start::Done(None));
+    assert_same(&rt, TakeRun::new(geometry, u32::MAX), Start::Done(None));
     let Start::Running(machine) = TakeRun::new(geometry, 2) else {
         return Err("there is such a run".into());
     };
     // behind the run from page 4 on there is none of two pages
     let last = machine.with(TakeRunAt::MapWord { first: 4, index: 0 });
-    assert_eq!(rt;
+    assert_same(
+        &rt,
         (last.plan(), last.after(16).1),
-        (Op::load(281), Next::Done(None))
+        (Op::load(281), Next::Done(None)),
     );
     Ok(())
 }
@@ -304,7 +402,7 @@ fn runs_are_given_back_word_by_word(rt: HostRuntime) -> Result<(), Fail> {
         (128, 128, &[(Op::or(283, ALL), 0), (Op::or(284, ALL), 0)]),
     ];
     for (first, pages, steps) in cases {
-        assert_performs!(rt; GiveRun::new(geometry, first, pages), steps => ());
+        assert_performs(&rt, GiveRun::new(geometry, first, pages), steps, ());
     }
     Ok(())
 }

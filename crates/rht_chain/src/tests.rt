@@ -3,8 +3,101 @@
 //! word is at 314, the link to n is `2 * n + 2`, and the marker of 314 is 629.
 
 use super::{Lock, Locked, LockedWalk, Probe, Probed, Relink, Seen, Unlock, seen_in};
-use rht_words::{Geometry, Op, Start, assert_performs};
+use rht_words::{Geometry, Next, Op, Start};
+use std::fmt::Debug;
+use std::process::Abort;
 use std::test::Fail;
+
+/// A machine, as a test drives it. With it one helper asserts for all machines, which is proved once.
+trait Machine {
+    type Answer;
+
+    fn plan(&self) -> Op;
+
+    fn take(&mut self, old: u64) -> Next<Self::Answer>;
+}
+
+impl Machine for Lock {
+    type Answer = u64;
+
+    fn plan(&self) -> Op {
+        self.plan()
+    }
+
+    fn take(&mut self, old: u64) -> Next<u64> {
+        self.take(old)
+    }
+}
+
+impl Machine for LockedWalk {
+    type Answer = Seen;
+
+    fn plan(&self) -> Op {
+        self.plan()
+    }
+
+    fn take(&mut self, old: u64) -> Next<Seen> {
+        self.take(old)
+    }
+}
+
+impl Machine for Relink {
+    type Answer = ();
+
+    fn plan(&self) -> Op {
+        self.plan()
+    }
+
+    fn take(&mut self, old: u64) -> Next<()> {
+        self.take(old)
+    }
+}
+
+impl Machine for Unlock {
+    type Answer = ();
+
+    fn plan(&self) -> Op {
+        self.plan()
+    }
+
+    fn take(&mut self, old: u64) -> Next<()> {
+        self.take(old)
+    }
+}
+
+impl Machine for Probe {
+    type Answer = Probed;
+
+    fn plan(&self) -> Op {
+        self.plan()
+    }
+
+    fn take(&mut self, old: u64) -> Next<Probed> {
+        self.take(old)
+    }
+}
+
+/// Asserts that a machine performs these operations, which find these words, and that it is at its
+/// end, with this answer, behind the last one and not before.
+fn assert_performs<M>(rt: &impl Abort, machine: M, steps: &[(Op, u64)], answer: M::Answer)
+where
+    M: Machine + Drop,
+    M::Answer: Copy + Debug + PartialEq,
+{
+    let mut machine = machine;
+    let mut next = Next::Go;
+    for (op, old) in steps {
+        let as_said = next == Next::Go && machine.plan() == *op;
+        assert!(rt; as_said, "{op:?} is next, to {answer:?}");
+        next = machine.take(*old);
+    }
+    assert!(rt; next == Next::Done(answer), "{answer:?} behind {steps:?}");
+}
+
+/// Asserts that a value is this one.
+fn assert_same<T: Copy + Debug + PartialEq>(rt: &impl Abort, found: T, want: T) {
+    assert_eq!(rt; found, want);
+}
 
 #[test]
 fn a_lock_waits_and_tries_again(rt: HostRuntime) {
@@ -44,8 +137,8 @@ fn a_lock_waits_and_tries_again(rt: HostRuntime) {
     ];
     for (steps, want) in cases {
         let lock = Lock::new(314);
-        assert_eq!(rt; lock.place(), 314);
-        assert_performs!(rt; lock, steps => want);
+        assert_same(&rt, lock.place(), 314);
+        assert_performs(&rt, lock, steps, want);
     }
 }
 
@@ -59,7 +152,7 @@ fn an_empty_chain_is_seen_at_once(rt: HostRuntime) -> Result<(), Fail> {
         end: 629,
     };
     let start = LockedWalk::new(geometry, 314, 0, 5);
-    assert_eq!(rt; start, Start::Done(empty));
+    assert_same(&rt, start, Start::Done(empty));
     Ok(())
 }
 
@@ -133,11 +226,11 @@ fn a_walk_sees_the_first_node_with_its_key(rt: HostRuntime) -> Result<(), Fail> 
     ];
     for (word, nodes, steps, want) in cases {
         assert!(rt; nodes.len() < 4_294_967_296);
-        assert_eq!(rt; seen_in(&keys, nodes, 5, 629), want);
+        assert_same(&rt, seen_in(&keys, nodes, 5, 629), want);
         let Start::Running(walk) = LockedWalk::new(geometry, 314, word, 5) else {
             return Err("a chain with a node".into());
         };
-        assert_performs!(rt; walk, steps => want);
+        assert_performs(&rt, walk, steps, want);
     }
     Ok(())
 }
@@ -163,10 +256,10 @@ fn a_link_is_stored_and_the_bucket_unlocked(rt: HostRuntime) -> Result<(), Fail>
     ];
     for (before, link, stores) in cases {
         let relink = Relink::new(geometry, 314, 6, before, link);
-        assert_performs!(rt; relink, stores => ());
+        assert_performs(&rt, relink, stores, ());
     }
     let store = [(Op::store(314, 6), 7)];
-    assert_performs!(rt; Unlock::new(314, 6), &store => ());
+    assert_performs(&rt, Unlock::new(314, 6), &store, ());
     Ok(())
 }
 
@@ -222,7 +315,7 @@ fn a_probe_locks_and_walks(rt: HostRuntime) -> Result<(), Fail> {
     ];
     for (steps, want) in cases {
         let probe = probe_of_a_bucket().ok_or("within limits")?;
-        assert_performs!(rt; probe, steps => want);
+        assert_performs(&rt, probe, steps, want);
     }
     Ok(())
 }

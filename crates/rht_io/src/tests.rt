@@ -3,9 +3,20 @@
 ghost use Rattle.std.specs.Prelude.{◌≤◌, IfOk};
 
 use super::*;
+use std::fmt::Debug;
 use std::io;
 use std::process::Abort;
 use std::test::Fail;
+
+/// Asserts that a value is this one.
+fn assert_same<T: Copy + Debug + PartialEq>(rt: &impl Abort, found: T, want: T) {
+    assert_eq!(rt; found, want);
+}
+
+/// Asserts that these are the bytes of the text.
+fn assert_text(rt: &impl Abort, found: &[u8], want: &str) {
+    assert!(rt; found == want.as_bytes(), "{found:?} for {want:?}");
+}
 
 /// Takes once for each wanted piece, with a room of this many bytes.
 fn assert_takes<S: Source>(
@@ -16,13 +27,14 @@ fn assert_takes<S: Source>(
 ) {
     let mut bytes = [0; 8];
     assert!(rt; room <= bytes.len());
-    for (i, want) in wanted.iter().enumerate() {
+    for i in 0..wanted.len() {
         let taken = source.take(&mut bytes[..room]);
-        match (taken, want) {
-            (Ok(n), Ok(text)) => assert_eq!(rt; &bytes[..n], text.as_bytes(), "take {i}"),
-            (Err(Failed), Err(Failed)) => {}
-            (taken, _) => panic!(rt; "take {i} is {taken:?}"),
-        }
+        let as_wanted = match (taken, &wanted[i]) {
+            (Ok(n), Ok(text)) => &bytes[..n] == text.as_bytes(),
+            (Err(Failed), Err(Failed)) => true,
+            _ => false,
+        };
+        assert!(rt; as_wanted, "take {i} is {taken:?}");
     }
 }
 
@@ -63,7 +75,7 @@ fn a_sink_fills_and_fails_as_planned(rt: HostRuntime) -> Result<(), Fail> {
         ("", Ok(0)),
     ];
     assert_puts(&rt, &mut sink, &puts);
-    assert_eq!(rt; sink.bytes(), b"abcd".as_slice());
+    assert_text(&rt, sink.bytes(), "abcd");
     Ok(())
 }
 
@@ -73,14 +85,14 @@ fn a_failed_text_is_a_prefix(rt: HostRuntime) -> Result<(), Fail> {
     for (fails, held) in [(1, "de"), (2, "ab"), (3, "abde"), (9, "abde")] {
         let mut sink = MemSink::new(rt.alloc(), 4, vec![in rt.alloc(); fails]?)?;
         let first = put_all(&mut sink, b"ab");
-        assert_eq!(rt; first.is_err(), fails == 1, "put {fails}");
         let second = put_all(&mut sink, b"de");
-        assert_eq!(rt; second.is_err(), fails == 2, "put {fails}");
-        assert_eq!(rt; sink.bytes(), held.as_bytes(), "put {fails}");
+        let failed = (first.is_err(), second.is_err());
+        assert_same(&rt, (fails, failed), (fails, (fails == 1, fails == 2)));
+        assert_text(&rt, sink.bytes(), held);
     }
     let mut sink = MemSink::new(rt.alloc(), 4, vec![in rt.alloc()]?)?;
-    assert_eq!(rt; put_all(&mut sink, b"abcdef"), Err(Failed));
-    assert_eq!(rt; sink.bytes(), b"abcd".as_slice());
+    assert_same(&rt, put_all(&mut sink, b"abcdef"), Err(Failed));
+    assert_text(&rt, sink.bytes(), "abcd");
     Ok(())
 }
 
@@ -90,7 +102,7 @@ fn the_sure_ones_never_fail(rt: HostRuntime) -> Result<(), Fail> {
     assert_takes(&rt, &mut source, 2, &[Ok("ab"), Ok("c"), Ok("")]);
     let mut sink = SureSink::new();
     assert_puts(&rt, &mut sink, &[("ab", Ok(2)), ("", Ok(0))]);
-    assert_eq!(rt; put_all(&mut sink, b"abc"), Ok(()));
+    assert_same(&rt, put_all(&mut sink, b"abc"), Ok(()));
     NoGate.before(1, 1);
     NoGate.after(1, 1);
     Ok(())
@@ -198,7 +210,8 @@ fn a_writer_is_a_sink(rt: HostRuntime) -> Result<(), Fail> {
     ];
     assert_puts(&rt, &mut sink, &puts);
     let mut held = Vec::new(rt.alloc());
-    assert_eq!(rt; put_all(&mut OutputSink::new(&mut held), b"abc"), Ok(()));
-    assert_eq!(rt; held.as_slice(), b"abc".as_slice());
+    let put = put_all(&mut OutputSink::new(&mut held), b"abc");
+    assert_same(&rt, put, Ok(()));
+    assert_text(&rt, held.as_slice(), "abc");
     Ok(())
 }

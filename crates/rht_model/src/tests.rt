@@ -3,36 +3,51 @@
 use super::{Bindings, Call, Cursor, Entry, Owners, Replies, Reply, Room, is_legal};
 use rht_words::Kind;
 use std::alloc::{AllocError, Global};
+use std::fmt::Debug;
 use std::process::Abort;
 use std::test::Fail;
+
+/// Asserts that a value is this one in this row of a table.
+fn assert_row<R, T>(rt: &impl Abort, row: R, found: T, want: T)
+where
+    R: Copy + Debug,
+    T: Copy + Debug + PartialEq,
+{
+    assert_eq!(rt; found, want, "at {row:?}");
+}
+
+/// Asserts that a list is this one.
+fn assert_list<T: Debug + PartialEq>(rt: &impl Abort, found: &[T], want: &[T]) {
+    assert_eq!(rt; found, want);
+}
 
 #[test]
 fn owners_stand_in_the_order_in_which_they_came(rt: HostRuntime) -> Result<(), Fail> {
     let mut owners = Owners::new(rt.alloc());
-    assert!(rt; owners.as_slice().is_empty());
+    assert_list(&rt, owners.as_slice(), &[]);
     owners.push(7)?;
     owners.push(3)?;
     owners.push(7)?;
-    assert_eq!(rt; owners.as_slice(), [7, 3, 7].as_slice());
+    assert_list(&rt, owners.as_slice(), &[7, 3, 7]);
     Ok(())
 }
 
 #[test]
 fn a_room_is_used_again_once_it_is_cleared(rt: HostRuntime) -> Result<(), Fail> {
     let mut room: Room<(u32, u32)> = Room::with_limit(rt.alloc(), 2)?;
-    assert!(rt; room.as_slice().is_empty());
+    assert_list(&rt, room.as_slice(), &[]);
     room.push((80, 1));
     room.push((81, 7));
-    assert_eq!(rt; room.as_slice(), [(80, 1), (81, 7)].as_slice());
+    assert_list(&rt, room.as_slice(), &[(80, 1), (81, 7)]);
     room.clear();
-    assert!(rt; room.as_slice().is_empty());
+    assert_list(&rt, room.as_slice(), &[]);
     room.push((5, 3));
-    assert_eq!(rt; room.as_slice(), [(5, 3)].as_slice());
+    assert_list(&rt, room.as_slice(), &[(5, 3)]);
     // The second item is kept, and the third finds the room full.
     room.keep((6, 2));
     room.keep((7, 1));
-    assert_eq!(rt; room.as_slice(), [(5, 3), (6, 2)].as_slice());
-    assert_eq!(rt; room.len(), 2);
+    assert_list(&rt, room.as_slice(), &[(5, 3), (6, 2)]);
+    assert!(rt; room.len() == 2);
     Ok(())
 }
 
@@ -50,23 +65,23 @@ fn each_reply_keeps_the_lists_beside_it(rt: HostRuntime) -> Result<(), Fail> {
     for (reply, owners, pairs) in cases {
         replies.push(reply, owners, pairs)?;
     }
-    assert_eq!(rt; replies.len(), 4);
+    assert!(rt; replies.len() == 4);
     for i in 0..4 {
         let (reply, owners, pairs) = cases[i];
-        assert_eq!(rt; replies.reply(i), reply, "{i}");
-        assert_eq!(rt; replies.owners(i), owners, "{i}");
-        assert_eq!(rt; replies.pairs(i), pairs, "{i}");
+        assert_row(&rt, i, replies.reply(i), reply);
+        assert_list(&rt, replies.owners(i), owners);
+        assert_list(&rt, replies.pairs(i), pairs);
     }
     Ok(())
 }
 
 /// Compares the pairs with those that are wanted.
 fn assert_pairs(rt: &impl Abort, bindings: &Bindings, want: &[(u32, &[u32])]) {
-    assert_eq!(rt; bindings.len(), want.len());
-    assert_eq!(rt; bindings.is_empty(), want.is_empty());
-    for (i, (port, owners)) in want.iter().enumerate() {
-        assert_eq!(rt; bindings.port(i), *port, "at {i}");
-        assert_eq!(rt; bindings.owners(i), *owners, "at {i}");
+    assert!(rt; bindings.len() == want.len() && bindings.is_empty() == want.is_empty());
+    for i in 0..want.len() {
+        let (port, owners) = want[i];
+        assert_row(rt, i, bindings.port(i), port);
+        assert_list(rt, bindings.owners(i), owners);
     }
 }
 
@@ -358,22 +373,24 @@ const LISTED: [(&[Line], bool); 16] = [
     ),
 ];
 
+/// Asserts of each history of such a table whether it is legal.
+fn assert_legal(
+    rt: &impl Abort,
+    alloc: Global,
+    kind: Kind,
+    histories: &[(&[Line], bool)],
+) -> Result<(), AllocError> {
+    for i in 0..histories.len() {
+        let (lines, want) = histories[i];
+        assert_row(rt, (kind, i), legal(alloc, kind, lines)?, want);
+    }
+    Ok(())
+}
+
 #[test]
 fn legal_histories(rt: HostRuntime) -> Result<(), Fail> {
-    for (i, (lines, want)) in SINGLE.iter().enumerate() {
-        assert_eq!(rt;
-            legal(rt.alloc(), Kind::Single, lines)?,
-            *want,
-            "single at {i}"
-        );
-    }
-    for (i, (lines, want)) in LISTED.iter().enumerate() {
-        assert_eq!(rt;
-            legal(rt.alloc(), Kind::Listed, lines)?,
-            *want,
-            "listed at {i}"
-        );
-    }
+    assert_legal(&rt, rt.alloc(), Kind::Single, &SINGLE)?;
+    assert_legal(&rt, rt.alloc(), Kind::Listed, &LISTED)?;
     Ok(())
 }
 
@@ -407,7 +424,7 @@ fn refusals(rt: HostRuntime) -> Result<(), Fail> {
         ];
         for (call, want) in calls {
             let legal = legal(rt.alloc(), Kind::Single, &[(call, reply, &[])])?;
-            assert_eq!(rt; legal, want, "{reply:?} of {call:?}");
+            assert_row(&rt, (reply, call), legal, want);
         }
     }
     Ok(())
@@ -427,10 +444,8 @@ const OTHERS: [(Call, Reply); 7] = [
 #[test]
 fn other_calls_are_never_legal(rt: HostRuntime) -> Result<(), Fail> {
     for (call, reply) in OTHERS {
-        assert!(rt;
-            !legal(rt.alloc(), Kind::Single, &[(call, reply, &[])])?,
-            "{call:?}"
-        );
+        let legal = legal(rt.alloc(), Kind::Single, &[(call, reply, &[])])?;
+        assert_row(&rt, (reply, call), legal, false);
     }
     Ok(())
 }

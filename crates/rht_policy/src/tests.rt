@@ -7,16 +7,28 @@ ghost use Rattle.rht_words.specs.Sizes.{IsSizeUpTo};
 use super::*;
 use crate::mix::round;
 use rht_words::{rounded_down, rounded_up};
+use std::fmt::Debug;
 use std::process::Abort;
+
+/// Asserts that a value is this one.
+fn assert_same<T: Copy + Debug + PartialEq>(rt: &impl Abort, found: T, want: T) {
+    assert_eq!(rt; found, want);
+}
+
+/// Asserts that a value is this one in this row of a table.
+fn assert_row<R, T>(rt: &impl Abort, row: R, found: T, want: T)
+where
+    R: Copy + Debug,
+    T: Copy + Debug + PartialEq,
+{
+    assert_eq!(rt; found, want, "at {row:?}");
+}
 
 /// The size, if it is a power of two from 4 to the bound. Else the test ends.
 fn checked_size(rt: &impl Abort, size: u32, bound: u32) -> u32
     ensures { IsSizeUpTo bound result }
 {
-    assert!(rt;
-        4 <= size && size <= bound && bound <= 1 << 18,
-        "size {size}"
-    );
+    assert!(rt; 4 <= size && size <= bound && bound <= 1 << 18);
     let power = size.next_power_of_two();
     assert!(rt; power == size, "size {size}");
     power
@@ -26,7 +38,7 @@ fn checked_size(rt: &impl Abort, size: u32, bound: u32) -> u32
 fn assert_least(rt: &impl Abort, min: u32)
     ensures { IsLeastSize min }
 {
-    assert!(rt; 4 <= min && min <= 65_536, "min {min}");
+    assert!(rt; 4 <= min && min <= 65_536);
     assert!(rt; rounded_up(min) == min, "min {min}");
 }
 
@@ -34,7 +46,7 @@ fn assert_least(rt: &impl Abort, min: u32)
 fn assert_greatest(rt: &impl Abort, max: u32)
     ensures { IsGreatestSize max }
 {
-    assert!(rt; max == 0 || 4 <= max && max <= 131_072, "max {max}");
+    assert!(rt; max == 0 || 4 <= max && max <= 131_072);
     assert!(rt; rounded_down(max) == max, "max {max}");
 }
 
@@ -69,19 +81,18 @@ fn each_size_has_its_thresholds(rt: HostRuntime) {
         for count in [tenths - 1, tenths, quarters, quarters + 1, size, size + 1] {
             let ports = u64::from(count);
             if ports <= 65_536 {
-                assert_eq!(rt;
+                let above = (
                     above_75(ports, size, greatest),
-                    count > quarters,
-                    "{count} of {size}"
-                );
-                assert_eq!(rt;
                     above_100(ports, size, greatest),
-                    count > size,
-                    "{count} of {size}"
                 );
                 // A table of the least size doesn't shrink.
                 let below = count < tenths && size > least;
-                assert_eq!(rt; below_30(ports, size, least), below, "{count} of {size}");
+                assert_row(
+                    &rt,
+                    (count, size),
+                    (above, below_30(ports, size, least)),
+                    ((count > quarters, count > size), below),
+                );
             }
         }
     }
@@ -114,16 +125,8 @@ fn a_table_grows_up_to_the_greatest_size(rt: HostRuntime) {
         assert!(rt; count <= 65_536);
         let size = checked_size(&rt, size, 262_144);
         assert_greatest(&rt, max);
-        assert_eq!(rt;
-            above_75(count, size, max),
-            three_quarters,
-            "{count} of {size}, {max}"
-        );
-        assert_eq!(rt;
-            above_100(count, size, max),
-            whole,
-            "{count} of {size}, {max}"
-        );
+        let above = (above_75(count, size, max), above_100(count, size, max));
+        assert_row(&rt, (count, size, max), above, (three_quarters, whole));
     }
 }
 
@@ -151,11 +154,7 @@ fn a_table_shrinks_down_to_the_least_size(rt: HostRuntime) {
         assert!(rt; count <= 65_536);
         let size = checked_size(&rt, size, 262_144);
         assert_least(&rt, min);
-        assert_eq!(rt;
-            below_30(count, size, min),
-            below,
-            "{count} of {size}, {min}"
-        );
+        assert_row(&rt, (count, size, min), below_30(count, size, min), below);
     }
 }
 
@@ -171,11 +170,11 @@ fn a_table_holds_twice_the_greatest_size(rt: HostRuntime) {
     ];
     for (max, ports) in cases {
         assert_greatest(&rt, max);
-        assert_eq!(rt; max_elems(max), ports, "{max}");
+        assert_row(&rt, max, max_elems(max), ports);
         // The ports, which are at most 65,536; a table of these many is full.
         for count in [0, 7, 8, 9, 15, 16, 17, 65_535, 65_536] {
             assert!(rt; count <= 65_536);
-            assert_eq!(rt; above_max(count, max), count >= ports, "{count} of {max}");
+            assert_row(&rt, (count, max), above_max(count, max), count >= ports);
         }
     }
 }
@@ -206,7 +205,7 @@ fn a_smaller_table_has_room_for_half_as_many_more(rt: HostRuntime) {
     for (count, min, size) in cases {
         assert!(rt; count <= 65_536);
         assert_least(&rt, min);
-        assert_eq!(rt; shrunk(count, min), size, "{count} and {min}");
+        assert_row(&rt, (count, min), shrunk(count, min), size);
     }
 }
 
@@ -237,7 +236,7 @@ fn the_first_table_has_room_for_the_hint(rt: HostRuntime) {
         assert!(rt; hint <= 65_536);
         assert_least(&rt, min);
         assert_greatest(&rt, max);
-        assert_eq!(rt; starting(hint, min, max), size, "{hint}, {min}, {max}");
+        assert_row(&rt, (hint, min, max), starting(hint, min, max), size);
     }
 }
 
@@ -255,11 +254,11 @@ fn seven_rounds_mix_the_port_1(rt: HostRuntime) {
     ];
     for (word, other, by, after) in rounds {
         assert!(rt; 0 < by && by < 32);
-        assert_eq!(rt; round(word, other, by), after, "{word} and {other}");
+        assert_row(&rt, (word, other), round(word, other, by), after);
     }
-    assert_eq!(rt; Lookup3::mix(1, 0, 0), 0x40F3_F2BE);
-    assert_eq!(rt; Lookup3::mix(1, 0, 0), 1_089_729_214);
-    assert_eq!(rt; Lookup3::mix(1, 0, 0) % 64, 62);
+    let mixed = Lookup3::mix(1, 0, 0);
+    assert_same(&rt, (mixed, mixed % 64), (0x40F3_F2BE, 62));
+    assert_same(&rt, mixed, 1_089_729_214);
 }
 
 #[test]
@@ -275,15 +274,11 @@ fn ports_nets_and_seeds_are_mixed(rt: HostRuntime) {
         (0xDEAD_BEEF, 0x1234, 0xCAFE_BABE, 0x6736_A7D2),
     ];
     for (port, net, seed, mixed) in vectors {
-        assert_eq!(rt;
-            Lookup3::mix(port, net, seed),
-            mixed,
-            "{port}, {net}, {seed}"
-        );
-        assert_eq!(rt; Low::mix(port, net, seed), port, "{port}, {net}, {seed}");
+        let low = (Low::mix(port, net, seed), hash_of::<Low>(port, seed));
+        let found = (Lookup3::mix(port, net, seed), low);
+        assert_row(&rt, (port, net, seed), found, (mixed, (port, port)));
         if net == 0 {
-            assert_eq!(rt; hash_of::<Lookup3>(port, seed), mixed, "{port}, {seed}");
+            assert_row(&rt, (port, seed), hash_of::<Lookup3>(port, seed), mixed);
         }
-        assert_eq!(rt; hash_of::<Low>(port, seed), port, "{port}, {seed}");
     }
 }

@@ -5,7 +5,23 @@ use super::{
     marker_of, node_of, opening_word, page_of, places, plain_of, port_of, rounded_down, rounded_up,
     slot_of, starting_size, unlocked, word_of,
 };
+use std::fmt::Debug;
+use std::process::Abort;
 use std::test::Fail;
+
+/// Asserts that a value is this one.
+fn assert_same<T: Copy + Debug + PartialEq>(rt: &impl Abort, found: T, want: T) {
+    assert_eq!(rt; found, want);
+}
+
+/// Asserts that a value is this one in this row of a table.
+fn assert_row<R, T>(rt: &impl Abort, row: R, found: T, want: T)
+where
+    R: Copy + Debug,
+    T: Copy + Debug + PartialEq,
+{
+    assert_eq!(rt; found, want, "at {row:?}");
+}
 
 #[test]
 fn a_geometry_is_within_its_limits(rt: HostRuntime) {
@@ -21,42 +37,50 @@ fn a_geometry_is_within_its_limits(rt: HostRuntime) {
     ];
     for (nodes, pages, callers, want) in cases {
         let geometry = Geometry::new(nodes, pages, callers);
-        assert_eq!(rt; geometry.is_some(), want, "at {nodes} {pages} {callers}");
+        assert_row(&rt, (nodes, pages, callers), geometry.is_some(), want);
     }
 }
 
 #[test]
 fn places_of_the_smallest_geometry(rt: HostRuntime) -> Result<(), Fail> {
     let g = Geometry::new(1, 4, 1).ok_or("within limits")?;
-    assert_eq!(rt; (g.nodes, g.pages, g.callers), (1, 4, 1));
-    assert_eq!(rt; (g.node_map_words(), g.page_map_words()), (1, 1));
-    assert_eq!(rt; (g.node_map(0), g.page_map(0)), (280, 281));
-    assert_eq!(rt;
+    assert_same(&rt, (g.nodes, g.pages, g.callers), (1, 4, 1));
+    assert_same(&rt, (g.node_map_words(), g.page_map_words()), (1, 1));
+    assert_same(&rt, (g.node_map(0), g.page_map(0)), (280, 281));
+    assert_same(
+        &rt,
         (g.chain_link(0), g.key(0), g.owner(0), g.list_link(0)),
-        (282, 283, 284, 285)
+        (282, 283, 284, 285),
     );
-    assert_eq!(rt;
+    assert_same(
+        &rt,
         (g.page_word(0, 0), g.page_word(1, 5), g.page_word(3, 63)),
-        (286, 355, 541)
+        (286, 355, 541),
     );
-    assert_eq!(rt; g.words(), 542);
+    assert_same(&rt, g.words(), 542);
     Ok(())
 }
 
 #[test]
 fn places_of_the_greatest_geometry(rt: HostRuntime) -> Result<(), Fail> {
     let g = Geometry::new(65_536, 4_096, 16).ok_or("within limits")?;
-    assert_eq!(rt; (g.node_map_words(), g.page_map_words()), (1_024, 64));
-    assert_eq!(rt;
+    assert_same(&rt, (g.node_map_words(), g.page_map_words()), (1_024, 64));
+    assert_same(
+        &rt,
         (g.node_map(1_023), g.page_map(0), g.page_map(63)),
-        (1_303, 1_304, 1_367)
+        (1_303, 1_304, 1_367),
     );
-    assert_eq!(rt; (g.chain_link(0), g.list_link(65_535)), (1_368, 263_511));
-    assert_eq!(rt;
+    assert_same(
+        &rt,
+        (g.chain_link(0), g.list_link(65_535)),
+        (1_368, 263_511),
+    );
+    assert_same(
+        &rt,
         (g.page_word(0, 0), g.page_word(4_095, 63)),
-        (263_512, 525_655)
+        (263_512, 525_655),
     );
-    assert_eq!(rt; g.words(), 525_656);
+    assert_same(&rt, g.words(), 525_656);
     Ok(())
 }
 
@@ -69,34 +93,45 @@ fn maps_take_a_word_for_each_64_bits_begun(rt: HostRuntime) -> Result<(), Fail> 
     ];
     for (nodes, pages, node_words, page_words, first_node) in cases {
         let g = Geometry::new(nodes, pages, 1).ok_or("within limits")?;
-        assert_eq!(rt; g.node_map_words(), node_words, "at {nodes}");
-        assert_eq!(rt; g.page_map_words(), page_words, "at {pages}");
-        assert_eq!(rt; g.chain_link(0), first_node, "at {nodes} {pages}");
+        let found = (g.node_map_words(), g.page_map_words(), g.chain_link(0));
+        assert_row(
+            &rt,
+            (nodes, pages),
+            found,
+            (node_words, page_words, first_node),
+        );
     }
     Ok(())
 }
 
 #[test]
 fn places_that_no_geometry_moves(rt: HostRuntime) {
-    assert_eq!(rt;
+    assert_same(
+        &rt,
         (
             places::current_table(),
             places::work_lock(),
-            places::port_count()
+            places::port_count(),
         ),
-        (0, 1, 2)
+        (0, 1, 2),
     );
-    assert_eq!(rt; (places::next_serial(), places::enrolled_callers()), (3, 4));
-    assert_eq!(rt; (places::section(0), places::section(15)), (8, 23));
-    assert_eq!(rt;
+    assert_same(
+        &rt,
+        (places::next_serial(), places::enrolled_callers()),
+        (3, 4),
+    );
+    assert_same(&rt, (places::section(0), places::section(15)), (8, 23));
+    assert_same(
+        &rt,
         (places::shape(0), places::seed(0), places::future(0)),
-        (24, 25, 26)
+        (24, 25, 26),
     );
-    assert_eq!(rt; (places::serial(0), places::state(0)), (27, 28));
-    assert_eq!(rt; (places::shape(7), places::future(7)), (248, 250));
-    assert_eq!(rt;
+    assert_same(&rt, (places::serial(0), places::state(0)), (27, 28));
+    assert_same(&rt, (places::shape(7), places::future(7)), (248, 250));
+    assert_same(
+        &rt,
         (places::loaded_section(0, 0), places::loaded_section(7, 15)),
-        (32, 271)
+        (32, 271),
     );
 }
 
@@ -118,18 +153,22 @@ fn each_operation_answers_the_word_before(rt: HostRuntime) {
     ];
     for (before, op, after) in cases {
         let mut words = [70, before, 90];
-        assert_eq!(rt; op.place(), 1, "at {op:?}");
-        assert_eq!(rt; apply(&mut words, op), before, "at {op:?}");
-        assert_eq!(rt; words, [70, after, 90], "at {op:?}");
+        let found = (op.place(), apply(&mut words, op), words);
+        assert_row(&rt, op, found, (1, before, [70, after, 90]));
     }
 }
 
 #[test]
 fn links_name_nodes_and_markers_name_none(rt: HostRuntime) {
-    assert_eq!(rt; (link_of(0), link_of(1), link_of(65_535)), (2, 4, 131_072));
-    assert_eq!(rt;
+    assert_same(
+        &rt,
+        (link_of(0), link_of(1), link_of(65_535)),
+        (2, 4, 131_072),
+    );
+    assert_same(
+        &rt,
         (marker_of(0), marker_of(319), marker_of(525_655)),
-        (1, 639, 1_051_311)
+        (1, 639, 1_051_311),
     );
     let cases = [
         (0, None),
@@ -144,7 +183,7 @@ fn links_name_nodes_and_markers_name_none(rt: HostRuntime) {
         (18_446_744_073_709_551_615, None),
     ];
     for (link, want) in cases {
-        assert_eq!(rt; node_of(8, link), want, "at {link}");
+        assert_row(&rt, link, node_of(8, link), want);
     }
 }
 
@@ -159,25 +198,29 @@ fn bucket_words_and_heads_come_back(rt: HostRuntime) {
         (7, true, 6, 6),
     ];
     for (word, locked, plain, head) in cases {
-        assert_eq!(rt; is_locked(word), locked, "at {word}");
-        assert_eq!(rt; unlocked(word), plain, "at {word}");
-        assert_eq!(rt; head_of(319, word), head, "at {word}");
-        assert_eq!(rt; plain_of(319, head), plain, "at {word}");
+        let found = (unlocked(word), head_of(319, word), plain_of(319, head));
+        assert_row(
+            &rt,
+            word,
+            (is_locked(word), found),
+            (locked, (plain, head, plain)),
+        );
     }
-    assert_eq!(rt; plain_of(319, 641), 641);
+    assert_same(&rt, plain_of(319, 641), 641);
 }
 
 #[test]
 fn futures_name_slots_and_entries_name_pages(rt: HostRuntime) {
-    assert_eq!(rt;
+    assert_same(
+        &rt,
         (future_of(0), future_of(7), entry_of(0), entry_of(4_095)),
-        (1, 8, 1, 4_096)
+        (1, 8, 1, 4_096),
     );
     for (future, want) in [(0, None), (1, Some(0)), (8, Some(7)), (9, None)] {
-        assert_eq!(rt; slot_of(future), want, "at {future}");
+        assert_row(&rt, future, slot_of(future), want);
     }
     for (entry, want) in [(0, None), (1, Some(0)), (4, Some(3)), (5, None)] {
-        assert_eq!(rt; page_of(4, entry), want, "at {entry}");
+        assert_row(&rt, entry, page_of(4, entry), want);
     }
 }
 
@@ -195,23 +238,23 @@ fn shapes_come_back_from_their_words(rt: HostRuntime) {
             nest,
             page,
         };
-        assert_eq!(rt; u64::from(shape), word);
-        assert_eq!(rt; Shape::from(word), shape, "at {word}");
-        assert_eq!(rt; shape.size(), size, "at {word}");
+        let found = (u64::from(shape), Shape::from(word), shape.size());
+        assert_row(&rt, word, found, (word, shape, size));
     }
     // exponents that no table has
-    assert_eq!(rt;
+    assert_same(
+        &rt,
         (Shape::from(0).size(), Shape::from(31).size()),
-        (4, 262_144)
+        (4, 262_144),
     );
 }
 
 #[test]
 fn ports_come_back_from_their_words(rt: HostRuntime) {
     for port in [0, 1, 8_080, 4_294_967_295] {
-        assert_eq!(rt; port_of(word_of(port)), port);
+        assert_same(&rt, port_of(word_of(port)), port);
     }
-    assert_eq!(rt; word_of(8_080), 8_080);
+    assert_same(&rt, word_of(8_080), 8_080);
 }
 
 #[test]
@@ -232,10 +275,10 @@ fn numbers_round_to_powers_of_two(rt: HostRuntime) {
     ];
     for (number, up, down) in cases {
         assert!(rt; number <= 2_147_483_648);
-        assert_eq!(rt; rounded_up(number), up, "at {number}");
-        assert_eq!(rt; rounded_down(number), down, "at {number}");
+        let found = (rounded_up(number), rounded_down(number));
+        assert_row(&rt, number, found, (up, down));
     }
-    assert_eq!(rt; rounded_down(4_294_967_295), 2_147_483_648);
+    assert_same(&rt, rounded_down(4_294_967_295), 2_147_483_648);
 }
 
 #[test]
@@ -263,14 +306,14 @@ fn a_table_starts_so_large(rt: HostRuntime) {
     for (hint, least, greatest, want) in cases {
         assert!(rt; hint <= 65_536);
         let size = starting_size(hint, least, greatest);
-        assert_eq!(rt; size, want, "at {hint} {least} {greatest}");
         let config = Config {
             hint,
             min: least,
             max: greatest,
             ..Config::plain()
         };
-        assert_eq!(rt; config.starting_size(), want, "at {config:?}");
+        let row = (hint, least, greatest);
+        assert_row(&rt, row, (size, config.starting_size()), (want, want));
     }
 }
 
@@ -296,7 +339,8 @@ fn configs_are_settled_within_their_limits(rt: HostRuntime) {
             rewalks,
             ..Config::plain()
         };
-        assert_eq!(rt; config.is_settled(), want, "at {config:?}");
+        let row = (nodes, pages, callers, rewalks);
+        assert_row(&rt, row, config.is_settled(), want);
     }
 }
 
@@ -340,7 +384,7 @@ fn configs_are_settled_with_rounded_sizes(rt: HostRuntime) {
             max,
             ..Config::plain()
         };
-        assert_eq!(rt; config.is_settled(), want, "at {config:?}");
+        assert_row(&rt, (pages, hint, min, max), config.is_settled(), want);
     }
 }
 
@@ -435,11 +479,11 @@ fn a_table_opens_with_one_empty_table(rt: HostRuntime) {
             seed: 77,
             ..Config::plain()
         };
-        assert!(rt; config.is_settled(), "at {config:?}");
+        assert!(rt; config.is_settled());
         let env = Env::new(config);
         for place in 0..env.geometry.words() {
             let want = word_for(words, place);
-            assert_eq!(rt; opening_word(env, place), want, "at {place} of {config:?}");
+            assert_row(&rt, (place, nodes, pages), opening_word(env, place), want);
         }
     }
 }

@@ -1,9 +1,9 @@
 //! Where buckets are, and pages that are entered on the way to them.
 
-use super::ALL;
+use super::{ALL, assert_performs, assert_same};
 use crate::{Bucket, Grow, GrowAt, Locate, LocateAt, Located, LocatedBucket, Place};
 use rht_policy::Low;
-use rht_words::{Geometry, Next, Op, Start, assert_performs};
+use rht_words::{Geometry, Next, Op, Start};
 use std::test::Fail;
 
 #[test]
@@ -28,7 +28,7 @@ fn buckets_stand_from_their_first_page_on(rt: HostRuntime) -> Result<(), Fail> {
         let Start::Done(found) = Place::new(geometry, shape, bucket) else {
             return Err("a flat table's bucket is found without an operation".into());
         };
-        assert_eq!(rt; found, want, "of {bucket} in {shape}");
+        assert_same(&rt, (shape, bucket, found), (shape, bucket, want));
     }
     Ok(())
 }
@@ -47,16 +47,14 @@ fn a_ports_bucket_is_found_in_its_table(rt: HostRuntime) -> Result<(), Fail> {
     ];
     for (shape, place) in cases {
         let locate = Locate::new(geometry, 2);
-        assert_eq!(rt; (locate.table(), locate.plan()), (2, Op::load(88)));
+        assert_same(&rt, (locate.table(), locate.plan()), (2, Op::load(88)));
+        let seed = Locate::new(geometry, 2).with(LocateAt::Seed { shape });
         let (locate, next) = locate.after::<Low>(70, shape);
-        assert_eq!(rt; (locate.plan(), next), (Op::load(89), Next::Go));
-        assert_eq!(rt;
-            locate,
-            Locate::new(geometry, 2).with(LocateAt::Seed { shape })
-        );
+        assert_same(&rt, (locate, next), (seed, Next::Go));
+        assert_same(&rt, locate.plan(), Op::load(89));
         let (_, next) = locate.after::<Low>(70, 1);
         let bucket = LocatedBucket::At(place);
-        assert_eq!(rt; next, Next::Done(Located { shape, bucket }), "in {shape}");
+        assert_same(&rt, next, Next::Done(Located { shape, bucket }));
     }
     Ok(())
 }
@@ -117,16 +115,16 @@ fn a_nested_tables_bucket_stands_behind_entries(rt: HostRuntime) -> Result<(), F
         let Start::Running(place) = Place::new(geometry, shape, bucket) else {
             return Err("the table is nested".into());
         };
-        assert_performs!(rt; place, steps => want);
+        assert_performs(&rt, place, steps, want);
     }
     // the way on, once the entry leads to page 5
     let only = Place::nested(geometry, 2_087, 77);
     let first = Place::nested(geometry, 45, 5_000);
-    assert_eq!(rt; only.entered(5), Start::Done(672));
+    assert_same(&rt, only.entered(5), Start::Done(672));
     let Start::Running(second) = first.entered(5) else {
         return Err("there is a second level".into());
     };
-    assert_eq!(rt; (first.entry(), second.entry()), (314, 638));
+    assert_same(&rt, (first.entry(), second.entry()), (314, 638));
     Ok(())
 }
 
@@ -150,12 +148,11 @@ fn a_ports_bucket_may_be_missing(rt: HostRuntime) -> Result<(), Fail> {
         let seed = Locate::new(geometry, 2).with(LocateAt::Seed { shape });
         let (mut locate, mut next) = seed.after::<Low>(5_000, 1);
         let mut place = Place::nested(geometry, shape, 5_000 % (1 << (shape % 32)));
-        assert_eq!(rt; locate, seed.with(LocateAt::Early { shape, place }));
-        assert_eq!(rt; (locate.plan(), next), (Op::load(90), Next::Go));
+        assert_same(&rt, locate, seed.with(LocateAt::Early { shape, place }));
+        assert_same(&rt, (locate.plan(), next), (Op::load(90), Next::Go));
         (locate, next) = locate.after::<Low>(5_000, future);
         for (entry, page) in entries {
-            assert_eq!(rt; next, Next::Go, "in {shape}");
-            assert_eq!(rt; locate.plan(), Op::load(*entry), "in {shape}");
+            assert_same(&rt, (locate.plan(), next), (Op::load(*entry), Next::Go));
             (locate, next) = locate.after::<Low>(5_000, *page);
             place = place.after(*page).0;
         }
@@ -163,7 +160,7 @@ fn a_ports_bucket_may_be_missing(rt: HostRuntime) -> Result<(), Fail> {
             Some(place) => LocatedBucket::At(place),
             None => LocatedBucket::Missing { place, early },
         };
-        assert_eq!(rt; next, Next::Done(Located { shape, bucket }), "in {shape}");
+        assert_same(&rt, next, Next::Done(Located { shape, bucket }));
     }
     Ok(())
 }
@@ -221,15 +218,16 @@ fn a_missing_page_is_entered_once(rt: HostRuntime) -> Result<(), Fail> {
     for (pages, steps, want) in cases {
         let geometry = Geometry::new(8, pages, 1).ok_or("within limits")?;
         let entry = Place::nested(geometry, 2_087, 77).entry();
-        assert_performs!(rt; Grow::new(geometry, entry), steps => want);
+        assert_performs(&rt, Grow::new(geometry, entry), steps, want);
     }
     let geometry = Geometry::new(8, 4, 1).ok_or("within limits")?;
     let growing = Grow::new(geometry, Place::nested(geometry, 2_087, 77).entry());
     let entering = growing.with(GrowAt::Entering { page: 3 });
     let (_, next) = entering.after(0);
-    assert_eq!(rt;
+    assert_same(
+        &rt,
         (entering.plan(), next),
-        (Op::exchange(443, 0, 4), Next::Done(Some(3)))
+        (Op::exchange(443, 0, 4), Next::Done(Some(3))),
     );
     Ok(())
 }

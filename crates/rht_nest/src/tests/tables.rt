@@ -1,8 +1,8 @@
 //! Tables made and given back.
 
-use super::ALL;
+use super::{ALL, assert_performs, assert_performs_between, assert_same};
 use crate::{Make, MakeAt, Unmake, UnmakeAt, run_of};
-use rht_words::{Geometry, Next, Op, assert_performs};
+use rht_words::{Geometry, Next, Op};
 use std::test::Fail;
 
 #[test]
@@ -84,7 +84,8 @@ fn a_table_is_made_of_a_slot_and_a_run(rt: HostRuntime) -> Result<(), Fail> {
         ),
     ];
     for (size, seed, steps, want) in cases {
-        assert_performs!(rt; Make::new(geometry, size, seed, false), steps => want);
+        let machine = Make::new(geometry, size, seed, false);
+        assert_performs(&rt, machine, steps, want);
     }
     Ok(())
 }
@@ -152,7 +153,7 @@ fn a_nested_table_is_made_where_there_is_no_run(rt: HostRuntime) -> Result<(), F
             (Op::store(27, 5), 0),
         ];
         let machine = Make::new(geometry, size, 7, true);
-        assert_performs!(rt; machine, &taking, pages, &stores => Some((0, shape)));
+        assert_performs_between(&rt, machine, &taking, pages, &stores, Some((0, shape)));
     }
     // the size, whether a nested table is allowed, and what the looks at the pages find
     let cases: [(u32, bool, &[(Op, u64)]); 3] = [
@@ -186,7 +187,7 @@ fn a_nested_table_is_made_where_there_is_no_run(rt: HostRuntime) -> Result<(), F
     let back = [(Op::store(28, 0), 1)];
     for (size, allowed, pages) in cases {
         let machine = Make::new(geometry, size, 7, allowed);
-        assert_performs!(rt; machine, &taking, pages, &back => None);
+        assert_performs_between(&rt, machine, &taking, pages, &back, None);
     }
     Ok(())
 }
@@ -206,29 +207,31 @@ fn other_sizes_are_read_as_one(rt: HostRuntime) -> Result<(), Fail> {
             (Op::store(26, 0), 0),
             (Op::store(27, 1), 0),
         ];
-        assert_performs!(rt; Make::new(geometry, size, 1, true), &steps => Some((0, shape)));
+        let machine = Make::new(geometry, size, 1, true);
+        assert_performs(&rt, machine, &steps, Some((0, shape)));
     }
     // 131,072 buckets, of which there are no more, take 2,048 pages
     let enough = Geometry::new(8, 2_048, 1).ok_or("within limits")?;
     let short = Geometry::new(8, 2_047, 1).ok_or("within limits")?;
     for size in [0, 131_072, 262_144] {
         let (taking, next) = Make::new(enough, size, 1, false).after(0);
-        assert_eq!(rt;
-            (taking.plan(), next),
-            (Op::load(281), Next::Go),
-            "of size {size}"
+        assert_same(
+            &rt,
+            (size, taking.plan(), next),
+            (size, Op::load(281), Next::Go),
         );
         let (giving, next) = Make::new(short, size, 1, false).after(0);
-        assert_eq!(rt;
-            (giving.plan(), next),
-            (Op::store(28, 0), Next::Go),
-            "of size {size}"
+        assert_same(
+            &rt,
+            (size, giving.plan(), next),
+            (size, Op::store(28, 0), Next::Go),
         );
     }
     let back = giving_back(short);
-    assert_eq!(rt;
+    assert_same(
+        &rt,
         (back.plan(), back.after(1).1),
-        (Op::store(124, 0), Next::Done(None))
+        (Op::store(124, 0), Next::Done(None)),
     );
     Ok(())
 }
@@ -267,16 +270,18 @@ fn a_table_is_given_back_with_its_slot_last(rt: HostRuntime) -> Result<(), Fail>
     ];
     for (pages, slot, shape, steps) in cases {
         let geometry = Geometry::new(8, pages, 1).ok_or("within limits")?;
-        assert_performs!(rt; Unmake::new(geometry, slot, shape), steps => ());
+        assert_performs(&rt, Unmake::new(geometry, slot, shape), steps, ());
     }
     let few = Geometry::new(8, 4, 1).ok_or("within limits")?;
     let many = Geometry::new(8, 256, 1).ok_or("within limits")?;
     let last = Unmake::new(few, 3, 1_026).with(UnmakeAt::SlotBack);
-    assert_eq!(rt;
+    assert_same(
+        &rt,
         (last.plan(), last.after(1).1),
-        (Op::store(124, 0), Next::Done(()))
+        (Op::store(124, 0), Next::Done(())),
     );
-    assert_eq!(rt; run_of(many, 131_085), (128, 128));
-    assert_eq!(rt; run_of(few, 3_079), (3, 1), "of two pages but one is there");
+    assert_same(&rt, run_of(many, 131_085), (128, 128));
+    // of two pages but one is there
+    assert_same(&rt, run_of(few, 3_079), (3, 1));
     Ok(())
 }
