@@ -9,7 +9,7 @@ mod lists;
 mod refusals;
 mod resizing;
 
-ghost use Rattle.std.specs.Prelude.{◌≡◌, ◌<◌, true};
+ghost use Rattle.std.specs.Prelude.{◌≡◌, ◌<◌, true, length, IfSome};
 ghost use Rattle.rht_words.specs.declared.config.Kind.{Kind};
 ghost use Rattle.rht_core.specs.Runs.{IsBuiltEvent};
 
@@ -17,7 +17,7 @@ use super::{Event, State, Stepped, owners_of};
 use rht_model::{Call, Reply};
 use rht_policy::Mix;
 use rht_words::{Config, Geometry, Hash, Kind, Op, Port};
-use std::alloc::Global;
+use std::alloc::{AllocError, Global};
 use std::process::Abort;
 use std::test::Fail;
 
@@ -181,31 +181,61 @@ fn is_built(event: Event) -> bool
     )
 }
 
+/// The owners of the port among these bindings, in their order.
+fn owners_in(alloc: Global, bound: &[(Port, u32)], port: Port) -> Result<Vec<u32>, AllocError> {
+    let mut owners = Vec::new(alloc);
+    for (at, owner) in bound {
+        if *at == port {
+            owners.push(*owner)?;
+        }
+    }
+    Ok(owners)
+}
+
+/// The words stand for these owners of the port.
+fn assert_owners(
+    rt: &impl Abort,
+    alloc: Global,
+    geometry: Geometry,
+    words: &[u64],
+    port: Port,
+    want: &[u32],
+) -> Result<(), AllocError> {
+    assert_eq!(rt; words.len(), geometry.words());
+    let owners = owners_of(alloc, geometry, words, port)?;
+    assert_eq!(rt; owners.as_slice(), want, "at {port}");
+    Ok(())
+}
+
 /// The words stand for the owners of these ports, which are those of the binds that were made.
 fn assert_bound<M: Mix>(rt: &impl Abort, alloc: Global, run: &Run<M>) -> Result<(), Fail> {
     let words = run.state.words();
-    assert_eq!(rt; words.len(), run.geometry.words());
     for port in [0, 1, 5, 6, 7, 8, 69] {
-        let mut want = Vec::new(alloc);
-        for (at, owner) in &run.bound {
-            if *at == port {
-                want.push(*owner)?;
-            }
-        }
-        let owners = owners_of(alloc, run.geometry, words, port)?;
-        assert_eq!(rt; owners.as_slice(), want.as_slice(), "at {port}");
+        let want = owners_in(alloc, run.bound.as_slice(), port)?;
+        assert_owners(rt, alloc, run.geometry, words, port, want.as_slice())?;
     }
     Ok(())
 }
 
+/// The place of the binding that is to go, if it is there.
+fn place_in(bound: &[(Port, u32)], gone: (Port, u32)) -> Option<usize>
+    ensures { IfSome result (λ at. at < length bound.now) }
+{
+    for (at, binding) in bound.iter().enumerate() {
+        if *binding == gone {
+            return Some(at);
+        }
+    }
+    None
+}
+
 /// The call has had this reply. A release takes out the latest binding of its port and owner.
-fn ended<M: Mix>(run: &mut Run<M>, call: Call, reply: Reply) -> Result<(), Fail> {
+fn ended<M: Mix>(run: &mut Run<M>, call: Call, reply: Reply) -> Result<(), AllocError> {
     if let (Call::Bind { port, owner, .. }, Reply::Bound { .. }) = (call, reply) {
         run.bound.insert(0, (port, owner))?;
     }
     if let (Call::Release { port, owner }, Reply::Released { .. }) = (call, reply) {
-        let gone = run.bound.iter().position(|bound| *bound == (port, owner));
-        if let Some(at) = gone {
+        if let Some(at) = place_in(run.bound.as_slice(), (port, owner)) {
             run.bound.remove(at);
         }
     }
@@ -213,9 +243,20 @@ fn ended<M: Mix>(run: &mut Run<M>, call: Call, reply: Reply) -> Result<(), Fail>
 }
 
 /// The event does this.
-fn assert_event<M: Mix>(rt: &impl Abort, run: &mut Run<M>, event: Event, want: Stepped) {
+fn assert_event<M: Mix>(rt: &impl Abort, state: &mut State<M>, event: Event, want: Stepped)
+    ensures { state.new.env ≡ state.old.env }
+{
     assert!(rt; is_built(event), "at {event:?}");
-    assert_eq!(rt; run.state.step(event), want, "at {event:?}");
+    let stepped = state.step(event);
+    assert_eq!(rt; stepped, want, "at {event:?}");
+}
+
+/// The reply of a line, where the last one ends the call.
+fn reply_at(end: Option<(Call, Reply)>, is_last: bool) -> Option<Reply> {
+    match end {
+        Some((_, reply)) if is_last => Some(reply),
+        _ => None,
+    }
 }
 
 /// The caller's steps perform these operations, and the last one ends the call, where that is said.
@@ -227,21 +268,18 @@ fn assert_steps<M: Mix>(
     lines: &[(Op, u64)],
     end: Option<(Call, Reply)>,
 ) -> Result<(), Fail> {
-    for (i, line) in lines.iter().enumerate() {
+    let mut left = lines.len();
+    for line in lines {
         assert_bound(rt, alloc, run)?;
-        let did = Some(*line);
-        let event = Event::Step { caller };
-        match end {
-            Some((call, reply)) if i + 1 == lines.len() => {
-                let want = Stepped {
-                    did,
-                    reply: Some(reply),
-                };
-                assert_event(rt, run, event, want);
-                ended(run, call, reply)?;
-            }
-            _ => assert_event(rt, run, event, Stepped { did, reply: None }),
-        }
+        left = left.saturating_sub(1);
+        let want = Stepped {
+            did: Some(*line),
+            reply: reply_at(end, left == 0),
+        };
+        assert_event(rt, &mut run.state, Event::Step { caller }, want);
+    }
+    if let Some((call, reply)) = end {
+        ended(run, call, reply)?;
     }
     assert_bound(rt, alloc, run)
 }
@@ -285,17 +323,22 @@ fn assert_run<M: Mix>(
     };
     for row in rows {
         match *row {
-            Row::Quiet { event } => assert_event(rt, &mut run, event, NOTHING),
+            Row::Quiet { event } => assert_event(rt, &mut run.state, event, NOTHING),
             Row::Enrolls { old } => {
                 let did = Some((Op::add(4, 1), old));
                 let want = Stepped { did, reply: None };
-                assert_event(rt, &mut run, Event::Enroll, want);
+                assert_event(rt, &mut run.state, Event::Enroll, want);
             }
             Row::Steps { caller, lines, end } => {
                 assert_steps(rt, alloc, &mut run, caller, lines, end)?;
             }
             Row::Replies { call, reply } => {
-                assert_event(rt, &mut run, Event::Begin { caller: 0, call }, NOTHING);
+                assert_event(
+                    rt,
+                    &mut run.state,
+                    Event::Begin { caller: 0, call },
+                    NOTHING,
+                );
                 assert_reply(rt, alloc, &mut run, 0, call, reply)?;
             }
             Row::Finishes {
@@ -312,10 +355,7 @@ fn assert_run<M: Mix>(
 fn begin<M: Mix>(rt: &impl Abort, state: &mut State<M>, caller: u32, call: Call)
     ensures { state.new.env ≡ state.old.env }
 {
-    let event = Event::Begin { caller, call };
-    assert!(rt; is_built(event), "at {call:?}");
-    let stepped = state.step(event);
-    assert_eq!(rt; stepped, NOTHING, "at {call:?}");
+    assert_event(rt, state, Event::Begin { caller, call }, NOTHING);
 }
 
 /// Performs a caller's next operation, and answers the reply where that ends its call.

@@ -5,7 +5,7 @@
 use super::Find;
 use rht_model::Reply;
 use rht_policy::Low;
-use rht_words::{Config, Env, Hash, Kind, Op, Port, assert_performs};
+use rht_words::{Config, Env, Hash, Kind, Next, Op, Port};
 use std::process::Abort;
 
 /// What a look-up performs, with what each operation finds, and its reply.
@@ -22,8 +22,13 @@ fn assert_finds(rt: &impl Abort, port: Port, cases: &[Case]) {
     };
     assert!(rt; config.is_settled());
     for (steps, reply) in cases {
-        let find = Find::<Low>::new(Env::new(config), 0, port);
-        assert_performs!(rt; find, *steps => *reply);
+        let mut find = Find::<Low>::new(Env::new(config), 0, port);
+        let mut next = Next::Go;
+        for (op, old) in *steps {
+            assert_eq!(rt; (next, find.plan()), (Next::Go, *op), "to {reply:?}");
+            next = find.take(*old);
+        }
+        assert_eq!(rt; next, Next::Done(*reply));
     }
 }
 

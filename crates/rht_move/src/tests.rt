@@ -43,8 +43,7 @@ fn perform(
 ) -> Next<Reply> {
     let mut next = said;
     for (op, old) in steps {
-        assert_eq!(rt; next, Next::Go, "before {op:?}");
-        assert_eq!(rt; work.plan(), *op);
+        assert_eq!(rt; (next, work.plan()), (Next::Go, *op));
         next = work.take(*old);
     }
     next

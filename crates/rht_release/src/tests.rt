@@ -185,8 +185,7 @@ fn assert_steps<S: Steps>(
     let mut next = Next::Go;
     for part in parts {
         for op in *part {
-            assert_eq!(rt; next, Next::Go, "before {op:?}");
-            assert_eq!(rt; machine.plan(), *op, "to {end:?}");
+            assert_eq!(rt; (next, machine.plan()), (Next::Go, *op), "to {end:?}");
             assert!(rt; op.place() < 570);
             next = machine.take(apply(&mut words, *op));
         }

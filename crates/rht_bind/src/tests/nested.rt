@@ -1,11 +1,9 @@
 //! Binds into nested tables. The top page of the table of 128 buckets is page 1. Port 5 has bucket 5
 //! there: the entry at 379, which is 314 + 64 * 1 + 5 % 2, and word 5 / 2 of the page behind it.
 
-use super::{node_0_filled, small};
-use crate::Bind;
+use super::{assert_ended, begun, node_0_filled, perform, small};
 use rht_model::Reply;
-use rht_policy::Low;
-use rht_words::{Env, Kind, Op, assert_performs};
+use rht_words::{Kind, Next, Op};
 use std::process::Abort;
 
 /// From the shape of the table in slot 0, whose future is this word, to the entry, which leads to no
@@ -53,11 +51,13 @@ fn assert_enters(
     reply: Reply,
 ) {
     for kind in [Kind::Single, Kind::Listed] {
-        let config = small(kind, 0);
-        assert!(rt; config.is_settled(), "at {config:?}");
-        let bind = Bind::<Low>::new(Env::new(config), 0, 5, 9, false);
-        let (filling, missing) = (node_0_filled(), page_missing(future));
-        assert_performs!(rt; bind, &filling, &missing, taken, entered, behind => reply);
+        let mut bind = begun(rt, small(kind, 0), 5, false);
+        let mut next = perform(rt, &mut bind, Next::Go, &node_0_filled(), reply);
+        next = perform(rt, &mut bind, next, &page_missing(future), reply);
+        next = perform(rt, &mut bind, next, taken, reply);
+        next = perform(rt, &mut bind, next, entered, reply);
+        next = perform(rt, &mut bind, next, behind, reply);
+        assert_ended(rt, next, reply);
     }
 }
 
@@ -125,10 +125,14 @@ fn assert_enters_two(
         (Op::load(26), 0),
         (Op::load(315), 0), // 314 + 1
     ];
-    let config = small(Kind::Single, 0);
-    assert!(rt; config.is_settled(), "at {config:?}");
-    let bind = Bind::<Low>::new(Env::new(config), 0, 903, 9, false);
-    assert_performs!(rt; bind, &filling, &missing, first, taken, entered, behind => reply);
+    let mut bind = begun(rt, small(Kind::Single, 0), 903, false);
+    let mut next = perform(rt, &mut bind, Next::Go, &filling, reply);
+    next = perform(rt, &mut bind, next, &missing, reply);
+    next = perform(rt, &mut bind, next, first, reply);
+    next = perform(rt, &mut bind, next, taken, reply);
+    next = perform(rt, &mut bind, next, entered, reply);
+    next = perform(rt, &mut bind, next, behind, reply);
+    assert_ended(rt, next, reply);
 }
 
 #[test]

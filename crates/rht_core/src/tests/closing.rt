@@ -1,7 +1,7 @@
 //! What words stand for at a closing, and in words that no run gives.
 
-use super::{FIND_5, bind, reply_to, small};
-use crate::{Event, State, owners_of};
+use super::{FIND_5, assert_owners, bind, reply_to, small};
+use crate::{Event, State};
 use rht_model::{Call, Closed};
 use rht_policy::Low;
 use rht_words::{Geometry, Port};
@@ -54,13 +54,28 @@ fn a_closed_table_lists_what_is_bound(rt: HostRuntime) -> Result<(), Fail> {
     Ok(())
 }
 
-#[test]
-fn owners_in_words_that_no_run_gives(rt: HostRuntime) -> Result<(), Fail> {
-    let geometry = Geometry::new(8, 4, 1).ok_or("within limits")?;
-    let mut words = Vec::new(rt.alloc());
+/// All words of a table of this geometry: these words, and zeros.
+fn words_with(
+    alloc: Global,
+    geometry: Geometry,
+    parts: &[&[(usize, u64)]],
+) -> Result<Vec<u64>, Fail> {
+    let mut words = Vec::new(alloc);
     for _ in 0..geometry.words() {
         words.push(0)?;
     }
+    for part in parts {
+        for (place, value) in *part {
+            let word = words.get_mut(*place).ok_or("within the words")?;
+            *word = *value;
+        }
+    }
+    Ok(words)
+}
+
+#[test]
+fn owners_in_words_that_no_run_gives(rt: HostRuntime) -> Result<(), Fail> {
+    let geometry = Geometry::new(8, 4, 1).ok_or("within limits")?;
     // Two tables of 4 buckets, which are each other's future.
     let tables = [(24, 2), (26, 2), (56, 2 + 1_024), (58, 1)];
     // Node 0 stands in the first table, and behind it on its list nodes 2 and 1.
@@ -84,15 +99,10 @@ fn owners_in_words_that_no_run_gives(rt: HostRuntime) -> Result<(), Fail> {
         (300, 2),
         (301, 10),
     ];
-    for (place, value) in tables.iter().chain(&first).chain(&second) {
-        let word = words.get_mut(*place).ok_or("within the words")?;
-        *word = *value;
-    }
+    let words = words_with(rt.alloc(), geometry, &[&tables, &first, &second])?;
     let cases: [(Port, &[u32]); 3] = [(5, &[9, 7, 3]), (6, &[2; 8]), (7, &[])];
     for (port, want) in cases {
-        assert_eq!(rt; words.len(), geometry.words());
-        let owners = owners_of(rt.alloc(), geometry, words.as_slice(), port)?;
-        assert_eq!(rt; owners.as_slice(), want, "at {port}");
+        assert_owners(&rt, rt.alloc(), geometry, words.as_slice(), port, want)?;
     }
     Ok(())
 }

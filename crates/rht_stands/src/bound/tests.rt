@@ -5,6 +5,7 @@
 use super::{bucket_in, owners_of};
 use rht_words::{Geometry, Port};
 use std::alloc::Global;
+use std::process::Abort;
 use std::test::Fail;
 
 /// The shape of a nested table of 128 buckets, with one level of entries, whose top page is page 0.
@@ -19,24 +20,82 @@ const ONE_PAGE: [(usize, u64); 1] = [(314, 2)];
 /// Entry 1 leads to page 1, whose entry 3 leads to page 2. All other pages are missing.
 const TWO_PAGES: [(usize, u64); 2] = [(315, 2), (381, 3)];
 
-/// All words of a table of this geometry: these words, and zeros.
-fn words_with(alloc: Global, geometry: Geometry, set: &[(usize, u64)]) -> Result<Vec<u64>, Fail> {
+/// What a test sets of the words: places and their words.
+type Part<'a> = &'a [(usize, u64)];
+
+/// The words, the shape, the bucket, and its place.
+type PlaceCase<'a> = (Part<'a>, u64, u32, Option<usize>);
+
+/// The words, a port and its owners.
+type OwnersCase<'a> = ([Part<'a>; 4], Port, &'a [u32]);
+
+/// All words of a table of this geometry: these words, part by part, and zeros.
+fn words_with(alloc: Global, geometry: Geometry, parts: &[Part]) -> Result<Vec<u64>, Fail> {
     let mut words = Vec::new(alloc);
     for _ in 0..geometry.words() {
         words.push(0)?;
     }
-    for (place, value) in set {
-        let word = words.get_mut(*place).ok_or("within the words")?;
-        *word = *value;
+    for part in parts {
+        for (place, value) in *part {
+            let word = words.get_mut(*place).ok_or("within the words")?;
+            *word = *value;
+        }
     }
     Ok(words)
 }
 
+/// In these words the bucket of a table of this shape is at this place.
+fn assert_place(
+    rt: &impl Abort,
+    geometry: Geometry,
+    words: &[u64],
+    shape: u64,
+    bucket: u32,
+    want: Option<usize>,
+) {
+    assert_eq!(rt; words.len(), geometry.words());
+    let place = bucket_in(geometry, words, shape, bucket);
+    assert_eq!(rt; place, want, "of {bucket} in {shape}");
+}
+
+/// These words stand for these owners of the port.
+fn assert_owners(
+    rt: &impl Abort,
+    alloc: Global,
+    geometry: Geometry,
+    words: &[u64],
+    port: Port,
+    want: &[u32],
+) -> Result<(), Fail> {
+    assert_eq!(rt; words.len(), geometry.words());
+    let owners = owners_of(alloc, geometry, words, port)?;
+    assert_eq!(rt; owners.as_slice(), want, "at {port}");
+    Ok(())
+}
+
+/// The buckets are at these places.
+fn assert_places(rt: &impl Abort, alloc: Global, cases: &[PlaceCase]) -> Result<(), Fail> {
+    let geometry = Geometry::new(8, 4, 1).ok_or("within limits")?;
+    for (set, shape, bucket, want) in cases {
+        let words = words_with(alloc, geometry, &[*set])?;
+        assert_place(rt, geometry, words.as_slice(), *shape, *bucket, *want);
+    }
+    Ok(())
+}
+
+/// The words stand for these owners.
+fn assert_stands(rt: &impl Abort, alloc: Global, cases: &[OwnersCase]) -> Result<(), Fail> {
+    let geometry = Geometry::new(8, 4, 1).ok_or("within limits")?;
+    for (parts, port, want) in cases {
+        let words = words_with(alloc, geometry, parts)?;
+        assert_owners(rt, alloc, geometry, words.as_slice(), *port, want)?;
+    }
+    Ok(())
+}
+
 #[test]
 fn buckets_behind_entries(rt: HostRuntime) -> Result<(), Fail> {
-    let geometry = Geometry::new(8, 4, 1).ok_or("within limits")?;
-    // the words, the shape, the bucket, and its place
-    let cases: [(&[(usize, u64)], u64, u32, Option<usize>); 10] = [
+    let cases: [PlaceCase; 10] = [
         // the first bucket of page 1, and the last one: 378 + 0 and 378 + 63
         (&ONE_PAGE, ONE_LEVEL, 0, Some(378)),
         (&ONE_PAGE, ONE_LEVEL, 126, Some(441)),
@@ -55,18 +114,11 @@ fn buckets_behind_entries(rt: HostRuntime) -> Result<(), Fail> {
         // a flat table of 64 buckets in page 1
         (&TWO_PAGES, 6 + 1_024, 5, Some(383)),
     ];
-    for (set, shape, bucket, want) in cases {
-        let words = words_with(rt.alloc(), geometry, set)?;
-        assert_eq!(rt; words.len(), geometry.words());
-        let place = bucket_in(geometry, words.as_slice(), shape, bucket);
-        assert_eq!(rt; place, want, "of {bucket} in {shape}");
-    }
-    Ok(())
+    assert_places(&rt, rt.alloc(), &cases)
 }
 
 #[test]
 fn a_missing_page_binds_nothing(rt: HostRuntime) -> Result<(), Fail> {
-    let geometry = Geometry::new(8, 4, 1).ok_or("within limits")?;
     // Node 0 stands in word 3 of page 1, at 381, which is bucket 6 where that page is behind entry 0.
     let node_0 = [(381, 2), (282, 763), (283, 6), (284, 9)];
     // Node 2 stands in word 5 of page 2, at 447, and node 1 is behind it on its list.
@@ -89,8 +141,7 @@ fn a_missing_page_binds_nothing(rt: HostRuntime) -> Result<(), Fail> {
     ];
     let one_level = [(24, ONE_LEVEL)];
     let two_levels = [(24, TWO_LEVELS)];
-    // the words, a port and its owners
-    let cases: [([&[(usize, u64)]; 4], Port, &[u32]); 11] = [
+    let cases: [OwnersCase; 11] = [
         ([&one_level, &ONE_PAGE, &node_0, &[]], 6, &[9]),
         ([&one_level, &ONE_PAGE, &node_0, &[]], 5, &[]),
         // where the page of its bucket is missing the node isn't met
@@ -107,15 +158,5 @@ fn a_missing_page_binds_nothing(rt: HostRuntime) -> Result<(), Fail> {
         ([&two_levels, &[(381, 3)], &node_2, &[]], 647, &[]),
         ([&two_levels, &[(315, 2)], &node_2, &behind], 647, &[]),
     ];
-    for (parts, port, want) in cases {
-        let mut set = Vec::new(rt.alloc());
-        for part in parts {
-            set.extend_from_slice(part)?;
-        }
-        let words = words_with(rt.alloc(), geometry, set.as_slice())?;
-        assert_eq!(rt; words.len(), geometry.words());
-        let owners = owners_of(rt.alloc(), geometry, words.as_slice(), port)?;
-        assert_eq!(rt; owners.as_slice(), want, "at {port}");
-    }
-    Ok(())
+    assert_stands(&rt, rt.alloc(), &cases)
 }
