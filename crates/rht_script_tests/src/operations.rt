@@ -1,7 +1,8 @@
 //! The text of each operation, by hand from the rules of the printed text.
 
-use super::{write_open, write_operation, write_size};
+use crate::asserts::{assert_same, assert_text};
 use rht_io::MemSink;
+use rht_script::{write_open, write_operation, write_size};
 use rht_words::Op;
 use std::test::Fail;
 
@@ -26,8 +27,9 @@ fn each_operation_has_its_text(rt: HostRuntime) -> Result<(), Fail> {
     ];
     for (op, old, line) in cases {
         let mut sink = MemSink::new(rt.alloc(), 64, Vec::new(rt.alloc()))?;
-        assert_eq!(rt; write_operation(&mut sink, 16, op, old), Ok(()), "{line}");
-        assert_eq!(rt; sink.bytes(), line.as_bytes(), "{line}");
+        let written = write_operation(&mut sink, 16, op, old);
+        assert_same(&rt, &written, &Ok(()), line);
+        assert_text(&rt, &sink, line);
     }
     Ok(())
 }
@@ -35,9 +37,10 @@ fn each_operation_has_its_text(rt: HostRuntime) -> Result<(), Fail> {
 #[test]
 fn what_is_left_open_has_its_text(rt: HostRuntime) -> Result<(), Fail> {
     let mut sink = MemSink::new(rt.alloc(), 64, Vec::new(rt.alloc()))?;
-    assert_eq!(rt; write_open(&mut sink, 1), Ok(()));
-    assert_eq!(rt; write_open(&mut sink, 12), Ok(()));
-    assert_eq!(rt; write_size(&mut sink, 64), Ok(()));
-    assert_eq!(rt; sink.bytes(), b"open 1\nopen 12\nsize 64\n".as_slice());
+    let one = write_open(&mut sink, 1);
+    let other = write_open(&mut sink, 12);
+    let size = write_size(&mut sink, 64);
+    assert_same(&rt, &[one, other, size], &[Ok(()), Ok(()), Ok(())], "");
+    assert_text(&rt, &sink, "open 1\nopen 12\nsize 64\n");
     Ok(())
 }

@@ -1,6 +1,9 @@
 //! The script of a number: what was worked out by hand from the rule by which it is made.
 
-use super::*;
+use crate::asserts::assert_same;
+use rht_model::Call;
+use rht_script::generated;
+use rht_words::{Config, Hash, Port};
 use std::test::Fail;
 
 /// A worker's bind of a port of its own.
@@ -63,10 +66,10 @@ fn makes_the_script_of_number_7(rt: HostRuntime) -> Result<(), Fail> {
         hash: Hash::Low,
         ..Config::plain()
     };
-    assert_eq!(rt; script.config, config);
-    assert_eq!(rt; script.config.starting_size(), 2_048);
-    assert!(rt; script.auto && script.schedule.is_empty());
-    assert!(rt; script.is_sound());
+    assert_same(&rt, &script.config, &config, 7);
+    assert_same(&rt, &script.config.starting_size(), &2_048, 7);
+    let flags = (script.auto, script.schedule.is_empty(), script.is_sound());
+    assert_same(&rt, &flags, &(true, true, true), 7);
     // Round 0 of worker 1, whose port is 10,000 + 7 + 0, and then round 1.
     let first = [
         bind(1, 10_007),
@@ -88,11 +91,16 @@ fn makes_the_script_of_number_7(rt: HostRuntime) -> Result<(), Fail> {
         find(8, 80_506),
         find(8, 85_506),
     ];
-    assert_eq!(rt; script.commands.len(), 20_000);
-    assert_eq!(rt; &script.commands[..10], first.as_slice());
-    assert_eq!(rt; script.commands[2_499], find(1, 15_506));
-    assert_eq!(rt; script.commands[2_500], bind(2, 20_007));
-    assert_eq!(rt; &script.commands[19_995..], last.as_slice());
+    assert!(rt; script.commands.len() == 20_000);
+    assert_same(&rt, &&script.commands[..10], &first.as_slice(), "first");
+    let middle = [find(1, 15_506), bind(2, 20_007)];
+    assert_same(
+        &rt,
+        &&script.commands[2_499..2_501],
+        &middle.as_slice(),
+        "middle",
+    );
+    assert_same(&rt, &&script.commands[19_995..], &last.as_slice(), "last");
     Ok(())
 }
 
@@ -102,12 +110,15 @@ fn has_so_many_calls_of_each_kind(rt: HostRuntime) -> Result<(), Fail> {
     // number 1,000,003 the last three digits are added to each port, and of 4,294,967,295 too.
     for (number, port) in [(7, 10_007), (1_000_003, 10_003), (4_294_967_295, 10_295)] {
         let script = generated(rt.alloc(), number)?;
-        assert_eq!(rt; script.config.seed, number);
-        assert_eq!(rt; script.commands.len(), 20_000);
-        assert_eq!(rt; script.commands[0], bind(1, port));
-        assert_eq!(rt; binds(&script.commands), 6_000);
-        assert_eq!(rt; finds(&script.commands), 12_000);
-        assert_eq!(rt; releases(&script.commands), 2_000);
+        assert!(rt; script.commands.len() == 20_000);
+        assert_same(&rt, &script.commands[0], &bind(1, port), number);
+        let counts = [
+            binds(&script.commands),
+            finds(&script.commands),
+            releases(&script.commands),
+        ];
+        assert_same(&rt, &counts, &[6_000, 12_000, 2_000], number);
+        assert_same(&rt, &script.config.seed, &number, number);
     }
     Ok(())
 }

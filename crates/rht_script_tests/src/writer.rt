@@ -1,9 +1,28 @@
 //! The text of each reply and of last bindings, by hand from the rules of the printed text, and
 //! how many puts it costs.
 
-use super::*;
+use crate::asserts::{assert_same, assert_text};
 use rht_io::MemSink;
+use rht_model::{Bindings, Closed, Cursor, Reply};
+use rht_script::{ScriptFault, write_closed, write_fault, write_reply};
+use std::alloc::{AllocError, Global};
+use std::process::Abort;
 use std::test::Fail;
+
+/// Asserts that the line of worker 16 has this text, beside whose reply lie some owners and pairs.
+fn assert_reply(
+    rt: &impl Abort,
+    alloc: Global,
+    reply: Reply,
+    kicks: bool,
+    text: &str,
+) -> Result<(), Fail> {
+    let mut sink = MemSink::new(alloc, 64, Vec::new(alloc))?;
+    let written = write_reply(&mut sink, 16, reply, &[3, 2, 1], &[(0, 10), (5, 15)], kicks);
+    assert_same(rt, &written, &Ok(()), text);
+    assert_text(rt, &sink, &format!(in alloc; "16: {text}\n")?);
+    Ok(())
+}
 
 #[test]
 fn each_reply_has_its_text(rt: HostRuntime) -> Result<(), Fail> {
@@ -60,11 +79,7 @@ fn each_reply_has_its_text(rt: HostRuntime) -> Result<(), Fail> {
         (Reply::Counted { count: 4 }, false, "count 4"),
     ];
     for (reply, kicks, text) in cases {
-        let mut sink = MemSink::new(rt.alloc(), 64, Vec::new(rt.alloc()))?;
-        let written = write_reply(&mut sink, 16, reply, &[3, 2, 1], &[(0, 10), (5, 15)], kicks);
-        assert_eq!(rt; written, Ok(()), "{text}");
-        let line = format!(in rt.alloc(); "16: {text}\n")?;
-        assert_eq!(rt; sink.bytes(), line.as_bytes(), "{text}");
+        assert_reply(&rt, rt.alloc(), reply, kicks, text)?;
     }
     Ok(())
 }
@@ -75,14 +90,25 @@ fn short_lists_have_no_space_too_many(rt: HostRuntime) -> Result<(), Fail> {
     let one = Reply::Listed { len: 1 };
     let walked = Reply::Walked { len: 0, next: None };
     let mut sink = MemSink::new(rt.alloc(), 64, Vec::new(rt.alloc()))?;
-    assert_eq!(rt; write_reply(&mut sink, 1, empty, &[], &[], false), Ok(()));
-    assert_eq!(rt; write_reply(&mut sink, 1, one, &[2], &[], false), Ok(()));
-    assert_eq!(rt; write_reply(&mut sink, 1, walked, &[], &[], false), Ok(()));
-    assert_eq!(rt;
-        sink.bytes(),
-        b"1: list\n1: list 2\n1: walk end\n".as_slice()
-    );
+    let empty = write_reply(&mut sink, 1, empty, &[], &[], false);
+    let one = write_reply(&mut sink, 1, one, &[2], &[], false);
+    let walked = write_reply(&mut sink, 1, walked, &[], &[], false);
+    assert_same(&rt, &[empty, one, walked], &[Ok(()), Ok(()), Ok(())], "");
+    assert_text(&rt, &sink, "1: list\n1: list 2\n1: walk end\n");
     Ok(())
+}
+
+/// Two owners of port 7, and one of port 80.
+fn three_bindings(alloc: Global) -> Result<Closed, AllocError> {
+    let mut bindings = Bindings::with_room(alloc, 3)?;
+    bindings.add(7, 5);
+    bindings.add(7, 4);
+    bindings.add(80, 1);
+    Ok(Closed {
+        bindings,
+        size: 64,
+        keys: 2,
+    })
 }
 
 #[test]
@@ -96,48 +122,48 @@ fn text_that_fits_costs_one_put(rt: HostRuntime) -> Result<(), Fail> {
             "port 7: 5 4\nport 80: 1\nsize 64 keys 2\n2: pending 0 1\n",
         ),
     ];
+    let closed = three_bindings(rt.alloc())?;
+    let pending = Reply::Pending {
+        caller: 0,
+        section: 1,
+    };
     for (put, held) in cases {
-        let mut bindings = Bindings::with_room(rt.alloc(), 3)?;
-        bindings.add(7, 5);
-        bindings.add(7, 4);
-        bindings.add(80, 1);
-        let closed = Closed {
-            bindings,
-            size: 64,
-            keys: 2,
-        };
-        let pending = Reply::Pending {
-            caller: 0,
-            section: 1,
-        };
         let mut sink = MemSink::new(rt.alloc(), 128, vec![in rt.alloc(); put]?)?;
         let written = write_closed(&mut sink, &closed);
-        assert_eq!(rt; written.is_ok(), put > 1, "put {put}");
+        assert_same(&rt, &written.is_ok(), &(put > 1), put);
         if put > 1 {
             let written = write_reply(&mut sink, 2, pending, &[], &[], true);
-            assert_eq!(rt; written.is_ok(), put > 2, "put {put}");
+            assert_same(&rt, &written.is_ok(), &(put > 2), put);
         }
-        assert_eq!(rt; sink.bytes(), held.as_bytes(), "put {put}");
+        assert_text(&rt, &sink, held);
     }
     Ok(())
+}
+
+/// The line of a list of 1,000 owners.
+fn long_line(alloc: Global) -> Result<String, AllocError> {
+    let mut line = String::from_str(alloc, "1: list")?;
+    for _ in 0..1000 {
+        line.push_str(" 4294967295")?;
+    }
+    line.push('\n')?;
+    Ok(line)
 }
 
 #[test]
 fn a_long_line_goes_in_pieces(rt: HostRuntime) -> Result<(), Fail> {
     // 7 bytes, 1,000 times 11 and a line feed: more than two buffers of 4,096.
-    let mut line = b"1: list".to_vec(rt.alloc())?;
-    for _ in 0..1000 {
-        line.extend_from_slice(b" 4294967295")?;
-    }
-    line.push(b'\n')?;
+    let line = long_line(rt.alloc())?;
     let owners = vec![in rt.alloc(); u32::MAX; 1000]?;
     for put in 1..6 {
         let mut sink = MemSink::new(rt.alloc(), 16_384, vec![in rt.alloc(); put]?)?;
         let listed = Reply::Listed { len: 1000 };
         let written = write_reply(&mut sink, 1, listed, &owners, &[], false);
-        assert_eq!(rt; written.is_ok(), put > 3, "put {put}");
-        assert_eq!(rt; sink.bytes() == line.as_slice(), put > 3, "put {put}");
-        assert!(rt; line.as_slice().starts_with(sink.bytes()), "put {put}");
+        let found = sink.bytes();
+        let whole = found == line.as_bytes();
+        let begins = line.as_bytes().starts_with(found);
+        let want = (put > 3, put > 3, true);
+        assert_same(&rt, &(written.is_ok(), whole, begins), &want, put);
     }
     Ok(())
 }
@@ -158,9 +184,9 @@ fn each_fault_has_its_line(rt: HostRuntime) -> Result<(), Fail> {
     for (cause, text) in cases {
         let mut sink = MemSink::new(rt.alloc(), 64, Vec::new(rt.alloc()))?;
         let fault = ScriptFault { line: 40, cause };
-        assert_eq!(rt; write_fault(&mut sink, fault), Ok(()), "{text}");
+        assert_same(&rt, &write_fault(&mut sink, fault), &Ok(()), text);
         let line = format!(in rt.alloc(); "rht: line 40: {text}\n")?;
-        assert_eq!(rt; sink.bytes(), line.as_bytes(), "{text}");
+        assert_text(&rt, &sink, &line);
     }
     Ok(())
 }

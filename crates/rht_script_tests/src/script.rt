@@ -1,7 +1,10 @@
 //! Scripts that can be run and scripts that can't, made by hand.
 
-use super::*;
-use rht_model::Cursor;
+use crate::asserts::assert_same;
+use rht_model::{Call, Cursor};
+use rht_script::{Sched, Script};
+use rht_words::{Config, Kind};
+use std::alloc::{AllocError, Global};
 use std::test::Fail;
 
 /// A cursor, which no script's walk has.
@@ -9,6 +12,21 @@ const CURSOR: Cursor = Cursor {
     serial: 0,
     bucket: 0,
 };
+
+/// A script of one command and one line of a schedule.
+fn script_of(
+    alloc: Global,
+    config: Config,
+    command: (u32, Call),
+    line: Sched,
+) -> Result<Script, AllocError> {
+    Ok(Script {
+        config,
+        auto: true,
+        commands: vec![in alloc; command]?,
+        schedule: vec![in alloc; line]?,
+    })
+}
 
 #[test]
 fn tells_scripts_that_can_be_run(rt: HostRuntime) -> Result<(), Fail> {
@@ -138,13 +156,8 @@ fn tells_scripts_that_can_be_run(rt: HostRuntime) -> Result<(), Fail> {
         ),
     ];
     for (config, command, line, sound) in cases {
-        let script = Script {
-            config,
-            auto: true,
-            commands: vec![in rt.alloc(); command]?,
-            schedule: vec![in rt.alloc(); line]?,
-        };
-        assert_eq!(rt; script.is_sound(), sound, "at {script:?}");
+        let script = script_of(rt.alloc(), config, command, line)?;
+        assert_same(&rt, &script.is_sound(), &sound, &script);
     }
     Ok(())
 }

@@ -3,36 +3,59 @@
 
 mod faulty_inputs;
 
-use super::*;
+use crate::asserts::assert_same;
 use faulty_inputs::FAULTS;
-use rht_words::Config;
-use std::alloc::AllocError;
+use rht_model::Call;
+use rht_script::{ReadError, Sched, ScriptFault, read};
+use rht_words::{Config, Hash, Kind};
+use std::alloc::{AllocError, Global};
 use std::process::Abort;
 use std::test::Fail;
 
 /// Asserts that this is the first fault of the bytes.
 fn assert_fault(rt: &impl Abort, alloc: Global, bytes: &[u8], line: u32, cause: u8) {
+    assert_fault_at(rt, alloc, "a long input", bytes, line, cause);
+}
+
+/// The same, and names the input.
+fn assert_fault_at(rt: &impl Abort, alloc: Global, at: &str, bytes: &[u8], line: u32, cause: u8) {
     let fault = Some(ReadError::Fault(ScriptFault { line, cause }));
-    assert_eq!(rt;
-        read(alloc, bytes).err(),
-        fault,
-        "line {line}, cause {cause}"
-    );
+    assert_same(rt, &read(alloc, bytes).err(), &fault, at);
+}
+
+/// Asserts that the bytes are a script of so many commands.
+fn assert_commands(
+    rt: &impl Abort,
+    alloc: Global,
+    bytes: &[u8],
+    commands: usize,
+) -> Result<(), Fail> {
+    let script = read(alloc, bytes)?;
+    assert!(rt; script.commands.len() == commands);
+    Ok(())
 }
 
 #[test]
 fn finds_the_first_fault(rt: HostRuntime) {
     for (text, line, cause) in FAULTS {
-        let fault = ReadError::Fault(ScriptFault {
-            line: *line,
-            cause: *cause,
-        });
-        assert_eq!(rt;
-            read(rt.alloc(), text.as_bytes()).err(),
-            Some(fault),
-            "at {text:?}"
-        );
+        assert_fault_at(&rt, rt.alloc(), text, text.as_bytes(), *line, *cause);
     }
+}
+
+/// Asserts that the text is a script with this config and these commands.
+fn assert_script(
+    rt: &impl Abort,
+    alloc: Global,
+    text: &str,
+    config: Config,
+    commands: &[(u32, Call)],
+) -> Result<(), Fail> {
+    let script = read(alloc, text.as_bytes())?;
+    assert_same(rt, &script.config, &config, text);
+    assert_same(rt, &script.commands.as_slice(), &commands, text);
+    assert_same(rt, &(script.auto, script.schedule.len()), &(true, 0), text);
+    assert_same(rt, &script.is_sound(), &true, text);
+    Ok(())
 }
 
 #[test]
@@ -219,12 +242,23 @@ fn reads_scripts(rt: HostRuntime) -> Result<(), Fail> {
         ),
     ];
     for (text, config, commands) in scripts {
-        let script = read(rt.alloc(), text.as_bytes())?;
-        assert_eq!(rt; script.config, config, "at {text:?}");
-        assert_eq!(rt; script.commands.as_slice(), commands, "at {text:?}");
-        assert!(rt; script.auto && script.schedule.is_empty());
-        assert!(rt; script.is_sound(), "at {text:?}");
+        assert_script(&rt, rt.alloc(), text, config, commands)?;
     }
+    Ok(())
+}
+
+/// Asserts that the text is a script with so many commands and this schedule.
+fn assert_schedule(
+    rt: &impl Abort,
+    alloc: Global,
+    text: &str,
+    commands: usize,
+    schedule: &[Sched],
+) -> Result<(), Fail> {
+    let script = read(alloc, text.as_bytes())?;
+    assert_same(rt, &script.commands.len(), &commands, text);
+    assert_same(rt, &script.schedule.as_slice(), &schedule, text);
+    assert_same(rt, &script.is_sound(), &true, text);
     Ok(())
 }
 
@@ -278,10 +312,7 @@ fn reads_schedules(rt: HostRuntime) -> Result<(), Fail> {
         ),
     ];
     for (text, commands, schedule) in scripts {
-        let script = read(rt.alloc(), text.as_bytes())?;
-        assert_eq!(rt; script.commands.len(), commands, "at {text:?}");
-        assert_eq!(rt; script.schedule.as_slice(), schedule, "at {text:?}");
-        assert!(rt; script.is_sound(), "at {text:?}");
+        assert_schedule(&rt, rt.alloc(), text, commands, schedule)?;
     }
     Ok(())
 }
@@ -296,16 +327,15 @@ fn reads_who_runs_the_work(rt: HostRuntime) -> Result<(), Fail> {
     ];
     for (text, auto) in scripts {
         let script = read(rt.alloc(), text.as_bytes())?;
-        assert_eq!(rt; script.auto, auto, "at {text:?}");
-        assert!(rt; script.is_sound(), "at {text:?}");
+        assert_same(&rt, &(script.auto, script.is_sound()), &(auto, true), text);
     }
     Ok(())
 }
 
 /// Such a byte so many times, and then the text.
-fn padded(alloc: Global, byte: u8, count: usize, text: &[u8]) -> Result<Vec<u8>, AllocError> {
+fn padded(alloc: Global, byte: u8, count: usize, text: &str) -> Result<Vec<u8>, AllocError> {
     let mut bytes = vec![in alloc; byte; count]?;
-    bytes.extend_from_slice(text)?;
+    bytes.extend_from_slice(text.as_bytes())?;
     Ok(bytes)
 }
 
@@ -313,49 +343,49 @@ fn padded(alloc: Global, byte: u8, count: usize, text: &[u8]) -> Result<Vec<u8>,
 fn reads_lines_of_256_bytes(rt: HostRuntime) -> Result<(), Fail> {
     let alloc = rt.alloc();
     // The text has 12 bytes.
-    let table = padded(alloc, b' ', 244, b"table single\n")?;
-    assert!(rt; read(alloc, &table).is_ok());
-    let table = padded(alloc, b' ', 245, b"table single\n")?;
-    assert_fault(&rt, alloc, &table, 1, 6);
-    // A line that is too long is so before anything else that is wrong with it, or skips it.
-    let other = padded(alloc, b'x', 257, b"\ntable single\n")?;
-    assert_fault(&rt, alloc, &other, 1, 6);
-    let comment = padded(alloc, b'#', 257, b"")?;
-    assert_fault(&rt, alloc, &comment, 1, 6);
-    let comment = padded(alloc, b'#', 256, b"\ntable single\n1 lookup\n")?;
-    assert_fault(&rt, alloc, &comment, 3, 2);
+    let table = padded(alloc, b' ', 244, "table single\n")?;
+    assert_commands(&rt, alloc, &table, 0)?;
+    let cases = [
+        (b' ', 245, "table single\n", 1, 6),
+        // A line that is too long is so before anything else that is wrong with it, or skips it.
+        (b'x', 257, "\ntable single\n", 1, 6),
+        (b'#', 257, "", 1, 6),
+        (b'#', 256, "\ntable single\n1 lookup\n", 3, 2),
+    ];
+    for (byte, count, text, line, cause) in cases {
+        assert_fault(&rt, alloc, &padded(alloc, byte, count, text)?, line, cause);
+    }
     Ok(())
 }
 
-/// The table line, and then so many lines.
-fn repeated(alloc: Global, line: &[u8], count: usize) -> Result<Vec<u8>, AllocError> {
-    let mut bytes = Vec::from_slice(alloc, b"table single\n")?;
+/// The table line, then so many lines, and then the text.
+fn repeated(alloc: Global, line: &str, count: usize, text: &str) -> Result<Vec<u8>, AllocError> {
+    let mut bytes = "table single\n".as_bytes().to_vec(alloc)?;
     for _ in 0..count {
-        bytes.extend_from_slice(line)?;
+        bytes.extend_from_slice(line.as_bytes())?;
     }
+    bytes.extend_from_slice(text.as_bytes())?;
     Ok(bytes)
 }
 
 #[test]
 fn reads_a_million_lines(rt: HostRuntime) -> Result<(), Fail> {
     let alloc = rt.alloc();
-    let mut bytes = repeated(alloc, b"1 bind 80 5\n", 999_999)?;
-    let script = read(alloc, &bytes)?;
-    assert_eq!(rt; script.commands.len(), 999_999);
+    let mut bytes = repeated(alloc, "1 bind 80 5\n", 999_999, "")?;
+    assert_commands(&rt, alloc, &bytes, 999_999)?;
     // One line more, also where it is blank.
-    bytes.extend_from_slice(b"\n")?;
+    bytes.push(b'\n')?;
     assert_fault(&rt, alloc, &bytes, 1_000_001, 5);
     // A line that is too long besides is one too many first.
-    bytes.extend_from_slice(&padded(alloc, b'x', 257, b"")?)?;
+    bytes.extend_from_slice(&padded(alloc, b'x', 257, "")?)?;
     assert_fault(&rt, alloc, &bytes, 1_000_001, 5);
     // Blank lines alone: a million of them, and one more.
-    let mut blank = vec![in alloc; b'\n'; 1_000_000]?;
-    assert_fault(&rt, alloc, &blank, 1_000_001, 1);
-    blank.push(b'\n')?;
-    assert_fault(&rt, alloc, &blank, 1_000_001, 5);
+    for (text, cause) in [("", 1), ("\n", 5)] {
+        let blank = padded(alloc, b'\n', 1_000_000, text)?;
+        assert_fault(&rt, alloc, &blank, 1_000_001, cause);
+    }
     // A fault in an earlier line comes first.
-    let mut faulty = repeated(alloc, b"\n", 999_998)?;
-    faulty.extend_from_slice(b"1 find x\n1 lookup\n")?;
+    let faulty = repeated(alloc, "\n", 999_998, "1 find x\n1 lookup\n")?;
     assert_fault(&rt, alloc, &faulty, 1_000_000, 3);
     Ok(())
 }
@@ -364,18 +394,16 @@ fn reads_a_million_lines(rt: HostRuntime) -> Result<(), Fail> {
 fn reads_sixteen_mebibytes(rt: HostRuntime) -> Result<(), Fail> {
     let alloc = rt.alloc();
     // The table line has 13 bytes, each line 28, and the last one 23: 16,777,216 in all.
-    let mut bytes = repeated(alloc, b"1 find 00000000000000000080\n", 599_185)?;
-    bytes.extend_from_slice(b"1 find 000000000000080\n")?;
-    assert_eq!(rt; bytes.len(), 16_777_216);
-    let script = read(alloc, &bytes)?;
-    assert_eq!(rt; script.commands.len(), 599_186);
+    let line = "1 find 00000000000000000080\n";
+    let mut bytes = repeated(alloc, line, 599_185, "1 find 000000000000080\n")?;
+    assert!(rt; bytes.len() == 16_777_216);
+    assert_commands(&rt, alloc, &bytes, 599_186)?;
     // One byte more stands behind 599,187 line feeds.
     bytes.push(b'\n')?;
     assert_fault(&rt, alloc, &bytes, 599_188, 9);
     // Too many bytes come before any other fault, as no table line and a line that is too long.
-    let mut bytes = vec![in alloc; b'x'; 16_777_217]?;
-    assert_fault(&rt, alloc, &bytes, 1, 9);
-    bytes.pop();
-    assert_fault(&rt, alloc, &bytes, 1, 6);
+    for (count, cause) in [(16_777_217, 9), (16_777_216, 6)] {
+        assert_fault(&rt, alloc, &padded(alloc, b'x', count, "")?, 1, cause);
+    }
     Ok(())
 }
