@@ -1,7 +1,7 @@
 use Rattle.std.proofs.Common.{◌≡◌, sym, subst}
 use Rattle.rht_run.specs.Passes.{IsPassOf}
 use Rattle.rht_registry.proofs.ClosedOutcomes.{outcome-passes}
-use Rattle.rht_registry.proofs.tests.closed.Goals as goal
+use Rattle.rht_tests.proofs.registry.closed.Goals as goal
 
 pub close-requires-clause-passes : goal.close-requires-clause-passes
 close-requires-clause-passes g c pass among =

@@ -7,15 +7,17 @@ ghost use Rattle.rht_policy.specs.Mix.{mix_named, low_mix};
 ghost use Rattle.rht_script.specs.Sound.{IsSoundScript};
 ghost use Rattle.rht_registry.specs.Outcomes.{IsBuiltCommand, IsOutcome};
 
-use super::{Outcome, run_workers};
+use crate::asserts::{assert_bound, assert_same};
 use rht_io::{Gate, NoGate};
 use rht_model::{Call, Closed, Replies, Reply};
 use rht_policy::{Low, Mix};
+use rht_registry::{Outcome, run_workers};
 use rht_run::Table;
 use rht_script::Script;
 use rht_words::{Config, Hash, Kind, Port};
 use std::alloc::{AllocError, Global};
 use std::hint::spin_loop;
+use std::process::Abort;
 use std::sync::atomic::{AtomicBool, AtomicU32, Ordering};
 use std::test::Fail;
 
@@ -116,6 +118,15 @@ impl Gate for Counting {
     }
 }
 
+/// Asserts that these are the replies.
+fn assert_replies(rt: &impl Abort, replies: &Replies, want: &[Reply]) {
+    assert_same(rt, replies.len(), want.len());
+    for (i, reply) in want.iter().enumerate() {
+        assert!(rt; i < replies.len());
+        assert_same(rt, (i, replies.reply(i)), (i, *reply));
+    }
+}
+
 #[test]
 fn a_script_is_done_on_the_table(rt: HostRuntime) -> Result<(), Fail> {
     let script = small_script::<Low>(rt.alloc())?;
@@ -138,23 +149,9 @@ fn a_script_is_done_on_the_table(rt: HostRuntime) -> Result<(), Fail> {
         Reply::Missing,
         Reply::Counted { count: 2 },
     ];
-    assert_eq!(rt; replies.len(), 1);
-    let replies = &replies[0];
-    assert_eq!(rt; replies.len(), want.len());
-    for (i, reply) in want.iter().enumerate() {
-        assert!(rt; i < replies.len());
-        assert_eq!(rt; replies.reply(i), *reply, "at {i}");
-    }
-    assert_eq!(rt;
-        (closed.size, closed.keys, closed.bindings.len()),
-        (64, 2, 2)
-    );
-    let want: [(Port, &[u32]); 2] = [(6, &[3]), (69, &[8])];
-    for (i, (port, owners)) in want.iter().enumerate() {
-        assert!(rt; i < closed.bindings.len());
-        assert_eq!(rt; closed.bindings.port(i), *port, "at {i}");
-        assert_eq!(rt; closed.bindings.owners(i), *owners, "at {i}");
-    }
+    assert!(rt; replies.len() == 1);
+    assert_replies(&rt, &replies[0], &want);
+    assert_bound(&rt, &closed, 64, &[(6, &[3]), (69, &[8])]);
     Ok(())
 }
 
@@ -168,8 +165,8 @@ fn the_gate_hears_of_each_command(rt: HostRuntime) -> Result<(), Fail> {
     };
     run_workers::<Low, _, _>(&rt, rt.alloc(), &script, &gate)?;
     // Twelve commands of worker 1, and the numbers from 1 to 12.
-    assert_eq!(rt; gate.before.load(Ordering::SeqCst), 1_278);
-    assert_eq!(rt; gate.after.load(Ordering::SeqCst), 1_278);
+    assert_same(&rt, gate.before.load(Ordering::SeqCst), 1_278);
+    assert_same(&rt, gate.after.load(Ordering::SeqCst), 1_278);
     Ok(())
 }
 
@@ -230,13 +227,12 @@ fn two_workers_meet(rt: HostRuntime) -> Result<(), Fail> {
         assert!(rt; gate.seen[0].load(Ordering::SeqCst));
         assert!(rt; gate.seen[1].load(Ordering::SeqCst));
         let (replies, closed) = closed(rt.alloc(), &script, outcome)?;
-        assert_eq!(rt; replies.len(), 2);
+        assert!(rt; replies.len() == 2);
         for own in replies.iter() {
-            assert_eq!(rt; own.len(), 1);
             assert!(rt; !own.is_empty());
-            assert_eq!(rt; own.reply(0), Reply::Bound { kick: false });
+            assert_replies(&rt, own, &[Reply::Bound { kick: false }]);
         }
-        assert_eq!(rt; (closed.size, closed.keys), (64, 2));
+        assert_same(&rt, (closed.size, closed.keys), (64, 2));
     }
     Ok(())
 }

@@ -6,10 +6,10 @@
 ghost use Rattle.std.specs.Prelude.{◌≡◌};
 ghost use Rattle.rht_policy.specs.Mix.{mix_named};
 
-use super::{ReplayError, replay};
 use rht_io::MemSink;
 use rht_model::Call;
 use rht_policy::{Lookup3, Low, Mix};
+use rht_registry::{ReplayError, replay};
 use rht_script::{Sched, Script};
 use rht_words::{Config, Hash, Kind};
 use std::alloc::Global;

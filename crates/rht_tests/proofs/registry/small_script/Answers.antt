@@ -6,7 +6,7 @@ use Rattle.rht_model.specs.declared.history.Call.TheVariants.{Bind, Rebind}
 use Rattle.rht_core.specs.Locals.{machine_of, rebinding_of}
 use Rattle.std.specs.Prelude.{true, is_some}
 use Rattle.rht_registry.specs.Outcomes.{IsBuiltCommand}
-use Rattle.rht_registry.proofs.tests.small_script.Goals as goal
+use Rattle.rht_tests.proofs.registry.small_script.Goals as goal
 
 -- there is a machine for a bind
 bind-built : (M : Type 0) (config : Config) (call : Call) (port owner : ℕ) → call ≡ Bind port owner false

@@ -1,7 +1,7 @@
 use Rattle.std.proofs.Common.{◌≡◌, true, refl, sym, subst}
 use Rattle.std.specs.Prelude.{is_some}
 use Rattle.rht_core.specs.Locals.{machine_of}
-use Rattle.rht_registry.proofs.tests.pair_script.Goals as goal
+use Rattle.rht_tests.proofs.registry.pair_script.Goals as goal
 
 pub returns-clause-built : goal.returns-clause-built
 returns-clause-built g c =

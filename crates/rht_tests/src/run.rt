@@ -1,15 +1,17 @@
 //! Each call once, and two threads. The replies are worked out by hand from what the calls say.
 
-ghost use Rattle.std.specs.Prelude.{◌≡◌, true, IfSome};
+ghost use Rattle.std.specs.Prelude.{◌≡◌, true, IfOk, IfSome};
 ghost use Rattle.rht_words.specs.declared.config.Kind.TheVariants.{Single};
 ghost use Rattle.rht_core.specs.Locals.{is_idle};
 ghost use Rattle.rht_run.specs.Passes.{IsPassOf, AreNew, IsNew};
 
-use super::{Pass, Table};
+use crate::asserts::{assert_bound, assert_same};
 use rht_model::{Call, Closed, Reply};
 use rht_policy::{Low, Mix};
+use rht_run::{Pass, Table};
 use rht_words::{Config, Hash, Kind, Port};
 use std::alloc::{AllocError, Global};
+use std::process::Abort;
 use std::sync::Wait;
 use std::test::Fail;
 use std::thread::{Threads, join};
@@ -37,6 +39,21 @@ fn only<M: Mix>(table: &Table<M>, mut passes: Vec<Pass<M>>) -> Option<Pass<M>>
         return None;
     }
     passes.pop()
+}
+
+/// A new table, and its only pass.
+fn opened<M: Mix>(
+    rt: &impl Abort,
+    alloc: Global,
+    config: Config,
+) -> Result<(Table<M>, Pass<M>), Fail>
+    ensures pass { IfOk result (λ r. IsNew M.mix_of r.0 0 r.1) }
+    ensures config { IfOk result (λ r. r.0.env.config ≡ config) }
+{
+    assert!(rt; config.is_settled());
+    let (table, passes) = Table::<M>::open(alloc, config)?;
+    let pass = only(&table, passes).ok_or("a pass")?;
+    Ok((table, pass))
 }
 
 /// Makes each call, and `all` last, whose owners stay until the next call.
@@ -74,9 +91,7 @@ fn closed<M: Mix>(alloc: Global, table: Table<M>, pass: Pass<M>) -> Result<Close
 
 #[test]
 fn makes_each_call(rt: HostRuntime) -> Result<(), Fail> {
-    assert!(rt; SMALL.is_settled());
-    let (table, passes) = Table::<Low>::open(rt.alloc(), SMALL)?;
-    let mut pass = only(&table, passes).ok_or("a pass")?;
+    let (table, mut pass) = opened::<Low>(&rt, rt.alloc(), SMALL)?;
     let want = [
         Reply::Bound { kick: false },
         Reply::Exists { owner: 9 },
@@ -88,13 +103,10 @@ fn makes_each_call(rt: HostRuntime) -> Result<(), Fail> {
         Reply::Idle,
         Reply::Listed { len: 1 },
     ];
-    assert_eq!(rt; each_call(&rt, &table, &mut pass), want);
-    assert_eq!(rt; pass.owners(), [4].as_slice());
+    assert_same(&rt, each_call(&rt, &table, &mut pass), want);
+    assert_same(&rt, pass.owners(), &[4]);
     let closed = closed(rt.alloc(), table, pass)?;
-    assert_eq!(rt; (closed.size, closed.keys), (64, 1));
-    assert_eq!(rt; closed.bindings.len(), 1);
-    assert_eq!(rt; closed.bindings.port(0), 5);
-    assert_eq!(rt; closed.bindings.owners(0), [4].as_slice());
+    assert_bound(&rt, &closed, 64, &[(5, &[4])]);
     Ok(())
 }
 
@@ -114,10 +126,7 @@ fn grow<M: Mix, R: Wait>(rt: &R, table: &Table<M>, pass: &mut Pass<M>) -> [Reply
 
 #[test]
 fn a_table_that_has_grown_is_closed(rt: HostRuntime) -> Result<(), Fail> {
-    let config = Config { hint: 3, ..SMALL };
-    assert!(rt; config.is_settled());
-    let (table, passes) = Table::<Low>::open(rt.alloc(), config)?;
-    let mut pass = only(&table, passes).ok_or("a pass")?;
+    let (table, mut pass) = opened::<Low>(&rt, rt.alloc(), Config { hint: 3, ..SMALL })?;
     let want = [
         Reply::Bound { kick: false },
         Reply::Bound { kick: false },
@@ -125,15 +134,10 @@ fn a_table_that_has_grown_is_closed(rt: HostRuntime) -> Result<(), Fail> {
         Reply::Bound { kick: true },
         Reply::Moved { again: false },
     ];
-    assert_eq!(rt; grow(&rt, &table, &mut pass), want);
+    assert_same(&rt, grow(&rt, &table, &mut pass), want);
     let closed = closed(rt.alloc(), table, pass)?;
-    assert_eq!(rt; (closed.size, closed.keys), (8, 4));
-    assert_eq!(rt; closed.bindings.len(), 4);
-    assert_eq!(rt; closed.bindings.port(0), 2);
-    assert_eq!(rt; closed.bindings.port(1), 5);
-    assert_eq!(rt; closed.bindings.port(2), 7);
-    assert_eq!(rt; closed.bindings.port(3), 11);
-    assert_eq!(rt; closed.bindings.owners(1), [4].as_slice());
+    let bound: [(Port, &[u32]); 4] = [(2, &[2]), (5, &[4]), (7, &[1]), (11, &[3])];
+    assert_bound(&rt, &closed, 8, &bound);
     Ok(())
 }
 
@@ -166,10 +170,7 @@ fn crowded<M: Mix, R: Wait>(rt: &R, table: &Table<M>, pass: &mut Pass<M>) -> [Re
 
 #[test]
 fn a_full_chain_takes_a_further_table(rt: HostRuntime) -> Result<(), Fail> {
-    let config = Config { nodes: 32, ..SMALL };
-    assert!(rt; config.is_settled());
-    let (table, passes) = Table::<Low>::open(rt.alloc(), config)?;
-    let mut pass = only(&table, passes).ok_or("a pass")?;
+    let (table, mut pass) = opened::<Low>(&rt, rt.alloc(), Config { nodes: 32, ..SMALL })?;
     // Behind 16 nodes the bind attaches another table of 64, and has to be made again. Then it goes
     // past the first table's bucket into the new one's. Port 0 is still in the first: it is the last
     // of its chain.
@@ -180,13 +181,13 @@ fn a_full_chain_takes_a_further_table(rt: HostRuntime) -> Result<(), Fail> {
         Reply::Absent,
         Reply::Released { kick: false },
     ];
-    assert_eq!(rt; crowded(&rt, &table, &mut pass), want);
+    assert_same(&rt, crowded(&rt, &table, &mut pass), want);
     let closed = closed(rt.alloc(), table, pass)?;
-    assert_eq!(rt; (closed.size, closed.keys), (64, 16));
-    assert_eq!(rt; closed.bindings.len(), 16);
-    assert_eq!(rt; closed.bindings.port(0), 64);
-    assert_eq!(rt; closed.bindings.port(15), 1024);
-    assert_eq!(rt; closed.bindings.owners(15), [2].as_slice());
+    assert_same(&rt, (closed.size, closed.keys), (64, 16));
+    let bindings = &closed.bindings;
+    assert!(rt; bindings.len() == 16);
+    assert_same(&rt, (bindings.port(0), bindings.port(15)), (64, 1024));
+    assert_same(&rt, bindings.owners(15), &[2]);
     Ok(())
 }
 
@@ -225,19 +226,17 @@ fn commands<M: Mix, R: Wait>(rt: &R, table: &Table<M>, pass: &mut Pass<M>, auto:
 #[test]
 fn a_kick_is_followed_by_work_where_that_is_automatic(rt: HostRuntime) -> Result<(), Fail> {
     let config = Config { hint: 3, ..SMALL };
-    assert!(rt; config.is_settled());
+    let want = [
+        Reply::Bound { kick: false },
+        Reply::Bound { kick: false },
+        Reply::Bound { kick: false },
+        Reply::Bound { kick: true },
+    ];
     for (auto, size) in [(true, 8), (false, 4)] {
-        let (table, passes) = Table::<Low>::open(rt.alloc(), config)?;
-        let mut pass = only(&table, passes).ok_or("a pass")?;
-        let want = [
-            Reply::Bound { kick: false },
-            Reply::Bound { kick: false },
-            Reply::Bound { kick: false },
-            Reply::Bound { kick: true },
-        ];
-        assert_eq!(rt; commands(&rt, &table, &mut pass, auto), want);
+        let (table, mut pass) = opened::<Low>(&rt, rt.alloc(), config)?;
+        assert_same(&rt, commands(&rt, &table, &mut pass, auto), want);
         let closed = closed(rt.alloc(), table, pass)?;
-        assert_eq!(rt; (closed.size, closed.keys), (size, 4));
+        assert_same(&rt, (closed.size, closed.keys), (size, 4));
     }
     Ok(())
 }
@@ -298,8 +297,14 @@ fn two_threads_bind_two_ports(rt: HostRuntime) -> Result<(), Fail> {
     let (table, passes) = Table::<Low>::open(rt.alloc(), config)?;
     let (first, second) = pair(&table, passes).ok_or("two passes")?;
     let (mut first, mut second) = both(&rt, &table, first, second);
-    assert_eq!(rt; table.count(&mut first), Reply::Counted { count: 2 });
-    assert_eq!(rt; table.find(&rt, &mut first, 6), Reply::Found { owner: 2 });
-    assert_eq!(rt; table.find(&rt, &mut second, 5), Reply::Found { owner: 2 });
+    let counted = table.count(&mut first);
+    let found = table.find(&rt, &mut first, 6);
+    let other = table.find(&rt, &mut second, 5);
+    let want = [
+        Reply::Counted { count: 2 },
+        Reply::Found { owner: 2 },
+        Reply::Found { owner: 2 },
+    ];
+    assert_same(&rt, [counted, found, other], want);
     Ok(())
 }

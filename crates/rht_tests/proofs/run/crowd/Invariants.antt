@@ -1,7 +1,7 @@
 use Rattle.std.proofs.Common.{◌≡◌, true}
 use Rattle.rht_core.specs.Locals.{is_idle}
 use Rattle.rht_run.specs.Passes.{IsPassOf}
-use Rattle.rht_run.proofs.tests.crowd.Given as goal
+use Rattle.rht_tests.proofs.run.crowd.Given as goal
 
 -- the pass is in no call
 abbrev pub invariant-loop-i : goal.invariant-loop-i

@@ -1,5 +1,5 @@
 use Rattle.std.proofs.Common.{refl, arith}
-use Rattle.rht_run.proofs.tests.command.Goals as goal
+use Rattle.rht_tests.proofs.run.command.Goals as goal
 
 pub serve-requires-clause-may : goal.serve-requires-clause-may
 serve-requires-clause-may g c =
