@@ -10,6 +10,3 @@ mod replaying;
 
 pub use registry::{Outcome, run_workers};
 pub use replaying::{ReplayError, replay};
-
-#[cfg(test)]
-mod tests;

@@ -17,8 +17,6 @@ ghost use Rattle.rht_registry.specs.Replays.{did_text, ended_text, event_text, s
 ghost use Rattle.rht_registry.specs.Players.{playing_of, CanPlay, Plays, IsLineFor, Writes, IsReplayed};
 
 mod player;
-#[cfg(test)]
-mod tests;
 
 use self::player::{MOST_EVENTS, Player};
 use rht_core::{Local, State, Stepped};

@@ -34,6 +34,3 @@ pub use closing::NotClosed;
 pub use pass::Pass;
 pub use seats::{Held, SeatView};
 pub use table::Table;
-
-#[cfg(test)]
-mod tests;

@@ -10,9 +10,6 @@ ghost use Rattle.rht_script.specs.Generated.{generated_said, generated_config, w
 ghost use Rattle.rht_script.specs.Reading.{said_by};
 ghost use Rattle.rht_script.specs.Sound.{IsSoundScript, IsCommandCall};
 
-#[cfg(test)]
-mod tests;
-
 use crate::script::Script;
 use rht_model::Call;
 use rht_words::{Config, Hash, Port};

@@ -18,8 +18,6 @@ ghost use Rattle.rht_script.specs.declared.cause.Cause.TheVariants.{ScriptTooLon
 mod cursors;
 mod names;
 mod numbers;
-#[cfg(test)]
-mod tests;
 
 use crate::cause::{Cause, at_line};
 use crate::options::{Options, Setting};

@@ -6,9 +6,6 @@ ghost use Rattle.std.specs.List.{list_all};
 ghost use Rattle.rht_script.specs.Sound.{IsSoundScript, is_sound_command, is_sound_call, is_sound_line};
 ghost use Rattle.rht_script.specs.CommandLines.{worker_limits};
 
-#[cfg(test)]
-mod tests;
-
 use rht_model::Call;
 use rht_words::{Config, Kind, Limits};
 use std::alloc::{AllocError, AllocFailed};

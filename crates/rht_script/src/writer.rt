@@ -13,8 +13,6 @@ mod buffer;
 mod operations;
 mod pieces;
 mod summary;
-#[cfg(test)]
-mod tests;
 
 pub use self::operations::{write_open, write_operation, write_size};
 use self::pieces::Writer;

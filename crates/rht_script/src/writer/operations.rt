@@ -6,9 +6,6 @@ ghost use Rattle.rht_script.specs.Text.{spaced, named};
 ghost use Rattle.rht_script.specs.OperationText.{operation_text, operation_line, open_line, size_line};
 ghost use Rattle.rht_script.specs.Writing.{Adds};
 
-#[cfg(test)]
-mod tests;
-
 use super::pieces::Writer;
 use rht_io::{Failed, Sink};
 use rht_words::Op;

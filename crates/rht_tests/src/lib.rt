@@ -1,0 +1,14 @@
+//! The tests of `rht_run` and `rht_registry`: calls of a running table, scripts done on it, and replays.
+//!
+//! There is no code here but tests. They use what the two crates hand out, and stand in a crate of
+//! their own since a crate with tests is proved twice, with them and without.
+#![tactic(auto)]
+
+#[cfg(test)]
+mod asserts;
+#[cfg(test)]
+mod registry;
+#[cfg(test)]
+mod replaying;
+#[cfg(test)]
+mod run;

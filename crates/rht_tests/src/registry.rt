@@ -1,0 +1,238 @@
+//! Scripts done on a table. The replies are worked out by hand from what the commands say.
+
+ghost use Rattle.std.specs.Prelude.{◌≡◌, false, IfOk};
+ghost use Rattle.std.specs.List.{AllByRecursion};
+ghost use Rattle.rht_model.specs.declared.history.Call.TheVariants.{Bind, Rebind};
+ghost use Rattle.rht_policy.specs.Mix.{mix_named, low_mix};
+ghost use Rattle.rht_script.specs.Sound.{IsSoundScript};
+ghost use Rattle.rht_registry.specs.Outcomes.{IsBuiltCommand, IsOutcome};
+
+use crate::asserts::{assert_bound, assert_same};
+use rht_io::{Gate, NoGate};
+use rht_model::{Call, Closed, Replies, Reply};
+use rht_policy::{Low, Mix};
+use rht_registry::{Outcome, run_workers};
+use rht_run::Table;
+use rht_script::Script;
+use rht_words::{Config, Hash, Kind, Port};
+use std::alloc::{AllocError, Global};
+use std::hint::spin_loop;
+use std::process::Abort;
+use std::sync::atomic::{AtomicBool, AtomicU32, Ordering};
+use std::test::Fail;
+
+const SMALL: Config = Config {
+    kind: Kind::Single,
+    nodes: 4,
+    pages: 4,
+    callers: 1,
+    hint: 0,
+    min: 4,
+    max: 0,
+    seed: 1,
+    rewalks: 1,
+    hash: Hash::Low,
+    shrink: false,
+};
+
+fn bind(port: Port, owner: u32) -> Call
+    ensures { result ≡ Bind port owner false }
+{
+    Call::Bind {
+        port,
+        owner,
+        once: false,
+    }
+}
+
+fn rebind(port: Port, owner: u32, new: u32) -> Call
+    ensures { result ≡ Rebind port owner new }
+{
+    Call::Rebind { port, owner, new }
+}
+
+/// Binds ports of one bucket and of another, takes one out, gives one another owner, and looks ports up.
+fn small_script<M: Mix>(alloc: Global) -> Result<Script, AllocError>
+    ensures mix { IfOk result (λ script. low_mix ≡ mix_named script.config) }
+    ensures built { IfOk result (λ script. AllByRecursion (IsBuiltCommand M script.config) script.commands.items) }
+{
+    let commands = [
+        (1, bind(69, 7)),
+        (1, bind(5, 9)),
+        (1, bind(5, 3)),
+        (1, rebind(69, 7, 8)),
+        (1, rebind(5, 7, 8)),
+        (1, Call::Release { port: 5, owner: 9 }),
+        (1, bind(6, 3)),
+        (1, bind(7, 1)),
+        (1, rebind(6, 3, 4)),
+        (1, Call::Find { port: 69 }),
+        (1, Call::Find { port: 5 }),
+        (1, Call::Count),
+    ];
+    Ok(Script {
+        config: SMALL,
+        auto: false,
+        commands: Vec::from_slice(alloc, &commands)?,
+        schedule: Vec::new(alloc),
+    })
+}
+
+/// The replies, and what is bound once the table is closed.
+fn closed<M: Mix>(
+    alloc: Global,
+    script: &Script,
+    outcome: Outcome<M>,
+) -> Result<(Vec<Replies>, Closed), AllocError>
+    requires sound { IsSoundScript script.now }
+    requires mix { M.mix_of ≡ mix_named script.now.config }
+    requires outcome { IsOutcome M script.now outcome }
+{
+    match Table::close(alloc, outcome.table, outcome.passes) {
+        Ok(closed) => Ok((outcome.replies, closed)),
+        Err(_) => Err(AllocError),
+    }
+}
+
+/// Counts what it hears, with the numbers that it hears.
+#[derive(Drop)]
+struct Counting {
+    before: AtomicU32,
+    after: AtomicU32,
+}
+
+/// The worker in hundreds, and the command.
+fn numbered(worker: u32, index: u32) -> u32 {
+    worker.wrapping_mul(100).wrapping_add(index)
+}
+
+impl Gate for Counting {
+    fn before(&self, worker: u32, index: u32) {
+        self.before
+            .fetch_add(numbered(worker, index), Ordering::SeqCst);
+    }
+
+    fn after(&self, worker: u32, index: u32) {
+        self.after
+            .fetch_add(numbered(worker, index), Ordering::SeqCst);
+    }
+}
+
+/// Asserts that these are the replies.
+fn assert_replies(rt: &impl Abort, replies: &Replies, want: &[Reply]) {
+    assert_same(rt, replies.len(), want.len());
+    for (i, reply) in want.iter().enumerate() {
+        assert!(rt; i < replies.len());
+        assert_same(rt, (i, replies.reply(i)), (i, *reply));
+    }
+}
+
+#[test]
+fn a_script_is_done_on_the_table(rt: HostRuntime) -> Result<(), Fail> {
+    let script = small_script::<Low>(rt.alloc())?;
+    assert!(rt; script.is_sound());
+    let outcome = run_workers::<Low, _, _>(&rt, rt.alloc(), &script, &NoGate)?;
+    let (replies, closed) = closed(rt.alloc(), &script, outcome)?;
+    // There are four nodes, and those that were taken out don't return: the last bind finds none, and
+    // neither does the last rebind.
+    let want = [
+        Reply::Bound { kick: false },
+        Reply::Bound { kick: false },
+        Reply::Exists { owner: 9 },
+        Reply::Rebound,
+        Reply::Absent,
+        Reply::Released { kick: false },
+        Reply::Bound { kick: false },
+        Reply::NoNode,
+        Reply::NoNode,
+        Reply::Found { owner: 8 },
+        Reply::Missing,
+        Reply::Counted { count: 2 },
+    ];
+    assert!(rt; replies.len() == 1);
+    assert_replies(&rt, &replies[0], &want);
+    assert_bound(&rt, &closed, 64, &[(6, &[3]), (69, &[8])]);
+    Ok(())
+}
+
+#[test]
+fn the_gate_hears_of_each_command(rt: HostRuntime) -> Result<(), Fail> {
+    let script = small_script::<Low>(rt.alloc())?;
+    assert!(rt; script.is_sound());
+    let gate = Counting {
+        before: AtomicU32::new(0),
+        after: AtomicU32::new(0),
+    };
+    run_workers::<Low, _, _>(&rt, rt.alloc(), &script, &gate)?;
+    // Twelve commands of worker 1, and the numbers from 1 to 12.
+    assert_same(&rt, gate.before.load(Ordering::SeqCst), 1_278);
+    assert_same(&rt, gate.after.load(Ordering::SeqCst), 1_278);
+    Ok(())
+}
+
+/// Two workers, each with one bind, of the port that has its number.
+fn pair_script<M: Mix>(alloc: Global, order: [u32; 2]) -> Result<Script, AllocError>
+    ensures mix { IfOk result (λ script. low_mix ≡ mix_named script.config) }
+    ensures built { IfOk result (λ script. AllByRecursion (IsBuiltCommand M script.config) script.commands.items) }
+{
+    let [first, second] = order;
+    let commands = [(first, bind(first, first)), (second, bind(second, second))];
+    Ok(Script {
+        config: Config {
+            callers: 2,
+            ..SMALL
+        },
+        auto: true,
+        commands: Vec::from_slice(alloc, &commands)?,
+        schedule: Vec::new(alloc),
+    })
+}
+
+/// How often a worker looks for the other one.
+const TURNS: u32 = 100_000_000;
+
+/// Where two workers meet. Each raises its flag, looks for the other's, and notes whether it saw it.
+#[derive(Drop)]
+struct Meeting {
+    raised: [AtomicBool; 2],
+    seen: [AtomicBool; 2],
+}
+
+impl Gate for Meeting {
+    fn before(&self, worker: u32, _index: u32) {
+        let (own, other) = if worker == 1 { (0, 1) } else { (1, 0) };
+        self.raised[own].store(true, Ordering::SeqCst);
+        for _ in 0..TURNS {
+            if self.raised[other].load(Ordering::SeqCst) {
+                self.seen[own].store(true, Ordering::SeqCst);
+                return;
+            }
+            spin_loop();
+        }
+    }
+
+    fn after(&self, _worker: u32, _index: u32) {}
+}
+
+#[test]
+fn two_workers_meet(rt: HostRuntime) -> Result<(), Fail> {
+    for order in [[1, 2], [2, 1]] {
+        let script = pair_script::<Low>(rt.alloc(), order)?;
+        assert!(rt; script.is_sound());
+        let gate = Meeting {
+            raised: [AtomicBool::new(false), AtomicBool::new(false)],
+            seen: [AtomicBool::new(false), AtomicBool::new(false)],
+        };
+        let outcome = run_workers::<Low, _, _>(&rt, rt.alloc(), &script, &gate)?;
+        assert!(rt; gate.seen[0].load(Ordering::SeqCst));
+        assert!(rt; gate.seen[1].load(Ordering::SeqCst));
+        let (replies, closed) = closed(rt.alloc(), &script, outcome)?;
+        assert!(rt; replies.len() == 2);
+        for own in replies.iter() {
+            assert!(rt; !own.is_empty());
+            assert_replies(&rt, own, &[Reply::Bound { kick: false }]);
+        }
+        assert_same(&rt, (closed.size, closed.keys), (64, 2));
+    }
+    Ok(())
+}

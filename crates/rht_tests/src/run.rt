@@ -1,0 +1,310 @@
+//! Each call once, and two threads. The replies are worked out by hand from what the calls say.
+
+ghost use Rattle.std.specs.Prelude.{◌≡◌, true, IfOk, IfSome};
+ghost use Rattle.rht_words.specs.declared.config.Kind.TheVariants.{Single};
+ghost use Rattle.rht_core.specs.Locals.{is_idle};
+ghost use Rattle.rht_run.specs.Passes.{IsPassOf, AreNew, IsNew};
+
+use crate::asserts::{assert_bound, assert_same};
+use rht_model::{Call, Closed, Reply};
+use rht_policy::{Low, Mix};
+use rht_run::{Pass, Table};
+use rht_words::{Config, Hash, Kind, Port};
+use std::alloc::{AllocError, Global};
+use std::process::Abort;
+use std::sync::Wait;
+use std::test::Fail;
+use std::thread::{Threads, join};
+
+const SMALL: Config = Config {
+    kind: Kind::Single,
+    nodes: 8,
+    pages: 4,
+    callers: 1,
+    hint: 0,
+    min: 4,
+    max: 0,
+    seed: 1,
+    rewalks: 1,
+    hash: Hash::Low,
+    shrink: false,
+};
+
+/// The only pass of a new table.
+fn only<M: Mix>(table: &Table<M>, mut passes: Vec<Pass<M>>) -> Option<Pass<M>>
+    requires { AreNew M.mix_of table.now 0 passes.items }
+    ensures { IfSome result (λ pass. IsNew M.mix_of table.now 0 pass) }
+{
+    if passes.len() != 1 {
+        return None;
+    }
+    passes.pop()
+}
+
+/// A new table, and its only pass.
+fn opened<M: Mix>(
+    rt: &impl Abort,
+    alloc: Global,
+    config: Config,
+) -> Result<(Table<M>, Pass<M>), Fail>
+    ensures pass { IfOk result (λ r. IsNew M.mix_of r.0 0 r.1) }
+    ensures config { IfOk result (λ r. r.0.env.config ≡ config) }
+{
+    assert!(rt; config.is_settled());
+    let (table, passes) = Table::<M>::open(alloc, config)?;
+    let pass = only(&table, passes).ok_or("a pass")?;
+    Ok((table, pass))
+}
+
+/// Makes each call, and `all` last, whose owners stay until the next call.
+fn each_call<M: Mix, R: Wait>(rt: &R, table: &Table<M>, pass: &mut Pass<M>) -> [Reply; 9]
+    requires pass { IsPassOf M.mix_of table.now pass.old }
+    requires idle { is_idle pass.old.local ≡ true }
+    requires single { table.now.env.config.kind ≡ Single }
+    ensures pass { IsPassOf M.mix_of table.now pass.new }
+{
+    let bound = table.bind(rt, pass, 5, 9);
+    let exists = table.bind_once(rt, pass, 5, 3);
+    let found = table.find(rt, pass, 5);
+    let rebound = table.rebind(rt, pass, 5, 9, 4);
+    let other = table.bind(rt, pass, 6, 2);
+    let released = table.release(rt, pass, 6, 2);
+    let counted = table.count(pass);
+    let worked = table.work(rt, pass);
+    let listed = table.all(rt, pass, 5);
+    [
+        bound, exists, found, rebound, other, released, counted, worked, listed,
+    ]
+}
+
+/// Closes a table of one pass. Where memory is refused it is closed with all that came back.
+fn closed<M: Mix>(alloc: Global, table: Table<M>, pass: Pass<M>) -> Result<Closed, AllocError>
+    requires { IsPassOf M.mix_of table pass }
+{
+    let mut passes = Vec::new(alloc);
+    passes.push(pass)?;
+    match Table::close(alloc, table, passes) {
+        Ok(closed) => Ok(closed),
+        Err(back) => Table::close(alloc, back.table, back.passes).map_err(|_| AllocError),
+    }
+}
+
+#[test]
+fn makes_each_call(rt: HostRuntime) -> Result<(), Fail> {
+    let (table, mut pass) = opened::<Low>(&rt, rt.alloc(), SMALL)?;
+    let want = [
+        Reply::Bound { kick: false },
+        Reply::Exists { owner: 9 },
+        Reply::Found { owner: 9 },
+        Reply::Rebound,
+        Reply::Bound { kick: false },
+        Reply::Released { kick: false },
+        Reply::Counted { count: 1 },
+        Reply::Idle,
+        Reply::Listed { len: 1 },
+    ];
+    assert_same(&rt, each_call(&rt, &table, &mut pass), want);
+    assert_same(&rt, pass.owners(), &[4]);
+    let closed = closed(rt.alloc(), table, pass)?;
+    assert_bound(&rt, &closed, 64, &[(5, &[4])]);
+    Ok(())
+}
+
+/// Binds four ports in a table of four buckets, and lets it grow.
+fn grow<M: Mix, R: Wait>(rt: &R, table: &Table<M>, pass: &mut Pass<M>) -> [Reply; 5]
+    requires pass { IsPassOf M.mix_of table.now pass.old }
+    requires idle { is_idle pass.old.local ≡ true }
+    ensures pass { IsPassOf M.mix_of table.now pass.new }
+{
+    let first = table.bind(rt, pass, 7, 1);
+    let second = table.bind(rt, pass, 2, 2);
+    let third = table.bind(rt, pass, 11, 3);
+    let fourth = table.bind(rt, pass, 5, 4);
+    let worked = table.work(rt, pass);
+    [first, second, third, fourth, worked]
+}
+
+#[test]
+fn a_table_that_has_grown_is_closed(rt: HostRuntime) -> Result<(), Fail> {
+    let (table, mut pass) = opened::<Low>(&rt, rt.alloc(), Config { hint: 3, ..SMALL })?;
+    let want = [
+        Reply::Bound { kick: false },
+        Reply::Bound { kick: false },
+        Reply::Bound { kick: false },
+        Reply::Bound { kick: true },
+        Reply::Moved { again: false },
+    ];
+    assert_same(&rt, grow(&rt, &table, &mut pass), want);
+    let closed = closed(rt.alloc(), table, pass)?;
+    let bound: [(Port, &[u32]); 4] = [(2, &[2]), (5, &[4]), (7, &[1]), (11, &[3])];
+    assert_bound(&rt, &closed, 8, &bound);
+    Ok(())
+}
+
+/// Binds sixteen ports of one bucket.
+fn crowd<M: Mix, R: Wait>(rt: &R, table: &Table<M>, pass: &mut Pass<M>)
+    requires pass { IsPassOf M.mix_of table.now pass.old }
+    requires idle { is_idle pass.old.local ≡ true }
+    ensures pass { IsPassOf M.mix_of table.now pass.new }
+    ensures idle { is_idle pass.new.local ≡ true }
+{
+    for i in 0..16u32 {
+        table.bind(rt, pass, 64 * i, 1);
+    }
+}
+
+/// Binds a port of that bucket, trying once and then once more, and then some other ways.
+fn crowded<M: Mix, R: Wait>(rt: &R, table: &Table<M>, pass: &mut Pass<M>) -> [Reply; 5]
+    requires pass { IsPassOf M.mix_of table.now pass.old }
+    requires idle { is_idle pass.old.local ≡ true }
+    ensures pass { IsPassOf M.mix_of table.now pass.new }
+{
+    crowd(rt, table, pass);
+    let first = table.bind_once(rt, pass, 1024, 1);
+    let second = table.bind_once(rt, pass, 1024, 2);
+    let found = table.find(rt, pass, 1024);
+    let absent = table.release(rt, pass, 0, 2);
+    let released = table.release(rt, pass, 0, 1);
+    [first, second, found, absent, released]
+}
+
+#[test]
+fn a_full_chain_takes_a_further_table(rt: HostRuntime) -> Result<(), Fail> {
+    let (table, mut pass) = opened::<Low>(&rt, rt.alloc(), Config { nodes: 32, ..SMALL })?;
+    // Behind 16 nodes the bind attaches another table of 64, and has to be made again. Then it goes
+    // past the first table's bucket into the new one's. Port 0 is still in the first: it is the last
+    // of its chain.
+    let want = [
+        Reply::Again { table: 1 },
+        Reply::Bound { kick: false },
+        Reply::Found { owner: 2 },
+        Reply::Absent,
+        Reply::Released { kick: false },
+    ];
+    assert_same(&rt, crowded(&rt, &table, &mut pass), want);
+    let closed = closed(rt.alloc(), table, pass)?;
+    assert_same(&rt, (closed.size, closed.keys), (64, 16));
+    let bindings = &closed.bindings;
+    assert!(rt; bindings.len() == 16);
+    assert_same(&rt, (bindings.port(0), bindings.port(15)), (64, 1024));
+    assert_same(&rt, bindings.owners(15), &[2]);
+    Ok(())
+}
+
+/// Binds a port by a command.
+fn command<M: Mix, R: Wait>(
+    rt: &R,
+    table: &Table<M>,
+    pass: &mut Pass<M>,
+    port: Port,
+    owner: u32,
+    auto: bool,
+) -> Reply
+    requires pass { IsPassOf M.mix_of table.now pass.old }
+    requires idle { is_idle pass.old.local ≡ true }
+    ensures pass { IsPassOf M.mix_of table.now pass.new }
+    ensures idle { is_idle pass.new.local ≡ true }
+{
+    let once = false;
+    table.serve(rt, pass, Call::Bind { port, owner, once }, auto)
+}
+
+/// The four ports of `grow`, bound by commands.
+fn commands<M: Mix, R: Wait>(rt: &R, table: &Table<M>, pass: &mut Pass<M>, auto: bool) -> [Reply; 4]
+    requires pass { IsPassOf M.mix_of table.now pass.old }
+    requires idle { is_idle pass.old.local ≡ true }
+    ensures pass { IsPassOf M.mix_of table.now pass.new }
+{
+    let first = command(rt, table, pass, 7, 1, auto);
+    let second = command(rt, table, pass, 2, 2, auto);
+    let third = command(rt, table, pass, 11, 3, auto);
+    let fourth = command(rt, table, pass, 5, 4, auto);
+    [first, second, third, fourth]
+}
+
+/// The fourth port has the table grow, from 4 buckets to 8, where the work is made behind it.
+#[test]
+fn a_kick_is_followed_by_work_where_that_is_automatic(rt: HostRuntime) -> Result<(), Fail> {
+    let config = Config { hint: 3, ..SMALL };
+    let want = [
+        Reply::Bound { kick: false },
+        Reply::Bound { kick: false },
+        Reply::Bound { kick: false },
+        Reply::Bound { kick: true },
+    ];
+    for (auto, size) in [(true, 8), (false, 4)] {
+        let (table, mut pass) = opened::<Low>(&rt, rt.alloc(), config)?;
+        assert_same(&rt, commands(&rt, &table, &mut pass, auto), want);
+        let closed = closed(rt.alloc(), table, pass)?;
+        assert_same(&rt, (closed.size, closed.keys), (size, 4));
+    }
+    Ok(())
+}
+
+/// Binds a port, looks it up, takes the binding out and binds it again.
+fn work<M: Mix, R: Wait>(rt: &R, table: &Table<M>, mut pass: Pass<M>, port: Port) -> Pass<M>
+    requires pass { IsPassOf M.mix_of table.now pass }
+    requires idle { is_idle pass.local ≡ true }
+    ensures pass { IsPassOf M.mix_of table.now result }
+    ensures idle { is_idle result.local ≡ true }
+{
+    table.bind(rt, &mut pass, port, 1);
+    table.find(rt, &mut pass, port);
+    table.release(rt, &mut pass, port, 1);
+    table.bind(rt, &mut pass, port, 2);
+    pass
+}
+
+/// Two threads do so at the same time.
+fn both<M: Mix + Send + Sync, R: Threads + Wait + Sync>(
+    rt: &R,
+    table: &Table<M>,
+    first: Pass<M>,
+    second: Pass<M>,
+) -> (Pass<M>, Pass<M>)
+    requires first { IsPassOf M.mix_of table.now first × (is_idle first.local ≡ true) }
+    requires second { IsPassOf M.mix_of table.now second × (is_idle second.local ≡ true) }
+    ensures first { IsPassOf M.mix_of table.now result.0 × (is_idle result.0.local ≡ true) }
+    ensures second { IsPassOf M.mix_of table.now result.1 × (is_idle result.1.local ≡ true) }
+{
+    join(
+        rt,
+        move || work(rt, table, first, 5),
+        move || work(rt, table, second, 6),
+    )
+}
+
+/// The two passes of a new table.
+fn pair<M: Mix>(table: &Table<M>, mut passes: Vec<Pass<M>>) -> Option<(Pass<M>, Pass<M>)>
+    requires { AreNew M.mix_of table.now 0 passes.items }
+    ensures { IfSome result (λ r. IsNew M.mix_of table.now 0 r.0 × IsNew M.mix_of table.now 1 r.1) }
+{
+    if passes.len() != 2 {
+        return None;
+    }
+    let second = passes.pop()?;
+    let first = passes.pop()?;
+    Some((first, second))
+}
+
+#[test]
+fn two_threads_bind_two_ports(rt: HostRuntime) -> Result<(), Fail> {
+    let config = Config {
+        callers: 2,
+        ..SMALL
+    };
+    assert!(rt; config.is_settled());
+    let (table, passes) = Table::<Low>::open(rt.alloc(), config)?;
+    let (first, second) = pair(&table, passes).ok_or("two passes")?;
+    let (mut first, mut second) = both(&rt, &table, first, second);
+    let counted = table.count(&mut first);
+    let found = table.find(&rt, &mut first, 6);
+    let other = table.find(&rt, &mut second, 5);
+    let want = [
+        Reply::Counted { count: 2 },
+        Reply::Found { owner: 2 },
+        Reply::Found { owner: 2 },
+    ];
+    assert_same(&rt, [counted, found, other], want);
+    Ok(())
+}
