@@ -7,6 +7,8 @@
 #[cfg(test)]
 mod asserts;
 #[cfg(test)]
+mod library;
+#[cfg(test)]
 mod registry;
 #[cfg(test)]
 mod replaying;

@@ -1,4 +1,5 @@
-//! Each call once, and two threads. The replies are worked out by hand from what the calls say.
+//! Each call once, and by what a chain, a count and a kick make of it. The replies are worked out by hand
+//! from what the calls say.
 
 ghost use Rattle.std.specs.Prelude.{◌≡◌, true, IfOk, IfSome};
 ghost use Rattle.rht_words.specs.declared.config.Kind.TheVariants.{Single};
@@ -16,7 +17,8 @@ use std::sync::Wait;
 use std::test::Fail;
 use std::thread::{Threads, join};
 
-const SMALL: Config = Config {
+/// A small table with one caller.
+pub const SMALL: Config = Config {
     kind: Kind::Single,
     nodes: 8,
     pages: 4,
@@ -238,73 +240,5 @@ fn a_kick_is_followed_by_work_where_that_is_automatic(rt: HostRuntime) -> Result
         let closed = closed(rt.alloc(), table, pass)?;
         assert_same(&rt, (closed.size, closed.keys), (size, 4));
     }
-    Ok(())
-}
-
-/// Binds a port, looks it up, takes the binding out and binds it again.
-fn work<M: Mix, R: Wait>(rt: &R, table: &Table<M>, mut pass: Pass<M>, port: Port) -> Pass<M>
-    requires pass { IsPassOf M.mix_of table.now pass }
-    requires idle { is_idle pass.local ≡ true }
-    ensures pass { IsPassOf M.mix_of table.now result }
-    ensures idle { is_idle result.local ≡ true }
-{
-    table.bind(rt, &mut pass, port, 1);
-    table.find(rt, &mut pass, port);
-    table.release(rt, &mut pass, port, 1);
-    table.bind(rt, &mut pass, port, 2);
-    pass
-}
-
-/// Two threads do so at the same time.
-fn both<M: Mix + Send + Sync, R: Threads + Wait + Sync>(
-    rt: &R,
-    table: &Table<M>,
-    first: Pass<M>,
-    second: Pass<M>,
-) -> (Pass<M>, Pass<M>)
-    requires first { IsPassOf M.mix_of table.now first × (is_idle first.local ≡ true) }
-    requires second { IsPassOf M.mix_of table.now second × (is_idle second.local ≡ true) }
-    ensures first { IsPassOf M.mix_of table.now result.0 × (is_idle result.0.local ≡ true) }
-    ensures second { IsPassOf M.mix_of table.now result.1 × (is_idle result.1.local ≡ true) }
-{
-    join(
-        rt,
-        move || work(rt, table, first, 5),
-        move || work(rt, table, second, 6),
-    )
-}
-
-/// The two passes of a new table.
-fn pair<M: Mix>(table: &Table<M>, mut passes: Vec<Pass<M>>) -> Option<(Pass<M>, Pass<M>)>
-    requires { AreNew M.mix_of table.now 0 passes.items }
-    ensures { IfSome result (λ r. IsNew M.mix_of table.now 0 r.0 × IsNew M.mix_of table.now 1 r.1) }
-{
-    if passes.len() != 2 {
-        return None;
-    }
-    let second = passes.pop()?;
-    let first = passes.pop()?;
-    Some((first, second))
-}
-
-#[test]
-fn two_threads_bind_two_ports(rt: HostRuntime) -> Result<(), Fail> {
-    let config = Config {
-        callers: 2,
-        ..SMALL
-    };
-    assert!(rt; config.is_settled());
-    let (table, passes) = Table::<Low>::open(rt.alloc(), config)?;
-    let (first, second) = pair(&table, passes).ok_or("two passes")?;
-    let (mut first, mut second) = both(&rt, &table, first, second);
-    let counted = table.count(&mut first);
-    let found = table.find(&rt, &mut first, 6);
-    let other = table.find(&rt, &mut second, 5);
-    let want = [
-        Reply::Counted { count: 2 },
-        Reply::Found { owner: 2 },
-        Reply::Found { owner: 2 },
-    ];
-    assert_same(&rt, [counted, found, other], want);
     Ok(())
 }

@@ -1,0 +1,83 @@
+//! The table as a library: a registry of ports that two threads share. docs/THREADS.md goes through it.
+
+ghost use Rattle.std.specs.Prelude.{◌≡◌, true, IfSome};
+ghost use Rattle.rht_core.specs.Locals.{is_idle};
+ghost use Rattle.rht_run.specs.Passes.{IsPassOf, AreNew, IsNew};
+
+use crate::asserts::assert_same;
+use crate::run::SMALL;
+use rht_model::Reply;
+use rht_policy::{Low, Mix};
+use rht_run::{Pass, Table};
+use rht_words::{Config, Port};
+use std::sync::Wait;
+use std::test::Fail;
+use std::thread::{Threads, join};
+
+/// What a thread does: it binds a port, asks who has it, gives it back, and binds it to another owner.
+fn work<M: Mix, R: Wait>(rt: &R, table: &Table<M>, mut pass: Pass<M>, port: Port) -> Pass<M>
+    requires pass { IsPassOf M.mix_of table.now pass }
+    requires idle { is_idle pass.local ≡ true }
+    ensures pass { IsPassOf M.mix_of table.now result }
+    ensures idle { is_idle result.local ≡ true }
+{
+    table.bind(rt, &mut pass, port, 1);
+    table.find(rt, &mut pass, port);
+    table.release(rt, &mut pass, port, 1);
+    table.bind(rt, &mut pass, port, 2);
+    pass
+}
+
+/// Two threads do so at the same time, each with a pass and a port of its own.
+fn both<M: Mix + Send + Sync, R: Threads + Wait + Sync>(
+    rt: &R,
+    table: &Table<M>,
+    first: Pass<M>,
+    second: Pass<M>,
+) -> (Pass<M>, Pass<M>)
+    requires first { IsPassOf M.mix_of table.now first × (is_idle first.local ≡ true) }
+    requires second { IsPassOf M.mix_of table.now second × (is_idle second.local ≡ true) }
+    ensures first { IsPassOf M.mix_of table.now result.0 × (is_idle result.0.local ≡ true) }
+    ensures second { IsPassOf M.mix_of table.now result.1 × (is_idle result.1.local ≡ true) }
+{
+    join(
+        rt,
+        move || work(rt, table, first, 5),
+        move || work(rt, table, second, 6),
+    )
+}
+
+/// The two passes of a new table.
+fn pair<M: Mix>(table: &Table<M>, mut passes: Vec<Pass<M>>) -> Option<(Pass<M>, Pass<M>)>
+    requires { AreNew M.mix_of table.now 0 passes.items }
+    ensures { IfSome result (λ r. IsNew M.mix_of table.now 0 r.0 × IsNew M.mix_of table.now 1 r.1) }
+{
+    if passes.len() != 2 {
+        return None;
+    }
+    let second = passes.pop()?;
+    let first = passes.pop()?;
+    Some((first, second))
+}
+
+#[test]
+fn two_threads_share_a_registry(rt: HostRuntime) -> Result<(), Fail> {
+    let config = Config {
+        callers: 2,
+        ..SMALL
+    };
+    assert!(rt; config.is_settled());
+    let (table, passes) = Table::<Low>::open(rt.alloc(), config)?;
+    let (first, second) = pair(&table, passes).ok_or("two passes")?;
+    let (mut first, mut second) = both(&rt, &table, first, second);
+    let counted = table.count(&mut first);
+    let found = table.find(&rt, &mut first, 6);
+    let other = table.find(&rt, &mut second, 5);
+    let want = [
+        Reply::Counted { count: 2 },
+        Reply::Found { owner: 2 },
+        Reply::Found { owner: 2 },
+    ];
+    assert_same(&rt, [counted, found, other], want);
+    Ok(())
+}
