@@ -218,41 +218,49 @@ fn a_nested_table_is_made_where_there_is_no_run(rt: HostRuntime) {
     );
 }
 
+/// Asserts that a size, of which the table in page 0 has this word of the shape, is read as its.
+fn assert_made_of_size(rt: &impl Abort, size: u32, shape: u64) {
+    let Some(geometry) = Geometry::new(8, 4, 1) else {
+        panic!(rt; "not within limits");
+    };
+    let steps = [
+        (Op::exchange(28, 0, 1), 0),
+        (Op::load(281), 1),
+        (Op::and(281, ALL - 1), 1),
+        (Op::add(3, 1), 1),
+        (Op::store(24, shape), 0),
+        (Op::store(25, 2), 0),
+        (Op::store(26, 0), 0),
+        (Op::store(27, 1), 0),
+    ];
+    let machine = Make::new(geometry, size, 1, true);
+    assert_performs(rt, machine, &steps, Some((0, shape)));
+}
+
+/// Asserts what comes behind the taking of a slot: how many pages there are, the size, and the operation.
+fn assert_behind_slot(rt: &impl Abort, pages: u32, size: u32, op: Op) {
+    let Some(geometry) = Geometry::new(8, pages, 1) else {
+        panic!(rt; "not within limits");
+    };
+    let (machine, next) = Make::new(geometry, size, 1, false).after(0);
+    assert_same(rt, (size, machine.plan(), next), (size, op, Next::Go));
+}
+
 #[test]
-fn other_sizes_are_read_as_one(rt: HostRuntime) -> Result<(), Fail> {
-    let geometry = Geometry::new(8, 4, 1).ok_or("within limits")?;
-    // the size, and the word of the shape of a table in page 0
+fn other_sizes_are_read_as_one(rt: HostRuntime) {
     for (size, shape) in [(1, 2), (6, 2), (12, 2), (24, 3), (96, 5)] {
-        let steps = [
-            (Op::exchange(28, 0, 1), 0),
-            (Op::load(281), 1),
-            (Op::and(281, ALL - 1), 1),
-            (Op::add(3, 1), 1),
-            (Op::store(24, shape), 0),
-            (Op::store(25, 2), 0),
-            (Op::store(26, 0), 0),
-            (Op::store(27, 1), 0),
-        ];
-        let machine = Make::new(geometry, size, 1, true);
-        assert_performs(&rt, machine, &steps, Some((0, shape)));
+        assert_made_of_size(&rt, size, shape);
     }
     // 131,072 buckets, of which there are no more, take 2,048 pages
-    let enough = Geometry::new(8, 2_048, 1).ok_or("within limits")?;
-    let short = Geometry::new(8, 2_047, 1).ok_or("within limits")?;
     for size in [0, 131_072, 262_144] {
-        let (taking, next) = Make::new(enough, size, 1, false).after(0);
-        assert_same(
-            &rt,
-            (size, taking.plan(), next),
-            (size, Op::load(281), Next::Go),
-        );
-        let (giving, next) = Make::new(short, size, 1, false).after(0);
-        assert_same(
-            &rt,
-            (size, giving.plan(), next),
-            (size, Op::store(28, 0), Next::Go),
-        );
+        assert_behind_slot(&rt, 2_048, size, Op::load(281));
+        assert_behind_slot(&rt, 2_047, size, Op::store(28, 0));
     }
+}
+
+#[test]
+fn a_slot_is_given_back_without_a_table(rt: HostRuntime) -> Result<(), Fail> {
+    let short = Geometry::new(8, 2_047, 1).ok_or("within limits")?;
     let back = giving_back(short);
     assert_same(
         &rt,
