@@ -102,65 +102,75 @@ fn assert_same<T: Copy + Debug + PartialEq>(rt: &impl Abort, found: T, want: T) 
     assert_eq!(rt; found, want);
 }
 
+/// Asserts how a node of so many is taken: the operations with what each finds, and the answer.
+fn assert_node_taken(rt: &impl Abort, nodes: u32, steps: &[(Op, u64)], answer: Option<u32>) {
+    let Some(geometry) = Geometry::new(nodes, 4, 1) else {
+        panic!(rt; "not within limits");
+    };
+    assert_performs(rt, TakeNode::new(geometry), steps, answer);
+}
+
 #[test]
-fn nodes_are_taken_from_the_lowest_on(rt: HostRuntime) -> Result<(), Fail> {
-    // the number of nodes, the operations with what each finds, and the answer
-    let cases: [(u32, &[(Op, u64)], Option<u32>); 8] = [
-        // all eight nodes are free
-        (
-            8,
-            &[(Op::load(280), 255), (Op::and(280, ALL - 1), 255)],
-            Some(0),
-        ),
-        // nodes 3 and 5 are free
-        (
-            8,
-            &[(Op::load(280), 40), (Op::and(280, ALL - 8), 40)],
-            Some(3),
-        ),
-        // node 1 is lost to another caller after the load, and node 2 is taken
-        (
-            8,
-            &[
-                (Op::load(280), 6),
-                (Op::and(280, ALL - 2), 4),
-                (Op::and(280, ALL - 4), 4),
-            ],
-            Some(2),
-        ),
-        // node 0 is given back behind the machine, which doesn't return to it
-        (8, &[(Op::load(280), 4), (Op::and(280, ALL - 4), 1)], None),
-        // the second word of the map
-        (
-            65,
-            &[
-                (Op::load(280), 0),
-                (Op::load(281), 1),
-                (Op::and(281, ALL - 1), 1),
-            ],
-            Some(64),
-        ),
-        // node 63 is lost, and then node 64 is taken
-        (
-            65,
-            &[
-                (Op::load(280), 9_223_372_036_854_775_808),
-                (Op::and(280, ALL - 9_223_372_036_854_775_808), 0),
-                (Op::load(281), 1),
-                (Op::and(281, ALL - 1), 1),
-            ],
-            Some(64),
-        ),
-        // all 65 nodes are taken
-        (65, &[(Op::load(280), 0), (Op::load(281), 0)], None),
-        // a bit past the nodes stands for none
-        (8, &[(Op::load(280), 256)], None),
-    ];
-    for (nodes, steps, want) in cases {
-        let geometry = Geometry::new(nodes, 4, 1).ok_or("within limits")?;
-        assert_performs(&rt, TakeNode::new(geometry), steps, want);
-    }
-    Ok(())
+fn nodes_are_taken_from_the_lowest_on(rt: HostRuntime) {
+    // all eight nodes are free
+    assert_node_taken(
+        &rt,
+        8,
+        &[(Op::load(280), 255), (Op::and(280, ALL - 1), 255)],
+        Some(0),
+    );
+    // nodes 3 and 5 are free
+    assert_node_taken(
+        &rt,
+        8,
+        &[(Op::load(280), 40), (Op::and(280, ALL - 8), 40)],
+        Some(3),
+    );
+    // node 1 is lost to another caller after the load, and node 2 is taken
+    assert_node_taken(
+        &rt,
+        8,
+        &[
+            (Op::load(280), 6),
+            (Op::and(280, ALL - 2), 4),
+            (Op::and(280, ALL - 4), 4),
+        ],
+        Some(2),
+    );
+    // node 0 is given back behind the machine, which doesn't return to it
+    assert_node_taken(
+        &rt,
+        8,
+        &[(Op::load(280), 4), (Op::and(280, ALL - 4), 1)],
+        None,
+    );
+    // the second word of the map
+    assert_node_taken(
+        &rt,
+        65,
+        &[
+            (Op::load(280), 0),
+            (Op::load(281), 1),
+            (Op::and(281, ALL - 1), 1),
+        ],
+        Some(64),
+    );
+    // node 63 is lost, and then node 64 is taken
+    assert_node_taken(
+        &rt,
+        65,
+        &[
+            (Op::load(280), 9_223_372_036_854_775_808),
+            (Op::and(280, ALL - 9_223_372_036_854_775_808), 0),
+            (Op::load(281), 1),
+            (Op::and(281, ALL - 1), 1),
+        ],
+        Some(64),
+    );
+    // all 65 nodes are taken
+    assert_node_taken(&rt, 65, &[(Op::load(280), 0), (Op::load(281), 0)], None);
+    // a bit past the nodes stands for none
+    assert_node_taken(&rt, 8, &[(Op::load(280), 256)], None);
 }
 
 #[test]
@@ -213,96 +223,110 @@ fn a_new_node_is_taken_and_filled(rt: HostRuntime) -> Result<(), Fail> {
 /// The lower half of a word's bits.
 const HALF: u64 = 4_294_967_295;
 
+/// Asserts how a run of this length is taken, of so many pages: the operations with what each finds,
+/// and the answer.
+fn assert_run_taken(
+    rt: &impl Abort,
+    pages: u32,
+    length: u32,
+    steps: &[(Op, u64)],
+    answer: Option<u32>,
+) {
+    let Some(geometry) = Geometry::new(8, pages, 1) else {
+        panic!(rt; "not within limits");
+    };
+    let Start::Running(machine) = TakeRun::new(geometry, length) else {
+        panic!(rt; "there is no such run");
+    };
+    assert_performs(rt, machine, steps, answer);
+}
+
 #[test]
-fn runs_are_taken_whole(rt: HostRuntime) -> Result<(), Fail> {
-    // the pages of the table, those of the run, the operations with what each finds, and the answer
-    let cases: [(u32, u32, &[(Op, u64)], Option<u32>); 8] = [
-        // all four pages are free, and 0 pages are read as 1
-        (
-            4,
-            1,
-            &[(Op::load(281), 15), (Op::and(281, ALL - 1), 15)],
-            Some(0),
-        ),
-        (
-            4,
-            0,
-            &[
-                (Op::load(281), 14),
-                (Op::load(281), 14),
-                (Op::and(281, ALL - 2), 14),
-            ],
-            Some(1),
-        ),
-        // page 0 is taken, and so the run from page 2 on is the first free one
-        (
-            4,
-            2,
-            &[
-                (Op::load(281), 14),
-                (Op::load(281), 14),
-                (Op::and(281, ALL - 12), 14),
-            ],
-            Some(2),
-        ),
-        // page 0 is lost between the load and the and, so page 1 is given back
-        (
-            4,
-            2,
-            &[
-                (Op::load(281), 15),
-                (Op::and(281, ALL - 3), 14),
-                (Op::or(281, 2), 12),
-                (Op::load(281), 14),
-                (Op::and(281, ALL - 12), 12),
-            ],
-            Some(2),
-        ),
-        // both are lost, and nothing is given back
-        (
-            4,
-            2,
-            &[
-                (Op::load(281), 15),
-                (Op::and(281, ALL - 3), 12),
-                (Op::load(281), 8),
-            ],
-            None,
-        ),
-        // pages 4 to 6 are no run of four, since there are but seven pages
-        (7, 4, &[(Op::load(281), 126)], None),
-        // the second word of the map
-        (
-            128,
-            32,
-            &[
-                (Op::load(281), 0),
-                (Op::load(281), HALF),
-                (Op::load(282), HALF),
-                (Op::and(282, ALL - HALF), ALL),
-            ],
-            Some(64),
-        ),
-        // a page that was seen taken is free by the time at which its run is come to
-        (
-            4,
-            1,
-            &[
-                (Op::load(281), 0),
-                (Op::load(281), 2),
-                (Op::and(281, ALL - 2), 2),
-            ],
-            Some(1),
-        ),
-    ];
-    for (pages, length, steps, want) in cases {
-        let geometry = Geometry::new(8, pages, 1).ok_or("within limits")?;
-        let Start::Running(machine) = TakeRun::new(geometry, length) else {
-            return Err("there is such a run".into());
-        };
-        assert_performs(&rt, machine, steps, want);
-    }
-    Ok(())
+fn runs_are_taken_whole(rt: HostRuntime) {
+    // all four pages are free, and 0 pages are read as 1
+    assert_run_taken(
+        &rt,
+        4,
+        1,
+        &[(Op::load(281), 15), (Op::and(281, ALL - 1), 15)],
+        Some(0),
+    );
+    assert_run_taken(
+        &rt,
+        4,
+        0,
+        &[
+            (Op::load(281), 14),
+            (Op::load(281), 14),
+            (Op::and(281, ALL - 2), 14),
+        ],
+        Some(1),
+    );
+    // page 0 is taken, and so the run from page 2 on is the first free one
+    assert_run_taken(
+        &rt,
+        4,
+        2,
+        &[
+            (Op::load(281), 14),
+            (Op::load(281), 14),
+            (Op::and(281, ALL - 12), 14),
+        ],
+        Some(2),
+    );
+    // page 0 is lost between the load and the and, so page 1 is given back
+    assert_run_taken(
+        &rt,
+        4,
+        2,
+        &[
+            (Op::load(281), 15),
+            (Op::and(281, ALL - 3), 14),
+            (Op::or(281, 2), 12),
+            (Op::load(281), 14),
+            (Op::and(281, ALL - 12), 12),
+        ],
+        Some(2),
+    );
+    // both are lost, and nothing is given back
+    assert_run_taken(
+        &rt,
+        4,
+        2,
+        &[
+            (Op::load(281), 15),
+            (Op::and(281, ALL - 3), 12),
+            (Op::load(281), 8),
+        ],
+        None,
+    );
+    // pages 4 to 6 are no run of four, since there are but seven pages
+    assert_run_taken(&rt, 7, 4, &[(Op::load(281), 126)], None);
+    // the second word of the map
+    assert_run_taken(
+        &rt,
+        128,
+        32,
+        &[
+            (Op::load(281), 0),
+            (Op::load(281), HALF),
+            (Op::load(282), HALF),
+            (Op::and(282, ALL - HALF), ALL),
+        ],
+        Some(64),
+    );
+    // a page that was seen taken is free by the time at which its run is come to
+    assert_run_taken(
+        &rt,
+        4,
+        1,
+        &[
+            (Op::load(281), 0),
+            (Op::load(281), 2),
+            (Op::and(281, ALL - 2), 2),
+        ],
+        Some(1),
+    );
 }
 
 #[test]
@@ -319,58 +343,60 @@ fn one_page_is_a_run(rt: HostRuntime) -> Result<(), Fail> {
 }
 
 #[test]
-fn runs_of_several_words_are_given_back_from_the_last_on(rt: HostRuntime) -> Result<(), Fail> {
+fn runs_of_several_words_are_given_back_from_the_last_on(rt: HostRuntime) {
     // 128 pages of 128, so that there is one run, in two words of the map
-    let cases: [(&[(Op, u64)], Option<u32>); 4] = [
-        (
-            &[
-                (Op::load(281), ALL),
-                (Op::and(281, 0), ALL),
-                (Op::load(282), ALL),
-                (Op::and(282, 0), ALL),
-            ],
-            Some(0),
-        ),
-        // page 64 is seen taken
-        (
-            &[
-                (Op::load(281), ALL),
-                (Op::and(281, 0), ALL),
-                (Op::load(282), ALL - 1),
-                (Op::or(281, ALL), 0),
-            ],
-            None,
-        ),
-        // it is lost between the load and the and
-        (
-            &[
-                (Op::load(281), ALL),
-                (Op::and(281, 0), ALL),
-                (Op::load(282), ALL),
-                (Op::and(282, 0), ALL - 1),
-                (Op::or(282, ALL - 1), 0),
-                (Op::or(281, ALL), 0),
-            ],
-            None,
-        ),
-        // page 0 is lost
-        (
-            &[
-                (Op::load(281), ALL),
-                (Op::and(281, 0), ALL - 1),
-                (Op::or(281, ALL - 1), 0),
-            ],
-            None,
-        ),
-    ];
-    let geometry = Geometry::new(8, 128, 1).ok_or("within limits")?;
-    for (steps, want) in cases {
-        let Start::Running(machine) = TakeRun::new(geometry, 128) else {
-            return Err("there is such a run".into());
-        };
-        assert_performs(&rt, machine, steps, want);
-    }
-    Ok(())
+    assert_run_taken(
+        &rt,
+        128,
+        128,
+        &[
+            (Op::load(281), ALL),
+            (Op::and(281, 0), ALL),
+            (Op::load(282), ALL),
+            (Op::and(282, 0), ALL),
+        ],
+        Some(0),
+    );
+    // page 64 is seen taken
+    assert_run_taken(
+        &rt,
+        128,
+        128,
+        &[
+            (Op::load(281), ALL),
+            (Op::and(281, 0), ALL),
+            (Op::load(282), ALL - 1),
+            (Op::or(281, ALL), 0),
+        ],
+        None,
+    );
+    // it is lost between the load and the and
+    assert_run_taken(
+        &rt,
+        128,
+        128,
+        &[
+            (Op::load(281), ALL),
+            (Op::and(281, 0), ALL),
+            (Op::load(282), ALL),
+            (Op::and(282, 0), ALL - 1),
+            (Op::or(282, ALL - 1), 0),
+            (Op::or(281, ALL), 0),
+        ],
+        None,
+    );
+    // page 0 is lost
+    assert_run_taken(
+        &rt,
+        128,
+        128,
+        &[
+            (Op::load(281), ALL),
+            (Op::and(281, 0), ALL - 1),
+            (Op::or(281, ALL - 1), 0),
+        ],
+        None,
+    );
 }
 
 #[test]

@@ -99,47 +99,49 @@ fn assert_same<T: Copy + Debug + PartialEq>(rt: &impl Abort, found: T, want: T) 
     assert_eq!(rt; found, want);
 }
 
+/// Asserts how the first bucket is locked: the operations with what each finds, and the word before.
+fn assert_locks(rt: &impl Abort, steps: &[(Op, u64)], word: u64) {
+    let lock = Lock::new(314);
+    assert_same(rt, lock.place(), 314);
+    assert_performs(rt, lock, steps, word);
+}
+
 #[test]
 fn a_lock_waits_and_tries_again(rt: HostRuntime) {
-    // the operations with what each finds, and the word before it was locked
-    let cases: [(&[(Op, u64)], u64); 4] = [
-        // an empty bucket
-        (&[(Op::load(314), 0), (Op::exchange(314, 0, 1), 0)], 0),
-        // another caller has the lock at first
-        (
-            &[
-                (Op::load(314), 7),
-                (Op::load(314), 6),
-                (Op::exchange(314, 6, 7), 6),
-            ],
-            6,
-        ),
-        // another caller links node 3 before the exchange
-        (
-            &[
-                (Op::load(314), 6),
-                (Op::exchange(314, 6, 7), 8),
-                (Op::load(314), 8),
-                (Op::exchange(314, 8, 9), 8),
-            ],
-            8,
-        ),
-        // another caller takes the lock before the exchange, and lets go of it
-        (
-            &[
-                (Op::load(314), 6),
-                (Op::exchange(314, 6, 7), 7),
-                (Op::load(314), 6),
-                (Op::exchange(314, 6, 7), 6),
-            ],
-            6,
-        ),
-    ];
-    for (steps, want) in cases {
-        let lock = Lock::new(314);
-        assert_same(&rt, lock.place(), 314);
-        assert_performs(&rt, lock, steps, want);
-    }
+    // an empty bucket
+    assert_locks(&rt, &[(Op::load(314), 0), (Op::exchange(314, 0, 1), 0)], 0);
+    // another caller has the lock at first
+    assert_locks(
+        &rt,
+        &[
+            (Op::load(314), 7),
+            (Op::load(314), 6),
+            (Op::exchange(314, 6, 7), 6),
+        ],
+        6,
+    );
+    // another caller links node 3 before the exchange
+    assert_locks(
+        &rt,
+        &[
+            (Op::load(314), 6),
+            (Op::exchange(314, 6, 7), 8),
+            (Op::load(314), 8),
+            (Op::exchange(314, 8, 9), 8),
+        ],
+        8,
+    );
+    // another caller takes the lock before the exchange, and lets go of it
+    assert_locks(
+        &rt,
+        &[
+            (Op::load(314), 6),
+            (Op::exchange(314, 6, 7), 7),
+            (Op::load(314), 6),
+            (Op::exchange(314, 6, 7), 6),
+        ],
+        6,
+    );
 }
 
 #[test]
@@ -156,83 +158,87 @@ fn an_empty_chain_is_seen_at_once(rt: HostRuntime) -> Result<(), Fail> {
     Ok(())
 }
 
-#[test]
-fn a_walk_sees_the_first_node_with_its_key(rt: HostRuntime) -> Result<(), Fail> {
-    let geometry = Geometry::new(8, 4, 1).ok_or("within limits")?;
+/// Asserts what is seen of key 5 in the first bucket: its word, the chain's nodes, the operations with
+/// what each finds, and what is seen.
+fn assert_seen(rt: &impl Abort, word: u64, nodes: &[u32], steps: &[(Op, u64)], seen: Seen) {
     // the keys of the nodes from 0 on
     let keys = [9, 0, 1, 5, 0, 0, 0, 5];
-    // the bucket's word, the chain's nodes, the operations with what each finds, and what is seen
-    // of key 5
-    let cases: [(u64, &[u32], &[(Op, u64)], Seen); 4] = [
-        // the first node has the key
-        (
-            8,
-            &[3, 0],
-            &[(Op::load(295), 5)],
-            Seen {
-                found: Some(3),
-                before: None,
-                length: 1,
-                end: 8,
-            },
-        ),
-        // the third node has the key
-        (
-            6,
-            &[2, 0, 7],
-            &[
-                (Op::load(291), 1),
-                (Op::load(290), 2),
-                (Op::load(283), 9),
-                (Op::load(282), 16),
-                (Op::load(311), 5),
-            ],
-            Seen {
-                found: Some(7),
-                before: Some(0),
-                length: 3,
-                end: 16,
-            },
-        ),
-        // two nodes have the key
-        (
-            6,
-            &[2, 7, 3],
-            &[(Op::load(291), 1), (Op::load(290), 16), (Op::load(311), 5)],
-            Seen {
-                found: Some(7),
-                before: Some(2),
-                length: 2,
-                end: 16,
-            },
-        ),
-        // no node has the key
-        (
-            6,
-            &[2, 0],
-            &[
-                (Op::load(291), 1),
-                (Op::load(290), 2),
-                (Op::load(283), 9),
-                (Op::load(282), 629),
-            ],
-            Seen {
-                found: None,
-                before: Some(0),
-                length: 2,
-                end: 629,
-            },
-        ),
-    ];
-    for (word, nodes, steps, want) in cases {
-        assert!(rt; nodes.len() < 4_294_967_296);
-        assert_same(&rt, seen_in(&keys, nodes, 5, 629), want);
-        let Start::Running(walk) = LockedWalk::new(geometry, 314, word, 5) else {
-            return Err("a chain with a node".into());
-        };
-        assert_performs(&rt, walk, steps, want);
-    }
-    Ok(())
+    assert!(rt; nodes.len() < 4_294_967_296);
+    assert_same(rt, seen_in(&keys, nodes, 5, 629), seen);
+    let Some(geometry) = Geometry::new(8, 4, 1) else {
+        panic!(rt; "not within limits");
+    };
+    let Start::Running(walk) = LockedWalk::new(geometry, 314, word, 5) else {
+        panic!(rt; "the chain has no node");
+    };
+    assert_performs(rt, walk, steps, seen);
+}
+
+#[test]
+fn a_walk_sees_the_first_node_with_its_key(rt: HostRuntime) {
+    // the first node has the key
+    assert_seen(
+        &rt,
+        8,
+        &[3, 0],
+        &[(Op::load(295), 5)],
+        Seen {
+            found: Some(3),
+            before: None,
+            length: 1,
+            end: 8,
+        },
+    );
+    // the third node has the key
+    assert_seen(
+        &rt,
+        6,
+        &[2, 0, 7],
+        &[
+            (Op::load(291), 1),
+            (Op::load(290), 2),
+            (Op::load(283), 9),
+            (Op::load(282), 16),
+            (Op::load(311), 5),
+        ],
+        Seen {
+            found: Some(7),
+            before: Some(0),
+            length: 3,
+            end: 16,
+        },
+    );
+    // two nodes have the key
+    assert_seen(
+        &rt,
+        6,
+        &[2, 7, 3],
+        &[(Op::load(291), 1), (Op::load(290), 16), (Op::load(311), 5)],
+        Seen {
+            found: Some(7),
+            before: Some(2),
+            length: 2,
+            end: 16,
+        },
+    );
+    // no node has the key
+    assert_seen(
+        &rt,
+        6,
+        &[2, 0],
+        &[
+            (Op::load(291), 1),
+            (Op::load(290), 2),
+            (Op::load(283), 9),
+            (Op::load(282), 629),
+        ],
+        Seen {
+            found: None,
+            before: Some(0),
+            length: 2,
+            end: 629,
+        },
+    );
 }
 
 #[test]
