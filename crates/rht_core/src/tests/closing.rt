@@ -1,5 +1,7 @@
 //! What words stand for at a closing, and in words that no run gives.
 
+ghost use Rattle.std.specs.Prelude.{◌≡◌};
+
 use super::{FIND_5, assert_owners, bind, reply_to, small};
 use crate::{Event, State};
 use rht_model::{Call, Closed};
@@ -8,6 +10,15 @@ use rht_words::{Geometry, Port};
 use std::alloc::Global;
 use std::process::Abort;
 use std::test::Fail;
+
+/// What the table of one caller, who is idle, holds at its closing. It has 64 buckets.
+fn closed_at(rt: &impl Abort, state: &State<Low>) -> Result<Closed, Fail>
+    requires { state.now.env.geometry.callers ≡ 1 }
+{
+    assert!(rt; state.local(0).is_idle());
+    assert_eq!(rt; state.size(), 64);
+    Ok(state.closed()?)
+}
 
 /// What a small table holds at its closing, when its caller has made these calls.
 fn closed_after(rt: &impl Abort, alloc: Global, calls: &[Call]) -> Result<Closed, Fail> {
@@ -19,18 +30,26 @@ fn closed_after(rt: &impl Abort, alloc: Global, calls: &[Call]) -> Result<Closed
     for call in calls {
         reply_to(rt, &mut state, 0, *call);
     }
-    assert!(rt; state.local(0).is_idle());
-    assert_eq!(rt; state.size(), 64);
-    Ok(state.closed()?)
+    closed_at(rt, &state)
+}
+
+/// A table of 64 buckets was closed with these ports and their owners.
+fn assert_closed<'a>(rt: &impl Abort, closed: &Closed, keys: u32, want: &'a [(Port, &'a [u32])]) {
+    assert_eq!(rt;
+        (closed.size, closed.keys, closed.bindings.len()),
+        (64, keys, want.len())
+    );
+    for (i, (port, owners)) in want.iter().enumerate() {
+        assert!(rt; i < closed.bindings.len());
+        assert_eq!(rt; closed.bindings.port(i), *port, "at {i}");
+        assert_eq!(rt; closed.bindings.owners(i), *owners, "at {i}");
+    }
 }
 
 #[test]
 fn a_closed_table_lists_what_is_bound(rt: HostRuntime) -> Result<(), Fail> {
     let nothing = closed_after(&rt, rt.alloc(), &[])?;
-    assert_eq!(rt;
-        (nothing.size, nothing.keys, nothing.bindings.len()),
-        (64, 0, 0)
-    );
+    assert_closed(&rt, &nothing, 0, &[]);
     // Ports 69 and 5 are in bucket 5, port 1000 in bucket 40, and port 2 in bucket 2.
     let calls = [
         bind(1000, 9),
@@ -42,15 +61,7 @@ fn a_closed_table_lists_what_is_bound(rt: HostRuntime) -> Result<(), Fail> {
     ];
     let closed = closed_after(&rt, rt.alloc(), &calls)?;
     let want: [(Port, &[u32]); 4] = [(2, &[1]), (5, &[9]), (69, &[7]), (1000, &[9])];
-    assert_eq!(rt;
-        (closed.size, closed.keys, closed.bindings.len()),
-        (64, 4, 4)
-    );
-    for (i, (port, owners)) in want.iter().enumerate() {
-        assert!(rt; i < closed.bindings.len());
-        assert_eq!(rt; closed.bindings.port(i), *port, "at {i}");
-        assert_eq!(rt; closed.bindings.owners(i), *owners, "at {i}");
-    }
+    assert_closed(&rt, &closed, 4, &want);
     Ok(())
 }
 

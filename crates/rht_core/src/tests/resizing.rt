@@ -8,6 +8,7 @@ use crate::{Event, State};
 use rht_model::{Call, Reply};
 use rht_policy::Low;
 use rht_words::{Config, Op};
+use std::process::Abort;
 use std::test::Fail;
 
 #[test]
@@ -225,6 +226,12 @@ fn a_mover_is_overtaken_by_an_attach(rt: HostRuntime) -> Result<(), Fail> {
     )
 }
 
+/// The first caller is given the call, which runs to this reply.
+fn assert_told(rt: &impl Abort, state: &mut State<Low>, call: Call, reply: Reply) {
+    let found = reply_to(rt, state, 0, call);
+    assert_eq!(rt; found, Some(reply), "at {call:?}");
+}
+
 /// Sixteen ports in one bucket of 64: a bind of a further one attaches a table, and a bind that tries
 /// once is told of it.
 #[test]
@@ -237,17 +244,15 @@ fn a_bind_that_tries_once_is_told_of_a_table(rt: HostRuntime) -> Result<(), Fail
     let mut state = State::<Low>::open(rt.alloc(), config)?;
     state.step(Event::Enroll);
     for i in 0..16 {
-        let reply = reply_to(&rt, &mut state, 0, bind(64 * i, 1));
-        assert_eq!(rt; reply, Some(BOUND), "at {i}");
+        assert_told(&rt, &mut state, bind(64 * i, 1), BOUND);
     }
     let once = Call::Bind {
         port: 1024,
         owner: 1,
         once: true,
     };
-    let told = Some(Reply::Again { table: 1 });
-    assert_eq!(rt; reply_to(&rt, &mut state, 0, once), told);
-    assert_eq!(rt; reply_to(&rt, &mut state, 0, once), Some(BOUND));
+    assert_told(&rt, &mut state, once, Reply::Again { table: 1 });
+    assert_told(&rt, &mut state, once, BOUND);
     Ok(())
 }
 
