@@ -10,6 +10,8 @@ pub mod AttachedTables
 pub mod UnraisedBinds
 -- which pages the taking of a run has taken
 pub mod PagesTaken
+-- and that it gives back all but those that it holds
+pub mod PagesGivenBack
 -- what the making of a table has seen so far
 pub mod MakesSeen
 -- what a bind that finds the last table full has seen for a refusal
@@ -64,3 +66,5 @@ pub mod LoneWorks
 pub mod CalmBinds
 -- what calls come to while no table was made and few ports are bound
 pub mod CalmCalls
+-- that the call itself held none of the pages that it saw taken, and what breaks that
+pub mod WorkedPages

@@ -14,7 +14,7 @@ use Rattle.rht_words.specs.Places.{Address, PortCount, Slot, SeedWord, FutureWor
 use Rattle.rht_words.specs.Shapes.{unpacked, size_of}
 use Rattle.rht_policy.specs.Mix.{bucket_of}
 use Rattle.rht_policy.specs.Thresholds.{is_above_75, is_above_100}
-use Rattle.rht_arena.specs.RunLaws.{TakesPage, SeesRunTaken}
+use Rattle.rht_arena.specs.RunLaws.{TakesPage, GivesPage, SeesRunTaken}
 use Rattle.rht_nest.specs.Place.{nested_place, missing_at}
 use Rattle.rht_nest.specs.Tables.{is_nested}
 use Rattle.rht_nest.specs.MakeLaws.{pages_for, SeesSlotTaken, AreSlotsSeenTaken}
@@ -164,12 +164,19 @@ module _ (g : Geometry) (words_at : ℕ → List ℕ) where
     pub missing : MissesPage g words_at mix port table shape entry at
     pub taken : AreRunsTaken g 1 0 [] (map performed_of taking)
 
--- each run of so many pages was found taken in its turn, and by the operations behind that each page in its
+-- where one of these operations took the page, one behind it gave it back, which left its bit set
+abbrev pub IsGivenBack : Geometry → ℕ → List Performed → Type 0
+IsGivenBack g page [] = Unit {0}
+IsGivenBack g page (step ∷ steps) = (TakesPage g page step → Any (GivesPage g page) steps) × IsGivenBack g page steps
+
+-- Each run of so many pages was found taken in its turn, and by the operations behind that each page in its. What the first of
+-- these had taken they gave back, so that no page counts as found taken which the caller itself held.
 pub record AreRunsThenPagesTaken (g : Geometry) (pages : ℕ) (steps : List Performed) : Type 0 where
   pub flat : List Performed
   pub nested : List Performed
   pub are : steps ≡ flat ++ nested
   pub runs : AreRunsTaken g pages 0 [] flat
+  pub back : (page : ℕ) → page < g.pages → IsGivenBack g page flat
   pub tops : AreRunsTaken g 1 0 [] nested
 
 -- no pages were to be had for a table that takes so many, or one where it may be nested
@@ -178,8 +185,8 @@ AreNoPages g pages false steps = AreRunsTaken g pages 0 [] steps
 AreNoPages g pages true steps = AreRunsThenPagesTaken g pages steps
 
 -- no slot was to be had for a table of this size, or no pages, neither for a flat one nor, where it may be nested, for a nested
--- one: each was found taken, and not by these operations. Of the pages for a nested one it isn't said that none was taken by the
--- operations before, those on runs
+-- one: each was found taken, and not by these operations: none of them had taken it, or those that did gave it back before single
+-- pages were looked for
 abbrev pub SawNoRoom : Geometry → ℕ → Bool → List Did → Type 0
 SawNoRoom g size nests steps =
     AreSlotsTaken g (map performed_of steps) ⊎ AreNoPages g (pages_for size) nests (map performed_of steps)

@@ -108,11 +108,11 @@ pub fn taken_alone<M: Mix>()
 /// the table may grow. `Again` names the table that the bind then attached behind that one, or found there
 /// as its future. For `Busy` and `NoTable` it then loaded that future as none. Before, for `Busy`, it had
 /// found that another table is the current one, and that by the count the full one isn't due to grow; for
-/// `NoTable`, that each slot is taken, by each of its operations on the state of one, or each run of pages
-/// in its turn, by a page that it hadn't taken itself, and then, where a table of 128 buckets or more is
-/// wanted, each page, which it hadn't taken since it looked for pages one by one; for the size that is wanted:
-/// twice the full table's where that is due to grow by the count, and else its own, where it is the current
-/// one. Or `NoTable` has another cause: the last table that the
+/// `NoTable`, that there is no slot, or no pages for the size that is wanted: twice the full table's where
+/// that is due to grow by the count, and else its own, where it is the current one. No slot: each is taken,
+/// by each of its operations on the state of one. No pages: each run is taken in its turn, by a page that it
+/// hadn't taken itself. Where a table of 128 buckets or more is wanted, it had then given back each page
+/// that it took, and behind that each page is taken in its turn, which it hadn't taken since. Or `NoTable` has another cause: the last table that the
 /// bind walked is nested and has the size that is named, the bind loaded its future as none, then an entry
 /// of it that led to no page, at which the way to the port's bucket ends, and behind that each page was seen
 /// taken in its turn.

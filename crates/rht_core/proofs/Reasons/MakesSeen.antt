@@ -28,8 +28,9 @@ use Rattle.rht_nest.specs.MakeLaws.{StoresInSlot, SeesSlotTaken}
 use Rattle.rht_nest.specs.declared.make.MakeAt.{MakeAt}
 use Rattle.rht_nest.specs.declared.make.MakeAt.TheVariants as at
 use Rattle.rht_nest.proofs.MakesStay.{made_pages-some}
-use Rattle.rht_core.specs.ResizeCauses.{FindsSlotsTaken, AreSlotsTaken, SeesRunLost, AreRunsTaken, AreNoPages}
+use Rattle.rht_core.specs.ResizeCauses.{FindsSlotsTaken, AreSlotsTaken, SeesRunLost, AreRunsTaken, IsGivenBack, AreNoPages}
 use Rattle.rht_core.proofs.Reasons.PagesTaken.{none_from, TakesNoneFrom, off_map_takes_none, none_later, none_took, StandsFrom, PassesIn, passes_in}
+use Rattle.rht_core.proofs.Reasons.PagesGivenBack.{given_back-none, GaveBackBut, GaveBackThen, gave_back_in}
 
 module _ (g : Geometry) (pages : ℕ) where
   -- the runs from one up to this one were seen taken in their turn, behind these operations
@@ -175,19 +176,25 @@ module _ (g : Geometry) (exponent : ℕ) where
   abbrev SawSlotsBelow : ℕ → List Performed → Type 0
   SawSlotsBelow slot steps = (other : ℕ) → other < slot → Any (SeesSlotTaken g other) steps
 
-  -- what the making has seen while it takes a top page: each run by operations before, and behind these the pages up to one
+  -- all pages were given back that these operations took
+  abbrev pub GaveBack : List Performed → Type 0
+  GaveBack steps = (page : ℕ) → page < g.pages → IsGivenBack g page steps
+
+  -- What the making has seen while it takes a top page: each run by operations before, which gave back what they took, and behind
+  -- these the pages up to one.
   pub record SawTopTaking (take : TakeRunModel) (steps : List Performed) : Type 0 where
     pub before : List Performed
     pub behind : List Performed
     pub are : steps ≡ before ++ behind
     pub runs : AreRunsTaken g pages_flat 0 [] before
+    pub back : GaveBack before
     pub tops : SawRun g 1 take.at behind
 
   -- what the making has seen in a state
   abbrev pub SawMaking : Bool → MakeAt → List Performed → Type 0
   SawMaking nests (at.Slot slot) steps =
       SawSlotsBelow slot steps × (AllByRecursion (FindsSlotsTaken g) steps × AllByRecursion (TakesNoneFrom g 0) steps)
-  SawMaking nests (at.Taking slot take) steps = SawRun g pages_flat take.at steps
+  SawMaking nests (at.Taking slot take) steps = SawRun g pages_flat take.at steps × GaveBackBut g pages_flat take.at steps
   SawMaking nests (at.TakingTop slot take) steps = SawTopTaking take steps
   SawMaking nests (at.SlotBack slot) steps = AreNoPages g pages_flat nests steps
   SawMaking nests (at.NextSerial slot nested page) steps = Unit {0}
@@ -209,30 +216,32 @@ module _ (g : Geometry) (exponent : ℕ) where
   saw_nothing nests steps finds takes = (λ other low. absurd (omega (arith, low)), (finds, takes))
 
   -- where there is no run, the pages are looked for from the first one on, or none was to be had
-  no_run-saw : (nests : Bool) (slot : ℕ) (steps : List Performed) → AreRunsTaken g pages_flat 0 [] steps
+  no_run-saw : (nests : Bool) (slot : ℕ) (steps : List Performed) → AreRunsTaken g pages_flat 0 [] steps → GaveBack steps
       → SawMaking nests (no_run g nests slot) steps
-  no_run-saw true slot steps runs = record {
+  no_run-saw true slot steps runs back = record {
     before = steps;
     behind = [];
     are = sym (append-nil steps);
     runs = runs;
+    back = back;
     tops = (tt, taken_to-begins g 1 [] []);
   }
-  no_run-saw false slot steps runs = runs
+  no_run-saw false slot steps runs back = runs
 
   -- with a slot a run is looked for from the first one on, or there are too few pages
   started-saw : (nests : Bool) (slot : ℕ) (steps : List Performed) → AllByRecursion (TakesNoneFrom g 0) steps
       → SawMaking nests (run_started g nests slot (take_run_new g pages_flat)) steps
   started-saw nests slot steps none =
       let some = made_pages-some exponent in
+      let back : GaveBack steps = λ page within. given_back-none g page steps within none in
       cond_both (nat_le (run_length pages_flat) g.pages) (starts.Running (first_run g (run_length pages_flat)))
       (starts.Done None)
       (λ start. SawMaking nests (run_started g nests slot start) steps)
-      (λ t. (none, taken_to-begins g pages_flat [] steps))
+      (λ t. ((none, taken_to-begins g pages_flat [] steps), λ page within lost. back page within))
       (λ f.
       let few : g.pages < run_length pages_flat = leb-false (run_length pages_flat) g.pages f in
       no_run-saw nests slot steps
-      (taken_to-each g pages_flat 0 0 [] steps (omega (arith, few, some)) (taken_to-begins g pages_flat [] steps)))
+      (taken_to-each g pages_flat 0 0 [] steps (omega (arith, few, some)) (taken_to-begins g pages_flat [] steps)) back)
 
   -- the exchange of a slot's state takes no page
   slot_takes_none : (slot : ℕ) (step : Performed) → step.op ≡ make_plan_at g exponent 0 (at.Slot slot) → slot < 8
@@ -271,21 +280,22 @@ module _ (g : Geometry) (exponent : ℕ) where
 
   -- a run was taken, or is taken still, or there was none
   run_taken-saw : (nests : Bool) (slot : ℕ) (r : TakeRunModel × Next (Option ℕ)) (steps : List Performed)
-      → SawTaking g pages_flat r steps → SawMaking nests (run_taken g nests slot r.0 r.1) steps
-  run_taken-saw nests slot (left, Go) steps saw = saw
-  run_taken-saw nests slot (left, Done None) steps saw = no_run-saw nests slot steps saw
-  run_taken-saw nests slot (left, Done (Some page)) steps saw = tt
+      → SawTaking g pages_flat r steps → GaveBackThen g pages_flat r steps → SawMaking nests (run_taken g nests slot r.0 r.1) steps
+  run_taken-saw nests slot (left, Go) steps saw gave = (saw, gave)
+  run_taken-saw nests slot (left, Done None) steps saw gave = no_run-saw nests slot steps saw (λ page within. gave page within refl)
+  run_taken-saw nests slot (left, Done (Some page)) steps saw gave = tt
 
   -- and so a top page
   top_taken-saw : (nests : Bool) (slot : ℕ) (r : TakeRunModel × Next (Option ℕ)) (before behind steps : List Performed)
-      → nests ≡ true → steps ≡ before ++ behind → AreRunsTaken g pages_flat 0 [] before → SawTaking g 1 r behind
+      → nests ≡ true → steps ≡ before ++ behind → AreRunsTaken g pages_flat 0 [] before → GaveBack before
+      → SawTaking g 1 r behind
       → SawMaking nests (top_taken slot r.0 r.1) steps
-  top_taken-saw nests slot (left, Go) before behind steps may are runs saw =
-      record { before = before; behind = behind; are = are; runs = runs; tops = saw }
-  top_taken-saw nests slot (left, Done None) before behind steps may are runs saw =
+  top_taken-saw nests slot (left, Go) before behind steps may are runs back saw =
+      record { before = before; behind = behind; are = are; runs = runs; back = back; tops = saw }
+  top_taken-saw nests slot (left, Done None) before behind steps may are runs back saw =
       subst (λ n. AreNoPages g pages_flat n steps) (sym may)
-      (record { flat = before; nested = behind; are = are; runs = runs; tops = saw })
-  top_taken-saw nests slot (left, Done (Some page)) before behind steps may are runs saw = tt
+      (record { flat = before; nested = behind; are = are; runs = runs; back = back; tops = saw })
+  top_taken-saw nests slot (left, Done (Some page)) before behind steps may are runs back saw = tt
 
   -- that no pages were to be had stays so
   pub no_pages-stay : (nests : Bool) (steps : List Performed) (step : Performed) → AreNoPages g pages_flat nests steps
@@ -296,6 +306,7 @@ module _ (g : Geometry) (exponent : ℕ) where
     nested = none.nested ++ step ∷ [];
     are = ap (λ s. s ++ step ∷ []) none.are ∙ append_assoc none.flat none.nested (step ∷ []);
     runs = none.runs;
+    back = none.back;
     tops = runs_taken-stay g 1 0 [] none.nested step none.tops;
   }
 
@@ -317,7 +328,8 @@ module _ (g : Geometry) (exponent : ℕ) where
       let step : Performed = record { op = take_run_plan take; old = old } in
       run_taken-saw (may_nest exponent allowed) slot (take_run_after take old) (steps ++ step ∷ [])
       (taken-saw g pages_flat take old steps (take_run_after take old)
-      (goes_on_in g pages_flat take old here.take_in.geometry_same here.pages_same range) passes passes.stands saw)
+      (goes_on_in g pages_flat take old here.take_in.geometry_same here.pages_same range) passes passes.stands saw.0)
+      (gave_back_in g pages_flat take old steps here.take_in.geometry_same here.pages_same range saw.1)
   make-saw seed allowed (at.TakingTop slot take) steps old here saw =
       let taking = here.taking in
       let range = subst (λ p. IsTakeRunAtIn g p take.at) taking.pages_same taking.take_in.at_in in
@@ -325,7 +337,7 @@ module _ (g : Geometry) (exponent : ℕ) where
       let step : Performed = record { op = take_run_plan take; old = old } in
       top_taken-saw (may_nest exponent allowed) slot (take_run_after take old) saw.before (saw.behind ++ step ∷ [])
       (steps ++ step ∷ []) here.kind
-      (ap (λ s. s ++ step ∷ []) saw.are ∙ append_assoc saw.before saw.behind (step ∷ [])) saw.runs
+      (ap (λ s. s ++ step ∷ []) saw.are ∙ append_assoc saw.before saw.behind (step ∷ [])) saw.runs saw.back
       (taken-saw g 1 take old saw.behind (take_run_after take old)
       (goes_on_in g 1 take old taking.take_in.geometry_same taking.pages_same range) passes passes.stands saw.tops)
   make-saw seed allowed (at.SlotBack slot) steps old here saw =
