@@ -11,6 +11,19 @@ use std::process::Abort;
 /// What a look-up performs, with what each operation finds, and its reply.
 type Case<'a> = (&'a [(Op, u64)], Reply);
 
+/// A look-up has an operation, and it is this one, which finds this word. What it says then is
+/// answered. It is on its way to this reply.
+fn perform_one(
+    rt: &impl Abort,
+    find: &mut Find<Low>,
+    said: Next<Reply>,
+    (op, old): (Op, u64),
+    reply: Reply,
+) -> Next<Reply> {
+    assert_eq!(rt; (said, find.plan()), (Next::Go, op), "to {reply:?}");
+    find.take(old)
+}
+
 /// Look-ups of the port go so.
 fn assert_finds(rt: &impl Abort, port: Port, cases: &[Case]) {
     let config = Config {
@@ -24,9 +37,8 @@ fn assert_finds(rt: &impl Abort, port: Port, cases: &[Case]) {
     for (steps, reply) in cases {
         let mut find = Find::<Low>::new(Env::new(config), 0, port);
         let mut next = Next::Go;
-        for (op, old) in *steps {
-            assert_eq!(rt; (next, find.plan()), (Next::Go, *op), "to {reply:?}");
-            next = find.take(*old);
+        for step in *steps {
+            next = perform_one(rt, &mut find, next, *step, *reply);
         }
         assert_eq!(rt; next, Next::Done(*reply));
     }
