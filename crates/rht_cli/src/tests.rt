@@ -81,14 +81,31 @@ fn run_with<R: Threads + Wait + Sync, G: Gate + Sync>(
 }
 
 fn assert_left(rt: &impl Abort, left: &Left, status: u8, out: &str, err: &str, case: &str) {
-    assert_eq!(rt; left.status, status, "{case}");
-    assert_eq!(rt; left.out.bytes(), out.as_bytes(), "{case}");
-    assert_eq!(rt; left.err.bytes(), err.as_bytes(), "{case}");
+    let found = (left.status, left.out.bytes(), left.err.bytes());
+    assert_eq!(rt; found, (status, out.as_bytes(), err.as_bytes()), "{case}");
+}
+
+/// The words and the input, and what is left: the status, the text and the line of the error.
+type Case = (&'static str, &'static str, u8, &'static str, &'static str);
+
+/// Asserts that each case leaves that, whatever the input's pieces.
+fn assert_cases<R: Threads + Wait + Sync + Abort>(
+    rt: &R,
+    alloc: Global,
+    cases: &[Case],
+) -> Result<(), Fail> {
+    for (words, script, status, out, err) in cases {
+        for piece in [1, 4096] {
+            let left = run_on(rt, alloc, words, script, Outside { piece, ..WHOLE })?;
+            assert_left(rt, &left, *status, out, err, script);
+        }
+    }
+    Ok(())
 }
 
 #[test]
 fn scripts_are_served_and_others_refused(rt: HostRuntime) -> Result<(), Fail> {
-    let cases = [
+    let cases: [Case; 30] = [
         ("run", "table single\n", 0, "size 64 keys 0\n", ""),
         (
             "run",
@@ -225,19 +242,7 @@ fn scripts_are_served_and_others_refused(rt: HostRuntime) -> Result<(), Fail> {
         ("gen 7 7", "table single\n", 1, "", USAGE),
         ("", "table single\n", 1, "", USAGE),
     ];
-    for (words, script, status, out, err) in cases {
-        for piece in [1, 4096] {
-            let outside = Outside {
-                piece,
-                take: 0,
-                put: 0,
-                err: 0,
-            };
-            let left = run_on(&rt, rt.alloc(), words, script, outside)?;
-            assert_left(&rt, &left, status, out, err, script);
-        }
-    }
-    Ok(())
+    assert_cases(&rt, rt.alloc(), &cases)
 }
 
 /// A part of a text: lines so many times, or a line for each of so many ports.
@@ -264,19 +269,47 @@ fn written(alloc: Global, parts: &[Part]) -> Result<String, Fail> {
     let mut text = String::new(alloc);
     for part in parts {
         match *part {
-            Part::Lines(count, lines) => for _ in 0..count {
-                text.push_str(lines)?;
-            },
-            Part::Each(before, ports, after) => {
-                let mut port = ports.first;
-                for _ in 0..ports.count {
-                    text.push_str(&format!(in alloc; "{before}{port}{after}")?)?;
-                    port = port.wrapping_add(ports.step);
-                }
-            }
+            Part::Lines(count, lines) => add_lines(&mut text, count, lines)?,
+            Part::Each(before, ports, after) => add_each(alloc, &mut text, before, ports, after)?,
         }
     }
     Ok(text)
+}
+
+fn add_lines(text: &mut String, count: u32, lines: &str) -> Result<(), Fail> {
+    for _ in 0..count {
+        text.push_str(lines)?;
+    }
+    Ok(())
+}
+
+fn add_each(
+    alloc: Global,
+    text: &mut String,
+    before: &str,
+    ports: Row,
+    after: &str,
+) -> Result<(), Fail> {
+    let mut port = ports.first;
+    for _ in 0..ports.count {
+        text.push_str(&format!(in alloc; "{before}{port}{after}")?)?;
+        port = port.wrapping_add(ports.step);
+    }
+    Ok(())
+}
+
+/// Asserts that the script of the first parts is answered by the text of the others.
+fn assert_written<R: Threads + Wait + Sync + Abort>(
+    rt: &R,
+    alloc: Global,
+    script: &[Part],
+    text: &[Part],
+) -> Result<(), Fail> {
+    let script = written(alloc, script)?;
+    let text = written(alloc, text)?;
+    let left = run_on(rt, alloc, "run", &script, WHOLE)?;
+    assert_left(rt, &left, 0, &text, "", &script);
+    Ok(())
 }
 
 #[test]
@@ -469,12 +502,26 @@ fn tables_grow_and_shrink(rt: HostRuntime) -> Result<(), Fail> {
         ),
     ];
     for (script, text) in cases {
-        let script = written(rt.alloc(), script)?;
-        let text = written(rt.alloc(), text)?;
-        let left = run_on(&rt, rt.alloc(), "run", &script, WHOLE)?;
-        assert_left(&rt, &left, 0, &text, "", &script);
+        assert_written(&rt, rt.alloc(), script, text)?;
     }
     Ok(())
+}
+
+/// A worker's commands for 500 ports of its own.
+fn add_commands(alloc: Global, script: &mut String, w: u32) -> Result<(), Fail> {
+    for j in 0..500u32 {
+        let p = w.wrapping_mul(1000).wrapping_add(j);
+        script.push_str(&format!(in alloc;
+            "{w} bind {p} {w}\n{w} find {p}\n{w} release {p} {w}\n{w} find {p}\n"
+        )?)?;
+    }
+    Ok(())
+}
+
+/// What they are answered.
+fn add_answers(alloc: Global, text: &mut String, w: u32) -> Result<(), Fail> {
+    let lines = format!(in alloc; "{w}: bound\n{w}: found {w}\n{w}: released\n{w}: missing\n")?;
+    add_lines(text, 500, &lines)
 }
 
 #[test]
@@ -483,15 +530,8 @@ fn four_workers_are_served(rt: HostRuntime) -> Result<(), Fail> {
     let mut script = String::from_str(rt.alloc(), "table single workers 4\n")?;
     let mut text = String::new(rt.alloc());
     for w in 1..=4u32 {
-        for j in 0..500u32 {
-            let p = 1000 * w + j;
-            script.push_str(&format!(in rt.alloc();
-                "{w} bind {p} {w}\n{w} find {p}\n{w} release {p} {w}\n{w} find {p}\n"
-            )?)?;
-            text.push_str(&format!(in rt.alloc();
-                "{w}: bound\n{w}: found {w}\n{w}: released\n{w}: missing\n"
-            )?)?;
-        }
+        add_commands(rt.alloc(), &mut script, w)?;
+        add_answers(rt.alloc(), &mut text, w)?;
     }
     text.push_str("size 64 keys 0\n")?;
     let left = run_on(&rt, rt.alloc(), "run", &script, WHOLE)?;
@@ -539,8 +579,8 @@ fn two_workers_meet(rt: HostRuntime) -> Result<(), Fail> {
             seen: [AtomicBool::new(false), AtomicBool::new(false)],
         };
         let left = run_with(&rt, rt.alloc(), "run", script, WHOLE, &gate)?;
-        assert!(rt; gate.seen[0].load(Ordering::SeqCst));
-        assert!(rt; gate.seen[1].load(Ordering::SeqCst));
+        let seen = gate.seen[0].load(Ordering::SeqCst);
+        assert!(rt; seen && gate.seen[1].load(Ordering::SeqCst));
         let text = "1: bound\n2: bound\nport 1: 1\nport 2: 2\nsize 64 keys 2\n";
         assert_left(&rt, &left, 0, text, "", script);
     }
@@ -591,9 +631,31 @@ fn a_number_is_run(rt: HostRuntime) -> Result<(), Fail> {
             "{name}: commands 20000 bound 4000 exists 2000 found 6000 missing 6000 released 2000 keys 2000 sum {sum}\n"
         )?;
         assert_left(&rt, &left, 0, &text, "", words);
-        assert_eq!(rt; heard.before.load(Ordering::SeqCst), 20_000);
-        assert_eq!(rt; heard.after.load(Ordering::SeqCst), 20_000);
+        let before = heard.before.load(Ordering::SeqCst);
+        assert!(rt; before == 20_000 && heard.after.load(Ordering::SeqCst) == 20_000);
     }
+    Ok(())
+}
+
+/// Asserts that the line is the worker's, with this reply.
+fn assert_line(
+    rt: &impl Abort,
+    alloc: Global,
+    line: Option<&str>,
+    w: u32,
+    reply: &str,
+) -> Result<(), Fail> {
+    let want = format!(in alloc; "{w}: {reply}")?;
+    assert_eq!(rt; line, Some(want.as_str()));
+    Ok(())
+}
+
+/// Asserts that the line is the worker's, with one of 16 owners that was found.
+fn assert_found(rt: &impl Abort, alloc: Global, line: Option<&str>, w: u32) -> Result<(), Fail> {
+    let found = line.ok_or("a reply")?;
+    let begins = format!(in alloc; "{w}: found ")?;
+    let owner = found.strip_prefix(begins.as_str()).ok_or("an owner")?;
+    assert!(rt; matches!(owner.parse::<u32>(), Ok(1..=16)), "{found}");
     Ok(())
 }
 
@@ -603,35 +665,22 @@ fn sixteen_workers_share_a_port(rt: HostRuntime) -> Result<(), Fail> {
     // since its own is bound then; whose, is for the order of the workers to say.
     let mut script = String::from_str(rt.alloc(), "table listed workers 16\n")?;
     for w in 1..=16u32 {
-        for _ in 0..20 {
-            script.push_str(&format!(in rt.alloc();
-                "{w} bind 80 {w}\n{w} find 80\n{w} release 80 {w}\n"
-            )?)?;
-        }
+        let lines = format!(in rt.alloc(); "{w} bind 80 {w}\n{w} find 80\n{w} release 80 {w}\n")?;
+        add_lines(&mut script, 20, &lines)?;
     }
     let left = run_on(&rt, rt.alloc(), "run", &script, WHOLE)?;
-    assert_eq!(rt; left.status, 0);
+    assert!(rt; left.status == 0);
     let text = str::from_utf8(left.out.bytes())?;
     let mut lines = text.lines();
     for w in 1..=16u32 {
         for _ in 0..20 {
-            assert_eq!(rt;
-                lines.next(),
-                Some(format!(in rt.alloc(); "{w}: bound")?.as_str())
-            );
-            let found = lines.next().ok_or("a reply")?;
-            let owner = found
-                .strip_prefix(format!(in rt.alloc(); "{w}: found ")?.as_str())
-                .ok_or("an owner")?;
-            assert!(rt; matches!(owner.parse::<u32>(), Ok(1..=16)), "{found}");
-            assert_eq!(rt;
-                lines.next(),
-                Some(format!(in rt.alloc(); "{w}: released")?.as_str())
-            );
+            assert_line(&rt, rt.alloc(), lines.next(), w, "bound")?;
+            assert_found(&rt, rt.alloc(), lines.next(), w)?;
+            assert_line(&rt, rt.alloc(), lines.next(), w, "released")?;
         }
     }
-    assert_eq!(rt; lines.next(), Some("size 64 keys 0"));
-    assert_eq!(rt; lines.next(), None);
+    let last = (lines.next(), lines.next());
+    assert!(rt; last == (Some("size 64 keys 0"), None));
     Ok(())
 }
 
@@ -662,8 +711,7 @@ fn schedules_are_replayed(rt: HostRuntime) -> Result<(), Fail> {
         ),
     ];
     for (script, text) in cases {
-        let left = run_on(&rt, rt.alloc(), "replay", script, WHOLE)?;
-        assert_left(&rt, &left, 0, text, "", script);
+        assert_cases(&rt, rt.alloc(), &[("replay", script, 0, text, "")])?;
     }
     Ok(())
 }
@@ -676,14 +724,13 @@ fn a_failed_take_leaves_nothing_written(rt: HostRuntime) -> Result<(), Fail> {
             let outside = Outside {
                 piece: 16,
                 take,
-                put: 0,
-                err: 0,
+                ..WHOLE
             };
             let left = run_on(&rt, rt.alloc(), words, SCRIPT, outside)?;
             if take < 6 {
                 assert_left(&rt, &left, 3, "", "rht: read failed\n", words);
             } else {
-                assert_eq!(rt; left.status, 0, "{words}");
+                assert!(rt; left.status == 0, "{words}");
             }
         }
     }
@@ -722,11 +769,9 @@ fn a_failed_put_leaves_the_lines_before_it(rt: HostRuntime) -> Result<(), Fail> 
 fn a_failed_put_leaves_a_prefix(rt: HostRuntime) -> Result<(), Fail> {
     // 1,000 look-ups print 11 bytes each, and the last line has 15: three buffers of 4,096 bytes.
     let mut script = String::from_str(rt.alloc(), "table single\n")?;
+    add_lines(&mut script, 1000, "1 find 80\n")?;
     let mut text = String::new(rt.alloc());
-    for _ in 0..1000 {
-        script.push_str("1 find 80\n")?;
-        text.push_str("1: missing\n")?;
-    }
+    add_lines(&mut text, 1000, "1: missing\n")?;
     text.push_str("size 64 keys 0\n")?;
     for put in 1..=4 {
         let outside = Outside {
@@ -741,12 +786,17 @@ fn a_failed_put_leaves_a_prefix(rt: HostRuntime) -> Result<(), Fail> {
         } else {
             (0, "")
         };
-        assert_eq!(rt; left.status, status, "put {put}");
-        assert_eq!(rt; left.err.bytes(), line.as_bytes(), "put {put}");
         let out = left.out.bytes();
-        assert!(rt; text.as_bytes().starts_with(out), "put {put}");
-        assert_eq!(rt; out.is_empty(), put == 1, "put {put}");
-        assert_eq!(rt; out.len() == text.len(), put == 4, "put {put}");
+        let begins = text.as_bytes().starts_with(out);
+        let found = (
+            left.status,
+            left.err.bytes(),
+            begins,
+            out.is_empty(),
+            out.len() == text.len(),
+        );
+        let want = (status, line.as_bytes(), true, put == 1, put == 4);
+        assert_eq!(rt; found, want, "put {put}");
     }
     Ok(())
 }
