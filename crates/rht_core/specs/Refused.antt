@@ -1,5 +1,5 @@
--- What a call leaves that changes nothing: one that was refused, found its port bound, or found no owner to replace or to release; one
--- that only looks, as a look-up, a listing and a count do; and a resizing that had nothing to do.
+-- What a call leaves that changes nothing: one that was refused, found its port bound, or found no owner to replace or to release. And
+-- what a call leaves that only looks, as a look-up, a listing and a reading of the count, and a resizing that had nothing to do.
 -- A bit that its operations turned an even number of times is as if the call had never been, whatever others do to it.
 use Rattle.std.specs.Prelude.{◌≡◌, ◌≢◌, ℕ, ◌+◌, ◌*◌, ◌/◌, ◌%◌, ◌<◌, ◌⊎◌, ◌==◌, Bool, true, Some, List, [], ◌∷◌, ◌++◌, if◌then◌else◌}
 use Rattle.std.specs.List.{AllByRecursion, Any}
@@ -31,8 +31,8 @@ use Rattle.rht_core.specs.ResizeCauses.{Attaches}
 use Rattle.rht_core.specs.RunHistories.{ChangesBindings}
 pub use Rattle.rht_words.specs.TableWords.{IsTableWord}
 
--- a call that ends with this reply changes nothing: it was refused, or its port was bound, or it replaced or released no owner, or it only
--- looked, or had nothing to do
+-- A call that ends with this reply changes nothing: it was refused, or its port was bound, or it replaced or released no owner. Or it only
+-- looked, or had nothing to do.
 abbrev pub changes_nothing : Call → Reply → Bool
 changes_nothing call (Exists owner) = true
 changes_nothing call Absent = true

@@ -12,7 +12,7 @@ use Rattle.rht_core.proofs.Undoing.UndoneTables.{attach, enter}
 
 module _ {env : Env} {mix : ℕ → ℕ → ℕ → ℕ} {words_at : ℕ → List ℕ} {call : Call}
     (step : GoesBack env mix words_at call) where
-  -- a link behind a first node that is stored keeps the lock, so it leaves its word
+  -- a store of the link of a node behind a first one keeps the lock, so here it can only be an operation that leaves its word
   behind_leaves : (n : ℕ)
       → DoesLinkBehind env.geometry n step.did.op step.before (bare step.after)
       → LeavesBits step.did.op step.did.old
