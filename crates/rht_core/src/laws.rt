@@ -104,7 +104,8 @@ pub fn taken_alone<M: Mix>()
 ///
 /// `Again`, `Busy` and `NoTable` of a bind have as their cause first that the last table that it walked is
 /// full. It came to that table from the current one on along the futures, and counted 16 nodes or more in
-/// a bucket of it, with so many ports bound at the last one, or loaded a count above the table's size, and
+/// its port's bucket there, by the table's seed as it then was, with so many ports bound at the last one.
+/// None of the keys that it loaded for this is the port. Or it loaded a count above the table's size, and
 /// the table may grow. `Again` names the table that the bind then attached behind that one, or found there
 /// as its future. For `Busy` and `NoTable` it then loaded that future as none. Before, for `Busy`, it had
 /// found that another table is the current one, and that by the count the full one isn't due to grow; for
