@@ -2,7 +2,9 @@
 pub mod KeyLoads
 -- the last table that a call walked is the one whose shape it loaded last
 pub mod TablesWalked
--- what a bind has counted in a bucket
+-- the number of a port's bucket, by the words
+pub mod PortBuckets
+-- what a bind has counted in its port's bucket
 pub mod ChainsCounted
 -- whether a bind has attached a table
 pub mod AttachedTables

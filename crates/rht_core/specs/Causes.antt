@@ -220,10 +220,10 @@ module _ (M : Type 0) (mix : ℕ → ℕ → ℕ → ℕ) where
   BindCause env events c port past (Exists owner) = env.config.kind ≡ Single
   BindCause env events c port past NoNode = SawNoNode env past
   BindCause env events c port past (TooBig count) = Any (SawFull env events c count) past.steps
-  BindCause env events c port past (Again table) = HasFollowed M mix env events c table past.steps
-  BindCause env events c port past (Busy root last) = SawBusy M mix env events c root last past.steps
+  BindCause env events c port past (Again table) = HasFollowed M mix env events c port table past.steps
+  BindCause env events c port past (Busy root last) = SawBusy M mix env events c port root last past.steps
   BindCause env events c port past (NoTable size) =
-      SawNoTable M mix env events c size past.steps
+      SawNoTable M mix env events c port size past.steps
       ⊎ SawNoPage env.geometry (words_before M mix env events) mix port size past.steps
   BindCause env events c port past (Found owner) = ⊥
   BindCause env events c port past Missing = ⊥

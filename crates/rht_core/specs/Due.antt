@@ -1,5 +1,5 @@
 -- What is due for the last table, by its shape, by how many ports are bound, and by the config. The laws of resizings and of kicks speak
--- in these words, and not in those of the machines.
+-- in these words, which stand on the formulas of `rht_policy`, and not in what the machines compute of them.
 use Rattle.std.specs.Prelude.{ℕ, Bool, ◌*◌, ◌&&◌, min, if◌then◌else◌}
 use Rattle.rht_words.specs.declared.env.Env.{Env}
 use Rattle.rht_words.specs.Shapes.{size_of, unpacked}
@@ -9,14 +9,14 @@ use Rattle.rht_nest.specs.Tables.{is_nested}
 use Rattle.rht_move.specs.declared.work.choice.Choice.{Choice}
 use Rattle.rht_move.specs.declared.work.choice.Choice.TheVariants.{Attach, Later, Nothing}
 
--- shrinking is on, and a table of this size with so many ports is due to shrink: they are fewer than three tenths of its buckets, and it
--- has more than the least size
+-- shrinking is on, and a table of this size with so many ports is due to shrink: they are fewer than three tenths of its buckets, rounded
+-- down, and it has more than the least size
 abbrev pub is_due_to_shrink : Env → ℕ → ℕ → Bool
 is_due_to_shrink env ports size = env.config.shrink && is_below_30 ports size env.config.min
 
 -- What is due behind a last table of this shape, where this count of ports was loaded; `alone` says that it is the current one. One that is
 -- to grow gets a table of twice its size. One that is to shrink gets a smaller one where it is alone. Else a nested one gets a flat one of
--- its size, and one that is to shrink and isn't alone has to wait. A count above the greatest number of ports is read as that number.
+-- its size, and one that is to shrink and isn't alone has to wait. A count above 65,536, the most nodes, is read as that.
 abbrev pub due : Env → ℕ → ℕ → Bool → Choice
 due env count shape alone =
     let ports = min count 65536 in

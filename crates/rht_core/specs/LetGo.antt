@@ -1,6 +1,6 @@
 -- What a call that has ended has let go: the work lock and the locks of buckets, whatever its reply.
--- A lock is the lowest bit of its word. A bit that a call's operations turned an even number of times is as if the call had never been,
--- whatever others do to it; so of each lock that it took it has given back as many as it took.
+-- A lock is the lowest bit of its word. What such a bit is, it is by its value at opening and by the calls that turned it an odd number of
+-- times. So once each call has ended, and none of them did, every lock is free, whatever the order of their operations.
 use Rattle.std.specs.Prelude.{◌≡◌, ℕ, ◌*◌, ◌%◌, ◌<◌, ◌⊎◌, List}
 use Rattle.std.specs.List.{AllByRecursion}
 use Rattle.rht_words.specs.declared.env.Env.{Env}
@@ -13,7 +13,7 @@ use Rattle.rht_core.specs.Traces.{Did, Past, traced_of}
 use Rattle.rht_core.specs.Seen.{words_before}
 use Rattle.rht_core.specs.Refused.{turns, MayAttach, EnteredWhenTaken}
 
--- a bind entered a page at this entry, when it had taken the page: the entry's word is another from then on, and locks no bucket
+-- a bind entered a page at this entry, when it had taken the page: by the words before, the entry was one of a nested table and led to none
 pub record HasEnteredAt (g : Geometry) (words_at : ℕ → List ℕ) (call : Call) (steps : List Did) (entry : ℕ) : Type 0 where
   pub may : MayAttach call
   pub page : ℕ

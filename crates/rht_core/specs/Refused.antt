@@ -1,6 +1,7 @@
 -- What a call leaves that changes nothing: one that was refused, found its port bound, or found no owner to replace or to release. And
 -- what a call leaves that only looks, as a look-up, a listing and a reading of the count, and a resizing that had nothing to do.
--- A bit that its operations turned an even number of times is as if the call had never been, whatever others do to it.
+-- What a bit is, it is by its value at opening and by the calls that turned it an odd number of times, whatever the order of their
+-- operations. To a bit that it turned an even number of times a call has added nothing.
 use Rattle.std.specs.Prelude.{◌≡◌, ◌≢◌, ℕ, ◌+◌, ◌*◌, ◌/◌, ◌%◌, ◌<◌, ◌⊎◌, ◌==◌, Bool, true, Some, List, [], ◌∷◌, ◌++◌, if◌then◌else◌}
 use Rattle.std.specs.List.{AllByRecursion, Any}
 use Rattle.std.specs.Int.{bit_at}
@@ -16,7 +17,7 @@ use Rattle.rht_words.specs.Shapes.{unpacked, size_of}
 use Rattle.rht_model.specs.declared.history.Call.{Call}
 use Rattle.rht_model.specs.declared.history.Call.TheVariants.{Bind}
 use Rattle.rht_model.specs.declared.history.Reply.{Reply}
-use Rattle.rht_model.specs.declared.history.Reply.TheVariants.{Exists, Absent, Found, Missing, Listed, Idle, Counted}
+use Rattle.rht_model.specs.declared.history.Reply.TheVariants.{Exists, Absent, Found, Missing, Listed, Idle, Walked, Counted}
 use Rattle.rht_model.specs.Answers.{is_refusal}
 use Rattle.rht_arena.specs.Laws.{map_place, map_bit}
 use Rattle.rht_arena.specs.RunLaws.{TakesPage, GivesPage}
@@ -40,6 +41,7 @@ changes_nothing call (Found owner) = true
 changes_nothing call Missing = true
 changes_nothing call (Listed len) = true
 changes_nothing call Idle = true
+changes_nothing call (Walked len next) = true
 changes_nothing call (Counted count) = true
 changes_nothing call reply = is_refusal reply
 

@@ -67,11 +67,12 @@ abbrev pub IsNoKeyLoad : Geometry → Did → Type 0
 IsNoKeyLoad g did = (node : ℕ) → LoadsKey g node did → ⊥
 
 -- where these are the words before the event with each number
-module _ (g : Geometry) (words_at : ℕ → List ℕ) where
-  -- The operation counted a node in the bucket at this place: it loaded the node's key, at its event the node stood in the bucket
-  -- behind so many others, and as many ports were bound as these are with it.
+module _ (g : Geometry) (words_at : ℕ → List ℕ) (port : ℕ) where
+  -- The operation counted a node in the bucket at this place: it loaded the node's key, which isn't the port's, at its event the node
+  -- stood in the bucket behind so many others, and as many ports were bound as these are with it.
   pub record CountsNode (place number node : ℕ) (did : Did) : Type 0 where
     pub loads : LoadsKey g node did
+    pub other : did.old ≢ port
     pub front : List ℕ
     pub rear : List ℕ
     pub stands : bucket_nodes g (words_at did.index) (Some place) ≡ front ++ node ∷ rear
@@ -86,22 +87,31 @@ module _ (g : Geometry) (words_at : ℕ → List ℕ) where
       (CountsNode place number node did × AreCounted place (number + 1) steps nodes)
       ⊎ (IsNoKeyLoad g did × AreCounted place number steps (node ∷ nodes))
 
-  -- where the operation loads the key of a node, the bucket with this number in a table of this shape has its word at this place
-  abbrev pub FindsBucketAt : ℕ → ℕ → ℕ → Did → Type 0
-  FindsBucketAt shape bucket place did =
-      (node : ℕ) → LoadsKey g node did → bucket_in g (words_at did.index) shape bucket ≡ Some place
+-- and the table in this slot has this shape
+module _ (g : Geometry) (words_at : ℕ → List ℕ) (mix : ℕ → ℕ → ℕ → ℕ) (port table shape : ℕ) where
+  -- At the event of the operation the port's bucket in the table has this number, by the table's seed as it then is, and its word is
+  -- at this place.
+  pub record HasBucketAt (bucket place : ℕ) (did : Did) : Type 0 where
+    pub bucket_is : bucket ≡ bucket_of mix port shape (word_at g (words_at did.index) (Slot table SeedWord))
+    pub place_is : bucket_in g (words_at did.index) shape bucket ≡ Some place
 
-  -- Behind the load of the table's shape the call counted 16 nodes or more, all in one bucket of the table: each stood there, as
-  -- its key was loaded, behind as many others as were counted before.
-  pub record SawLongChain (shape : ℕ) (behind : List Did) : Type 0 where
+  -- where the operation loads the key of a node, that is so at its event
+  abbrev pub FindsBucketAt : ℕ → ℕ → Did → Type 0
+  FindsBucketAt bucket place did = (node : ℕ) → LoadsKey g node did → HasBucketAt bucket place did
+
+  -- Behind the load of the table's shape the call counted 16 nodes or more, all in the port's bucket of the table: each stood there,
+  -- as its key was loaded, which isn't the port's, behind as many others as were counted before.
+  pub record SawLongChain (behind : List Did) : Type 0 where
     pub bucket : ℕ
     pub within : bucket < size_of (unpacked shape)
     pub place : ℕ
-    pub place_is : AllByRecursion (FindsBucketAt shape bucket place) behind
+    pub bucket_is : AllByRecursion (FindsBucketAt bucket place) behind
     pub nodes : List ℕ
-    pub counted : AreCounted place 0 behind nodes
+    pub counted : AreCounted g words_at port place 0 behind nodes
     pub many : 16 ≤ length nodes
 
+-- where these are the words before the event with each number
+module _ (g : Geometry) (words_at : ℕ → List ℕ) where
   -- The operation loaded this entry of the nested table of this shape in this slot, and it leads to no page: by the words before the
   -- event the way to the port's bucket ends there. The bucket's number is by the table's seed as it then is.
   pub record MissesPage (mix : ℕ → ℕ → ℕ → ℕ) (port table shape entry : ℕ) (did : Did) : Type 0 where
@@ -198,34 +208,34 @@ module _ (M : Type 0) (mix : ℕ → ℕ → ℕ → ℕ) (env : Env) (events : 
     pub saw : SawCount M mix env events c count did
     pub above : is_above_100 count (size_of (unpacked shape)) env.config.max ≡ true
 
-  -- the table that was walked last is full: a bucket of it has 16 nodes or more, or it has fewer buckets than there are ports and
-  -- may grow
-  abbrev pub SawCrowded : ℕ → List Did → Type 0
-  SawCrowded shape behind =
-      SawLongChain env.geometry (words_before M mix env events) shape behind ⊎ Any (SawManyPorts shape) behind
+  -- the table that was walked last is full for this port: the port's bucket of it has 16 nodes or more, none with the port, or it has
+  -- fewer buckets than there are ports and may grow
+  abbrev pub SawCrowded : ℕ → ℕ → ℕ → List Did → Type 0
+  SawCrowded port table shape behind =
+      SawLongChain env.geometry (words_before M mix env events) mix port table shape behind ⊎ Any (SawManyPorts shape) behind
 
-  -- The table of this slot is the last one that the call walked, and is full: some operations behind the load of its shape show
-  -- that, and one comes behind these.
-  pub record WalkedFull (table : ℕ) (steps : List Did) : Type 0 where
+  -- The table of this slot is the last one that the call walked, and is full for this port: some operations behind the load of its
+  -- shape show that, and one comes behind these.
+  pub record WalkedFull (port table : ℕ) (steps : List Did) : Type 0 where
     pub shape : ℕ
     pub walked : LastWalked env.geometry table shape steps
     pub before : List Did
     pub at : Did
     pub rest : List Did
     pub split : walked.behind ≡ before ++ at ∷ rest
-    pub crowded : SawCrowded shape before
+    pub crowded : SawCrowded port table shape before
 
-  -- A bind has to be made again for the table of this slot: the last table that it walked is full, and then it attached that
-  -- table behind this one, or found it there.
-  pub record HasFollowed (slot : ℕ) (steps : List Did) : Type 0 where
+  -- A bind of this port has to be made again for the table of this slot: the last table that it walked is full, and then it attached
+  -- that table behind this one, or found it there.
+  pub record HasFollowed (port slot : ℕ) (steps : List Did) : Type 0 where
     pub table : ℕ
-    pub full : WalkedFull table steps
+    pub full : WalkedFull port table steps
     pub seen : Attaches env.geometry table slot full.at ⊎ FindsFuture env.geometry table slot full.at
 
-  -- A bind is refused while tables are moved: the last table that it walked is full and wasn't the current one, by a count of
-  -- ports that it loaded that table isn't due to grow, and then it loaded its future as none.
-  pub record SawBusy (root last : ℕ) (steps : List Did) : Type 0 where
-    pub full : WalkedFull last steps
+  -- A bind of this port is refused while tables are moved: the last table that it walked is full and wasn't the current one, by a
+  -- count of ports that it loaded that table isn't due to grow, and then it loaded its future as none.
+  pub record SawBusy (port root last : ℕ) (steps : List Did) : Type 0 where
+    pub full : WalkedFull port last steps
     pub other : root ≢ last
     pub current : Any (LoadsCurrent env.geometry root) full.before
     pub count : ℕ
@@ -233,12 +243,12 @@ module _ (M : Type 0) (mix : ℕ → ℕ → ℕ → ℕ) (env : Env) (events : 
     pub not_due : is_above_75 count (size_of (unpacked full.shape)) env.config.max ≡ false
     pub none : Loaded env.geometry (Slot last FutureWord) 0 full.at
 
-  -- A bind is refused for want of a table of this size: the last table that it walked is full, by a count of ports that it
-  -- loaded a table of this size is to come behind it, of twice its own or since it is the current one; behind that load it saw no
+  -- A bind of this port is refused for want of a table of this size: the last table that it walked is full, by a count of ports that
+  -- it loaded a table of this size is to come behind it, of twice its own or since it is the current one; behind that load it saw no
   -- room for one, and then it loaded the last table's future as none.
-  pub record SawNoTable (size : ℕ) (steps : List Did) : Type 0 where
+  pub record SawNoTable (port size : ℕ) (steps : List Did) : Type 0 where
     pub table : ℕ
-    pub full : WalkedFull table steps
+    pub full : WalkedFull port table steps
     pub sooner : List Did
     pub counting : Did
     pub making : List Did

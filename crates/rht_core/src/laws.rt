@@ -104,7 +104,8 @@ pub fn taken_alone<M: Mix>()
 ///
 /// `Again`, `Busy` and `NoTable` of a bind have as their cause first that the last table that it walked is
 /// full. It came to that table from the current one on along the futures, and counted 16 nodes or more in
-/// a bucket of it, with so many ports bound at the last one, or loaded a count above the table's size, and
+/// its port's bucket there, by the table's seed as it then was, with so many ports bound at the last one.
+/// None of the keys that it loaded for this is the port. Or it loaded a count above the table's size, and
 /// the table may grow. `Again` names the table that the bind then attached behind that one, or found there
 /// as its future. For `Busy` and `NoTable` it then loaded that future as none. Before, for `Busy`, it had
 /// found that another table is the current one, and that by the count the full one isn't due to grow; for
@@ -141,7 +142,8 @@ pub fn causes<M: Mix>()
 /// that table more ports than three quarters of its buckets, and may grow. It has raised none before, and
 /// in a table of one owner each it did raise the count. A release says so exactly where, behind the last
 /// table that it walked, it lowered the count, shrinking is on, and by this that table has fewer ports
-/// than three tenths of its buckets, and more buckets than the least size. It has lowered none before.
+/// than three tenths of its buckets, rounded down, and more buckets than the least size. It has lowered
+/// none before.
 ///
 /// The last table that a call walked is the one whose shape it loaded last, and to which it had come: it
 /// loaded it as the current one, or as the future of one to which it had come. It doesn't say that `work`
@@ -231,9 +233,9 @@ pub fn refused<M: Mix>()
 {}
 
 /// In every run each call that has ended, whatever its reply, has let go of the work lock, and of the lock
-/// of each bucket: it turned the lowest bit of the word an even number of times. The one exception is an
-/// entry of a nested table at which the call, a bind, entered a page that it had taken: the entry's word
-/// is another from then on, and locks no bucket. It says nothing of a call in progress, nor that a lock
+/// of each bucket: it turned the lowest bit of the word an even number of times. The one exception is the
+/// word of an entry at which the call, a bind, entered a page that it had taken; by the words before, the
+/// entry was one of a nested table and led to none. It says nothing of a call in progress, nor that a lock
 /// is ever given back.
 pub fn let_go<M: Mix>()
     ensures { LetGo M M.mix_of }

@@ -121,7 +121,7 @@ impl<M: Mix> Table<M> {
     ///
     /// `Released` comes with a kick exactly where this call, behind the last table that it walked, lowered
     /// the count of ports, shrinking is on, and by this that table has fewer ports than three tenths of
-    /// its buckets, and more buckets than the least size.
+    /// its buckets, rounded down, and more buckets than the least size.
     pub fn release<R: Wait>(&self, rt: &R, pass: &mut Pass<M>, port: Port, owner: u32) -> Reply
         requires pass { IsPassOf M.mix_of self.now pass.old }
         requires idle { is_idle pass.old.local ≡ true }

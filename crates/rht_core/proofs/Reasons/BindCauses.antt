@@ -170,10 +170,10 @@ module _ (M : Type 0) (mix : ℕ → ℕ → ℕ → ℕ) (env : Env) (events : 
       subst (λ n. min n 65536 ≡ n) loaded.found (unclamped did was loaded.word.loads)
 
   -- a table is full by the count that was loaded, or its bucket has too many nodes
-  crowded : (why : Full) (shape : ℕ) (behind : List Did) → AllByRecursion IsRecordedHere behind
-      → SawWhy env words_at why shape behind → SawCrowded M mix env events c shape behind
-  crowded full.Chain shape behind recorded saw = inl saw
-  crowded full.Table shape behind recorded (k, did, within, is, above) =
+  crowded : (port table : ℕ) (why : Full) (shape : ℕ) (behind : List Did) → AllByRecursion IsRecordedHere behind
+      → SawWhy env words_at mix port table why shape behind → SawCrowded M mix env events c port table shape behind
+  crowded port table full.Chain shape behind recorded saw = inl saw
+  crowded port table full.Table shape behind recorded (k, did, within, is, above) =
       let was = subst IsRecordedHere is (All-from_recursion IsRecordedHere behind recorded k did within) in
       inr (
         k,
@@ -193,22 +193,22 @@ module _ (M : Type 0) (mix : ℕ → ℕ → ℕ → ℕ) (env : Env) (events : 
       )
 
   -- the operations before the one that settled a reply were recorded too, and so the table was full
-  recorded_before : (table : ℕ) (Saw : Full → ℕ → List Did → Type 0) (Last : Did → Type 0) (steps : List Did)
-      → AllByRecursion IsRecordedHere steps → (settled : Settled env words_at table Saw Last steps)
+  recorded_before : (port table : ℕ) (Saw : Full → ℕ → List Did → Type 0) (Last : Did → Type 0) (steps : List Did)
+      → AllByRecursion IsRecordedHere steps → (settled : Settled env words_at mix port table Saw Last steps)
       → AllByRecursion IsRecordedHere settled.before
-  recorded_before table Saw Last steps recorded settled =
+  recorded_before port table Saw Last steps recorded settled =
       let walked = settled.walked in
       let parts = AllByRecursion-cut IsRecordedHere walked.before (walked.at ∷ walked.behind)
       (subst (AllByRecursion IsRecordedHere) walked.split recorded) in
       (AllByRecursion-cut IsRecordedHere settled.before (settled.at ∷ settled.rest)
       (subst (AllByRecursion IsRecordedHere) settled.split parts.1.1)).0
 
-  abbrev walked_full : (table : ℕ) (Saw : Full → ℕ → List Did → Type 0) (Last : Did → Type 0)
+  abbrev walked_full : (port table : ℕ) (Saw : Full → ℕ → List Did → Type 0) (Last : Did → Type 0)
       (steps : List Did)
-      → AllByRecursion IsRecordedHere steps → (settled : Settled env words_at table Saw Last steps)
-      → SawWhy env words_at settled.why settled.shape settled.before
-      → WalkedFull M mix env events c table steps
-  walked_full table Saw Last steps recorded settled is_full = record {
+      → AllByRecursion IsRecordedHere steps → (settled : Settled env words_at mix port table Saw Last steps)
+      → SawWhy env words_at mix port table settled.why settled.shape settled.before
+      → WalkedFull M mix env events c port table steps
+  walked_full port table Saw Last steps recorded settled is_full = record {
     shape = settled.shape;
     walked = settled.walked;
     before = settled.before;
@@ -216,8 +216,8 @@ module _ (M : Type 0) (mix : ℕ → ℕ → ℕ → ℕ) (env : Env) (events : 
     rest = settled.rest;
     split = settled.split;
     crowded =
-        crowded settled.why settled.shape settled.before
-        (recorded_before table Saw Last steps recorded settled) is_full;
+        crowded port table settled.why settled.shape settled.before
+        (recorded_before port table Saw Last steps recorded settled) is_full;
   }
 
   pub bind-cause : (port : ℕ) (past : Past) (reply : Reply) → SawFor env words_at mix port reply past.steps
@@ -229,7 +229,7 @@ module _ (M : Type 0) (mix : ℕ → ℕ → ℕ → ℕ) (env : Env) (events : 
   bind-cause port past (Again table) saw recorded = record {
     table = saw.table;
     full =
-        walked_full saw.table (SawWhy env words_at) (IsFollowing env words_at saw.table table) past.steps
+        walked_full port saw.table (SawWhy env words_at mix port saw.table) (IsFollowing env words_at mix port saw.table table) past.steps
         recorded saw.settled
         saw.settled.saw;
     seen = saw.settled.last;
@@ -239,10 +239,10 @@ module _ (M : Type 0) (mix : ℕ → ℕ → ℕ → ℕ) (env : Env) (events : 
       let saw = settled.saw in
       let same =
       unclamped_some saw.count settled.before
-      (recorded_before last (SawOther env words_at last root) none past.steps recorded settled) saw.counted in
+      (recorded_before port last (SawOther env words_at mix port last root) none past.steps recorded settled) saw.counted in
       record {
         full =
-            walked_full last (SawOther env words_at last root) none past.steps recorded settled saw.is_full;
+            walked_full port last (SawOther env words_at mix port last root) none past.steps recorded settled saw.is_full;
         other = saw.other;
         current = saw.current;
         count = saw.count;
@@ -261,7 +261,7 @@ module _ (M : Type 0) (mix : ℕ → ℕ → ℕ → ℕ) (env : Env) (events : 
       let wanted = saw.wanted in
       let same =
       unclamped_some wanted.count settled.before
-      (recorded_before table (SawFullUp env words_at table size) none past.steps recorded settled)
+      (recorded_before port table (SawFullUp env words_at mix port table size) none past.steps recorded settled)
       (subst (Any (Loaded env.geometry PortCount wanted.count))
       (append_assoc wanted.sooner (wanted.counting ∷ []) wanted.making ∙ sym wanted.parts)
       (Any-append_left (Loaded env.geometry PortCount wanted.count)
@@ -271,7 +271,7 @@ module _ (M : Type 0) (mix : ℕ → ℕ → ℕ → ℕ) (env : Env) (events : 
       inl (record {
         table = table;
         full =
-            walked_full table (SawFullUp env words_at table size) none past.steps recorded settled
+            walked_full port table (SawFullUp env words_at mix port table size) none past.steps recorded settled
             saw.is_full;
         sooner = wanted.sooner;
         counting = wanted.counting;

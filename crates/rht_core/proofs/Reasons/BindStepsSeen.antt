@@ -48,14 +48,14 @@ use Rattle.rht_core.proofs.Reasons.PagesMissed.{SawGrowing, SawGrown, grow-saw, 
 use Rattle.rht_core.proofs.Tracing.TracedJobs.{Performs, StandsIn}
 use Rattle.rht_core.proofs.Reasons.TablesWalked.{IsAside, grow_loads, IsNoRaise, no_load, aside, elsewhere, node_loads, probe_loads, relink_stores, came-current, came-future, walked-came, LastWalked-push, Walked, Walked-push, WalkedSeeing, WalkedSeeing-push, make_loads}
 use Rattle.rht_core.proofs.Reasons.KeyLoads.{no_key, no_key-grow}
-use Rattle.rht_core.proofs.Reasons.ChainsCounted.{HasCounted, HasCounted-push, WalkCounted, CountedNext, probe-counted, long-counted}
+use Rattle.rht_core.proofs.Reasons.ChainsCounted.{HasCounted, HasCounted-push, CountedUnless, WalkCounted, CountedNext, probe-counted, long-counted}
 use Rattle.rht_core.proofs.Reasons.AttachedTables.{no_attach, AttachedSo, AttachedSo-push, SawAttached, relink-none, unmake-none}
 use Rattle.rht_core.proofs.Reasons.UnraisedBinds.{grow-none, SawUnraised}
 use Rattle.rht_core.proofs.Reasons.RefusedBinds.{no_key-future, Behind-push, SawWhy, SawWhy-push, SawRoot, SawToMake, above-why, root-saw, making-saw}
 use Rattle.rht_ghost.proofs.Theory.Steps.{by_test}
 use Rattle.rht_core.proofs.Reasons.NewNodesSeen.{SawMade, new-saw}
 use Rattle.rht_core.proofs.Reasons.RaisesSeen.{relink-no_load, relink-no_add, unmake-no_load, unmake-no_add, still, Raised, Raised-push, raise-saw, none-raised}
-use Rattle.rht_core.proofs.Reasons.BindsSeen.{LoadedFull, SawCounted, SawThen, SawAt, SawNext, SawFor, SawFor-push, SawForReply-push, SawThen-push}
+use Rattle.rht_core.proofs.Reasons.BindsSeen.{LoadedFull, SawThen, SawAt, SawNext, SawFor, SawFor-push, SawForReply-push, SawThen-push}
 use Rattle.rht_core.proofs.Reasons.WaysSeen.{locating-saw, grown-saw}
 use Rattle.rht_core.proofs.Reasons.GrowthsSeen.{unmade-saw, want-saw, made-saw, again-saw, attach-saw, attaching_few, again_few}
 
@@ -80,7 +80,8 @@ module _ (env : Env) (words_at : ℕ → List ℕ) (mix : ℕ → ℕ → ℕ �
   bound-saw Listed claimed first before steps walked = walked
 
   seen-saw : (kind : Kind) (claimed : Claimed) (found before : Option ℕ) (length : ℕ) (steps : List Did)
-      → SawCounted env words_at mix port claimed length steps
+      → WalkedSeeing env.geometry claimed.table claimed.shape
+      (CountedUnless env.geometry words_at mix port claimed.table claimed.shape found claimed.bucket.place length) steps
       → Sees (found_or_future kind claimed found before length) steps
   seen-saw kind claimed None before length steps seeing = seeing
   seen-saw kind claimed (Some first) before length steps seeing =
@@ -89,7 +90,7 @@ module _ (env : Env) (words_at : ℕ → List ℕ) (mix : ℕ → ℕ → ℕ �
   probed-saw : (kind : Kind) (attempt : Attempt) (table shape : ℕ) (probe : ProbeModel)
       (r : ProbeAt × Next Probed)
       (steps : List Did)
-      → WalkedSeeing env.geometry table shape (CountedNext env.geometry words_at shape r) steps
+      → WalkedSeeing env.geometry table shape (CountedNext env.geometry words_at mix port table shape r) steps
       → Sees (probed kind attempt table shape (record probe { at = r.0 }) r.1) steps
   probed-saw kind attempt table shape probe (state, Go) steps seeing = seeing
   probed-saw kind attempt table shape probe (state, Done end) steps seeing =
@@ -100,11 +101,11 @@ module _ (env : Env) (words_at : ℕ → List ℕ) (mix : ℕ → ℕ → ℕ �
   -- 16 nodes that were counted are a long chain, where no table is behind
   future-saw : (claimed : Claimed) (length : ℕ) (future : Option ℕ) (steps : List Did)
       → ((behind : List Did) → 16 ≤ length
-      → HasCounted env.geometry words_at claimed.shape claimed.bucket.place length behind
-      → SawLongChain env.geometry words_at claimed.shape behind)
+      → HasCounted env.geometry words_at mix port claimed.table claimed.shape claimed.bucket.place length behind
+      → SawLongChain env.geometry words_at mix port claimed.table claimed.shape behind)
       → ((table : ℕ) → future ≡ Some table → CameTo env.geometry table steps)
       → WalkedSeeing env.geometry claimed.table claimed.shape
-      (HasCounted env.geometry words_at claimed.shape claimed.bucket.place length) steps
+      (HasCounted env.geometry words_at mix port claimed.table claimed.shape claimed.bucket.place length) steps
       → Sees (future_or_count claimed length future) steps
   future-saw claimed length None steps long came seeing =
       by_test (λ t. Sees (cond t (unlocking_full claimed full.Chain) (at.Count claimed)) steps)
@@ -140,7 +141,7 @@ module _ (env : Env) (words_at : ℕ → List ℕ) (mix : ℕ → ℕ → ℕ �
       (λ t. record {
         walked =
             LastWalked-push env.geometry claimed.table claimed.shape steps did beside.no_shape walked.last;
-        saw = above-why env words_at claimed.shape walked.last.behind did is t;
+        saw = above-why env words_at mix port claimed.table claimed.shape walked.last.behind did is t;
       })
       (λ f. Walked-push env.geometry claimed.table claimed.shape steps did beside walked))
 
@@ -218,11 +219,11 @@ module _ (env : Env) (words_at : ℕ → List ℕ) (mix : ℕ → ℕ → ℕ �
         let within = does.within.at_in.probe_in.at_in in
         let after = probe_after_at probe.geometry probe.key probe.at did.old in
         probed-saw env.config.kind attempt table shape probe after (steps ++ did ∷ [])
-        (WalkedSeeing-push env.geometry table shape (WalkCounted env.geometry words_at shape probe.at)
-        (CountedNext env.geometry words_at shape after) steps did
+        (WalkedSeeing-push env.geometry table shape (WalkCounted env.geometry words_at mix port table shape probe.at)
+        (CountedNext env.geometry words_at mix port table shape after) steps did
         (probe_loads env.geometry did probe.at within does.planned)
         (λ behind counted. probe-counted env mix words_at does.caller port does.words does.ghost does.whole
-        table shape probe.geometry probe.key probe.at behind did within
+        table shape probe.geometry probe.key probe.at behind did within does.knows.fits.1
         does.knows.knowing.means.table does.knows.knowing.means.bucket
         does.planned now.now now.stay counted) saw)
     bind-saw (at.FoundOwner claimed found) steps did does now saw so unraised = does.knows.fits
@@ -246,7 +247,7 @@ module _ (env : Env) (words_at : ℕ → List ℕ) (mix : ℕ → ℕ → ℕ �
         (relink_stores env.geometry did relink relink.at does.planned).no_raise)
     bind-saw (at.Future claimed length) steps did does now saw so unraised =
         let place = claimed.bucket.place in
-        let counted = HasCounted env.geometry words_at claimed.shape place length in
+        let counted = HasCounted env.geometry words_at mix port claimed.table claimed.shape place length in
         future-saw claimed length (slot_of did.old) (steps ++ did ∷ [])
         (λ behind enough has. long-counted env mix words_at does.caller port does.words does.ghost does.whole
         claimed.table
@@ -256,8 +257,8 @@ module _ (env : Env) (words_at : ℕ → List ℕ) (mix : ℕ → ℕ → ℕ �
         (walked-came env.geometry claimed.table claimed.shape steps saw.walked.last))
         (WalkedSeeing-push env.geometry claimed.table claimed.shape counted counted steps did
         (elsewhere env.geometry did _ does.planned (λ table below same. absurd (omega arith)))
-        (λ behind has. HasCounted-push env.geometry words_at claimed.shape place length behind did
-        (no_key-future env words_at did claimed.table does.within.at_in.table_in does.planned) has) saw)
+        (λ behind has. HasCounted-push env.geometry words_at mix port claimed.table claimed.shape place length behind did
+        (no_key-future env.geometry did claimed.table does.within.at_in.table_in does.planned) has) saw)
     bind-saw (at.Count claimed) steps did does now saw so unraised =
         count-saw claimed steps did does.planned saw
     bind-saw (at.Link claimed) steps did does now saw so unraised =
@@ -276,17 +277,17 @@ module _ (env : Env) (words_at : ℕ → List ℕ) (mix : ℕ → ℕ → ℕ �
         (still env did _ does.planned (λ place load. cc) (λ place value adds. cc) (λ table old new l e. cc))
         saw)
     bind-saw (at.UnlockingFull growing unlock) steps did does now saw so unraised =
-        Behind-push env words_at growing.table growing.shape (SawWhy env words_at growing.why growing.shape)
-        (SawWhy env words_at growing.why growing.shape) steps did
+        Behind-push env.geometry growing.table growing.shape (SawWhy env words_at mix port growing.table growing.why growing.shape)
+        (SawWhy env words_at mix port growing.table growing.why growing.shape) steps did
         (no_load env.geometry did _ does.planned (λ place load. cc))
-        (λ behind why. SawWhy-push env words_at growing.why growing.shape behind did
+        (λ behind why. SawWhy-push env words_at mix port growing.table growing.why growing.shape behind did
         (no_key env.geometry did _ does.planned (λ place load. cc)) why) saw
     bind-saw (at.Root growing) steps did does now saw so unraised =
-        Behind-push env words_at growing.table growing.shape (SawWhy env words_at growing.why growing.shape)
-        (SawRoot env words_at growing (table_of did.old)) steps did
+        Behind-push env.geometry growing.table growing.shape (SawWhy env words_at mix port growing.table growing.why growing.shape)
+        (SawRoot env words_at mix port growing (table_of did.old)) steps did
         (elsewhere env.geometry did _ does.planned
         (λ table below same. absurd (omega (arith, same)))).no_shape
-        (λ behind why. root-saw env words_at growing behind did does.planned why) saw
+        (λ behind why. root-saw env words_at mix port growing behind did does.planned why) saw
     bind-saw (at.GrowthCount growing root) steps did does now saw so unraised =
         want-saw env words_at mix port once growing root steps did does.planned
         (elsewhere env.geometry did _ does.planned
@@ -294,11 +295,11 @@ module _ (env : Env) (words_at : ℕ → List ℕ) (mix : ℕ → ℕ → ℕ �
     bind-saw (at.Making growing size make) steps did does now saw so unraised =
         let after = make_after_at make.geometry make.exponent make.nested make.at did.old in
         made-saw env words_at mix port once growing size make after (steps ++ did ∷ [])
-        (Behind-push env words_at growing.table growing.shape
-        (SawToMake env words_at growing size make.exponent make.nested (make.at, Go))
-        (SawToMake env words_at growing size make.exponent make.nested after) steps did
+        (Behind-push env.geometry growing.table growing.shape
+        (SawToMake env words_at mix port growing size make.exponent make.nested (make.at, Go))
+        (SawToMake env words_at mix port growing size make.exponent make.nested after) steps did
         (make_loads env.geometry make.geometry make.exponent make.seed make.at did does.planned)
-        (λ behind so_far. making-saw env words_at growing size make behind did does.within.at_in.make_in
+        (λ behind so_far. making-saw env words_at mix port growing size make behind did does.within.at_in.make_in
         does.planned so_far) saw)
     bind-saw (at.FutureAgain growing refusal) steps did does now saw so unraised =
         again-saw env words_at mix port once growing refusal (slot_of did.old) steps did

@@ -52,10 +52,10 @@ module _ (env : Env) (words_at : ℕ → List ℕ) (mix : ℕ → ℕ → ℕ �
   SawFor (TooBig count) steps = Any (LoadedFull env count) steps
   SawFor (Bound kick) steps = Raised env words_at kick steps
   SawFor (Exists owner) steps = env.config.kind ≡ Single
-  SawFor (Again table) steps = FollowedSeen env words_at table steps
-  SawFor (Busy root last) steps = BusySeen env words_at root last steps
+  SawFor (Again table) steps = FollowedSeen env words_at mix port table steps
+  SawFor (Busy root last) steps = BusySeen env words_at mix port root last steps
   SawFor (NoTable size) steps =
-      NoTableSeen env words_at size steps ⊎ SawNoPage env.geometry words_at mix port size steps
+      NoTableSeen env words_at mix port size steps ⊎ SawNoPage env.geometry words_at mix port size steps
   SawFor _ steps = ⊥
 
   abbrev pub SawForReply : Option Reply → List Did → Type 0
@@ -64,7 +64,7 @@ module _ (env : Env) (words_at : ℕ → List ℕ) (mix : ℕ → ℕ → ℕ �
   -- once the walk has ended: how many nodes it counted in the bucket
   abbrev pub SawCounted : Claimed → ℕ → List Did → Type 0
   SawCounted claimed length steps =
-      let counted = HasCounted env.geometry words_at claimed.shape claimed.bucket.place length in
+      let counted = HasCounted env.geometry words_at mix port claimed.table claimed.shape claimed.bucket.place length in
       WalkedSeeing env.geometry claimed.table claimed.shape counted steps
 
   -- behind an unlocking it goes on in a table that it came to, or gives its answer
@@ -81,7 +81,7 @@ module _ (env : Env) (words_at : ℕ → List ℕ) (mix : ℕ → ℕ → ℕ �
       WalkedSeeing env.geometry table shape
       (SeesMissing env words_at mix port table shape (SawGrowing env.geometry grow.at)) steps
   SawAt (at.Probing attempt table shape probe) steps =
-      WalkedSeeing env.geometry table shape (WalkCounted env.geometry words_at shape probe.at) steps
+      WalkedSeeing env.geometry table shape (WalkCounted env.geometry words_at mix port table shape probe.at) steps
   SawAt (at.FoundOwner claimed found) steps = Unit {0}
   SawAt (at.ListLink list) steps = Walked env.geometry list.claimed.table list.claimed.shape steps
   SawAt (at.ChainLink list) steps = Walked env.geometry list.claimed.table list.claimed.shape steps
@@ -94,18 +94,18 @@ module _ (env : Env) (words_at : ℕ → List ℕ) (mix : ℕ → ℕ → ℕ �
   SawAt (at.Publish node table relink kick) steps = Raised env words_at kick steps
   SawAt (at.Unlocking attempt table unlock next) steps = SawThen next steps
   SawAt (at.UnlockingFull growing unlock) steps =
-      Behind env words_at growing.table growing.shape (SawWhy env words_at growing.why growing.shape) steps
+      Behind env.geometry growing.table growing.shape (SawWhy env words_at mix port growing.table growing.why growing.shape) steps
   SawAt (at.Root growing) steps =
-      Behind env words_at growing.table growing.shape (SawWhy env words_at growing.why growing.shape) steps
+      Behind env.geometry growing.table growing.shape (SawWhy env words_at mix port growing.table growing.why growing.shape) steps
   SawAt (at.GrowthCount growing root) steps =
-      Behind env words_at growing.table growing.shape (SawRoot env words_at growing root) steps
+      Behind env.geometry growing.table growing.shape (SawRoot env words_at mix port growing root) steps
   SawAt (at.Making growing size make) steps =
-      Behind env words_at growing.table growing.shape
-      (SawToMake env words_at growing size make.exponent make.nested (make.at, Go)) steps
+      Behind env.geometry growing.table growing.shape
+      (SawToMake env words_at mix port growing size make.exponent make.nested (make.at, Go)) steps
   SawAt (at.FutureAgain growing refusal) steps =
-      Behind env words_at growing.table growing.shape (SawRefusal env words_at growing refusal) steps
+      Behind env.geometry growing.table growing.shape (SawRefusal env words_at mix port growing refusal) steps
   SawAt (at.Attaching growing slot shape) steps =
-      Behind env words_at growing.table growing.shape (SawWhy env words_at growing.why growing.shape) steps
+      Behind env.geometry growing.table growing.shape (SawWhy env words_at mix port growing.table growing.why growing.shape) steps
   SawAt (at.Unmaking attempt unmake answer) steps = SawForReply answer steps
   SawAt (at.Giving give reply) steps = SawFor reply steps
 
@@ -123,11 +123,11 @@ module _ (env : Env) (words_at : ℕ → List ℕ) (mix : ℕ → ℕ → ℕ �
   SawFor-push (Bound kick) steps did none saw = Raised-push env words_at kick steps did none saw
   SawFor-push (Exists owner) steps did none saw = saw
   SawFor-push (Again table) steps did none saw =
-      FollowedSeen-push env words_at table steps did none.aside.no_shape saw
+      FollowedSeen-push env words_at mix port table steps did none.aside.no_shape saw
   SawFor-push (Busy root last) steps did none saw =
-      BusySeen-push env words_at root last steps did none.aside.no_shape saw
+      BusySeen-push env words_at mix port root last steps did none.aside.no_shape saw
   SawFor-push (NoTable size) steps did none saw = elim saw [
-    | inl full ↦ inl (NoTableSeen-push env words_at size steps did none.aside.no_shape full)
+    | inl full ↦ inl (NoTableSeen-push env words_at mix port size steps did none.aside.no_shape full)
     | inr missed ↦ inr (SawNoPage-push env words_at mix port size steps did none.aside.no_shape missed)
   ]
   SawFor-push _ steps did none saw = absurd saw

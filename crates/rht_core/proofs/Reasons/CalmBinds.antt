@@ -162,18 +162,18 @@ module _ (env : Env) (Good Come : ℕ → Type 0) where
 
   -- a chain of 16 nodes would bind as many ports
   module _ (words_at : ℕ → List ℕ) (few : (i : ℕ) → AreBound (stands_for env.geometry (words_at i)) 16 → ⊥) where
-    none-counted : (place number : ℕ) (steps : List Did) (nodes : List ℕ) → number ≤ 15 → 16 ≤ number + length nodes
-        → AreCounted env.geometry words_at place number steps nodes → ⊥
-    none-counted place number [] [] low many counts = omega (arith, low, many)
-    none-counted place number [] (node ∷ nodes) low many counts = absurd (cc)
-    none-counted place number (did ∷ steps) [] low many counts = omega (arith, low, many)
-    none-counted place number (did ∷ steps) (node ∷ nodes) low many (inr counts) =
-        none-counted place number steps (node ∷ nodes) low many counts.1
-    none-counted place number (did ∷ steps) (node ∷ nodes) low many (inl counts) = elim (cases_eq number 15) [
+    none-counted : (port place number : ℕ) (steps : List Did) (nodes : List ℕ) → number ≤ 15 → 16 ≤ number + length nodes
+        → AreCounted env.geometry words_at port place number steps nodes → ⊥
+    none-counted port place number [] [] low many counts = omega (arith, low, many)
+    none-counted port place number [] (node ∷ nodes) low many counts = absurd (cc)
+    none-counted port place number (did ∷ steps) [] low many counts = omega (arith, low, many)
+    none-counted port place number (did ∷ steps) (node ∷ nodes) low many (inr counts) =
+        none-counted port place number steps (node ∷ nodes) low many counts.1
+    none-counted port place number (did ∷ steps) (node ∷ nodes) low many (inl counts) = elim (cases_eq number 15) [
       | inl last ↦
           few did.index (subst (λ n. AreBound (stands_for env.geometry (words_at did.index)) (n + 1)) last counts.0.bound)
       | inr other ↦
-          none-counted place (number + 1) steps nodes (omega (arith, low, other)) (omega (arith, many)) counts.1
+          none-counted port place (number + 1) steps nodes (omega (arith, low, other)) (omega (arith, many)) counts.1
     ]
 
     calm-future : (mix : ℕ → ℕ → ℕ → ℕ) (port : ℕ) (claimed : Claimed) (length : ℕ) (future : Option ℕ) (steps : List Did)
@@ -186,7 +186,7 @@ module _ (env : Env) (Good Come : ℕ → Type 0) where
         let counted = saw.saw in
         let many = counted.many in
         let enough = leb-true 16 length t in
-        none-counted claimed.bucket.place 0 saw.walked.last.behind counted.nodes (omega arith) (omega (arith, many, enough))
+        none-counted port claimed.bucket.place 0 saw.walked.last.behind counted.nodes (omega arith) (omega (arith, many, enough))
         counted.counted)
         (λ f. good)
 

@@ -2,14 +2,15 @@
 --
 -- From the load of the table's shape on a bind loads no key but those of the nodes at which its walk stands. At the event of such
 -- a load the bucket is locked, so the nodes met from its word are the bucket's; the walk has as many of them behind it as it has
--- counted, by what the bind knows; and each of them is what a port is bound to. So the operation counted its node. Any other
--- operation leaves what was counted.
+-- counted, by what the bind knows; and each of them is what a port is bound to. So the operation counted its node, unless it found its own
+-- port there: then the walk ends, and nothing is kept. Any other operation leaves what was counted.
 --
--- At the event of such a load the bucket's word is at its place, by the words. That stays so, and no other bucket of the table ever has the
--- word. So the loads of keys all found one bucket there.
-use Rattle.std.proofs.Common.{◌≡◌, ◌⊎◌, ℕ, ◌+◌, ◌<◌, ◌≤◌, ◌%◌, ◌==◌, List, [], ◌∷◌, ◌++◌, length, cond, refl, sym, ap, ◌∙◌, subst, inl, inr, arith}
+-- At the event of such a load the port's bucket has its number by the seed in the slot's word, and its word is at its place. That stays so,
+-- and no other bucket of the table ever has the word. So the loads of keys all found one bucket there.
+use Rattle.std.proofs.Common.{◌≡◌, ◌≢◌, ◌⊎◌, ℕ, ◌+◌, ◌<◌, ◌≤◌, ◌%◌, ◌==◌, List, [], ◌∷◌, ◌++◌, length, cond, refl, sym, ap, ◌∙◌, subst, inl, inr, arith}
 use Rattle.std.specs.Prelude.{Option, Some, None}
 use Rattle.std.specs.List.{AllByRecursion}
+use Rattle.std.proofs.lemmas.Bool.{eqb-false}
 use Rattle.std.proofs.lemmas.List.{length-append, length_push}
 use Rattle.rht_words.specs.declared.env.Env.{Env}
 use Rattle.rht_words.specs.declared.op.Op.TheVariants.{Load}
@@ -17,10 +18,11 @@ use Rattle.rht_words.specs.declared.geometry.Geometry.{Geometry}
 use Rattle.rht_words.specs.declared.machine.Next.{Next}
 use Rattle.rht_words.specs.declared.machine.Next.TheVariants.{Go, Done}
 use Rattle.rht_words.specs.Links.{node_of, head_of}
-use Rattle.rht_words.specs.Places.{Node, KeyWord, place_of}
+use Rattle.rht_words.specs.Places.{Slot, SeedWord, Node, KeyWord, place_of, word_at}
 use Rattle.rht_words.specs.Shapes.{unpacked, size_of}
 use Rattle.rht_words.proofs.Memory.{Memory}
 use Rattle.rht_words.proofs.EachElement.{AllByRecursion-push, AllByRecursion-weaker}
+use Rattle.rht_policy.specs.Mix.{bucket_of}
 use Rattle.rht_chain.specs.Lock.{LockModel, lock_after_at}
 use Rattle.rht_chain.specs.declared.lock.LockAt.{LockAt}
 use Rattle.rht_chain.specs.declared.lock.LockAt.TheVariants as locks
@@ -41,24 +43,26 @@ use Rattle.rht_ghost.proofs.Theory.Wholes.{word_index, hash_in, place_at-index, 
 use Rattle.rht_ghost.proofs.Theory.Passed.{hash-below, held-no_entry}
 use Rattle.rht_ghost.proofs.Theory.Knowledge.{IsAtHome, IsReaching, BucketMeans}
 use Rattle.rht_ghost.proofs.Theory.Steps.{mem, by_test}
-use Rattle.rht_ghost.proofs.Pieces.Probes.{place_of_probe, known_walk, known_probe, one_more-counted}
+use Rattle.rht_ghost.proofs.Pieces.Probes.{place_of_probe, known_walk, known_probe, IsProbeFor, one_more-counted}
 use Rattle.rht_core.proofs.Events.BucketsThere.{StaysAt, BucketsStay}
 use Rattle.rht_core.proofs.Meaning.BoundPorts.{still_met}
 use Rattle.rht_core.proofs.Counting.CountedPorts.{members-AreBound}
 use Rattle.rht_core.proofs.Reasons.KeyLoads.{no_key-link, no_key-lock}
+use Rattle.rht_core.proofs.Reasons.PortBuckets.{hash_in-words}
 
-module _ (g : Geometry) (words_at : ℕ → List ℕ) where
+module _ (g : Geometry) (words_at : ℕ → List ℕ) (port : ℕ) where
   -- ---- further operations
 
   -- where no key was loaded no node was counted
   none-counted : (place number : ℕ) (steps : List Did) → AllByRecursion (IsNoKeyLoad g) steps
-      → AreCounted g words_at place number steps []
+      → AreCounted g words_at port place number steps []
   none-counted place number [] none = refl
   none-counted place number (did ∷ steps) none = (none.0, none-counted place number steps none.1)
 
   -- an operation that loads no key leaves what was counted
   counted-still : (place number : ℕ) (steps : List Did) (nodes : List ℕ) (did : Did) → IsNoKeyLoad g did
-      → AreCounted g words_at place number steps nodes → AreCounted g words_at place number (steps ++ did ∷ []) nodes
+      → AreCounted g words_at port place number steps nodes
+      → AreCounted g words_at port place number (steps ++ did ∷ []) nodes
   counted-still place number [] [] did none counts = (none, refl)
   counted-still place number [] (node ∷ nodes) did none counts = absurd (cc)
   counted-still place number (step ∷ steps) [] did none counts =
@@ -70,11 +74,11 @@ module _ (g : Geometry) (words_at : ℕ → List ℕ) where
 
   -- and one that counts a node comes last
   counted-more : (place number : ℕ) (steps : List Did) (nodes : List ℕ) (many node : ℕ) (did : Did)
-      → many ≡ number + length nodes → CountsNode g words_at place many node did
-      → AreCounted g words_at place number steps nodes
-      → AreCounted g words_at place number (steps ++ did ∷ []) (nodes ++ node ∷ [])
+      → many ≡ number + length nodes → CountsNode g words_at port place many node did
+      → AreCounted g words_at port place number steps nodes
+      → AreCounted g words_at port place number (steps ++ did ∷ []) (nodes ++ node ∷ [])
   counted-more place number [] [] many node did is one counts =
-      inl (subst (λ n. CountsNode g words_at place n node did) (omega (arith, is)) one, refl)
+      inl (subst (λ n. CountsNode g words_at port place n node did) (omega (arith, is)) one, refl)
   counted-more place number [] (other ∷ nodes) many node did is one counts = absurd (cc)
   counted-more place number (step ∷ steps) [] many node did is one counts =
       inr (counts.0, counted-more place number steps [] many node did is one counts.1)
@@ -83,63 +87,67 @@ module _ (g : Geometry) (words_at : ℕ → List ℕ) where
   counted-more place number (step ∷ steps) (other ∷ nodes) many node did is one (inr counts) =
       inr (counts.0, counted-more place number steps (other ∷ nodes) many node did is one counts.1)
 
-  pub SawLongChain-push : (shape : ℕ) (steps : List Did) (did : Did) → IsNoKeyLoad g did
-      → SawLongChain g words_at shape steps → SawLongChain g words_at shape (steps ++ did ∷ [])
-  SawLongChain-push shape steps did none saw = record {
+-- in the table of this shape in this slot
+module _ (g : Geometry) (words_at : ℕ → List ℕ) (mix : ℕ → ℕ → ℕ → ℕ) (port table shape : ℕ) where
+  -- a bucket with this number, whose word is at this place
+  abbrev Finds : ℕ → ℕ → Did → Type 0
+  Finds = FindsBucketAt g words_at mix port table shape
+
+  pub SawLongChain-push : (steps : List Did) (did : Did) → IsNoKeyLoad g did → SawLongChain g words_at mix port table shape steps
+      → SawLongChain g words_at mix port table shape (steps ++ did ∷ [])
+  SawLongChain-push steps did none saw = record {
     bucket = saw.bucket;
     within = saw.within;
     place = saw.place;
-    place_is = AllByRecursion-push (FindsBucketAt g words_at shape saw.bucket saw.place) steps did saw.place_is
-        (λ node loads. absurd (none node loads));
+    bucket_is = AllByRecursion-push (Finds saw.bucket saw.place) steps did saw.bucket_is (λ node loads. absurd (none node loads));
     nodes = saw.nodes;
-    counted = counted-still saw.place 0 steps saw.nodes did none saw.counted;
+    counted = counted-still g words_at port saw.place 0 steps saw.nodes did none saw.counted;
     many = saw.many;
   }
 
   -- ---- where the bucket is found
 
-  -- from this event on a bucket of a table of this shape has its word at this place
-  pub record HasPlace (shape place from : ℕ) : Type 0 where
+  -- before this event the port's bucket has this number, and from there on its word is at this place
+  pub record HasPlace (place from : ℕ) : Type 0 where
     pub number : ℕ
+    pub number_is : number ≡ bucket_of mix port shape (word_at g (words_at from) (Slot table SeedWord))
     pub within : number < size_of (unpacked shape)
     pub stays : StaysAt g words_at shape number place from
 
   -- and each load of a key found that bucket there
-  pub record FoundAt (shape place : ℕ) (steps : List Did) : Type 0 where
+  pub record FoundAt (place : ℕ) (steps : List Did) : Type 0 where
     pub from : ℕ
-    pub has : HasPlace shape place from
-    pub each : AllByRecursion (FindsBucketAt g words_at shape has.number place) steps
+    pub has : HasPlace place from
+    pub each : AllByRecursion (Finds has.number place) steps
 
   -- so it is of these operations, unless none of them loaded a key
-  abbrev pub FoundSoFar : ℕ → ℕ → List Did → Type 0
-  FoundSoFar shape place steps = AllByRecursion (IsNoKeyLoad g) steps ⊎ FoundAt shape place steps
+  abbrev pub FoundSoFar : ℕ → List Did → Type 0
+  FoundSoFar place steps = AllByRecursion (IsNoKeyLoad g) steps ⊎ FoundAt place steps
 
-  finds-nothing : (shape number place : ℕ) (steps : List Did) → AllByRecursion (IsNoKeyLoad g) steps
-      → AllByRecursion (FindsBucketAt g words_at shape number place) steps
-  finds-nothing shape number place steps none =
-      AllByRecursion-weaker (IsNoKeyLoad g) (FindsBucketAt g words_at shape number place)
-      (λ did no_key node loads. absurd (no_key node loads)) steps none
+  finds-nothing : (number place : ℕ) (steps : List Did) → AllByRecursion (IsNoKeyLoad g) steps
+      → AllByRecursion (Finds number place) steps
+  finds-nothing number place steps none =
+      AllByRecursion-weaker (IsNoKeyLoad g) (Finds number place) (λ did no_key node loads. absurd (no_key node loads)) steps none
 
-  found-still : (shape place : ℕ) (steps : List Did) (did : Did) → IsNoKeyLoad g did → FoundSoFar shape place steps
-      → FoundSoFar shape place (steps ++ did ∷ [])
-  found-still shape place steps did no_key (inl none) = inl (AllByRecursion-push (IsNoKeyLoad g) steps did none no_key)
-  found-still shape place steps did no_key (inr found) = inr (record {
+  found-still : (place : ℕ) (steps : List Did) (did : Did) → IsNoKeyLoad g did → FoundSoFar place steps
+      → FoundSoFar place (steps ++ did ∷ [])
+  found-still place steps did no_key (inl none) = inl (AllByRecursion-push (IsNoKeyLoad g) steps did none no_key)
+  found-still place steps did no_key (inr found) = inr (record {
     from = found.from;
     has = found.has;
-    each = AllByRecursion-push (FindsBucketAt g words_at shape found.has.number place) steps did found.each
-        (λ node loads. absurd (no_key node loads));
+    each = AllByRecursion-push (Finds found.has.number place) steps did found.each (λ node loads. absurd (no_key node loads));
   })
 
   -- one that is at this place at its event found the one that those before it found
-  found-more : (shape place : ℕ) (steps : List Did) (did : Did) → HasPlace shape place did.index → FoundSoFar shape place steps
-      → FoundSoFar shape place (steps ++ did ∷ [])
-  found-more shape place steps did has (inl none) = inr (record {
+  found-more : (place : ℕ) (steps : List Did) (did : Did) → HasPlace place did.index → FoundSoFar place steps
+      → FoundSoFar place (steps ++ did ∷ [])
+  found-more place steps did has (inl none) = inr (record {
     from = did.index;
     has = has;
-    each = AllByRecursion-push (FindsBucketAt g words_at shape has.number place) steps did
-        (finds-nothing shape has.number place steps none) (λ node loads. has.stays.there did.index (omega arith));
+    each = AllByRecursion-push (Finds has.number place) steps did (finds-nothing has.number place steps none)
+        (λ node loads. record { bucket_is = has.number_is; place_is = has.stays.there did.index (omega arith) });
   })
-  found-more shape place steps did has (inr found) =
+  found-more place steps did has (inr found) =
       let number = found.has.number in
       let later = found.from + did.index in
       let same : number ≡ has.number = has.stays.only later number (omega arith) found.has.within
@@ -147,79 +155,83 @@ module _ (g : Geometry) (words_at : ℕ → List ℕ) where
       inr (record {
         from = found.from;
         has = found.has;
-        each = AllByRecursion-push (FindsBucketAt g words_at shape number place) steps did found.each
-            (λ node loads. ap (bucket_in g (words_at did.index) shape) same ∙ has.stays.there did.index (omega arith));
+        each = AllByRecursion-push (Finds number place) steps did found.each (λ node loads. record {
+          bucket_is = same ∙ has.number_is;
+          place_is = ap (bucket_in g (words_at did.index) shape) same ∙ has.stays.there did.index (omega arith);
+        });
       })
 
   -- ---- a bind in a bucket
 
-  -- so many nodes were counted in the bucket at this place, of a table of this shape
-  pub record HasCounted (shape place count : ℕ) (steps : List Did) : Type 0 where
+  -- so many nodes were counted in the bucket at this place, none of them with the port
+  pub record HasCounted (place count : ℕ) (steps : List Did) : Type 0 where
     pub nodes : List ℕ
-    pub counted : AreCounted g words_at place 0 steps nodes
+    pub counted : AreCounted g words_at port place 0 steps nodes
     pub many : count ≡ length nodes
-    pub found : FoundSoFar shape place steps
+    pub found : FoundSoFar place steps
 
   -- before a key is loaded none was
-  pub HasCounted-none : (shape place : ℕ) (steps : List Did) → AllByRecursion (IsNoKeyLoad g) steps
-      → HasCounted shape place 0 steps
-  HasCounted-none shape place steps none =
-      record { nodes = []; counted = none-counted place 0 steps none; many = refl; found = inl none }
+  pub HasCounted-none : (place : ℕ) (steps : List Did) → AllByRecursion (IsNoKeyLoad g) steps → HasCounted place 0 steps
+  HasCounted-none place steps none =
+      record { nodes = []; counted = none-counted g words_at port place 0 steps none; many = refl; found = inl none }
 
-  pub HasCounted-push : (shape place count : ℕ) (steps : List Did) (did : Did) → IsNoKeyLoad g did
-      → HasCounted shape place count steps → HasCounted shape place count (steps ++ did ∷ [])
-  HasCounted-push shape place count steps did none has = record {
+  pub HasCounted-push : (place count : ℕ) (steps : List Did) (did : Did) → IsNoKeyLoad g did → HasCounted place count steps
+      → HasCounted place count (steps ++ did ∷ [])
+  HasCounted-push place count steps did none has = record {
     nodes = has.nodes;
-    counted = counted-still place 0 steps has.nodes did none has.counted;
+    counted = counted-still g words_at port place 0 steps has.nodes did none has.counted;
     many = has.many;
-    found = found-still shape place steps did none has.found;
+    found = found-still place steps did none has.found;
   }
 
+  -- of a walk that has ended nothing is kept where it found the port
+  abbrev pub CountedUnless : Option ℕ → ℕ → ℕ → List Did → Type 0
+  CountedUnless None place count steps = HasCounted place count steps
+  CountedUnless (Some node) place count steps = Unit {0}
+
   -- while it takes the lock and walks the bucket
-  abbrev pub WalkCounted : ℕ → ProbeAt → List Did → Type 0
-  WalkCounted shape (probes.Locking lock) steps = HasCounted shape lock.place 0 steps
-  WalkCounted shape (probes.Walking bucket walk) steps = HasCounted shape bucket.place walk.length steps
+  abbrev pub WalkCounted : ProbeAt → List Did → Type 0
+  WalkCounted (probes.Locking lock) steps = HasCounted lock.place 0 steps
+  WalkCounted (probes.Walking bucket walk) steps = HasCounted bucket.place walk.length steps
 
   -- after an operation of the walk, and of all of that
-  abbrev CountedWalk : ℕ → ℕ → LockedWalkModel × Next Seen → List Did → Type 0
-  CountedWalk shape place (walk, Go) steps = HasCounted shape place walk.length steps
-  CountedWalk shape place (walk, Done seen) steps = HasCounted shape place seen.length steps
+  abbrev CountedWalk : ℕ → LockedWalkModel × Next Seen → List Did → Type 0
+  CountedWalk place (walk, Go) steps = HasCounted place walk.length steps
+  CountedWalk place (walk, Done seen) steps = CountedUnless seen.found place seen.length steps
 
-  abbrev pub CountedNext : ℕ → ProbeAt × Next Probed → List Did → Type 0
-  CountedNext shape (at, Go) steps = WalkCounted shape at steps
-  CountedNext shape (at, Done probed) steps = HasCounted shape probed.bucket.place probed.seen.length steps
+  abbrev pub CountedNext : ProbeAt × Next Probed → List Did → Type 0
+  CountedNext (at, Go) steps = WalkCounted at steps
+  CountedNext (at, Done probed) steps = CountedUnless probed.seen.found probed.bucket.place probed.seen.length steps
 
   -- the walk begins with no node counted
-  began-counted : (shape : ℕ) (h : Geometry) (key first : ℕ) (lock : LockModel) (bucket : Locked) (next : Option ℕ)
-      (steps : List Did) → HasCounted shape bucket.place 0 steps
-      → CountedNext shape (walk_or_seen lock bucket (walk_from h key first next)) steps
-  began-counted shape h key first lock bucket None steps has = has
-  began-counted shape h key first lock bucket (Some node) steps has = has
+  began-counted : (h : Geometry) (key first : ℕ) (lock : LockModel) (bucket : Locked) (next : Option ℕ) (steps : List Did)
+      → HasCounted bucket.place 0 steps → CountedNext (walk_or_seen lock bucket (walk_from h key first next)) steps
+  began-counted h key first lock bucket None steps has = has
+  began-counted h key first lock bucket (Some node) steps has = has
 
   -- once the lock is taken
-  lock-counted : (shape : ℕ) (h : Geometry) (key : ℕ) (lock : LockModel) (state : LockAt) (word : ℕ) (steps : List Did)
-      → HasCounted shape lock.place 0 steps
-      → let r = lock_after_at lock state word in CountedNext shape (lock_taken h key r.0 r.1) steps
-  lock-counted shape h key lock locks.Word word steps has =
+  lock-counted : (h : Geometry) (key : ℕ) (lock : LockModel) (state : LockAt) (word : ℕ) (steps : List Did)
+      → HasCounted lock.place 0 steps → let r = lock_after_at lock state word in CountedNext (lock_taken h key r.0 r.1) steps
+  lock-counted h key lock locks.Word word steps has =
       by_test (λ t. let r = cond {A = LockModel × Next ℕ} t (lock, Go) (record lock { at = locks.Exchange word }, Go) in
-      CountedNext shape (lock_taken h key r.0 r.1) steps) (word % 2 == 1) (λ t. has) (λ f. has)
-  lock-counted shape h key lock (locks.Exchange found) word steps has =
+      CountedNext (lock_taken h key r.0 r.1) steps) (word % 2 == 1) (λ t. has) (λ f. has)
+  lock-counted h key lock (locks.Exchange found) word steps has =
       let first = head_of lock.place found in
       by_test (λ t. let r = cond {A = LockModel × Next ℕ} t (lock, Done found) (record lock { at = locks.Word }, Go) in
-      CountedNext shape (lock_taken h key r.0 r.1) steps) (word == found)
-      (λ t. began-counted shape h key first lock (record { place = lock.place; word = found }) (node_of h.nodes first) steps has)
+      CountedNext (lock_taken h key r.0 r.1) steps) (word == found)
+      (λ t. began-counted h key first lock (record { place = lock.place; word = found }) (node_of h.nodes first) steps has)
       (λ f. has)
 
   -- behind the link of a node as many nodes are counted as before
-  followed-counted : (shape place : ℕ) (walk : LockedWalkModel) (node link : ℕ) (next : Option ℕ) (steps : List Did)
-      → HasCounted shape place walk.length steps → CountedWalk shape place (followed walk node link next) steps
-  followed-counted shape place walk node link None steps has = has
-  followed-counted shape place walk node link (Some next) steps has = has
+  followed-counted : (place : ℕ) (walk : LockedWalkModel) (node link : ℕ) (next : Option ℕ) (steps : List Did)
+      → HasCounted place walk.length steps → CountedWalk place (followed walk node link next) steps
+  followed-counted place walk node link None steps has = has
+  followed-counted place walk node link (Some next) steps has = has
 
-  walk_taken-counted : (shape : ℕ) (bucket : Locked) (r : LockedWalkModel × Next Seen) (steps : List Did)
-      → CountedWalk shape bucket.place r steps → CountedNext shape (walk_taken bucket r.0 r.1) steps
-  walk_taken-counted shape bucket (walk, Go) steps has = has
-  walk_taken-counted shape bucket (walk, Done seen) steps has = has
+  walk_taken-counted : (bucket : Locked) (r : LockedWalkModel × Next Seen) (steps : List Did) → CountedWalk bucket.place r steps
+      → CountedNext (walk_taken bucket r.0 r.1) steps
+  walk_taken-counted bucket (walk, Go) steps has = has
+  walk_taken-counted bucket (walk, Done seen) steps has = has
 
 -- ---- at the event of an operation, in these words
 
@@ -231,11 +243,11 @@ module _ (env : Env) (mix : ℕ → ℕ → ℕ → ℕ) (words_at : ℕ → Lis
   abbrev M : Memory
   M = mem env mix words
 
-  -- the load of a node's key counts it
+  -- the load of a node's key counts it, where that isn't the port
   key-counts : (place word node : ℕ) (before : Option ℕ) (count : ℕ) (did : Did) → node < g.nodes
       → IsReaching env mix c M G place word port node before count → did.op ≡ Load (place_of g (Node node KeyWord))
-      → words ≡ words_at did.index → CountsNode g words_at place count node did
-  key-counts place word node before count did within is loads now =
+      → words ≡ words_at did.index → did.old ≢ port → CountsNode g words_at port place count node did
+  key-counts place word node before count did within is loads now other =
       let j = word_index env mix place in
       let lock = is.standing.lock in
       let at = is.standing.stands in
@@ -248,6 +260,7 @@ module _ (env : Env) (mix : ℕ → ℕ → ℕ → ℕ) (words_at : ℕ → Lis
       let bound = members-AreBound env mix words G whole j (count + 1) below plain (omega (arith, many, counted)) in
       record {
         loads = record { node_in = within; loads = loads };
+        other = other;
         front = at.front;
         rear = at.rear;
         stands = subst (λ w. bucket_nodes g w (Some place) ≡ at.front ++ node ∷ at.rear) now (met ∙ at.split);
@@ -256,67 +269,75 @@ module _ (env : Env) (mix : ℕ → ℕ → ℕ → ℕ) (words_at : ℕ → Lis
       }
 
   -- the bucket of the port in a table is at its place from the event on
-  home-place : (table shape place from : ℕ) → IsAtHome env mix G port table (Some shape) place
-      → BucketsStay env mix words_at G from → HasPlace g words_at shape place from
-  home-place table shape place from is stay =
+  home-place : (table shape place from : ℕ) → IsAtHome env mix G port table (Some shape) place → words ≡ words_at from
+      → BucketsStay env mix words_at G from → HasPlace g words_at mix port table shape place from
+  home-place table shape place from is now stay =
       let τ = index_at G table in
       let number = hash_in env mix G port τ in
       let below = hash-below env mix M G whole port τ in
-      subst (λ s. HasPlace g words_at s place from) is.shape_is (record {
+      let number_is = hash_in-words env mix words G whole port table (G.table τ).shape is.passing.table refl in
+      subst (λ s. HasPlace g words_at mix port table s place from) is.shape_is (record {
         number = number;
+        number_is = subst (λ ws. number ≡ bucket_of mix port (G.table τ).shape (word_at g ws (Slot table SeedWord))) now number_is;
         within = below;
         stays = subst (λ p. StaysAt g words_at (G.table τ).shape number p from) (place_at-index env mix place is.bucket)
             (stay τ number (word_index env mix place) is.passing.passed.attached below is.here);
       })
 
-  walk-counted : (shape place word : ℕ) (walk : LockedWalkModel) (state : LockedWalkAt) (steps : List Did) (did : Did)
-      → IsWalkAtIn g walk.before state → HasPlace g words_at shape place did.index
+  walk-counted : (table shape place word : ℕ) (walk : LockedWalkModel) (state : LockedWalkAt) (steps : List Did) (did : Did)
+      → IsWalkAtIn g walk.before state → walk.key ≡ port → HasPlace g words_at mix port table shape place did.index
       → BucketMeans env mix c M G (known_walk place word port walk.before walk.length state)
-      → did.op ≡ walk_plan_at g state → words ≡ words_at did.index → HasCounted g words_at shape place walk.length steps
-      → CountedWalk g words_at shape place (walk_after_at walk state did.old) (steps ++ did ∷ [])
-  walk-counted shape place word walk (walks.Key node) steps did within there knows is now has =
-      let one = key-counts place word node walk.before walk.length did within.0 knows is now in
+      → did.op ≡ walk_plan_at g state → words ≡ words_at did.index
+      → HasCounted g words_at mix port table shape place walk.length steps
+      → CountedWalk g words_at mix port table shape place (walk_after_at walk state did.old) (steps ++ did ∷ [])
+  walk-counted table shape place word walk (walks.Key node) steps did within key there knows is now has =
       let further = one_more-counted env mix c port M G whole place word node walk.before walk.length knows in
       let counted_so = knows.counted in
       let many = has.many in
       let longer = length_push has.nodes node in
-      let more : HasCounted g words_at shape place (one_more walk.length) (steps ++ did ∷ []) = record {
+      let more : did.old ≢ port → HasCounted g words_at mix port table shape place (one_more walk.length) (steps ++ did ∷ []) =
+      λ differs. record {
         nodes = has.nodes ++ node ∷ [];
-        counted = counted-more g words_at place 0 steps has.nodes walk.length node did (omega (arith, many)) one has.counted;
+        counted = counted-more g words_at port place 0 steps has.nodes walk.length node did (omega (arith, many))
+            (key-counts place word node walk.before walk.length did within.0 knows is now differs) has.counted;
         many = omega (arith, further, counted_so, many, longer);
-        found = found-more g words_at shape place steps did there has.found;
+        found = found-more g words_at mix port table shape place steps did there has.found;
       } in
       let found : LockedWalkModel × Next Seen = (counted walk, Done (found_at (counted walk) node)) in
       let other : LockedWalkModel × Next Seen = (record (counted walk) { at = walks.ChainLink node }, Go) in
-      by_test (λ t. CountedWalk g words_at shape place (cond t found other) (steps ++ did ∷ [])) (did.old == walk.key)
-      (λ t. more) (λ f. more)
-  walk-counted shape place word walk (walks.ChainLink node) steps did within there knows is now has =
-      followed-counted g words_at shape place walk node did.old (node_of walk.geometry.nodes did.old) (steps ++ did ∷ [])
-      (HasCounted-push g words_at shape place walk.length steps did (no_key-link g did node is) has)
+      by_test (λ t. CountedWalk g words_at mix port table shape place (cond t found other) (steps ++ did ∷ []))
+      (did.old == walk.key) (λ t. tt) (λ f. more (subst (λ k. did.old ≢ k) key (eqb-false did.old walk.key f)))
+  walk-counted table shape place word walk (walks.ChainLink node) steps did within key there knows is now has =
+      followed-counted g words_at mix port table shape place walk node did.old (node_of walk.geometry.nodes did.old)
+      (steps ++ did ∷ [])
+      (HasCounted-push g words_at mix port table shape place walk.length steps did (no_key-link g did node is) has)
 
   pub probe-counted : (table shape : ℕ) (h : Geometry) (key : ℕ) (state : ProbeAt) (steps : List Did) (did : Did)
-      → IsProbeAtIn g state → IsAtHome env mix G port table (Some shape) (place_of_probe state)
+      → IsProbeAtIn g state → IsProbeFor port state → IsAtHome env mix G port table (Some shape) (place_of_probe state)
       → BucketMeans env mix c M G (known_probe port state) → did.op ≡ probe_plan_at state
-      → words ≡ words_at did.index → BucketsStay env mix words_at G did.index → WalkCounted g words_at shape state steps
-      → CountedNext g words_at shape (probe_after_at h key state did.old) (steps ++ did ∷ [])
-  probe-counted table shape h key (probes.Locking lock) steps did within home knows is now stay has =
-      lock-counted g words_at shape h key lock lock.at did.old (steps ++ did ∷ [])
-      (HasCounted-push g words_at shape lock.place 0 steps did (no_key-lock g did lock.place lock.at within.place_in is) has)
-  probe-counted table shape h key (probes.Walking bucket walk) steps did within home knows is now stay has =
+      → words ≡ words_at did.index → BucketsStay env mix words_at G did.index
+      → WalkCounted g words_at mix port table shape state steps
+      → CountedNext g words_at mix port table shape (probe_after_at h key state did.old) (steps ++ did ∷ [])
+  probe-counted table shape h key (probes.Locking lock) steps did within for home knows is now stay has =
+      lock-counted g words_at mix port table shape h key lock lock.at did.old (steps ++ did ∷ [])
+      (HasCounted-push g words_at mix port table shape lock.place 0 steps did
+      (no_key-lock g did lock.place lock.at within.place_in is) has)
+  probe-counted table shape h key (probes.Walking bucket walk) steps did within for home knows is now stay has =
       let planned = is ∙ ap (λ (of : Geometry). walk_plan_at of walk.at) within.walk_in.geometry_same in
-      walk_taken-counted g words_at shape bucket (walk_after_at walk walk.at did.old) (steps ++ did ∷ [])
-      (walk-counted shape bucket.place bucket.word walk walk.at steps did within.walk_in.at_in
-      (home-place table shape bucket.place did.index home stay) knows planned now has)
+      walk_taken-counted g words_at mix port table shape bucket (walk_after_at walk walk.at did.old) (steps ++ did ∷ [])
+      (walk-counted table shape bucket.place bucket.word walk walk.at steps did within.walk_in.at_in for
+      (home-place table shape bucket.place did.index home now stay) knows planned now has)
 
   -- 16 nodes that were counted in a port's bucket are a long chain
   pub long-counted : (table shape place count : ℕ) (steps : List Did) → IsAtHome env mix G port table (Some shape) place
-      → 16 ≤ count → HasCounted g words_at shape place count steps → SawLongChain g words_at shape steps
+      → 16 ≤ count → HasCounted g words_at mix port table shape place count steps
+      → SawLongChain g words_at mix port table shape steps
   long-counted table shape place count steps is enough has = go has.found
     where
       many : 16 ≤ length has.nodes
       many = let many = has.many in omega (arith, enough, many)
 
-      go : FoundSoFar g words_at shape place steps → SawLongChain g words_at shape steps
+      go : FoundSoFar g words_at mix port table shape place steps → SawLongChain g words_at mix port table shape steps
       go (inl none) =
           let τ = index_at G table in
           let number = hash_in env mix G port τ in
@@ -324,7 +345,7 @@ module _ (env : Env) (mix : ℕ → ℕ → ℕ → ℕ) (words_at : ℕ → Lis
             bucket = number;
             within = subst (λ s. number < size_of (unpacked s)) is.shape_is (hash-below env mix M G whole port τ);
             place = place;
-            place_is = finds-nothing g words_at shape number place steps none;
+            bucket_is = finds-nothing g words_at mix port table shape number place steps none;
             nodes = has.nodes;
             counted = has.counted;
             many = many;
@@ -333,7 +354,7 @@ module _ (env : Env) (mix : ℕ → ℕ → ℕ → ℕ) (words_at : ℕ → Lis
         bucket = found.has.number;
         within = found.has.within;
         place = place;
-        place_is = found.each;
+        bucket_is = found.each;
         nodes = has.nodes;
         counted = has.counted;
         many = many;

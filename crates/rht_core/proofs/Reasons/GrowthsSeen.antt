@@ -65,7 +65,7 @@ module _ (env : Env) (words_at : ℕ → List ℕ) (mix : ℕ → ℕ → ℕ �
   SeesFor = SawForReply env words_at mix port
 
   -- an attempt has ended for a table that was seen behind the last one
-  ended-saw : (table : ℕ) (all : List Did) → FollowedSeen env words_at table all
+  ended-saw : (table : ℕ) (all : List Did) → FollowedSeen env words_at mix port table all
       → SeesFor (ended_attempt once table) all
   ended-saw table all followed =
       by_test (λ t. SeesFor (cond t (Some (Again table)) None) all) once (λ t. followed) (λ f. tt)
@@ -84,10 +84,10 @@ module _ (env : Env) (words_at : ℕ → List ℕ) (mix : ℕ → ℕ → ℕ �
   -- the load of the count leads to a table of the size that it wants, or to a refusal
   pub want-saw : (growing : Growing) (root : ℕ) (steps : List Did) (did : Did)
       → did.op ≡ Load (place_of env.geometry PortCount) → IsNoShapeLoad env.geometry did
-      → Behind env words_at growing.table growing.shape (SawRoot env words_at growing root) steps
+      → Behind env.geometry growing.table growing.shape (SawRoot env words_at mix port growing root) steps
       → Sees (want_or_busy env growing root did.old) (steps ++ did ∷ [])
   want-saw growing root steps did is none saw =
-      let Saw : List Did → Type 0 = SawRoot env words_at growing root in
+      let Saw : List Did → Type 0 = SawRoot env words_at mix port growing root in
       let size = size_grown growing in
       let busy = at.FutureAgain growing (refusals.Busy root) in
       let same = nat_eq root growing.table in
@@ -96,38 +96,38 @@ module _ (env : Env) (words_at : ℕ → List ℕ) (mix : ℕ → ℕ → ℕ �
       (λ t. Sees (cond t (making env growing (2 * size)) (cond same (making env growing size) busy)) all)
       (is_above_75 (min did.old 65536) size env.config.max)
       (λ above.
-      Behind-push env words_at growing.table growing.shape Saw
-      (SawToMake env words_at growing (2 * size) (exponent_made (2 * size)) true (makes.Slot 0, Go))
+      Behind-push env.geometry growing.table growing.shape Saw
+      (SawToMake env words_at mix port growing (2 * size) (exponent_made (2 * size)) true (makes.Slot 0, Go))
       steps did none
       (λ behind so.
-      begins-making env words_at growing root (2 * size) behind did is
+      begins-making env words_at mix port growing root (2 * size) behind did is
       (sym (ap (λ b. cond b (2 * size) size) above)) (inl above) so)
       saw)
       (λ below.
       by_test (λ t. Sees (cond t (making env growing size) busy) all) same
       (λ t.
-      Behind-push env words_at growing.table growing.shape Saw
-      (SawToMake env words_at growing size (exponent_made size) true (makes.Slot 0, Go)) steps did none
+      Behind-push env.geometry growing.table growing.shape Saw
+      (SawToMake env words_at mix port growing size (exponent_made size) true (makes.Slot 0, Go)) steps did none
       (λ behind so.
-      begins-making env words_at growing root size behind did is
+      begins-making env words_at mix port growing root size behind did is
       (sym (ap (λ b. cond b (2 * size) size) below))
       (inr (eqb-true root growing.table t)) so)
       saw)
       (λ other.
-      Behind-push env words_at growing.table growing.shape (SawRoot env words_at growing root)
-      (SawOther env words_at growing.table root growing.why growing.shape) steps did none
-      (λ behind so. other-saw env words_at growing root behind did is (eqb-false root growing.table other)
+      Behind-push env.geometry growing.table growing.shape (SawRoot env words_at mix port growing root)
+      (SawOther env words_at mix port growing.table root growing.why growing.shape) steps did none
+      (λ behind so. other-saw env words_at mix port growing root behind did is (eqb-false root growing.table other)
       below so) saw))
 
   pub made-saw : (growing : Growing) (size : ℕ) (make : MakeModel) (r : MakeAt × Next (Option (ℕ × ℕ)))
       (all : List Did)
-      → Behind env words_at growing.table growing.shape
-      (SawToMake env words_at growing size make.exponent make.nested r) all
+      → Behind env.geometry growing.table growing.shape
+      (SawToMake env words_at mix port growing size make.exponent make.nested r) all
       → Sees (made growing size (record make { at = r.0 }) r.1) all
   made-saw growing size make (state, Go) all saw = saw
   made-saw growing size make (state, Done None) all saw = record {
     walked = saw.walked;
-    saw = no_room-saw env words_at growing size make.exponent make.nested state saw.walked.behind saw.saw;
+    saw = no_room-saw env words_at mix port growing size make.exponent make.nested state saw.walked.behind saw.saw;
   }
   made-saw growing size make (state, Done (Some table)) all saw =
       record { walked = saw.walked; saw = saw.saw.why }
@@ -137,33 +137,33 @@ module _ (env : Env) (words_at : ℕ → List ℕ) (mix : ℕ → ℕ → ℕ �
       → growing.table < 8 → did.op ≡ Load (place_of env.geometry (Slot growing.table FutureWord))
       → did.old ≤ 8
       → slot_of did.old ≡ future
-      → Behind env words_at growing.table growing.shape (SawRefusal env words_at growing refusal) steps
+      → Behind env.geometry growing.table growing.shape (SawRefusal env words_at mix port growing refusal) steps
       → Sees (refused_or_found env once growing refusal future) (steps ++ did ∷ [])
   again-saw growing (refusals.Busy root) None steps did within is few reads saw =
-      busy-saw env words_at growing root steps did
+      busy-saw env words_at mix port growing root steps did
       (elsewhere env.geometry did _ is (λ other below same. absurd (omega (arith, same)))).no_shape within is
       (no_slot did.old few reads) saw
   again-saw growing (refusals.NoTable size) None steps did within is few reads saw =
-      inl (no_table-saw env words_at growing size steps did
+      inl (no_table-saw env words_at mix port growing size steps did
       (elsewhere env.geometry did _ is (λ other below same. absurd (omega (arith, same)))).no_shape within is
       (no_slot did.old few reads) saw)
   again-saw growing refusal (Some table) steps did within is few reads saw =
       let named = slot_named did.old table reads in
       behind-saw growing.attempt (ended_attempt once table) (steps ++ did ∷ [])
       (ended-saw table (steps ++ did ∷ [])
-      (followed-saw env words_at growing table steps did
+      (followed-saw env words_at mix port growing table steps did
       (elsewhere env.geometry did _ is (λ other below same. absurd (omega (arith, same)))).no_shape
       (inr (record { table_in = within; slot_in = named.0; tells = inl is; found = named.1 }))
       (record {
         walked = saw.walked;
-        saw = refusal-why env words_at growing refusal saw.walked.behind saw.saw;
+        saw = refusal-why env words_at mix port growing refusal saw.walked.behind saw.saw;
       })))
 
   -- the exchange that attaches
   pub attach-saw : (growing : Growing) (slot shape : ℕ) (steps : List Did) (did : Did) → growing.table < 8
       → slot < 8
       → did.op ≡ plan_at env (at.Attaching growing slot shape) → did.old ≤ 8
-      → Behind env words_at growing.table growing.shape (SawWhy env words_at growing.why growing.shape) steps
+      → Behind env.geometry growing.table growing.shape (SawWhy env words_at mix port growing.table growing.why growing.shape) steps
       → Sees (checked_attach env once growing slot shape did.old) (steps ++ did ∷ [])
   attach-saw growing slot shape steps did within slot_in is few saw =
       let all = steps ++ did ∷ [] in
@@ -176,7 +176,7 @@ module _ (env : Env) (words_at : ℕ → List ℕ) (mix : ℕ → ℕ → ℕ �
       (λ t.
       behind-saw (has_attached growing.attempt) (ended_attempt once slot) all
       (ended-saw slot all
-      (followed-saw env words_at growing slot steps did none
+      (followed-saw env words_at mix port growing slot steps did none
       (inl (record {
         table_in = within;
         slot_in = slot_in;
@@ -187,7 +187,7 @@ module _ (env : Env) (words_at : ℕ → List ℕ) (mix : ℕ → ℕ → ℕ �
       let some = eqb-false did.old 0 f in
       let named : did.old ≡ future_of other = nonzero_named did.old few some in
       ended-saw other all
-      (followed-saw env words_at growing other steps did none
+      (followed-saw env words_at mix port growing other steps did none
       (inr (record {
         table_in = within;
         slot_in = omega arith;

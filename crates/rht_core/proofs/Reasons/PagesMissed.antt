@@ -41,6 +41,7 @@ use Rattle.rht_ghost.proofs.Pieces.OpenEntries.{open_on_way}
 use Rattle.rht_core.proofs.Reasons.TablesWalked.{LastWalked-push, LoadedEarly}
 use Rattle.rht_core.proofs.Reasons.MakesSeen.{SawRun, SawTaking, taken-saw, runs_taken-stay}
 use Rattle.rht_core.proofs.Reasons.PagesTaken.{passes_in}
+use Rattle.rht_core.proofs.Reasons.PortBuckets.{hash_in-words}
 
 module _ (g : Geometry) where
   -- the operation loaded the future of the table in this slot as none
@@ -214,10 +215,7 @@ module _ (env : Env) (words_at : ℕ → List ℕ) where
         let number = hash_in env mix G port τ in
         let here = whole.tables.slots slot on.shaped.passing.table in
         let shape_is = on.shaped.shape_is in
-        let seed : M (Slot slot SeedWord) ≡ (G.table τ).seed =
-        ap (λ s. M (Slot s SeedWord)) (sym here.slot) ∙ (whole.tables.each τ here.attached).seed_is in
-        let number_is : number ≡ bucket_of mix port shape (M (Slot slot SeedWord)) =
-        ap (λ s. bucket_of mix port s (G.table τ).seed) shape_is ∙ ap (bucket_of mix port shape) (sym seed) in
+        let number_is = hash_in-words env mix words G whole port slot shape on.shaped.passing.table shape_is in
         let ends = way_ends τ number here.attached (ap is_nested shape_is ∙ on.nested) place same
         (subst (λ s. IsWay env mix G number τ s place) (sym shape_is) on.way) none in
         record {

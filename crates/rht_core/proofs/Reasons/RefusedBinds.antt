@@ -40,11 +40,7 @@ use Rattle.rht_core.proofs.Reasons.ChainsCounted.{SawLongChain-push}
 use Rattle.rht_core.proofs.Reasons.MakesSeen.{SawMade, saw_nothing, make-saw}
 use Rattle.rht_core.proofs.Reasons.MadeSizes.{nests-wanted}
 
--- where these are the words before the event with each number
-module _ (env : Env) (words_at : ℕ → List ℕ) where
-  abbrev g : Geometry
-  g = env.geometry
-
+module _ (g : Geometry) where
   -- behind the load of the last table's shape the operations saw this
   pub record Behind (table shape : ℕ) (Saw : List Did → Type 0) (steps : List Did) : Type 0 where
     pub walked : LastWalked g table shape steps
@@ -59,6 +55,16 @@ module _ (env : Env) (words_at : ℕ → List ℕ) where
     saw = further is.walked.behind is.saw;
   }
 
+  -- the load of a future loads no key
+  pub no_key-future : (did : Did) (table : ℕ) → table < 8 → did.op ≡ Load (place_of g (Slot table FutureWord))
+      → IsNoKeyLoad g did
+  no_key-future did table within is = no_key-before g did _ is (omega (arith, within, nodes_behind g))
+
+-- where these are the words before the event with each number, of a bind of this port
+module _ (env : Env) (words_at : ℕ → List ℕ) (mix : ℕ → ℕ → ℕ → ℕ) (port : ℕ) where
+  abbrev g : Geometry
+  g = env.geometry
+
   -- ---- what is seen
 
   -- the operation loaded a count of ports above the size of a table of this shape, which may grow
@@ -66,10 +72,10 @@ module _ (env : Env) (words_at : ℕ → List ℕ) where
     pub loaded : did.op ≡ Load (place_of g PortCount)
     pub above : is_above_100 (min did.old 65536) (size_of (unpacked shape)) env.config.max ≡ true
 
-  -- the table is full by a chain of its, or by its count of ports
-  abbrev pub SawWhy : Full → ℕ → List Did → Type 0
-  SawWhy full.Chain shape behind = SawLongChain g words_at shape behind
-  SawWhy full.Table shape behind = Any (LoadedAbove shape) behind
+  -- the table is full by the chain of the port's bucket, or by its count of ports
+  abbrev pub SawWhy : ℕ → Full → ℕ → List Did → Type 0
+  SawWhy table full.Chain shape behind = SawLongChain g words_at mix port table shape behind
+  SawWhy table full.Table shape behind = Any (LoadedAbove shape) behind
 
   -- with this count a table of this shape is due to grow
   abbrev pub is_due : ℕ → ℕ → Bool
@@ -88,12 +94,12 @@ module _ (env : Env) (words_at : ℕ → List ℕ) where
 
   -- before the count is loaded
   pub record SawRoot (growing : Growing) (root : ℕ) (behind : List Did) : Type 0 where
-    pub why : SawWhy growing.why growing.shape behind
+    pub why : SawWhy growing.table growing.why growing.shape behind
     pub current : Any (LoadsCurrent g root) behind
 
   -- what a refusal says while it may be that the table has a future
   pub record SawOther (table root : ℕ) (why : Full) (shape : ℕ) (behind : List Did) : Type 0 where
-    pub is_full : SawWhy why shape behind
+    pub is_full : SawWhy table why shape behind
     pub current : Any (LoadsCurrent g root) behind
     pub other : root ≢ table
     pub count : ℕ
@@ -101,7 +107,7 @@ module _ (env : Env) (words_at : ℕ → List ℕ) where
     pub not_due : is_due shape count ≡ false
 
   pub record SawFullUp (table size : ℕ) (why : Full) (shape : ℕ) (behind : List Did) : Type 0 where
-    pub is_full : SawWhy why shape behind
+    pub is_full : SawWhy table why shape behind
     pub wanted : SawWanted shape table size behind
     pub room : SawNoRoom g size (nat_le 128 size) wanted.making
 
@@ -111,14 +117,14 @@ module _ (env : Env) (words_at : ℕ → List ℕ) where
 
   -- each says that the table is full
   pub refusal-why : (growing : Growing) (refusal : Refusal) (behind : List Did) → SawRefusal growing refusal behind
-      → SawWhy growing.why growing.shape behind
+      → SawWhy growing.table growing.why growing.shape behind
   refusal-why growing (refusals.Busy root) behind saw = saw.is_full
   refusal-why growing (refusals.NoTable size) behind saw = saw.is_full
 
   -- while a table is made
   pub record SawToMake (growing : Growing) (size exponent : ℕ) (allowed : Bool) (next : MakeAt × Next (Option (ℕ × ℕ)))
       (behind : List Did) : Type 0 where
-    pub why : SawWhy growing.why growing.shape behind
+    pub why : SawWhy growing.table growing.why growing.shape behind
     pub wanted : SawWanted growing.shape growing.table size behind
     pub exponent_is : exponent ≡ exponent_made size
     pub allowed_is : allowed ≡ true
@@ -144,7 +150,7 @@ module _ (env : Env) (words_at : ℕ → List ℕ) where
   -- what the operations of a bind show that has to be made again
   pub record FollowedSeen (slot : ℕ) (steps : List Did) : Type 0 where
     pub table : ℕ
-    pub settled : Settled table SawWhy (IsFollowing table slot) steps
+    pub settled : Settled table (SawWhy table) (IsFollowing table slot) steps
 
   -- of one that was refused while tables are moved
   abbrev pub BusySeen : ℕ → ℕ → List Did → Type 0
@@ -157,10 +163,11 @@ module _ (env : Env) (words_at : ℕ → List ℕ) where
 
   -- ---- what was seen stays seen
 
-  pub SawWhy-push : (why : Full) (shape : ℕ) (behind : List Did) (did : Did) → IsNoKeyLoad g did
-      → SawWhy why shape behind → SawWhy why shape (behind ++ did ∷ [])
-  SawWhy-push full.Chain shape behind did no_key saw = SawLongChain-push g words_at shape behind did no_key saw
-  SawWhy-push full.Table shape behind did no_key saw = Any-append_left (LoadedAbove shape) behind (did ∷ []) saw
+  pub SawWhy-push : (table : ℕ) (why : Full) (shape : ℕ) (behind : List Did) (did : Did) → IsNoKeyLoad g did
+      → SawWhy table why shape behind → SawWhy table why shape (behind ++ did ∷ [])
+  SawWhy-push table full.Chain shape behind did no_key saw =
+      SawLongChain-push g words_at mix port table shape behind did no_key saw
+  SawWhy-push table full.Table shape behind did no_key saw = Any-append_left (LoadedAbove shape) behind (did ∷ []) saw
 
   unfoldable SawWanted-push : (shape table size : ℕ) (behind : List Did) (did : Did) → SawWanted shape table size behind
       → SawWanted shape table size (behind ++ did ∷ [])
@@ -195,7 +202,7 @@ module _ (env : Env) (words_at : ℕ → List ℕ) where
       → FollowedSeen slot (steps ++ did ∷ [])
   FollowedSeen-push slot steps did none saw = record {
     table = saw.table;
-    settled = Settled-push saw.table SawWhy (IsFollowing saw.table slot) steps did none saw.settled;
+    settled = Settled-push saw.table (SawWhy saw.table) (IsFollowing saw.table slot) steps did none saw.settled;
   }
 
   pub BusySeen-push : (root last : ℕ) (steps : List Did) (did : Did) → IsNoShapeLoad g did → BusySeen root last steps
@@ -213,7 +220,7 @@ module _ (env : Env) (words_at : ℕ → List ℕ) where
 
   -- the operation that comes now settles it
   settled-saw : (growing : Growing) (Saw : Full → ℕ → List Did → Type 0) (Last : Did → Type 0) (steps : List Did) (did : Did)
-      → IsNoShapeLoad g did → Last did → Behind growing.table growing.shape (Saw growing.why growing.shape) steps
+      → IsNoShapeLoad g did → Last did → Behind g growing.table growing.shape (Saw growing.why growing.shape) steps
       → Settled growing.table Saw Last (steps ++ did ∷ [])
   unfolding LastWalked-push
   settled-saw growing Saw Last steps did none last saw = record {
@@ -231,17 +238,17 @@ module _ (env : Env) (words_at : ℕ → List ℕ) where
   -- ---- operations
 
   -- a count that is above the table's size was loaded by this operation
-  pub above-why : (shape : ℕ) (behind : List Did) (did : Did) → did.op ≡ Load (place_of g PortCount)
+  pub above-why : (table shape : ℕ) (behind : List Did) (did : Did) → did.op ≡ Load (place_of g PortCount)
       → is_above_100 (min did.old 65536) (size_of (unpacked shape)) env.config.max ≡ true
-      → SawWhy full.Table shape (behind ++ did ∷ [])
-  above-why shape behind did is above =
+      → SawWhy table full.Table shape (behind ++ did ∷ [])
+  above-why table shape behind did is above =
       Any-push (LoadedAbove shape) behind did (record { loaded = is; above = above })
 
   -- the load of the current table
   pub root-saw : (growing : Growing) (behind : List Did) (did : Did) → did.op ≡ Load (place_of g CurrentTable)
-      → SawWhy growing.why growing.shape behind → SawRoot growing (table_of did.old) (behind ++ did ∷ [])
+      → SawWhy growing.table growing.why growing.shape behind → SawRoot growing (table_of did.old) (behind ++ did ∷ [])
   root-saw growing behind did is why = record {
-    why = SawWhy-push growing.why growing.shape behind did (no_key-before g did 0 is (omega (arith, nodes_behind g))) why;
+    why = SawWhy-push growing.table growing.why growing.shape behind did (no_key-before g did 0 is (omega (arith, nodes_behind g))) why;
     current =
         Any-push (LoadsCurrent g (table_of did.old)) behind did (record { there = tt; loads = is }, refl);
   }
@@ -274,7 +281,7 @@ module _ (env : Env) (words_at : ℕ → List ℕ) where
       → SawToMake growing size (exponent_made size) true (makes.Slot 0, Go) (behind ++ did ∷ [])
   unfolding wanted-saw
   begins-making growing root size behind did is wanted grows saw = record {
-    why = SawWhy-push growing.why growing.shape behind did (no_key-count did is) saw.why;
+    why = SawWhy-push growing.table growing.why growing.shape behind did (no_key-count did is) saw.why;
     wanted = wanted-saw growing.shape growing.table root size behind did is wanted grows saw.current;
     exponent_is = refl;
     allowed_is = refl;
@@ -285,7 +292,7 @@ module _ (env : Env) (words_at : ℕ → List ℕ) where
       → did.op ≡ Load (place_of g PortCount) → root ≢ growing.table → is_due growing.shape did.old ≡ false
       → SawRoot growing root behind → SawOther growing.table root growing.why growing.shape (behind ++ did ∷ [])
   other-saw growing root behind did is other not_due saw = record {
-    is_full = SawWhy-push growing.why growing.shape behind did (no_key-count did is) saw.why;
+    is_full = SawWhy-push growing.table growing.why growing.shape behind did (no_key-count did is) saw.why;
     current = Any-append_left (LoadsCurrent g root) behind (did ∷ []) saw.current;
     other = other;
     count = did.old;
@@ -314,7 +321,7 @@ module _ (env : Env) (words_at : ℕ → List ℕ) where
       let after = make-saw g make.exponent make.seed make.nested make.at before did.old within.at_in saw.made in
       let no_key = no_key-make g make.geometry make.exponent make.seed make.nested make.at did within.at_in is in
       record {
-        why = SawWhy-push growing.why growing.shape behind did no_key saw.why;
+        why = SawWhy-push growing.table growing.why growing.shape behind did no_key saw.why;
         wanted = SawWanted-push growing.shape growing.table size behind did saw.wanted;
         exponent_is = saw.exponent_is;
         allowed_is = saw.allowed_is;
@@ -344,15 +351,10 @@ module _ (env : Env) (words_at : ℕ → List ℕ) where
     ];
   }
 
-  -- the load of a future loads no key
-  pub no_key-future : (did : Did) (table : ℕ) → table < 8 → did.op ≡ Load (place_of g (Slot table FutureWord))
-      → IsNoKeyLoad g did
-  no_key-future did table within is = no_key-before g did _ is (omega (arith, within, nodes_behind g))
-
   -- the future is loaded as none
   pub busy-saw : (growing : Growing) (root : ℕ) (steps : List Did) (did : Did) → IsNoShapeLoad g did → growing.table < 8
       → did.op ≡ Load (place_of g (Slot growing.table FutureWord)) → did.old ≡ 0
-      → Behind growing.table growing.shape (SawOther growing.table root growing.why growing.shape) steps
+      → Behind g growing.table growing.shape (SawOther growing.table root growing.why growing.shape) steps
       → BusySeen root growing.table (steps ++ did ∷ [])
   busy-saw growing root steps did none within is zero saw =
       settled-saw growing (SawOther growing.table root) (Loaded g (Slot growing.table FutureWord) 0) steps did none
@@ -361,7 +363,7 @@ module _ (env : Env) (words_at : ℕ → List ℕ) where
   pub no_table-saw : (growing : Growing) (size : ℕ) (steps : List Did) (did : Did) → IsNoShapeLoad g did
       → growing.table < 8
       → did.op ≡ Load (place_of g (Slot growing.table FutureWord)) → did.old ≡ 0
-      → Behind growing.table growing.shape (SawFullUp growing.table size growing.why growing.shape) steps
+      → Behind g growing.table growing.shape (SawFullUp growing.table size growing.why growing.shape) steps
       → NoTableSeen size (steps ++ did ∷ [])
   no_table-saw growing size steps did none within is zero saw = record {
     table = growing.table;
@@ -373,9 +375,9 @@ module _ (env : Env) (words_at : ℕ → List ℕ) where
   -- another table follows
   pub followed-saw : (growing : Growing) (slot : ℕ) (steps : List Did) (did : Did) → IsNoShapeLoad g did
       → IsFollowing growing.table slot did
-      → Behind growing.table growing.shape (SawWhy growing.why growing.shape) steps
+      → Behind g growing.table growing.shape (SawWhy growing.table growing.why growing.shape) steps
       → FollowedSeen slot (steps ++ did ∷ [])
   followed-saw growing slot steps did none is saw = record {
     table = growing.table;
-    settled = settled-saw growing SawWhy (IsFollowing growing.table slot) steps did none is saw;
+    settled = settled-saw growing (SawWhy growing.table) (IsFollowing growing.table slot) steps did none is saw;
   }

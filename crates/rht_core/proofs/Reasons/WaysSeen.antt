@@ -156,7 +156,7 @@ module _ (env : Env) (words_at : ℕ → List ℕ) (mix : ℕ → ℕ → ℕ �
       → MissedAt table shape bucket steps → Sees (at_bucket env port attempt table shape bucket) steps
   bucket-saw attempt table shape (buckets.At place) steps walked came missed = record {
     walked = walked.walked;
-    saw = HasCounted-none env.geometry words_at shape place walked.walked.last.behind walked.saw;
+    saw = HasCounted-none env.geometry words_at mix port table shape place walked.walked.last.behind walked.saw;
   }
   bucket-saw attempt table shape (buckets.Missing place (Some next)) steps walked came missed = came
   bucket-saw attempt table shape (buckets.Missing place None) steps walked came missed = missed
