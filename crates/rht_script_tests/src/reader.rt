@@ -35,11 +35,16 @@ fn assert_commands(
     Ok(())
 }
 
+/// Asserts that each text has this first fault.
+fn assert_faults(rt: &impl Abort, alloc: Global, faults: &[(&str, u32, u8)]) {
+    for (text, line, cause) in faults {
+        assert_fault_at(rt, alloc, text, text.as_bytes(), *line, *cause);
+    }
+}
+
 #[test]
 fn finds_the_first_fault(rt: HostRuntime) {
-    for (text, line, cause) in FAULTS {
-        assert_fault_at(&rt, rt.alloc(), text, text.as_bytes(), *line, *cause);
-    }
+    assert_faults(&rt, rt.alloc(), FAULTS);
 }
 
 /// Asserts that the text is a script with this config and these commands.
@@ -55,6 +60,18 @@ fn assert_script(
     assert_same(rt, &script.commands.as_slice(), &commands, text);
     assert_same(rt, &(script.auto, script.schedule.len()), &(true, 0), text);
     assert_same(rt, &script.is_sound(), &true, text);
+    Ok(())
+}
+
+/// Asserts that each text is such a script.
+fn assert_scripts(
+    rt: &impl Abort,
+    alloc: Global,
+    scripts: &[(&str, Config, &[(u32, Call)])],
+) -> Result<(), Fail> {
+    for (text, config, commands) in scripts {
+        assert_script(rt, alloc, text, *config, commands)?;
+    }
     Ok(())
 }
 
@@ -241,10 +258,7 @@ fn reads_scripts(rt: HostRuntime) -> Result<(), Fail> {
             ],
         ),
     ];
-    for (text, config, commands) in scripts {
-        assert_script(&rt, rt.alloc(), text, config, commands)?;
-    }
-    Ok(())
+    assert_scripts(&rt, rt.alloc(), &scripts)
 }
 
 /// Asserts that the text is a script with so many commands and this schedule.
@@ -361,9 +375,7 @@ fn reads_lines_of_256_bytes(rt: HostRuntime) -> Result<(), Fail> {
 /// The table line, then so many lines, and then the text.
 fn repeated(alloc: Global, line: &str, count: usize, text: &str) -> Result<Vec<u8>, AllocError> {
     let mut bytes = "table single\n".as_bytes().to_vec(alloc)?;
-    for _ in 0..count {
-        bytes.extend_from_slice(line.as_bytes())?;
-    }
+    bytes.extend_from_slice(line.repeat(alloc, count)?.as_bytes())?;
     bytes.extend_from_slice(text.as_bytes())?;
     Ok(bytes)
 }
