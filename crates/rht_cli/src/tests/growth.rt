@@ -1,0 +1,263 @@
+//! Tables that grow and shrink: what each script prints, by hand from the thresholds.
+
+use super::{WHOLE, add_lines, assert_left, run_on};
+use std::alloc::Global;
+use std::process::Abort;
+use std::sync::Wait;
+use std::test::Fail;
+use std::thread::Threads;
+
+/// A part of a text: lines so many times, or a line for each of so many ports.
+#[derive(Clone, Copy)]
+enum Part {
+    Lines(u32, &'static str),
+    Each(&'static str, Row, &'static str),
+}
+
+/// So many ports from the first one on, each so much greater than the one before.
+#[derive(Clone, Copy)]
+struct Row {
+    first: u32,
+    step: u32,
+    count: u32,
+}
+
+const fn ports(first: u32, step: u32, count: u32) -> Row {
+    Row { first, step, count }
+}
+
+/// The text of these parts.
+fn written(alloc: Global, parts: &[Part]) -> Result<String, Fail> {
+    let mut text = String::new(alloc);
+    for part in parts {
+        match *part {
+            Part::Lines(count, lines) => add_lines(&mut text, count, lines)?,
+            Part::Each(before, ports, after) => add_each(alloc, &mut text, before, ports, after)?,
+        }
+    }
+    Ok(text)
+}
+
+fn add_each(
+    alloc: Global,
+    text: &mut String,
+    before: &str,
+    ports: Row,
+    after: &str,
+) -> Result<(), Fail> {
+    let mut port = ports.first;
+    for _ in 0..ports.count {
+        text.push_str(&format!(in alloc; "{before}{port}{after}")?)?;
+        port = port.wrapping_add(ports.step);
+    }
+    Ok(())
+}
+
+/// Asserts that the script of the first parts is answered by the text of the others.
+fn assert_written<R: Threads + Wait + Sync + Abort>(
+    rt: &R,
+    alloc: Global,
+    script: &[Part],
+    text: &[Part],
+) -> Result<(), Fail> {
+    let script = written(alloc, script)?;
+    let text = written(alloc, text)?;
+    let left = run_on(rt, alloc, "run", &script, WHOLE)?;
+    assert_left(rt, &left, 0, &text, "", &script);
+    Ok(())
+}
+
+#[test]
+fn tables_grow_and_shrink(rt: HostRuntime) -> Result<(), Fail> {
+    use Part::{Each, Lines};
+    // Each script, and its text.
+    let cases: [(&[Part], &[Part]); 10] = [
+        // Of 64 buckets 48 are three quarters, and 49 are more.
+        (
+            &[
+                Lines(1, "table single hash low work manual\n"),
+                Each("1 bind ", ports(0, 1, 48), " 1\n"),
+                Lines(1, "1 work\n1 bind 48 1\n1 work\n"),
+            ],
+            &[
+                Lines(48, "1: bound\n"),
+                Lines(1, "1: idle\n1: bound\n1: moved\n"),
+                Each("port ", ports(0, 1, 49), ": 1\n"),
+                Lines(1, "size 128 keys 49\n"),
+            ],
+        ),
+        // A worker does that by itself, but where the script says manual.
+        (
+            &[
+                Lines(1, "table single hash low\n"),
+                Each("1 bind ", ports(0, 1, 49), " 1\n"),
+                Lines(1, "1 work\n"),
+            ],
+            &[
+                Lines(49, "1: bound\n"),
+                Lines(1, "1: idle\n"),
+                Each("port ", ports(0, 1, 49), ": 1\n"),
+                Lines(1, "size 128 keys 49\n"),
+            ],
+        ),
+        // Of 128 buckets 38 are three tenths, and 37 are fewer: 37 * 3 / 2 = 55, which takes 64.
+        (
+            &[
+                Lines(1, "table single hint 96 shrink on hash low work manual\n"),
+                Each("1 bind ", ports(0, 1, 38), " 1\n"),
+                Lines(1, "1 work\n1 release 37 1\n1 work\n"),
+            ],
+            &[
+                Lines(38, "1: bound\n"),
+                Lines(1, "1: idle\n1: released\n1: moved\n"),
+                Each("port ", ports(0, 1, 37), ": 1\n"),
+                Lines(1, "size 64 keys 37\n"),
+            ],
+        ),
+        // By itself too, and not at all where shrinking is off.
+        (
+            &[
+                Lines(1, "table listed work auto hint 96 hash low shrink on\n"),
+                Each("1 bind ", ports(0, 1, 38), " 1\n"),
+                Lines(1, "1 release 37 1\n1 work\n"),
+            ],
+            &[
+                Lines(38, "1: bound\n"),
+                Lines(1, "1: released\n1: idle\n"),
+                Each("port ", ports(0, 1, 37), ": 1\n"),
+                Lines(1, "size 64 keys 37\n"),
+            ],
+        ),
+        (
+            &[
+                Lines(1, "table single hint 96 shrink off hash low\n"),
+                Each("1 bind ", ports(0, 1, 38), " 1\n"),
+                Lines(1, "1 release 37 1\n1 work\n"),
+            ],
+            &[
+                Lines(38, "1: bound\n"),
+                Lines(1, "1: released\n1: idle\n"),
+                Each("port ", ports(0, 1, 37), ": 1\n"),
+                Lines(1, "size 128 keys 37\n"),
+            ],
+        ),
+        // Ports of one chain: the seventeenth finds 16 there and attaches a table, and the thirty-third
+        // finds 16 there too, while the first table is still the current one.
+        (
+            &[
+                Lines(1, "table single hash low work manual\n"),
+                Each("1 bind ", ports(0, 64, 32), " 1\n"),
+                Lines(1, "1 bind 2048 1\n1 work\n1 find 2048\n"),
+            ],
+            &[
+                Lines(32, "1: bound\n"),
+                Lines(1, "1: busy 0 1\n1: moved\n1: missing\n"),
+                Each("port ", ports(0, 64, 32), ": 1\n"),
+                Lines(1, "size 64 keys 32\n"),
+            ],
+        ),
+        // By itself the worker moves all of them behind each bind from the seventeenth on, through seven
+        // tables; the eighth can't be had.
+        (
+            &[
+                Lines(1, "table single hash low\n"),
+                Each("1 bind ", ports(0, 64, 25), " 1\n"),
+                Lines(1, "1 count\n"),
+            ],
+            &[
+                Lines(23, "1: bound\n"),
+                Lines(2, "1: notable 64\n"),
+                Lines(1, "1: count 23\n"),
+                Each("port ", ports(0, 64, 23), ": 1\n"),
+                Lines(1, "size 64 keys 23\n"),
+            ],
+        ),
+        // There are seven tables besides the first one.
+        (
+            &[
+                Lines(
+                    1,
+                    "table single hint 1 shrink on hash low work manual\n1 bind 0 10\n",
+                ),
+                Each("1 bind ", ports(1, 1, 3), " 10\n"),
+                Lines(1, "1 work\n"),
+                Each("1 release ", ports(1, 1, 3), " 10\n"),
+                Lines(1, "1 work\n"),
+                Each("1 bind ", ports(1, 1, 3), " 10\n"),
+                Lines(1, "1 work\n"),
+                Each("1 release ", ports(1, 1, 3), " 10\n"),
+                Lines(1, "1 work\n"),
+                Each("1 bind ", ports(1, 1, 3), " 10\n"),
+                Lines(1, "1 work\n"),
+                Each("1 release ", ports(1, 1, 3), " 10\n"),
+                Lines(1, "1 work\n"),
+                Each("1 bind ", ports(1, 1, 3), " 10\n"),
+                Lines(1, "1 work\n"),
+                Each("1 release ", ports(1, 1, 3), " 10\n"),
+                Lines(1, "1 work\n"),
+            ],
+            &[
+                Lines(1, "1: bound\n"),
+                Lines(
+                    3,
+                    "1: bound\n1: bound\n1: bound\n1: moved\n1: released\n1: released\n1: released\n1: moved\n",
+                ),
+                Lines(
+                    1,
+                    "1: bound\n1: bound\n1: bound\n1: moved\n1: released\n1: released\n1: released\n1: notable 4\n",
+                ),
+                Lines(1, "port 0: 10\nsize 8 keys 1\n"),
+            ],
+        ),
+        // The table of 256 behind the first is nested, since two pages are left: its top page and one page of
+        // buckets. No page is left for the bucket of 130, in whose page the bucket of 133 isn't.
+        (
+            &[
+                Lines(1, "table single pages 4 hint 96 hash low work manual\n"),
+                Each("1 bind ", ports(0, 1, 130), " 1\n"),
+                Lines(
+                    1,
+                    "1 bind 130 1\n1 bind 133 1\n1 find 130\n1 find 129\n1 work\n",
+                ),
+            ],
+            &[
+                Lines(130, "1: bound\n"),
+                Lines(
+                    1,
+                    "1: notable 256\n1: bound\n1: missing\n1: found 1\n1: notable 256\n",
+                ),
+                Each("port ", ports(0, 1, 130), ": 1\n"),
+                Lines(1, "port 133: 1\nsize 128 keys 131\n"),
+            ],
+        ),
+        // With two levels of entries: four pages are left. The bind of 1 enters the last of them as a page of
+        // entries, and finds none for the buckets behind it.
+        (
+            &[
+                Lines(
+                    1,
+                    "table single nodes 32 pages 132 hint 6144 hash low work manual\n",
+                ),
+                Each("1 bind ", ports(0, 8192, 17), " 1\n"),
+                Lines(
+                    1,
+                    "1 bind 1 1\n1 find 1\n1 bind 2 1\n1 bind 128 1\n1 find 128\n1 find 131072\n1 rebind 128 1 2\n1 release 131072 1\n1 find 131072\n1 work\n",
+                ),
+            ],
+            &[
+                Lines(17, "1: bound\n"),
+                Lines(
+                    1,
+                    "1: notable 8192\n1: missing\n1: notable 8192\n1: bound\n1: found 1\n1: found 1\n1: rebound\n1: released\n1: missing\n1: notable 8192\n",
+                ),
+                Lines(1, "port 0: 1\nport 128: 2\n"),
+                Each("port ", ports(8192, 8192, 15), ": 1\n"),
+                Lines(1, "size 8192 keys 17\n"),
+            ],
+        ),
+    ];
+    for (script, text) in cases {
+        assert_written(&rt, rt.alloc(), script, text)?;
+    }
+    Ok(())
+}
