@@ -56,25 +56,29 @@ use Rattle.rht_release.proofs.RebindSteps.{rebind_step}
 use Rattle.rht_move.proofs.WorkKnowledge.{known_of_work, work_holds, WorkNext}
 use Rattle.rht_move.proofs.WorkMachine.{work_step}
 
--- what a caller knows by its job
-abbrev pub known_of : Job → Known
-known_of (finds port state) = known_of_find port state
-known_of (binds port owner once state) = known_of_bind port owner state
-known_of (lists port room state) = known_of_all port room.items state
-known_of (releases port owner state) = known_of_release port owner state
-known_of (rebinds port owner new state) = known_of_rebind port owner new state
-known_of (works state) = known_of_work state
-known_of counts = known_nothing
+-- where a call stands: what its caller knows, and what it will answer should it miss a page on its way, known early
+pub record JobStands : Type 0 where
+  pub known : Known
+  pub early : Option Answer
 
--- what it will answer should it miss a page on its way, known early; a bind that misses a page enters one
+-- so it is by a machine's state; a bind that misses a page enters one, and a resizing misses none
+abbrev pub stands_of : Job → JobStands
+stands_of (finds port state) = record { known = known_of_find port state; early = (held_of (finds port state)).early }
+stands_of (binds port owner once state) = record { known = known_of_bind port owner state; early = None }
+stands_of (lists port room state) =
+    record { known = known_of_all port room.items state; early = (held_of (lists port room state)).early }
+stands_of (releases port owner state) =
+    record { known = known_of_release port owner state; early = (held_of (releases port owner state)).early }
+stands_of (rebinds port owner new state) =
+    record { known = known_of_rebind port owner new state; early = (held_of (rebinds port owner new state)).early }
+stands_of (works state) = record { known = known_of_work state; early = None }
+stands_of counts = record { known = known_nothing; early = None }
+
+abbrev pub known_of : Job → Known
+known_of job = (stands_of job).known
+
 abbrev pub early_of : Job → Option Answer
-early_of (finds port state) = (held_of (finds port state)).early
-early_of (binds port owner once state) = None
-early_of (lists port room state) = (held_of (lists port room state)).early
-early_of (releases port owner state) = (held_of (releases port owner state)).early
-early_of (rebinds port owner new state) = (held_of (rebinds port owner new state)).early
-early_of (works state) = None
-early_of counts = (held_of counts).early
+early_of job = (stands_of job).early
 
 -- the page that the job may miss is there in these words
 abbrev pub IsThere : Job → Memory → Type 0
@@ -105,40 +109,38 @@ pub record IsRebindingIn (env : Env) (new : ℕ) (state : RebindAt) : Type 0 whe
   pub new_in : new < 2 ^ 32
   pub at_in : IsRebindAtIn env state
 
--- a rebind is built for tables of one owner for each port alone, each other job for those of lists as well
-abbrev pub IsJobBuilt : Env → Job → Type 0
-IsJobBuilt env (finds port state) = Unit {0}
-IsJobBuilt env (binds port owner once state) = Unit {0}
-IsJobBuilt env (lists port room state) = Unit {0}
-IsJobBuilt env (releases port owner state) = Unit {0}
-IsJobBuilt env (rebinds port owner new state) = env.config.kind ≡ Single
-IsJobBuilt env (works state) = Unit {0}
-IsJobBuilt env counts = Unit {0}
+-- What is said of a job by its machine: that it is one for tables of this kind, that all it names is the table's, and that what
+-- its state keeps fits its port and its owner.
+pub record JobFacts : Type 1 where
+  pub built : Type 0
+  pub within : Type 0
+  pub fits : Type 0
 
 module _ (env : Env) (mix : ℕ → ℕ → ℕ → ℕ) (c : ℕ) where
-  -- all that the job names is the table's
-  abbrev pub JobIn : Job → Type 0
-  JobIn (finds port state) = IsFindAtIn env state
-  JobIn (binds port owner once state) = IsBindingIn env port owner state
-  JobIn (lists port room state) = IsListingIn env room state
-  JobIn (releases port owner state) = IsReleaseAtIn env state
-  JobIn (rebinds port owner new state) = IsRebindingIn env new state
-  JobIn (works state) = IsWorkAtIn env state
-  JobIn counts = Unit {0}
+  -- a rebind is built for tables of one owner for each port alone, each other job for those of lists as well
+  abbrev pub facts_of : Job → JobFacts
+  facts_of (finds port state) = record { built = Unit {0}; within = IsFindAtIn env state; fits = fits_find port state }
+  facts_of (binds port owner once state) =
+      record { built = Unit {0}; within = IsBindingIn env port owner state; fits = fits_bind env mix c port owner once state }
+  facts_of (lists port room state) =
+      record { built = Unit {0}; within = IsListingIn env room state; fits = fits_all port room state }
+  facts_of (releases port owner state) =
+      record { built = Unit {0}; within = IsReleaseAtIn env state; fits = fits_release env mix c port owner state }
+  facts_of (rebinds port owner new state) = record {
+    built = env.config.kind ≡ Single;
+    within = IsRebindingIn env new state;
+    fits = fits_rebind env mix c port owner new state;
+  }
+  facts_of (works state) = record { built = Unit {0}; within = IsWorkAtIn env state; fits = Unit {0} }
+  facts_of counts = record { built = Unit {0}; within = Unit {0}; fits = Unit {0} }
 
-  abbrev pub fits_job : Job → Type 0
-  fits_job (finds port state) = fits_find port state
-  fits_job (binds port owner once state) = fits_bind env mix c port owner once state
-  fits_job (lists port room state) = fits_all port room state
-  fits_job (releases port owner state) = fits_release env mix c port owner state
-  fits_job (rebinds port owner new state) = fits_rebind env mix c port owner new state
-  fits_job (works state) = Unit {0}
-  fits_job counts = Unit {0}
+  abbrev pub JobIn : Job → Type 0
+  JobIn job = (facts_of job).within
 
   pub record JobKnows (job : Job) (M : Memory) (G : Ghost) : Type 0 where
-    pub built : IsJobBuilt env job
+    pub built : (facts_of job).built
     pub knowing : Knowing env mix c (held_of job) (known_of job) M G
-    pub fits : fits_job job
+    pub fits : (facts_of job).fits
 
   -- a caller in no call has nothing
   abbrev pub KnowsNothing : Memory → Ghost → Type 0
