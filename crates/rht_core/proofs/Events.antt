@@ -24,3 +24,5 @@ pub mod BucketsThere
 pub mod InvariantRuns
 -- in every run each caller works at the call of its book, and its calls took out as many nodes as that says
 pub mod BooksInRuns
+-- in every run each section word is even
+pub mod SectionsInRuns

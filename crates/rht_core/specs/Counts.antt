@@ -14,6 +14,7 @@ use Rattle.rht_core.specs.Jobs.{Job, job_of, held_of}
 use Rattle.rht_core.specs.Runs.{Core, World, local_of, run_of, IsAdmitted}
 use Rattle.rht_stands.specs.StandsFor.{in_force, shape_of, bucket_in, nodes_of, stands_for, AreAllBound}
 use Rattle.rht_core.specs.TablePages.{IsPageOfTable}
+use Rattle.rht_core.specs.Sections.{IsInNoSection}
 use Rattle.rht_core.specs.Alone.{IsQuiet}
 pub use Rattle.rht_model.specs.Replies.{takes_out}
 
@@ -107,7 +108,8 @@ taken_out w =
 
 -- No bucket of a table in force, or in a slot that isn't free, is locked, and the word of each bucket of a retired one is 0; as many
 -- nodes are out as were taken out, and no others; in a table of one owner each no port's list has a second node; the count of ports is
--- the number of those bound; no caller has the work lock, a slot or pages; and each table that was left behind is retired
+-- the number of those bound; no caller has the work lock, a slot or pages, or is in a read section; and each table that was left behind
+-- is retired
 pub record IsAtRest (env : Env) (words : List ℕ) (out : ℕ) : Type 0 where
   pub unlocked : (slot place : ℕ) → HasTable env.geometry words slot → IsBucketOfSlot env.geometry words slot place
       → slice_index words place % 2 ≡ 0
@@ -117,6 +119,7 @@ pub record IsAtRest (env : Env) (words : List ℕ) (out : ℕ) : Type 0 where
   pub single : env.config.kind ≡ Single → (port : ℕ) → length (nodes_of env.geometry words port) ≤ 1
   pub counted : AreAllBound (stands_for env.geometry words) (word_at env.geometry words PortCount)
   pub none_held : AreNoneHeld env.geometry words
+  pub sections : (c : ℕ) → c < env.geometry.callers → IsInNoSection env.geometry words c
 
 module _ (M : Type 0) (mix : ℕ → ℕ → ℕ → ℕ) where
   -- in every run the count of ports counts

@@ -33,6 +33,8 @@ pub mod Reach
 pub mod Tidied
 -- what a full walk shows
 pub mod Shown
+-- who is in no read section
+pub mod Sections
 -- what the count of ports counts, and a table that nobody uses
 pub mod Counts
 -- how many calls took a node

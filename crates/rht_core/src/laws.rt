@@ -11,6 +11,7 @@ ghost use Rattle.rht_core.specs.NeverRefused.{RoomyTakesAll, OneWorkerAsModel};
 ghost use Rattle.rht_core.specs.NodesUsed.{Nodes};
 ghost use Rattle.rht_core.specs.Refused.{Refused};
 ghost use Rattle.rht_core.specs.RunHistories.{HasFittingHistory};
+ghost use Rattle.rht_core.specs.Sections.{Sections};
 ghost use Rattle.rht_core.specs.ToldHistories.{HasToldHistory};
 ghost use Rattle.rht_core.specs.Worked.{Worked};
 ghost use Rattle.rht_core.specs.Laws.{Extends, InRange, Enrolled, NotEnrolled, Replies, Remembers, AtEvents, AllStepsTraced, TakenAlone, WordsFit};
@@ -203,7 +204,8 @@ pub fn counted<M: Mix>()
 /// that were answered `Released` or `Rebound`; in a table of one owner for each port no list has a
 /// second node; the count is the number of ports that are bound; the work lock is free; each page is
 /// free, or one of a table whose slot isn't, in the run of a flat one, or the top page or one to which an
-/// entry leads in a nested one; and each slot that isn't free is retired, or has a table in force. So no
+/// entry leads in a nested one; each slot that isn't free is retired, or has a table in force; and each
+/// caller's section word is even, so none is in a read section. So no
 /// node is lost: a bind that is refused, or finds its port bound, has given its
 /// node back, and so has a rebind that is answered `Absent`. And no slot or page is lost: each that isn't
 /// free is a table's that is in force or retired, so what was taken for a table that wasn't attached, or
@@ -239,6 +241,13 @@ pub fn refused<M: Mix>()
 /// is ever given back.
 pub fn let_go<M: Mix>()
     ensures { LetGo M M.mix_of }
+{}
+
+/// In every run a caller that is in no call is in no read section: its section word is even. That is so
+/// whether it is enrolled or not. It says nothing of a caller in a call, and not that calls read inside of
+/// sections.
+pub fn sections<M: Mix>()
+    ensures { Sections M M.mix_of }
 {}
 
 /// In every run a call is answered `NoNode` only where as many calls as there are nodes have taken one,

@@ -23,6 +23,7 @@ use Rattle.rht_core.proofs.Machines.JobSteps.{KnowsNothing}
 use Rattle.rht_core.proofs.Events.Invariants.{Inv, idle_knows}
 use Rattle.rht_core.proofs.Events.InvariantRuns.{has_inv}
 use Rattle.rht_core.proofs.Events.BooksInRuns.{ended_outs, idle-says, has_books}
+use Rattle.rht_core.proofs.Events.SectionsInRuns.{in_no_section}
 use Rattle.rht_core.proofs.Meaning.TablesInForce.{table_in_force}
 use Rattle.rht_core.proofs.Meaning.BoundPorts.{listed_bound}
 use Rattle.rht_core.proofs.Counting.CountedPorts.{firsts-AreAllBound}
@@ -258,4 +259,5 @@ module _ (M : Type 0) (mix : ℕ → ℕ → ℕ → ℕ) where
             (λ c works. let none = (knows c).only.works works in cc)
             no_slot
             (λ c p is. (knows c).only.pages_in p is);
+        sections = in_no_section env mix M events admitted;
       }
