@@ -17,10 +17,11 @@ use Rattle.rht_policy.specs.Thresholds.{is_above_75, is_above_100}
 use Rattle.rht_arena.specs.RunLaws.{TakesPage, GivesPage, SeesRunTaken}
 use Rattle.rht_nest.specs.Place.{nested_place, missing_at}
 use Rattle.rht_nest.specs.Tables.{is_nested}
-use Rattle.rht_nest.specs.MakeLaws.{pages_for, SeesSlotTaken, AreSlotsSeenTaken}
+use Rattle.rht_nest.specs.MakeLaws.{SeesSlotTaken, AreSlotsSeenTaken}
 use Rattle.rht_core.specs.declared.event.Event.{Event}
 use Rattle.rht_stands.specs.StandsFor.{page_word, bucket_in, bucket_nodes, stands_for, AreBound}
 use Rattle.rht_core.specs.Traces.{Did, performed_of}
+use Rattle.rht_core.specs.Due.{pages_due}
 use Rattle.rht_core.specs.Seen.{LoadsWord, LoadsCurrent, LastWalked, SawCount, words_before}
 
 -- the operation loaded this word of the table, and found this value in it
@@ -208,7 +209,7 @@ AreNoPages g pages true steps = AreRunsThenPagesTaken g pages steps
 -- pages were looked for
 abbrev pub SawNoRoom : Geometry → ℕ → Bool → List Did → Type 0
 SawNoRoom g size nests steps =
-    AreSlotsTaken g (map performed_of steps) ⊎ AreNoPages g (pages_for size) nests (map performed_of steps)
+    AreSlotsTaken g (map performed_of steps) ⊎ AreNoPages g (pages_due size) nests (map performed_of steps)
 
 module _ (M : Type 0) (mix : ℕ → ℕ → ℕ → ℕ) (env : Env) (events : List Event) (c : ℕ) where
   -- a count was loaded that is above the size of a table of this shape, which may grow, while the port had no owner

@@ -38,7 +38,8 @@ use Rattle.rht_core.proofs.Reasons.TablesWalked.{nodes_behind, LastWalked-push}
 use Rattle.rht_core.proofs.Reasons.KeyLoads.{no_key-before, no_key-make}
 use Rattle.rht_core.proofs.Reasons.ChainsCounted.{SawLongChain-push}
 use Rattle.rht_core.proofs.Reasons.MakesSeen.{SawMade, saw_nothing, make-saw}
-use Rattle.rht_core.proofs.Reasons.MadeSizes.{nests-wanted}
+use Rattle.rht_core.proofs.Reasons.MadeSizes.{nests-wanted, pages-wanted}
+use Rattle.rht_core.specs.Due.{pages_due}
 
 module _ (g : Geometry) where
   -- behind the load of the last table's shape the operations saw this
@@ -361,9 +362,13 @@ module _ (env : Env) (words_at : ℕ → List ℕ) (mix : ℕ → ℕ → ℕ �
           let nests : may_nest (exponent_made size) true ≡ nat_le 128 size =
           subst (λ s. nat_le 7 (exponent_made s) ≡ nat_le 128 s) (sym saw.wanted.wanted)
           (nests-wanted env growing.shape (min saw.wanted.count 65536)) in
-          inr (subst (λ n. AreNoPages g (pages_for size) n steps) nests
+          let pages : pages_for size ≡ pages_due size =
+          subst (λ s. pages_for s ≡ pages_due s) (sym saw.wanted.wanted)
+          (pages-wanted env growing.shape (min saw.wanted.count 65536)) in
+          inr (subst (λ p. AreNoPages g p (nat_le 128 size) steps) pages
+          (subst (λ n. AreNoPages g (pages_for size) n steps) nests
           (subst (λ e. AreNoPages g (made_pages e) (may_nest e true) steps) saw.exponent_is
-          (subst (λ a. AreNoPages g (made_pages exponent) (may_nest exponent a) steps) saw.allowed_is none)))
+          (subst (λ a. AreNoPages g (made_pages exponent) (may_nest exponent a) steps) saw.allowed_is none))))
     ];
   }
 
