@@ -18,6 +18,8 @@ pub mod PagesGivenBack
 pub mod MakesSeen
 -- what a bind that finds the last table full has seen for a refusal
 pub mod RefusedBinds
+-- at which operation of a bind its port has no owner
+pub mod UnboundSeen
 -- what a bind sees that misses a page on the way to its bucket
 pub mod PagesMissed
 -- what a word of a future says

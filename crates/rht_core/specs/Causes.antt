@@ -1,7 +1,7 @@
 -- Why calls were answered as they were: a table of causes, by call and by reply, over the call's own operations.
 -- Each row says what the operations of a call that ended with this reply have to show. A row with nothing to show says so; a
 -- row that no call meets yet, and each reply that isn't one of the call's, can have no cause.
-use Rattle.std.specs.Prelude.{◌≡◌, ◌↔◌, ℕ, ◌+◌, ◌-◌, ◌<◌, ◌≤◌, ◌⊎◌, Bool, true, List, map}
+use Rattle.std.specs.Prelude.{◌≡◌, ◌↔◌, ℕ, ◌+◌, ◌-◌, ◌<◌, ◌≤◌, ◌⊎◌, Bool, true, List, ◌∷◌, ◌++◌, map}
 use Rattle.std.specs.List.{AllByRecursion, Any}
 use Rattle.rht_words.specs.declared.op.Op.TheVariants.{Load, Add, Sub}
 use Rattle.rht_words.specs.declared.env.Env.{Env}
@@ -21,7 +21,7 @@ use Rattle.rht_core.specs.Runs.{IsAdmitted}
 use Rattle.rht_core.specs.Traces.{Did, Past, performed_of, traced_of}
 use Rattle.rht_core.specs.Due.{is_due_to_shrink}
 use Rattle.rht_core.specs.Seen.{LastWalked, CountedAt, SawCount, words_before}
-use Rattle.rht_core.specs.ResizeCauses.{AttachesSome, HasFollowed, SawBusy, SawNoTable, SawNoPage}
+use Rattle.rht_core.specs.ResizeCauses.{IsUnboundAt, AttachesSome, HasFollowed, SawBusy, SawNoTable, SawNoPage}
 use Rattle.rht_core.specs.WorkCauses.{SawElsewhere, SawNoTableDue, SawNothingDue, SawMoved}
 
 -- why a look-up ended with this reply: it has nothing to show for its answers
@@ -191,6 +191,19 @@ module _ (M : Type 0) (mix : ℕ → ℕ → ℕ → ℕ) where
     pub full : most_ports env.config.max ≤ count
     pub counted : CountedAt M mix env events c count did
 
+  -- A bind of this port is refused since there are too many ports: behind the load of the shape of the last table that it walked it loaded
+  -- this count, while the port had no owner.
+  pub record SawTooBig (env : Env) (events : List Event) (c port count : ℕ) (steps : List Did) : Type 0 where
+    pub table : ℕ
+    pub shape : ℕ
+    pub walked : LastWalked env.geometry table shape steps
+    pub before : List Did
+    pub at : Did
+    pub rest : List Did
+    pub split : walked.behind ≡ before ++ at ∷ rest
+    pub unbound : IsUnboundAt env.geometry (words_before M mix env events) port at
+    pub full : SawFull env events c count at
+
   -- why a reading of the count ended with this reply
   abbrev pub CountCause : Env → List Event → ℕ → Past → Reply → Type 0
   CountCause env events c past (Counted count) = Any (SawCount M mix env events c count) past.steps
@@ -219,7 +232,7 @@ module _ (M : Type 0) (mix : ℕ → ℕ → ℕ → ℕ) where
   BindCause env events c port past (Bound kick) = KicksRightly env kick past.steps
   BindCause env events c port past (Exists owner) = env.config.kind ≡ Single
   BindCause env events c port past NoNode = SawNoNode env past
-  BindCause env events c port past (TooBig count) = Any (SawFull env events c count) past.steps
+  BindCause env events c port past (TooBig count) = SawTooBig env events c port count past.steps
   BindCause env events c port past (Again table) = HasFollowed M mix env events c port table past.steps
   BindCause env events c port past (Busy root last) = SawBusy M mix env events c port root last past.steps
   BindCause env events c port past (NoTable size) =

@@ -1,6 +1,6 @@
 -- What is due for the last table, by its shape, by how many ports are bound, and by the config. The laws of resizings and of kicks speak
 -- in these words, which stand on the formulas of `rht_policy`, and not in what the machines compute of them.
-use Rattle.std.specs.Prelude.{ℕ, Bool, ◌*◌, ◌&&◌, min, if◌then◌else◌}
+use Rattle.std.specs.Prelude.{ℕ, Bool, ◌*◌, ◌/◌, ◌^◌, ◌&&◌, min, max, if◌then◌else◌}
 use Rattle.rht_words.specs.declared.env.Env.{Env}
 use Rattle.rht_words.specs.Shapes.{size_of, unpacked}
 use Rattle.rht_policy.specs.Sizes.{shrunk_size}
@@ -26,3 +26,8 @@ due env count shape alone =
     else if is_nested shape then Attach size
     else if is_due_to_shrink env ports size then Later
     else Nothing
+
+-- How many pages a flat table of this size takes: one for each 64 buckets, and one where it has fewer. A size above 2^17, the greatest, is
+-- read as that.
+abbrev pub pages_due : ℕ → ℕ
+pages_due size = max 1 (min size (2 ^ 17) / 64)

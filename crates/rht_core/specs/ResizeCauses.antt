@@ -17,10 +17,11 @@ use Rattle.rht_policy.specs.Thresholds.{is_above_75, is_above_100}
 use Rattle.rht_arena.specs.RunLaws.{TakesPage, GivesPage, SeesRunTaken}
 use Rattle.rht_nest.specs.Place.{nested_place, missing_at}
 use Rattle.rht_nest.specs.Tables.{is_nested}
-use Rattle.rht_nest.specs.MakeLaws.{pages_for, SeesSlotTaken, AreSlotsSeenTaken}
+use Rattle.rht_nest.specs.MakeLaws.{SeesSlotTaken, AreSlotsSeenTaken}
 use Rattle.rht_core.specs.declared.event.Event.{Event}
 use Rattle.rht_stands.specs.StandsFor.{page_word, bucket_in, bucket_nodes, stands_for, AreBound}
 use Rattle.rht_core.specs.Traces.{Did, performed_of}
+use Rattle.rht_core.specs.Due.{pages_due}
 use Rattle.rht_core.specs.Seen.{LoadsWord, LoadsCurrent, LastWalked, SawCount, words_before}
 
 -- the operation loaded this word of the table, and found this value in it
@@ -68,6 +69,15 @@ IsNoKeyLoad g did = (node : ℕ) → LoadsKey g node did → ⊥
 
 -- where these are the words before the event with each number
 module _ (g : Geometry) (words_at : ℕ → List ℕ) (port : ℕ) where
+  -- at the event of the operation the port has no owner
+  abbrev pub IsUnboundAt : Did → Type 0
+  IsUnboundAt did = stands_for g (words_at did.index) port ≡ []
+
+  -- the operation loaded the future of the table in this slot as none, while the port had no owner
+  pub record SawNoneBehind (table : ℕ) (did : Did) : Type 0 where
+    pub none : Loaded g (Slot table FutureWord) 0 did
+    pub unbound : IsUnboundAt did
+
   -- The operation counted a node in the bucket at this place: it loaded the node's key, which isn't the port's, at its event the node
   -- stood in the bucket behind so many others, and as many ports were bound as these are with it.
   pub record CountsNode (place number node : ℕ) (did : Did) : Type 0 where
@@ -156,9 +166,9 @@ AreRunsTaken g pages next before (step ∷ steps) =
 -- where these are the words before the event with each number
 module _ (g : Geometry) (words_at : ℕ → List ℕ) where
   -- A bind of this port is refused for want of a page on the way to the port's bucket: the last table that it walked is nested and of
-  -- this size. Behind the load of its shape the bind loaded its future as none, and then an entry of it that leads to no page, at which
-  -- the way to the port's bucket ends. Behind that load each page was seen taken in its turn, and not by an operation of the bind
-  -- behind the load.
+  -- this size. Behind the load of its shape the bind loaded its future as none, while the port had no owner. Then it loaded an entry of it
+  -- that leads to no page, at which the way to the port's bucket ends. Behind that load each page was seen taken in its turn, and not by an
+  -- operation of the bind behind the load.
   pub record SawNoPage (mix : ℕ → ℕ → ℕ → ℕ) (port size : ℕ) (steps : List Did) : Type 0 where
     pub table : ℕ
     pub shape : ℕ
@@ -169,7 +179,7 @@ module _ (g : Geometry) (words_at : ℕ → List ℕ) where
     pub at : Did
     pub taking : List Did
     pub split : walked.behind ≡ before ++ at ∷ taking
-    pub none : Any (Loaded g (Slot table FutureWord) 0) before
+    pub unbound : Any (SawNoneBehind g words_at port table) before
     pub entry : ℕ
     pub missing : MissesPage g words_at mix port table shape entry at
     pub taken : AreRunsTaken g 1 0 [] (map performed_of taking)
@@ -199,23 +209,24 @@ AreNoPages g pages true steps = AreRunsThenPagesTaken g pages steps
 -- pages were looked for
 abbrev pub SawNoRoom : Geometry → ℕ → Bool → List Did → Type 0
 SawNoRoom g size nests steps =
-    AreSlotsTaken g (map performed_of steps) ⊎ AreNoPages g (pages_for size) nests (map performed_of steps)
+    AreSlotsTaken g (map performed_of steps) ⊎ AreNoPages g (pages_due size) nests (map performed_of steps)
 
 module _ (M : Type 0) (mix : ℕ → ℕ → ℕ → ℕ) (env : Env) (events : List Event) (c : ℕ) where
-  -- a count was loaded that is above the size of a table of this shape, which may grow
-  pub record SawManyPorts (shape : ℕ) (did : Did) : Type 0 where
+  -- a count was loaded that is above the size of a table of this shape, which may grow, while the port had no owner
+  pub record SawManyPorts (port shape : ℕ) (did : Did) : Type 0 where
     pub count : ℕ
     pub saw : SawCount M mix env events c count did
     pub above : is_above_100 count (size_of (unpacked shape)) env.config.max ≡ true
+    pub unbound : IsUnboundAt env.geometry (words_before M mix env events) port did
 
   -- the table that was walked last is full for this port: the port's bucket of it has 16 nodes or more, none with the port, or it has
   -- fewer buckets than there are ports and may grow
   abbrev pub SawCrowded : ℕ → ℕ → ℕ → List Did → Type 0
   SawCrowded port table shape behind =
-      SawLongChain env.geometry (words_before M mix env events) mix port table shape behind ⊎ Any (SawManyPorts shape) behind
+      SawLongChain env.geometry (words_before M mix env events) mix port table shape behind ⊎ Any (SawManyPorts port shape) behind
 
   -- The table of this slot is the last one that the call walked, and is full for this port: some operations behind the load of its
-  -- shape show that, and one comes behind these.
+  -- shape show that, and one comes behind these. One of them loaded the table's future as none, while the port had no owner.
   pub record WalkedFull (port table : ℕ) (steps : List Did) : Type 0 where
     pub shape : ℕ
     pub walked : LastWalked env.geometry table shape steps
@@ -224,6 +235,7 @@ module _ (M : Type 0) (mix : ℕ → ℕ → ℕ → ℕ) (env : Env) (events : 
     pub rest : List Did
     pub split : walked.behind ≡ before ++ at ∷ rest
     pub crowded : SawCrowded port table shape before
+    pub unbound : Any (SawNoneBehind env.geometry (words_before M mix env events) port table) before
 
   -- A bind of this port has to be made again for the table of this slot: the last table that it walked is full, and then it attached
   -- that table behind this one, or found it there.

@@ -100,14 +100,16 @@ pub fn taken_alone<M: Mix>()
 /// A bind or a rebind that was answered `NoNode` found the bit of each node clear, each at some event of
 /// its own. A reading that was answered `Counted` loaded that count, and there the ports bound were at
 /// most so many, and with the other callers in mid-call at least. The same is so of a bind that was
-/// answered `TooBig`, and the count is as many ports as the table may hold or more. A bind was answered
+/// answered `TooBig`, and the count is as many ports as the table may hold or more. The bind loaded it
+/// behind the shape of the last table that it walked, while its port had no owner. A bind was answered
 /// `Exists` only in a table of one owner each. The kick of a `Bound` or a `Released` is as `kicks` says.
 ///
 /// `Again`, `Busy` and `NoTable` of a bind have as their cause first that the last table that it walked is
 /// full. It came to that table from the current one on along the futures, and counted 16 nodes or more in
 /// its port's bucket there, by the table's seed as it then was, with so many ports bound at the last one.
-/// None of the keys that it loaded for this is the port. Or it loaded a count above the table's size, and
-/// the table may grow. `Again` names the table that the bind then attached behind that one, or found there
+/// None of the keys that it loaded for this is the port. Or it loaded a count above the table's size, while
+/// its port had no owner, and the table may grow. In either case it loaded that table's future as none, while
+/// its port had no owner. `Again` names the table that the bind then attached behind that one, or found there
 /// as its future. For `Busy` and `NoTable` it then loaded that future as none. Before, for `Busy`, it had
 /// found that another table is the current one, and that by the count the full one isn't due to grow; for
 /// `NoTable`, that there is no slot, or no pages for the size that is wanted: twice the full table's where
@@ -115,9 +117,9 @@ pub fn taken_alone<M: Mix>()
 /// by each of its operations on the state of one. No pages: each run is taken in its turn, by a page that it
 /// hadn't taken itself. Where a table of 128 buckets or more is wanted, it had then given back each page
 /// that it took, and behind that each page is taken in its turn, which it hadn't taken since. Or `NoTable` has another cause: the last table that the
-/// bind walked is nested and has the size that is named, the bind loaded its future as none, then an entry
-/// of it that led to no page, at which the way to the port's bucket ends, and behind that each page was seen
-/// taken in its turn.
+/// bind walked is nested and has the size that is named, the bind loaded its future as none, while its port
+/// had no owner, then an entry of it that led to no page, at which the way to the port's bucket ends, and
+/// behind that each page was seen taken in its turn.
 ///
 /// A `Work` that was answered `Elsewhere` found the work lock taken. Any other one took it, looked for
 /// the last table from the current one on and chose by its shape and by the count what is due:

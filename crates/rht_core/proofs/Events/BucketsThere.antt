@@ -1,5 +1,5 @@
 -- The word of a bucket that a table has stays where it is for the rest of a run, as the words before each event have it, and is that of
--- no other bucket of the table.
+-- no other bucket of the table. The table's seed stays in its slot as long.
 use Rattle.std.proofs.Common.{◌≡◌, ℕ, suc, ◌+◌, ◌-◌, ◌<◌, ◌≤◌, List, ◌++◌, length, take, drop, refl, sym, ap, ◌∙◌, subst, arith}
 use Rattle.std.specs.Prelude.{Option, Some, None}
 use Rattle.std.specs.Option.{option_map}
@@ -8,6 +8,7 @@ use Rattle.std.proofs.lemmas.List.{take-append-drop}
 use Rattle.rht_words.specs.declared.op.Op.{Op}
 use Rattle.rht_words.specs.declared.env.Env.{Env}
 use Rattle.rht_words.specs.declared.geometry.Geometry.{Geometry}
+use Rattle.rht_words.specs.Places.{Slot, SeedWord, word_at}
 use Rattle.rht_words.specs.Shapes.{unpacked, size_of}
 use Rattle.rht_words.proofs.EachElement.{AllByRecursion-cut}
 use Rattle.std.specs.List.{AllByRecursion}
@@ -35,13 +36,18 @@ pub record StaysAt (g : Geometry) (words_at : ℕ → List ℕ) (shape number pl
   pub only : (i other : ℕ) → from ≤ i → other < size_of (unpacked shape)
       → bucket_in g (words_at i) shape other ≡ Some place → other ≡ number
 
+-- and this is the seed in the slot
+abbrev pub SeedStays : Geometry → (ℕ → List ℕ) → ℕ → ℕ → ℕ → Type 0
+SeedStays g words_at slot seed from = (i : ℕ) → from ≤ i → word_at g (words_at i) (Slot slot SeedWord) ≡ seed
+
 module _ (env : Env) (mix : ℕ → ℕ → ℕ → ℕ) where
-  -- so it is of each bucket that a table has
+  -- so it is of each bucket that a table has, and of the table's seed
   abbrev pub BucketsStay : (ℕ → List ℕ) → Ghost → ℕ → Type 0
   BucketsStay words_at G from =
       (τ number j : ℕ) → τ < G.attached → number < size_of (unpacked (G.table τ).shape)
       → (G.table τ).place number ≡ Some j
       → StaysAt env.geometry words_at (G.table τ).shape number (place_at env mix j) from
+      × SeedStays env.geometry words_at (G.table τ).slot (G.table τ).seed from
 
   -- ---- a bucket in the words
 
@@ -87,13 +93,15 @@ module _ (env : Env) (mix : ℕ → ℕ → ℕ → ℕ) where
             subst (TablesGrow env mix G) (sym moved)
             (of.step.made.others (suc c) (λ e. absurd (omega arith))).tables.grow
 
-    module _ (τ shape number j : ℕ) where
-      -- by the invariant this table is attached, has this shape, and has this word for the bucket with this number
+    module _ (τ slot seed shape number j : ℕ) where
+      -- by the invariant this table is attached, has this slot, seed and shape, and has this word for the bucket with this number
       record HasBucket (core : Core L) : Type 0 where
         ghost : Ghost
         inv : Inv env mix L core ghost
         all : AllIn L mix env core
         attached : τ < ghost.attached
+        slot_is : (ghost.table τ).slot ≡ slot
+        seed_is : (ghost.table τ).seed ≡ seed
         shape_is : (ghost.table τ).shape ≡ shape
         here : (ghost.table τ).place number ≡ Some j
 
@@ -109,9 +117,16 @@ module _ (env : Env) (mix : ℕ → ℕ → ℕ → ℕ) where
             inv = after.inv;
             all = event-all L mix env w event may has.all;
             attached = omega (arith, has.attached, grow.attached);
+            slot_is = stays.slot ∙ has.slot_is;
+            seed_is = stays.seed ∙ has.seed_is;
             shape_is = stays.shape ∙ has.shape_is;
             here = stays.places number j has.here;
           }
+
+      has-seed : (core : Core L) → HasBucket core → word_at env.geometry core.words (Slot slot SeedWord) ≡ seed
+      has-seed core has =
+          ap (λ s. word_at env.geometry core.words (Slot s SeedWord)) (sym has.slot_is)
+          ∙ (has.inv.whole.tables.each τ has.attached).seed_is ∙ has.seed_is
 
       module _ (core : Core L) (has : HasBucket core) (below : number < size_of (unpacked shape)) where
         has-there : bucket_in env.geometry core.words shape number ≡ Some (place_at env mix j)
@@ -131,20 +146,28 @@ module _ (env : Env) (mix : ℕ → ℕ → ℕ → ℕ) where
     pub buckets-stay : (past rest : List Event) (G : Ghost) → Inv env mix L (run_of mix env past).core G
         → IsAdmitted env.config.kind (past ++ rest)
         → BucketsStay (words_before L mix env (past ++ rest)) G (length past)
-    buckets-stay past rest G inv admitted τ number j l below here =
-        record {
-          there = λ i from. has-there τ shape number j (behind i).core (has_at i from) below;
-          only = λ i other from m is. has-only τ shape number j (behind i).core (has_at i from) below other m is;
-        }
+    buckets-stay past rest G inv admitted τ number j l below here = (
+      record {
+        there = λ i from. has-there τ slot seed shape number j (behind i).core (has_at i from) below;
+        only = λ i other from m is. has-only τ slot seed shape number j (behind i).core (has_at i from) below other m is;
+      },
+      λ i from. has-seed τ slot seed shape number j (behind i).core (has_at i from),
+    )
       where
         shape : ℕ
         shape = (G.table τ).shape
+
+        slot : ℕ
+        slot = (G.table τ).slot
+
+        seed : ℕ
+        seed = (G.table τ).seed
 
         behind : ℕ → World L
         behind i = run_of mix env (take i (past ++ rest))
 
         Has : World L → Type 0
-        Has w = HasBucket τ shape number j w.core
+        Has w = HasBucket τ slot seed shape number j w.core
 
         parts : AllByRecursion (IsAdmittedEvent env.config.kind) past × AllByRecursion (IsAdmittedEvent env.config.kind) rest
         parts = AllByRecursion-cut (IsAdmittedEvent env.config.kind) past rest admitted
@@ -155,6 +178,8 @@ module _ (env : Env) (mix : ℕ → ℕ → ℕ → ℕ) where
           inv = inv;
           all = runs-all L mix env past parts.0;
           attached = l;
+          slot_is = refl;
+          seed_is = refl;
           shape_is = refl;
           here = here;
         }
@@ -164,7 +189,7 @@ module _ (env : Env) (mix : ℕ → ℕ → ℕ → ℕ) where
             let more = AllByRecursion-cut (IsAdmittedEvent env.config.kind) (take n rest) (drop n rest)
             (subst (AllByRecursion (IsAdmittedEvent env.config.kind)) (sym (take-append-drop n rest)) parts.1) in
             subst Has (sym (run_from-append L mix (opening env) past (take n rest)))
-            (run_keeps_admitted L mix env.config.kind Has (event-has τ shape number j) (run_of mix env past) (take n rest) more.0
+            (run_keeps_admitted L mix env.config.kind Has (event-has τ slot seed shape number j) (run_of mix env past) (take n rest) more.0
             first)
 
         has_at : (i : ℕ) → length past ≤ i → Has (behind i)

@@ -26,7 +26,7 @@ use Rattle.rht_model.specs.Histories.{bindings_left}
 use Rattle.rht_core.specs.declared.event.Event.{Event}
 use Rattle.rht_callers.specs.Locals.{is_idle}
 use Rattle.rht_core.specs.Runs.{Core, World, View, run_of, local_of, IsAdmitted}
-use Rattle.rht_core.specs.Traces.{Past, Traced, traced_of, behind_call}
+use Rattle.rht_core.specs.Traces.{Did, Past, Traced, traced_of, behind_call}
 use Rattle.rht_core.specs.Laws.{IsPastCall}
 use Rattle.rht_core.specs.Seen.{others_in_call}
 use Rattle.rht_core.specs.Causes.{CauseOf, HasCause, SawFull}
@@ -72,14 +72,19 @@ needs-none M mix env events c past call reply cause none =
     go Tidy saw = absurd saw
     go Count saw = absurd saw
 
--- a call that was answered so loaded the count
+-- so many ports there were, by an operation that loaded the count
+record HasSeenFull (M : Type 0) (mix : ℕ → ℕ → ℕ → ℕ) (env : Env) (events : List Event) (c count : ℕ) : Type 0 where
+  did : Did
+  saw : SawFull M mix env events c count did
+
+-- a call that was answered so made one
 saw-full : (M : Type 0) (mix : ℕ → ℕ → ℕ → ℕ) (env : Env) (events : List Event) (c : ℕ) (past : Past) (call : Call) (reply : Reply) (count : ℕ)
-    → CauseOf M mix env events c past call reply → reply ≡ TooBig count → Any (SawFull M mix env events c count) past.steps
+    → CauseOf M mix env events c past call reply → reply ≡ TooBig count → HasSeenFull M mix env events c count
 saw-full M mix env events c past call reply count cause full =
     go call (subst (CauseOf M mix env events c past call) full cause)
   where
-    go : (asked : Call) → CauseOf M mix env events c past asked (TooBig count) → Any (SawFull M mix env events c count) past.steps
-    go (Bind port owner once) saw = saw
+    go : (asked : Call) → CauseOf M mix env events c past asked (TooBig count) → HasSeenFull M mix env events c count
+    go (Bind port owner once) saw = record { did = saw.at; saw = saw.full }
     go (Find port) saw = absurd saw
     go (All port) saw = absurd saw
     go (Release port owner) saw = absurd saw
@@ -336,13 +341,14 @@ module _ (M : Type 0) (mix : ℕ → ℕ → ℕ → ℕ) (env : Env) (auto : Bo
         let counted = count_by-range busy core.env.geometry.callers ∙ ap (count_below busy) callers in
         omega (arith, few, counted)
 
-    was_full : (c count : ℕ) (past : Past) → c < env.config.callers → Any (SawFull M mix env events c count) past.steps
+    was_full : (c count : ℕ) → c < env.config.callers → HasSeenFull M mix env events c count
         → WasFull env.config (history_of history) count
-    was_full c count past low (k, did, within, is, saw) =
+    was_full c count low seen =
+        let did = seen.did in
         let at = left_at did.index in
-        let counted = saw.counted in
+        let counted = seen.saw.counted in
         record {
-          full = saw.full;
+          full = seen.saw.full;
           before = at.before;
           behind = at.behind;
           split = at.split;
@@ -369,7 +375,7 @@ module _ (M : Type 0) (mix : ℕ → ℕ → ℕ → ℕ) (env : Env) (auto : Bo
           (λ (p : Past). p.done) (r.traces c).past
           (AllByRecursion-weaker (HasCause M mix env events c)
           (λ (p : Past). p.done.reply ≡ TooBig count → WasFull env.config (history_of history) count)
-          (λ p cause is. was_full c count p low (saw-full M mix env events c p p.done.call p.done.reply count cause is))
+          (λ p cause is. was_full c count low (saw-full M mix env events c p p.done.call p.done.reply count cause is))
           (r.traces c).past (causes M mix env events c admitted))))
       | inr past ↦ rw (no_endings c past) tt
     ]

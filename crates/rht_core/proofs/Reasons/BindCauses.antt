@@ -19,18 +19,19 @@ use Rattle.rht_model.specs.declared.history.Reply.TheVariants.{Bound, Exists, To
 use Rattle.rht_bind.specs.declared.bind.growth.Full.{Full}
 use Rattle.rht_bind.specs.declared.bind.growth.Full.TheVariants as full
 use Rattle.rht_core.specs.declared.event.Event.{Event}
-use Rattle.rht_core.specs.Traces.{Did, Past}
+use Rattle.rht_core.specs.Traces.{Did, Past, IsRising}
 use Rattle.rht_core.specs.Runs.{IsAdmitted}
 use Rattle.rht_core.specs.Laws.{IsRecorded}
 use Rattle.rht_core.specs.Seen.{words_before}
 use Rattle.rht_core.specs.ResizeCauses.{Loaded, AttachesSome, wanted_size, SawCrowded, WalkedFull}
-use Rattle.rht_core.specs.Causes.{IsRaise, IsDueBy, KicksRightly, SawFull, BindCause}
+use Rattle.rht_core.specs.Causes.{IsRaise, IsDueBy, KicksRightly, SawTooBig, BindCause}
 use Rattle.rht_core.proofs.Counting.FullTables.{counted_at}
 use Rattle.rht_core.proofs.Reasons.AttachedTables.{IsNoAttach, AttachedSo}
-use Rattle.rht_core.proofs.Reasons.RefusedBinds.{SawWhy, SawOther, SawFullUp, Settled, IsFollowing}
+use Rattle.rht_core.proofs.Reasons.RefusedBinds.{SawCrowd, SawWhy, SawOther, SawFullUp, Settled, IsFollowing}
 use Rattle.rht_core.proofs.Counting.CountedNodes.{raise_few, load_few}
-use Rattle.rht_core.proofs.Reasons.BindsSeen.{LoadedFull, SawFor}
+use Rattle.rht_core.proofs.Reasons.BindsSeen.{TooBigSeen, SawFor}
 use Rattle.rht_core.proofs.Reasons.RaisesSeen.{Raised, due_by, SaysOfRaise}
+use Rattle.rht_core.proofs.Reasons.PagesMissed.{no_page-cause}
 
 module _ (M : Type 0) (mix : ℕ → ℕ → ℕ → ℕ) (env : Env) (events : List Event) (c : ℕ)
     (admitted : IsAdmitted env.config.kind events) where
@@ -41,22 +42,37 @@ module _ (M : Type 0) (mix : ℕ → ℕ → ℕ → ℕ) (env : Env) (events : 
   abbrev IsRecordedHere : Did → Type 0
   IsRecordedHere did = IsRecorded M mix env events c did
 
+  -- those behind one of them were recorded, and so was the one there that others come before and behind
+  recorded_at : (steps before behind : List Did) (at : Did) → steps ≡ before ++ at ∷ behind → AllByRecursion IsRecordedHere steps
+      → AllByRecursion IsRecordedHere before × IsRecordedHere at × AllByRecursion IsRecordedHere behind
+  recorded_at steps before behind at split recorded =
+      let parts = AllByRecursion-cut IsRecordedHere before (at ∷ behind) (subst (AllByRecursion IsRecordedHere) split recorded) in
+      (parts.0, parts.1.0, parts.1.1)
+
   -- how the run stood at the event is known of each operation
-  full-saw : (count : ℕ) (steps : List Did) → AllByRecursion IsRecordedHere steps
-      → Any (LoadedFull env count) steps → Any (SawFull M mix env events c count) steps
-  full-saw count steps recorded (k, did, within, is, full) =
-      let was = subst IsRecordedHere is (All-from_recursion IsRecordedHere steps recorded k did within) in (
-        k,
-        did,
-        within,
-        is,
-        record {
+  too_big : (port count : ℕ) (steps : List Did) → AllByRecursion IsRecordedHere steps
+      → TooBigSeen env words_at mix port count steps → SawTooBig M mix env events c port count steps
+  too_big port count steps recorded saw =
+      let walked = saw.walked in
+      let behind = (recorded_at steps walked.before walked.behind walked.at walked.split recorded).2 in
+      let was = (recorded_at walked.behind saw.before saw.rest saw.at saw.split behind).1 in
+      let full = saw.full in
+      record {
+        table = saw.table;
+        shape = saw.shape;
+        walked = walked;
+        before = saw.before;
+        at = saw.at;
+        rest = saw.rest;
+        split = saw.split;
+        unbound = saw.unbound;
+        full = record {
           loaded = full.loaded;
           found = full.found;
           full = full.full;
-          counted = counted_at M mix env events c count did admitted full.loaded full.found was;
-        },
-      )
+          counted = counted_at M mix env events c count saw.at admitted full.loaded full.found was;
+        };
+      }
 
   -- no clamp of the count has changed whether the table is due
   kicked : (kick : Bool) (steps : List Did) → AllByRecursion IsRecordedHere steps
@@ -171,7 +187,7 @@ module _ (M : Type 0) (mix : ℕ → ℕ → ℕ → ℕ) (env : Env) (events : 
 
   -- a table is full by the count that was loaded, or its bucket has too many nodes
   crowded : (port table : ℕ) (why : Full) (shape : ℕ) (behind : List Did) → AllByRecursion IsRecordedHere behind
-      → SawWhy env words_at mix port table why shape behind → SawCrowded M mix env events c port table shape behind
+      → SawCrowd env words_at mix port table why shape behind → SawCrowded M mix env events c port table shape behind
   crowded port table full.Chain shape behind recorded saw = inl saw
   crowded port table full.Table shape behind recorded (k, did, within, is, above) =
       let was = subst IsRecordedHere is (All-from_recursion IsRecordedHere behind recorded k did within) in
@@ -189,6 +205,7 @@ module _ (M : Type 0) (mix : ℕ → ℕ → ℕ → ℕ) (env : Env) (events : 
           };
           above = subst (λ n. is_above_100 n (size_of (unpacked shape)) env.config.max ≡ true)
               (unclamped did was above.loaded) above.above;
+          unbound = above.unbound;
         },
       )
 
@@ -198,10 +215,8 @@ module _ (M : Type 0) (mix : ℕ → ℕ → ℕ → ℕ) (env : Env) (events : 
       → AllByRecursion IsRecordedHere settled.before
   recorded_before port table Saw Last steps recorded settled =
       let walked = settled.walked in
-      let parts = AllByRecursion-cut IsRecordedHere walked.before (walked.at ∷ walked.behind)
-      (subst (AllByRecursion IsRecordedHere) walked.split recorded) in
-      (AllByRecursion-cut IsRecordedHere settled.before (settled.at ∷ settled.rest)
-      (subst (AllByRecursion IsRecordedHere) settled.split parts.1.1)).0
+      let behind = (recorded_at steps walked.before walked.behind walked.at walked.split recorded).2 in
+      (recorded_at walked.behind settled.before settled.rest settled.at settled.split behind).0
 
   abbrev walked_full : (port table : ℕ) (Saw : Full → ℕ → List Did → Type 0) (Last : Did → Type 0)
       (steps : List Did)
@@ -217,16 +232,17 @@ module _ (M : Type 0) (mix : ℕ → ℕ → ℕ → ℕ) (env : Env) (events : 
     split = settled.split;
     crowded =
         crowded port table settled.why settled.shape settled.before
-        (recorded_before port table Saw Last steps recorded settled) is_full;
+        (recorded_before port table Saw Last steps recorded settled) is_full.crowd;
+    unbound = is_full.unbound;
   }
 
   pub bind-cause : (port : ℕ) (past : Past) (reply : Reply) → SawFor env words_at mix port reply past.steps
-      → AllByRecursion IsRecordedHere past.steps → BindCause M mix env events c port past reply
-  bind-cause port past (Bound kick) saw recorded = kicked kick past.steps recorded saw
-  bind-cause port past (Exists owner) saw recorded = saw
-  bind-cause port past NoNode saw recorded = saw
-  bind-cause port past (TooBig count) saw recorded = full-saw count past.steps recorded saw
-  bind-cause port past (Again table) saw recorded = record {
+      → AllByRecursion IsRecordedHere past.steps → IsRising (past.begin + 1) past.steps → BindCause M mix env events c port past reply
+  bind-cause port past (Bound kick) saw recorded rising = kicked kick past.steps recorded saw
+  bind-cause port past (Exists owner) saw recorded rising = saw
+  bind-cause port past NoNode saw recorded rising = saw
+  bind-cause port past (TooBig count) saw recorded rising = too_big port count past.steps recorded saw
+  bind-cause port past (Again table) saw recorded rising = record {
     table = saw.table;
     full =
         walked_full port saw.table (SawWhy env words_at mix port saw.table) (IsFollowing env words_at mix port saw.table table) past.steps
@@ -234,7 +250,7 @@ module _ (M : Type 0) (mix : ℕ → ℕ → ℕ → ℕ) (env : Env) (events : 
         saw.settled.saw;
     seen = saw.settled.last;
   }
-  bind-cause port past (Busy root last) settled recorded =
+  bind-cause port past (Busy root last) settled recorded rising =
       let none = Loaded env.geometry (Slot last FutureWord) 0 in
       let saw = settled.saw in
       let same =
@@ -252,8 +268,9 @@ module _ (M : Type 0) (mix : ℕ → ℕ → ℕ → ℕ) (env : Env) (events : 
             saw.not_due;
         none = settled.last;
       }
-  bind-cause port past (NoTable size) (inr missed) recorded = inr missed
-  bind-cause port past (NoTable size) (inl seen) recorded =
+  bind-cause port past (NoTable size) (inr missed) recorded rising =
+      inr (no_page-cause env words_at mix port size (past.begin + 1) past.steps rising missed)
+  bind-cause port past (NoTable size) (inl seen) recorded rising =
       let table = seen.table in
       let none = Loaded env.geometry (Slot table FutureWord) 0 in
       let settled = seen.settled in
@@ -288,4 +305,4 @@ module _ (M : Type 0) (mix : ℕ → ℕ → ℕ → ℕ) (env : Env) (events : 
         room = saw.room;
         none = settled.last;
       })
-  bind-cause port past _ saw recorded = absurd saw
+  bind-cause port past _ saw recorded rising = absurd saw

@@ -1,8 +1,8 @@
 -- What each operation of a bind sees: from what was seen in its state, what is seen in the next one, or for
 -- the reply.
-use Rattle.std.proofs.Common.{◌∙◌, ◌≡◌, ℕ, ◌≤◌, Bool, cond, nat_le, List, [], ◌∷◌, ◌++◌, min, refl, sym, subst, arith}
+use Rattle.std.proofs.Common.{◌∙◌, ◌≡◌, ℕ, ◌≤◌, Bool, cond, nat_le, List, [], ◌∷◌, ◌++◌, min, refl, sym, ap, subst, arith}
 use Rattle.std.specs.Prelude.{Option, Some, None}
-use Rattle.std.specs.List.{AllByRecursion}
+use Rattle.std.specs.List.{AllByRecursion, Any}
 use Rattle.std.proofs.lemmas.Bool.{leb-true}
 use Rattle.std.proofs.lemmas.List.Quantifiers.{Any-push}
 use Rattle.rht_words.specs.declared.op.Op.TheVariants.{Load}
@@ -12,7 +12,7 @@ use Rattle.rht_words.specs.declared.config.Kind.TheVariants.{Single, Listed}
 use Rattle.rht_words.specs.declared.geometry.Geometry.{Geometry}
 use Rattle.rht_words.specs.declared.machine.Next.{Next}
 use Rattle.rht_words.specs.declared.machine.Next.TheVariants.{Go, Done}
-use Rattle.rht_words.specs.Places.{PortCount, ChainLink, place_of}
+use Rattle.rht_words.specs.Places.{PortCount, Slot, FutureWord, ChainLink, place_of}
 use Rattle.rht_words.proofs.EachElement.{AllByRecursion-push}
 use Rattle.rht_policy.specs.Sizes.{most_ports}
 use Rattle.rht_policy.specs.Thresholds.{is_above_100, is_above_max}
@@ -42,7 +42,11 @@ use Rattle.rht_bind.specs.declared.bind.BindAt.TheVariants as at
 use Rattle.rht_core.specs.Jobs.{binds}
 use Rattle.rht_core.specs.Traces.{Did, performed_of}
 use Rattle.rht_core.specs.Seen.{CameTo}
-use Rattle.rht_core.specs.ResizeCauses.{SawLongChain}
+use Rattle.rht_core.specs.ResizeCauses.{IsUnboundAt, SawNoneBehind, SawLongChain}
+use Rattle.rht_stands.specs.StandsFor.{stands_for}
+use Rattle.rht_words.specs.Operations.{old_of}
+use Rattle.rht_core.proofs.Reasons.UnboundSeen.{no_owner, unbound-walked}
+use Rattle.rht_core.proofs.Reasons.NamedFutures.{no_slot, future_few}
 use Rattle.rht_words.specs.Machines.{GoesOrEnds}
 use Rattle.rht_core.proofs.Reasons.PagesMissed.{SawGrowing, SawGrown, grow-saw, SeesMissing, SeesMissing-push}
 use Rattle.rht_core.proofs.Tracing.TracedJobs.{Performs, StandsIn}
@@ -52,10 +56,10 @@ use Rattle.rht_core.proofs.Reasons.ChainsCounted.{HasCounted, HasCounted-push, C
 use Rattle.rht_core.proofs.Reasons.AttachedTables.{no_attach, AttachedSo, AttachedSo-push, SawAttached, relink-none, unmake-none}
 use Rattle.rht_core.proofs.Reasons.UnraisedBinds.{grow-none, SawUnraised}
 use Rattle.rht_core.proofs.Reasons.RefusedBinds.{no_key-future, Behind-push, SawWhy, SawWhy-push, SawRoot, SawToMake, above-why, root-saw, making-saw}
-use Rattle.rht_ghost.proofs.Theory.Steps.{by_test}
+use Rattle.rht_ghost.proofs.Theory.Steps.{mem, by_test}
 use Rattle.rht_core.proofs.Reasons.NewNodesSeen.{SawMade, new-saw}
 use Rattle.rht_core.proofs.Reasons.RaisesSeen.{relink-no_load, relink-no_add, unmake-no_load, unmake-no_add, still, Raised, Raised-push, raise-saw, none-raised}
-use Rattle.rht_core.proofs.Reasons.BindsSeen.{LoadedFull, SawThen, SawAt, SawNext, SawFor, SawFor-push, SawForReply-push, SawThen-push}
+use Rattle.rht_core.proofs.Reasons.BindsSeen.{SawThen, SawAt, SawNext, SawFor, SawFor-push, SawForReply-push, SawThen-push}
 use Rattle.rht_core.proofs.Reasons.WaysSeen.{locating-saw, grown-saw}
 use Rattle.rht_core.proofs.Reasons.GrowthsSeen.{unmade-saw, want-saw, made-saw, again-saw, attach-saw, attaching_few, again_few}
 
@@ -98,32 +102,70 @@ module _ (env : Env) (words_at : ℕ → List ℕ) (mix : ℕ → ℕ → ℕ �
       record { attempt = attempt; table = table; shape = shape; bucket = end.bucket } in
       seen-saw kind claimed end.seen.found end.seen.before end.seen.length steps seeing
 
+  -- so many nodes were counted, and where no table is behind, that was loaded while the port had no owner
+  abbrev SawFuture : Claimed → ℕ → Option ℕ → List Did → Type 0
+  SawFuture claimed length future behind =
+      HasCounted env.geometry words_at mix port claimed.table claimed.shape claimed.bucket.place length behind
+      × (future ≡ None → Any (SawNoneBehind env.geometry words_at port claimed.table) behind)
+
+  -- behind the walk in vain
+  future-unbound : (owner : ℕ) (once : Bool) (claimed : Claimed) (length : ℕ) (did : Did)
+      → (does : Performs mix env (binds port owner once (at.Future claimed length)) did)
+      → does.words ≡ words_at did.index → slot_of did.old ≡ None
+      → SawNoneBehind env.geometry words_at port claimed.table did
+  future-unbound owner once claimed length did does now none =
+      let means = does.knows.knowing.means in
+      let word : did.old ≡ mem env mix does.words (Slot claimed.table FutureWord) =
+      does.found ∙ ap (old_of does.words) does.planned in
+      let few = future_few env mix does.words does.ghost claimed.table does.whole means.table.passing.table in
+      record {
+        none = record {
+          word = record { there = (does.within.at_in.table_in, tt); loads = does.planned };
+          found = no_slot did.old (omega (arith, word, few)) none;
+        };
+        unbound = subst (λ ws. stands_for env.geometry ws port ≡ []) now
+            (unbound-walked env mix does.words does.ghost does.whole does.caller port claimed.table claimed.bucket.place
+            claimed.bucket.word (Some claimed.shape) means.table means.bucket (sym (ap slot_of word) ∙ none));
+      }
+
+  -- and as long as the bucket is locked
+  count-unbound : (owner : ℕ) (once : Bool) (claimed : Claimed) (did : Did)
+      → (does : Performs mix env (binds port owner once (at.Count claimed)) did)
+      → does.words ≡ words_at did.index → IsUnboundAt env.geometry words_at port did
+  count-unbound owner once claimed did does now =
+      subst (λ ws. stands_for env.geometry ws port ≡ []) now
+      (no_owner env mix does.words does.ghost does.whole port does.knows.knowing.means.bucket.armed.unbound)
+
   -- 16 nodes that were counted are a long chain, where no table is behind
   future-saw : (claimed : Claimed) (length : ℕ) (future : Option ℕ) (steps : List Did)
       → ((behind : List Did) → 16 ≤ length
       → HasCounted env.geometry words_at mix port claimed.table claimed.shape claimed.bucket.place length behind
       → SawLongChain env.geometry words_at mix port claimed.table claimed.shape behind)
       → ((table : ℕ) → future ≡ Some table → CameTo env.geometry table steps)
-      → WalkedSeeing env.geometry claimed.table claimed.shape
-      (HasCounted env.geometry words_at mix port claimed.table claimed.shape claimed.bucket.place length) steps
+      → WalkedSeeing env.geometry claimed.table claimed.shape (SawFuture claimed length future) steps
       → Sees (future_or_count claimed length future) steps
   future-saw claimed length None steps long came seeing =
       by_test (λ t. Sees (cond t (unlocking_full claimed full.Chain) (at.Count claimed)) steps)
       (nat_le 16 length)
       (λ t. record {
         walked = seeing.walked.last;
-        saw = long seeing.walked.last.behind (leb-true 16 length t) seeing.saw;
+        saw = record {
+          crowd = long seeing.walked.last.behind (leb-true 16 length t) seeing.saw.0;
+          unbound = seeing.saw.1 refl;
+        };
       })
-      (λ f. seeing.walked)
+      (λ f. record { walked = seeing.walked; saw = seeing.saw.1 refl })
   future-saw claimed length (Some table) steps long came seeing = came table refl
 
   -- a count that refuses the bind was loaded by this operation
   count-saw : (claimed : Claimed) (steps : List Did) (did : Did)
       → did.op ≡ Load (place_of env.geometry PortCount)
-      → Walked env.geometry claimed.table claimed.shape steps
+      → IsUnboundAt env.geometry words_at port did
+      → WalkedSeeing env.geometry claimed.table claimed.shape (Any (SawNoneBehind env.geometry words_at port claimed.table)) steps
       → Sees (checked_count env claimed did.old) (steps ++ did ∷ [])
   unfolding LastWalked-push
-  count-saw claimed steps did is walked =
+  count-saw claimed steps did is now seeing =
+      let walked = seeing.walked in
       let beside = elsewhere env.geometry did _ is (λ table below same. absurd (omega arith)) in
       let count = did.old in
       let above = is_above_100 (min count 65536) (size_of (unpacked claimed.shape)) env.config.max in
@@ -135,13 +177,24 @@ module _ (env : Env) (words_at : ℕ → List ℕ) (mix : ℕ → ℕ → ℕ �
       (λ t.
       let full : most_ports env.config.max ≤ min count 65536 =
       leb-true (most_ports env.config.max) (min count 65536) t in
-      Any-push (LoadedFull env count) steps did record { loaded = is; found = refl; full = omega arith })
+      record {
+        table = claimed.table;
+        shape = claimed.shape;
+        walked =
+            LastWalked-push env.geometry claimed.table claimed.shape steps did beside.no_shape walked.last;
+        before = walked.last.behind;
+        at = did;
+        rest = [];
+        split = refl;
+        unbound = now;
+        full = record { loaded = is; found = refl; full = omega arith };
+      })
       (λ f.
       by_test (λ t. Sees (cond t (unlocking_full claimed full.Table) (at.Link claimed)) all) above
       (λ t. record {
         walked =
             LastWalked-push env.geometry claimed.table claimed.shape steps did beside.no_shape walked.last;
-        saw = above-why env words_at mix port claimed.table claimed.shape walked.last.behind did is t;
+        saw = above-why env words_at mix port claimed.table claimed.shape walked.last.behind did is t now seeing.saw;
       })
       (λ f. Walked-push env.geometry claimed.table claimed.shape steps did beside walked))
 
@@ -192,7 +245,7 @@ module _ (env : Env) (words_at : ℕ → List ℕ) (mix : ℕ → ℕ → ℕ �
     bind-saw (at.CurrentTable attempt) steps did does now saw so unraised =
         came-current env.geometry steps did does.planned
     bind-saw (at.Locating attempt locate) steps did does now saw so unraised =
-        locating-saw env words_at mix port owner once attempt locate steps did does now.now saw
+        locating-saw env words_at mix port owner once attempt locate steps did does now saw
     bind-saw (at.Entering attempt table shape place grow) steps did does now saw so unraised =
         let within = does.within.at_in.grow_in in
         let after = grow_after_at env.geometry grow.at did.old in
@@ -255,12 +308,16 @@ module _ (env : Env) (words_at : ℕ → List ℕ) (mix : ℕ → ℕ → ℕ �
         (λ table named. came-future env.geometry claimed.table table steps did does.within.at_in.table_in
         does.planned named
         (walked-came env.geometry claimed.table claimed.shape steps saw.walked.last))
-        (WalkedSeeing-push env.geometry claimed.table claimed.shape counted counted steps did
+        (WalkedSeeing-push env.geometry claimed.table claimed.shape counted (SawFuture claimed length (slot_of did.old)) steps did
         (elsewhere env.geometry did _ does.planned (λ table below same. absurd (omega arith)))
-        (λ behind has. HasCounted-push env.geometry words_at mix port claimed.table claimed.shape place length behind did
-        (no_key-future env.geometry did claimed.table does.within.at_in.table_in does.planned) has) saw)
+        (λ behind has. (
+          HasCounted-push env.geometry words_at mix port claimed.table claimed.shape place length behind did
+              (no_key-future env.geometry did claimed.table does.within.at_in.table_in does.planned) has,
+          λ none. Any-push (SawNoneBehind env.geometry words_at port claimed.table) behind did
+              (future-unbound owner once claimed length did does now.now none),
+        )) saw)
     bind-saw (at.Count claimed) steps did does now saw so unraised =
-        count-saw claimed steps did does.planned saw
+        count-saw claimed steps did does.planned (count-unbound owner once claimed did does now.now) saw
     bind-saw (at.Link claimed) steps did does now saw so unraised =
         Walked-push env.geometry claimed.table claimed.shape steps did
         (aside env.geometry did _ does.planned (λ place load. cc) (λ place value adds. cc)) saw

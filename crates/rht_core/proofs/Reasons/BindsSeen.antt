@@ -6,7 +6,7 @@
 -- which the way to its port's bucket ends, and these pages were seen taken. Behind the raise of the count
 -- there was that; and while its state holds a refusal, what the refusal says. What is seen for a reply stays
 -- so while it unlocks a bucket and gives its node back.
-use Rattle.std.proofs.Common.{◌≡◌, ◌⊎◌, ℕ, ◌≤◌, List, [], ◌∷◌, ◌++◌, map, sym, subst, inl, inr}
+use Rattle.std.proofs.Common.{◌≡◌, ◌⊎◌, ℕ, ◌≤◌, List, [], ◌∷◌, ◌++◌, map, sym, ap, ◌∙◌, append_assoc, subst, inl, inr}
 use Rattle.std.specs.Prelude.{Option, Some, None, IfSome}
 use Rattle.std.specs.List.{Any}
 use Rattle.std.proofs.lemmas.List.{map-append}
@@ -16,7 +16,6 @@ use Rattle.rht_words.specs.declared.config.Kind.TheVariants.{Single}
 use Rattle.rht_words.specs.declared.machine.Next.{Next}
 use Rattle.rht_words.specs.declared.machine.Next.TheVariants.{Go}
 use Rattle.rht_words.specs.Places.{PortCount, place_of}
-use Rattle.rht_words.proofs.EachElement.{Any-append_left}
 use Rattle.rht_policy.specs.Sizes.{most_ports}
 use Rattle.rht_model.specs.declared.history.Reply.{Reply}
 use Rattle.rht_model.specs.declared.history.Reply.TheVariants.{Bound, Exists, TooBig, Again, Busy, NoTable, NoNode}
@@ -27,11 +26,12 @@ use Rattle.rht_bind.specs.declared.bind.Claimed.{Claimed}
 use Rattle.rht_bind.specs.declared.bind.BindAt.{BindAt}
 use Rattle.rht_bind.specs.declared.bind.BindAt.TheVariants as at
 use Rattle.rht_core.specs.Traces.{Did, performed_of}
-use Rattle.rht_core.specs.Seen.{CameTo}
-use Rattle.rht_core.specs.ResizeCauses.{SawNoPage}
+use Rattle.rht_core.specs.Seen.{CameTo, IsNoShapeLoad, LastWalked}
+use Rattle.rht_core.specs.ResizeCauses.{IsUnboundAt, SawNoneBehind}
 use Rattle.rht_words.specs.Machines.{GoesOrEnds}
-use Rattle.rht_core.proofs.Reasons.PagesMissed.{SawGrowing, SeesNoFuture, SeesMissing, SawNoPage-push}
-use Rattle.rht_core.proofs.Reasons.TablesWalked.{CameTo-append, Walked, WalkedSeeing, WalkedAt}
+use Rattle.rht_core.proofs.Reasons.PagesMissed.{SawGrowing, SeesMissing, NoPageSeen, NoPageSeen-push}
+use Rattle.rht_core.proofs.Reasons.UnboundSeen.{SeesNoFuture}
+use Rattle.rht_core.proofs.Reasons.TablesWalked.{CameTo-append, LastWalked-push, Walked, WalkedSeeing, WalkedAt}
 use Rattle.rht_core.proofs.Reasons.ChainsCounted.{HasCounted, WalkCounted}
 use Rattle.rht_core.proofs.Reasons.RefusedBinds.{Behind, SawWhy, SawRoot, SawRefusal, SawToMake, FollowedSeen, FollowedSeen-push, BusySeen, BusySeen-push, NoTableSeen, NoTableSeen-push}
 use Rattle.rht_core.proofs.Reasons.NewNodesSeen.{SawNew}
@@ -45,17 +45,44 @@ pub record LoadedFull (env : Env) (count : ℕ) (did : Did) : Type 0 where
 
 -- where these are the words before the event with each number
 module _ (env : Env) (words_at : ℕ → List ℕ) (mix : ℕ → ℕ → ℕ → ℕ) (port : ℕ) where
+  -- behind the load of the last table's shape this count was loaded, while the port had no owner
+  pub record TooBigSeen (count : ℕ) (steps : List Did) : Type 0 where
+    pub table : ℕ
+    pub shape : ℕ
+    pub walked : LastWalked env.geometry table shape steps
+    pub before : List Did
+    pub at : Did
+    pub rest : List Did
+    pub split : walked.behind ≡ before ++ at ∷ rest
+    pub unbound : IsUnboundAt env.geometry words_at port at
+    pub full : LoadedFull env count at
+
+  TooBigSeen-push : (count : ℕ) (steps : List Did) (did : Did) → IsNoShapeLoad env.geometry did
+      → TooBigSeen count steps → TooBigSeen count (steps ++ did ∷ [])
+  unfolding LastWalked-push
+  TooBigSeen-push count steps did none saw = record {
+    table = saw.table;
+    shape = saw.shape;
+    walked = LastWalked-push env.geometry saw.table saw.shape steps did none saw.walked;
+    before = saw.before;
+    at = saw.at;
+    rest = saw.rest ++ did ∷ [];
+    split = ap (λ l. l ++ did ∷ []) saw.split ∙ append_assoc saw.before (saw.at ∷ saw.rest) (did ∷ []);
+    unbound = saw.unbound;
+    full = saw.full;
+  }
+
   -- what the operations of a bind saw for it to have this reply; nothing can be seen for a reply that it
   -- never has
   abbrev pub SawFor : Reply → List Did → Type 0
   SawFor NoNode steps = SawAllBelow env.geometry env.geometry.nodes (map performed_of steps)
-  SawFor (TooBig count) steps = Any (LoadedFull env count) steps
+  SawFor (TooBig count) steps = TooBigSeen count steps
   SawFor (Bound kick) steps = Raised env words_at kick steps
   SawFor (Exists owner) steps = env.config.kind ≡ Single
   SawFor (Again table) steps = FollowedSeen env words_at mix port table steps
   SawFor (Busy root last) steps = BusySeen env words_at mix port root last steps
   SawFor (NoTable size) steps =
-      NoTableSeen env words_at mix port size steps ⊎ SawNoPage env.geometry words_at mix port size steps
+      NoTableSeen env words_at mix port size steps ⊎ NoPageSeen env words_at mix port size steps
   SawFor _ steps = ⊥
 
   abbrev pub SawForReply : Option Reply → List Did → Type 0
@@ -76,7 +103,7 @@ module _ (env : Env) (words_at : ℕ → List ℕ) (mix : ℕ → ℕ → ℕ �
   SawAt (at.Filling new) steps = SawNew env new.at steps
   SawAt (at.CurrentTable attempt) steps = Unit {0}
   SawAt (at.Locating attempt locate) steps =
-      WalkedAt env.geometry (SeesNoFuture env.geometry) locate.table locate.at steps
+      WalkedAt env.geometry (SeesNoFuture env.geometry words_at mix port) locate.table locate.at steps
   SawAt (at.Entering attempt table shape place grow) steps =
       WalkedSeeing env.geometry table shape
       (SeesMissing env words_at mix port table shape (SawGrowing env.geometry grow.at)) steps
@@ -88,7 +115,8 @@ module _ (env : Env) (words_at : ℕ → List ℕ) (mix : ℕ → ℕ → ℕ �
   SawAt (at.LinkBehind list link) steps = Walked env.geometry list.claimed.table list.claimed.shape steps
   SawAt (at.Replacing list relink) steps = Walked env.geometry list.claimed.table list.claimed.shape steps
   SawAt (at.Future claimed length) steps = SawCounted claimed length steps
-  SawAt (at.Count claimed) steps = Walked env.geometry claimed.table claimed.shape steps
+  SawAt (at.Count claimed) steps =
+      WalkedSeeing env.geometry claimed.table claimed.shape (Any (SawNoneBehind env.geometry words_at port claimed.table)) steps
   SawAt (at.Link claimed) steps = Walked env.geometry claimed.table claimed.shape steps
   SawAt (at.Raise claimed) steps = Walked env.geometry claimed.table claimed.shape steps
   SawAt (at.Publish node table relink kick) steps = Raised env words_at kick steps
@@ -119,7 +147,7 @@ module _ (env : Env) (words_at : ℕ → List ℕ) (mix : ℕ → ℕ → ℕ �
       let before = map performed_of steps in
       subst (SawAllBelow env.geometry env.geometry.nodes) (sym (map-append performed_of steps (did ∷ [])))
       (SawAllBelow-push env.geometry env.geometry.nodes before (performed_of did) saw)
-  SawFor-push (TooBig count) steps did none saw = Any-append_left (LoadedFull env count) steps (did ∷ []) saw
+  SawFor-push (TooBig count) steps did none saw = TooBigSeen-push count steps did none.aside.no_shape saw
   SawFor-push (Bound kick) steps did none saw = Raised-push env words_at kick steps did none saw
   SawFor-push (Exists owner) steps did none saw = saw
   SawFor-push (Again table) steps did none saw =
@@ -128,7 +156,7 @@ module _ (env : Env) (words_at : ℕ → List ℕ) (mix : ℕ → ℕ → ℕ �
       BusySeen-push env words_at mix port root last steps did none.aside.no_shape saw
   SawFor-push (NoTable size) steps did none saw = elim saw [
     | inl full ↦ inl (NoTableSeen-push env words_at mix port size steps did none.aside.no_shape full)
-    | inr missed ↦ inr (SawNoPage-push env words_at mix port size steps did none.aside.no_shape missed)
+    | inr missed ↦ inr (NoPageSeen-push env words_at mix port size steps did none.aside.no_shape missed)
   ]
   SawFor-push _ steps did none saw = absurd saw
 

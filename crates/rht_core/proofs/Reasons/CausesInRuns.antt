@@ -4,7 +4,7 @@
 -- has raised no count, a release and a resizing what they need, and a rebind what it sees while it takes a
 -- node. So when a call answers, all that its reply has to show was seen; and each of its operations was
 -- recorded at its event.
-use Rattle.std.proofs.Common.{◌≡◌, ℕ, List, [], ◌∷◌, ◌++◌, refl, subst, arith}
+use Rattle.std.proofs.Common.{◌≡◌, ℕ, ◌+◌, List, [], ◌∷◌, ◌++◌, refl, subst, arith}
 use Rattle.std.specs.Prelude.{Some}
 use Rattle.std.specs.List.{AllByRecursion}
 use Rattle.std.proofs.lemmas.List.Quantifiers.{Any-push}
@@ -27,7 +27,7 @@ use Rattle.rht_core.specs.declared.event.Event.{Event}
 use Rattle.rht_callers.specs.Locals.{room_for_nodes}
 use Rattle.rht_core.specs.Jobs.{listing_ending, node_ending, call_of, Job, finds, binds, releases, rebinds, lists, works, counts, first_job, first_rebind, job_next, job_after}
 use Rattle.rht_core.specs.Replies.{IsReplyTo}
-use Rattle.rht_core.specs.Traces.{Did, Past, traced_of}
+use Rattle.rht_core.specs.Traces.{Did, Past, traced_of, behind_call, IsRising, AreInOrder}
 use Rattle.rht_core.specs.Runs.{IsAdmitted}
 use Rattle.rht_core.specs.Laws.{IsRecorded, IsPastCall}
 use Rattle.rht_core.specs.Seen.{words_before}
@@ -181,33 +181,34 @@ module _ (M : Type 0) (mix : ℕ → ℕ → ℕ → ℕ) (env : Env) (events : 
   module _ (c : ℕ) (admitted : IsAdmitted env.config.kind events) where
     cause_of : (past : Past) (call : Call) (reply : Reply) → SawOf env words_at mix call reply past.steps
         → IsReplyTo call reply → AllByRecursion (IsRecorded M mix env events c) past.steps
-        → CauseOf M mix env events c past call reply
-    cause_of past (Bind port owner once) reply saw right recorded =
-        bind-cause M mix env events c admitted port past reply saw recorded
-    cause_of past (Find port) reply saw right recorded = find-cause reply right
-    cause_of past (All port) reply saw right recorded = all-cause reply right
-    cause_of past (Release port owner) reply saw right recorded =
+        → IsRising (past.begin + 1) past.steps → CauseOf M mix env events c past call reply
+    cause_of past (Bind port owner once) reply saw right recorded rising =
+        bind-cause M mix env events c admitted port past reply saw recorded rising
+    cause_of past (Find port) reply saw right recorded rising = find-cause reply right
+    cause_of past (All port) reply saw right recorded rising = all-cause reply right
+    cause_of past (Release port owner) reply saw right recorded rising =
         release-cause M mix env events c admitted past reply saw right recorded
-    cause_of past (Rebind port owner new) reply saw right recorded = rebind-cause env past reply saw right
-    cause_of past Work reply saw right recorded = work-cause env words_at past reply saw right
-    cause_of past Count reply saw right recorded =
+    cause_of past (Rebind port owner new) reply saw right recorded rising = rebind-cause env past reply saw right
+    cause_of past Work reply saw right recorded rising = work-cause env words_at past reply saw right
+    cause_of past Count reply saw right recorded rising =
         count-cause M mix env events c admitted past reply saw recorded
-    cause_of past _ reply saw right recorded = absurd saw
+    cause_of past _ reply saw right recorded rising = absurd saw
 
-    all_caused : (calls : List Past)
+    all_caused : (from : ℕ) (calls : List Past)
         → AllByRecursion
         (λ (past : Past). SawOf env words_at mix past.done.call past.done.reply past.steps) calls
         → AllByRecursion (IsEndedSo M mix env (Holds M mix env) (Answered M mix env)) calls
-        → AllByRecursion (IsPastCall M mix env events c) calls
+        → AllByRecursion (IsPastCall M mix env events c) calls → AreInOrder from calls
         → AllByRecursion (HasCause M mix env events c) calls
-    all_caused [] saw right were = tt
-    all_caused (past ∷ calls) saw right were = (
-      cause_of past past.done.call past.done.reply saw.0 right.0.reply were.0.steps,
-      all_caused calls saw.1 right.1 were.1,
+    all_caused from [] saw right were order = tt
+    all_caused from (past ∷ calls) saw right were order = (
+      cause_of past past.done.call past.done.reply saw.0 right.0.reply were.0.steps order.1,
+      all_caused (behind_call past) calls saw.1 right.1 were.1 order.2,
     )
 
 pub causes : (M : Type 0) (mix : ℕ → ℕ → ℕ → ℕ) → Causes M mix
 causes M mix env events c admitted =
-    all_caused M mix env events c admitted ((traced_of {M = M} mix env events).traces c).past
+    let stands = at_events M mix env events admitted c in
+    all_caused M mix env events c admitted 0 ((traced_of {M = M} mix env events).traces c).past
     (past-saw M mix env events c admitted) (runs-right M mix env events c admitted).past
-    (at_events M mix env events admitted c).past
+    stands.past stands.in_order

@@ -15,6 +15,8 @@ use Rattle.rht_policy.specs.Thresholds.{is_above_75, may_grow}
 use Rattle.rht_policy.proofs.TableSizes.{IsSizeUpTo-shrunk_size}
 use Rattle.rht_nest.specs.Tables.{exponent_made, is_nested}
 use Rattle.rht_nest.specs.Make.{IsKind, made_shape}
+use Rattle.rht_nest.specs.MakeLaws.{pages_for}
+use Rattle.rht_core.specs.Due.{pages_due}
 use Rattle.rht_core.specs.ResizeCauses.{wanted_size}
 use Rattle.rht_move.specs.Choice.{choice_of, is_sparse}
 use Rattle.rht_move.specs.Laws.{IsOfASize}
@@ -75,6 +77,41 @@ nests-wanted env shape count =
     (size_of (unpacked shape)) (λ size. nat_le 7 (exponent_made size) ≡ nat_le 128 size)
     (λ t. subst (λ size. nat_le 7 (exponent_made size) ≡ nat_le 128 size) (pow-add 2 1 e) (nests-pow (1 + e) (omega arith)))
     (λ f. nests-pow e (omega arith))
+
+-- a flat table takes as many pages as are due for its size
+pub pages-pow : (e : ℕ) → e < 32 → pages_for (2 ^ e) ≡ pages_due (2 ^ e)
+pages-pow e l =
+    let exponent = exponent_of-pow e l in
+    let made : max 2 (min (exponent_made (2 ^ e)) 18) ≡ max 2 (min e 17) = omega (arith, exponent) in
+    let pages : pages_for (2 ^ e) ≡ max 1 (2 ^ max 2 (min e 17) / 64) = ap (λ n. max 1 (2 ^ n / 64)) made in
+    pages ∙ elim (cases_lt e 6) [
+      | inl small ↦
+          let inside : max 2 (min e 17) ≤ 5 = omega (arith, small) in
+          omega (arith, powers-rise (max 2 (min e 17)) 5 inside, powers-rise e 5 (omega (arith, small)))
+      | inr some ↦ elim (cases_lt e 18) [
+        | inl few ↦
+            let same : max 2 (min e 17) ≡ e = omega (arith, some, few) in
+            ap (λ n. max 1 (2 ^ n / 64)) same ∙ omega (arith, powers-rise e 17 (omega (arith, few)))
+        | inr large ↦
+            let same : max 2 (min e 17) ≡ 17 = omega (arith, large) in
+            ap (λ n. max 1 (2 ^ n / 64)) same ∙ omega (arith, powers-rise 17 e (omega (arith, large)))
+      ]
+    ]
+
+-- so it is for the size that is wanted, and for each of the sizes of tables
+pub pages-wanted : (env : Env) (shape count : ℕ) → pages_for (wanted_size env shape count) ≡ pages_due (wanted_size env shape count)
+pages-wanted env shape count =
+    let e = max 2 (min (unpacked shape).exponent 18) in
+    cond_both (is_above_75 count (size_of (unpacked shape)) env.config.max) (2 * size_of (unpacked shape))
+    (size_of (unpacked shape)) (λ size. pages_for size ≡ pages_due size)
+    (λ t. subst (λ size. pages_for size ≡ pages_due size) (pow-add 2 1 e) (pages-pow (1 + e) (omega arith)))
+    (λ f. pages-pow e (omega arith))
+
+pub pages-sized : (size : ℕ) → IsSizeUpTo (2 ^ 17) size → pages_for size ≡ pages_due size
+pages-sized size is =
+    let e = is.power.0 in
+    let high : e < 18 = powers-fall e 18 (omega (arith, is.power.1, is.greatest)) in
+    subst (λ n. pages_for n ≡ pages_due n) (sym is.power.1) (pages-pow e (omega (arith, high)))
 
 -- the word of a shape tells its exponent, whether the table is nested or not
 pub exponent_read : (exponent page : ℕ) (nested : Bool) → exponent < 32 → made_shape exponent nested page % 32 ≡ exponent

@@ -1,9 +1,10 @@
--- What a bind sees that misses a page on the way to its bucket: it loaded the table's future as none, then the entry at which the way ends,
--- since that leads to no page, and while it takes a page to enter there, each page before the one at which it stands was seen taken. So
+-- What a bind sees that misses a page on the way to its bucket: it loaded the table's future as none, where its port was bound nowhere or its
+-- bucket was there, then the entry at which the way ends, since that leads to no page, and while it takes a page to enter there, each page before the one at which it stands was seen taken. So
 -- where no page is free, each was.
-use Rattle.std.proofs.Common.{◌≡◌, ℕ, ◌<◌, ◌==◌, true, List, [], ◌∷◌, ◌++◌, append_assoc, map, Option, Some, None, refl, sym, ap, ◌∙◌, subst, inl, inr}
+use Rattle.std.proofs.Common.{◌≡◌, ℕ, ◌+◌, ◌<◌, ◌==◌, true, arith, List, [], ◌∷◌, ◌++◌, append_assoc, map, Option, Some, None, refl, sym, ap, ◌∙◌, subst, inl, inr}
 use Rattle.std.specs.List.{AllByRecursion, Any}
 use Rattle.std.proofs.lemmas.Bool.{cond_both}
+use Rattle.std.proofs.lemmas.List.Elements.{All-from_recursion}
 use Rattle.std.proofs.lemmas.List.{map-append}
 use Rattle.rht_words.specs.declared.env.Env.{Env}
 use Rattle.rht_words.specs.declared.op.Op.{Op}
@@ -13,7 +14,7 @@ use Rattle.rht_words.specs.declared.machine.Next.{Next}
 use Rattle.rht_words.specs.declared.machine.Next.TheVariants.{Go, Done}
 use Rattle.rht_words.specs.Links.{page_of}
 use Rattle.rht_words.specs.Machines.{Performed}
-use Rattle.rht_words.specs.Places.{Slot, SeedWord, FutureWord, PageWord, place_of, word_at}
+use Rattle.rht_words.specs.Places.{Slot, SeedWord, PageWord, place_of, word_at}
 use Rattle.rht_words.specs.Shapes.{unpacked, size_of}
 use Rattle.rht_words.proofs.EachElement.{Any-append_left, AllByRecursion-push}
 use Rattle.rht_words.proofs.Memory.{Memory}
@@ -26,10 +27,12 @@ use Rattle.rht_nest.specs.Tables.{is_nested}
 use Rattle.rht_nest.specs.Grow.{grow_plan_at, grow_after_at, page_taken, page_entered, page_given, IsGrowAtIn}
 use Rattle.rht_nest.specs.declared.grow.GrowAt.{GrowAt}
 use Rattle.rht_nest.specs.declared.grow.GrowAt.TheVariants as grows
-use Rattle.rht_core.specs.ResizeCauses.{Loaded, IsNoKeyLoad, AreRunsTaken, MissesPage, SawNoPage}
+use Rattle.rht_core.specs.ResizeCauses.{IsNoKeyLoad, AreRunsTaken, MissesPage, SawNoPage}
 use Rattle.rht_stands.specs.StandsFor.{page_word}
-use Rattle.rht_core.specs.Seen.{IsNoShapeLoad}
-use Rattle.rht_core.specs.Traces.{Did, performed_of}
+use Rattle.rht_core.specs.Seen.{IsNoShapeLoad, LastWalked}
+use Rattle.rht_core.specs.Traces.{Did, performed_of, IsRising}
+use Rattle.rht_core.proofs.Tracing.StepsInTraces.{rising-behind, rising_around}
+use Rattle.rht_core.proofs.Reasons.UnboundSeen.{SeesNoFuture, unbound-missed}
 use Rattle.rht_ghost.proofs.Theory.Ghosts.{Ghost, index_at}
 use Rattle.rht_ghost.proofs.Theory.Wholes.{hash_in, Whole}
 use Rattle.rht_ghost.proofs.Theory.Passed.{hash-below}
@@ -44,10 +47,6 @@ use Rattle.rht_core.proofs.Reasons.PagesTaken.{passes_in}
 use Rattle.rht_core.proofs.Reasons.PortBuckets.{hash_in-words}
 
 module _ (g : Geometry) where
-  -- the operation loaded the future of the table in this slot as none
-  abbrev pub SeesNoFuture : ℕ → Did → Type 0
-  SeesNoFuture table did = Loaded g (Slot table FutureWord) 0 did
-
   -- ---- while a page is taken
 
   abbrev pub SawGrowing : GrowAt → List Performed → Type 0
@@ -99,41 +98,48 @@ module _ (env : Env) (words_at : ℕ → List ℕ) where
   g = env.geometry
 
   -- The operations behind the load of the table's shape loaded its future as none, and then an entry that leads to no page, and what came
-  -- behind that saw this of the pages. None of them loaded a key.
-  pub record SeesMissing (mix : ℕ → ℕ → ℕ → ℕ) (port table shape : ℕ) (Saw : List Performed → Type 0) (behind : List Did) : Type 0 where
+  -- behind that saw this of the pages.
+  pub record MissedSeen (mix : ℕ → ℕ → ℕ → ℕ) (port table shape : ℕ) (Saw : List Performed → Type 0) (behind : List Did) : Type 0 where
     pub nested : is_nested shape ≡ true
     pub before : List Did
     pub at : Did
     pub taking : List Did
     pub split : behind ≡ before ++ at ∷ taking
-    pub none : Any (SeesNoFuture g table) before
+    pub none : Any (SeesNoFuture g words_at mix port table shape) before
     pub entry : ℕ
     pub missing : MissesPage g words_at mix port table shape entry at
     pub taken : Saw (map performed_of taking)
+
+  -- and none of them loaded a key
+  pub record SeesMissing (mix : ℕ → ℕ → ℕ → ℕ) (port table shape : ℕ) (Saw : List Performed → Type 0) (behind : List Did) : Type 0 where
+    pub seen : MissedSeen mix port table shape Saw behind
     pub no_key : AllByRecursion (IsNoKeyLoad g) behind
 
   -- the load of the entry
   pub begins-missing : (mix : ℕ → ℕ → ℕ → ℕ) (port table shape entry : ℕ) (behind : List Did) (did : Did) → is_nested shape ≡ true
-      → MissesPage g words_at mix port table shape entry did → IsNoKeyLoad g did → LoadedEarly g (SeesNoFuture g table) None behind
+      → MissesPage g words_at mix port table shape entry did → IsNoKeyLoad g did
+      → LoadedEarly g (SeesNoFuture g words_at mix port table shape) None behind
       → SeesMissing mix port table shape (SawGrowing g (grows.Taking (first_run g 1))) (behind ++ did ∷ [])
   begins-missing mix port table shape entry behind did nested missing no_key seen = record {
-    nested = nested;
-    before = behind;
-    at = did;
-    taking = [];
-    split = refl;
-    none = seen.1;
-    entry = entry;
-    missing = missing;
-    taken = (tt, refl);
+    seen = record {
+      nested = nested;
+      before = behind;
+      at = did;
+      taking = [];
+      split = refl;
+      none = seen.1;
+      entry = entry;
+      missing = missing;
+      taken = (tt, refl);
+    };
     no_key = AllByRecursion-push (IsNoKeyLoad g) behind did seen.0 no_key;
   }
 
   -- an operation behind it
-  pub SeesMissing-push : (mix : ℕ → ℕ → ℕ → ℕ) (port table shape : ℕ) (Saw After : List Performed → Type 0) (behind : List Did) (did : Did)
-      → IsNoKeyLoad g did → ((steps : List Performed) → Saw steps → After (steps ++ performed_of did ∷ []))
-      → SeesMissing mix port table shape Saw behind → SeesMissing mix port table shape After (behind ++ did ∷ [])
-  SeesMissing-push mix port table shape Saw After behind did none further saw = record {
+  MissedSeen-push : (mix : ℕ → ℕ → ℕ → ℕ) (port table shape : ℕ) (Saw After : List Performed → Type 0) (behind : List Did) (did : Did)
+      → ((steps : List Performed) → Saw steps → After (steps ++ performed_of did ∷ []))
+      → MissedSeen mix port table shape Saw behind → MissedSeen mix port table shape After (behind ++ did ∷ [])
+  MissedSeen-push mix port table shape Saw After behind did further saw = record {
     nested = saw.nested;
     before = saw.before;
     at = saw.at;
@@ -144,38 +150,82 @@ module _ (env : Env) (words_at : ℕ → List ℕ) where
     missing = saw.missing;
     taken = subst After (sym (map-append performed_of saw.taking (did ∷ [])))
         (further (map performed_of saw.taking) saw.taken);
+  }
+
+  pub SeesMissing-push : (mix : ℕ → ℕ → ℕ → ℕ) (port table shape : ℕ) (Saw After : List Performed → Type 0) (behind : List Did) (did : Did)
+      → IsNoKeyLoad g did → ((steps : List Performed) → Saw steps → After (steps ++ performed_of did ∷ []))
+      → SeesMissing mix port table shape Saw behind → SeesMissing mix port table shape After (behind ++ did ∷ [])
+  SeesMissing-push mix port table shape Saw After behind did none further saw = record {
+    seen = MissedSeen-push mix port table shape Saw After behind did further saw.seen;
     no_key = AllByRecursion-push (IsNoKeyLoad g) behind did saw.no_key none;
   }
 
   -- where a page was entered after all, the future was loaded as none
   pub missing-early : (mix : ℕ → ℕ → ℕ → ℕ) (port table shape : ℕ) (Saw : List Performed → Type 0) (behind : List Did)
       → SeesMissing mix port table shape Saw behind
-      → LoadedEarly g (SeesNoFuture g table) None behind
-  missing-early mix port table shape Saw behind saw = (
-    saw.no_key,
-    subst (Any (SeesNoFuture g table)) (sym saw.split) (Any-append_left (SeesNoFuture g table) saw.before (saw.at ∷ saw.taking) saw.none),
-  )
+      → LoadedEarly g (SeesNoFuture g words_at mix port table shape) None behind
+  missing-early mix port table shape Saw behind saw =
+      let Sees = SeesNoFuture g words_at mix port table shape in
+      let seen = saw.seen in
+      (saw.no_key, subst (Any Sees) (sym seen.split) (Any-append_left Sees seen.before (seen.at ∷ seen.taking) seen.none))
 
-  -- what was seen for want of a page stays seen
-  pub SawNoPage-push : (mix : ℕ → ℕ → ℕ → ℕ) (port size : ℕ) (steps : List Did) (did : Did) → IsNoShapeLoad g did
-      → SawNoPage g words_at mix port size steps → SawNoPage g words_at mix port size (steps ++ did ∷ [])
+  -- A bind that is refused for want of a page has seen all that behind the load of the shape of the last table that it walked.
+  pub record NoPageSeen (mix : ℕ → ℕ → ℕ → ℕ) (port size : ℕ) (steps : List Did) : Type 0 where
+    pub table : ℕ
+    pub shape : ℕ
+    pub walked : LastWalked g table shape steps
+    pub size_is : size ≡ size_of (unpacked shape)
+    pub saw : MissedSeen mix port table shape (AreRunsTaken g 1 0 []) walked.behind
+
+  -- and this stays seen
+  pub NoPageSeen-push : (mix : ℕ → ℕ → ℕ → ℕ) (port size : ℕ) (steps : List Did) (did : Did) → IsNoShapeLoad g did
+      → NoPageSeen mix port size steps → NoPageSeen mix port size (steps ++ did ∷ [])
   unfolding LastWalked-push
-  SawNoPage-push mix port size steps did none saw = record {
-    table = saw.table;
-    shape = saw.shape;
-    walked = LastWalked-push g saw.table saw.shape steps did none saw.walked;
-    nested = saw.nested;
-    size_is = saw.size_is;
-    before = saw.before;
-    at = saw.at;
-    taking = saw.taking ++ did ∷ [];
-    split = ap (λ l. l ++ did ∷ []) saw.split ∙ append_assoc saw.before (saw.at ∷ saw.taking) (did ∷ []);
-    none = saw.none;
-    entry = saw.entry;
-    missing = saw.missing;
-    taken = subst (AreRunsTaken g 1 0 []) (sym (map-append performed_of saw.taking (did ∷ [])))
-        (runs_taken-stay g 1 0 [] (map performed_of saw.taking) (performed_of did) saw.taken);
-  }
+  NoPageSeen-push mix port size steps did none seen =
+      let Taken = AreRunsTaken g 1 0 [] in
+      record {
+        table = seen.table;
+        shape = seen.shape;
+        walked = LastWalked-push g seen.table seen.shape steps did none seen.walked;
+        size_is = seen.size_is;
+        saw = MissedSeen-push mix port seen.table seen.shape Taken Taken seen.walked.behind did
+            (λ taken. runs_taken-stay g 1 0 [] taken (performed_of did)) seen.saw;
+      }
+
+  -- So the port had no owner at the load of the future, which came before that of the entry.
+  pub no_page-cause : (mix : ℕ → ℕ → ℕ → ℕ) (port size from : ℕ) (steps : List Did) → IsRising from steps
+      → NoPageSeen mix port size steps → SawNoPage g words_at mix port size steps
+  no_page-cause mix port size from steps rising seen =
+      let saw = seen.saw in
+      let walked = seen.walked in
+      let Sees = SeesNoFuture g words_at mix port seen.table seen.shape in
+      let later = subst (IsRising (walked.at.index + 1)) saw.split
+      (rising-behind from walked.before walked.at walked.behind (subst (IsRising from) walked.split rising)) in
+      let earlier = (rising_around (walked.at.index + 1) saw.before saw.at saw.taking later).0 in
+      record {
+        table = seen.table;
+        shape = seen.shape;
+        walked = walked;
+        nested = saw.nested;
+        size_is = seen.size_is;
+        before = saw.before;
+        at = saw.at;
+        taking = saw.taking;
+        split = saw.split;
+        unbound = each saw.before
+            (λ did early. unbound-missed g words_at mix port seen.table seen.shape saw.entry did saw.at saw.nested (omega (arith, early)) saw.missing)
+            earlier saw.none;
+        entry = saw.entry;
+        missing = saw.missing;
+        taken = saw.taken;
+      }
+    where
+      -- what is so of any that came earlier
+      each : {Sees More : Did → Type 0} {next : ℕ} (before : List Did) → ((did : Did) → did.index < next → Sees did → More did)
+          → AllByRecursion (λ did. did.index < next) before → Any Sees before → Any More before
+      each {next = next} before further earlier (k, did, within, is, sees) =
+          let early = subst (λ d. d.index < next) is (All-from_recursion (λ d. d.index < next) before earlier k did within) in
+          (k, did, within, is, further did early sees)
 
   -- ---- the entry that was loaded
 

@@ -33,12 +33,13 @@ use Rattle.rht_bind.specs.declared.bind.growth.Refusal.{Refusal}
 use Rattle.rht_bind.specs.declared.bind.growth.Refusal.TheVariants as refusals
 use Rattle.rht_core.specs.Traces.{Did, performed_of}
 use Rattle.rht_core.specs.Seen.{LoadsCurrent, IsNoShapeLoad, LastWalked}
-use Rattle.rht_core.specs.ResizeCauses.{Loaded, Attaches, FindsFuture, wanted_size, AreNoPages, SawNoRoom, IsNoKeyLoad, SawLongChain}
+use Rattle.rht_core.specs.ResizeCauses.{IsUnboundAt, SawNoneBehind, Loaded, Attaches, FindsFuture, wanted_size, AreNoPages, SawNoRoom, IsNoKeyLoad, SawLongChain}
 use Rattle.rht_core.proofs.Reasons.TablesWalked.{nodes_behind, LastWalked-push}
 use Rattle.rht_core.proofs.Reasons.KeyLoads.{no_key-before, no_key-make}
 use Rattle.rht_core.proofs.Reasons.ChainsCounted.{SawLongChain-push}
 use Rattle.rht_core.proofs.Reasons.MakesSeen.{SawMade, saw_nothing, make-saw}
-use Rattle.rht_core.proofs.Reasons.MadeSizes.{nests-wanted}
+use Rattle.rht_core.proofs.Reasons.MadeSizes.{nests-wanted, pages-wanted}
+use Rattle.rht_core.specs.Due.{pages_due}
 
 module _ (g : Geometry) where
   -- behind the load of the last table's shape the operations saw this
@@ -67,15 +68,21 @@ module _ (env : Env) (words_at : ℕ → List ℕ) (mix : ℕ → ℕ → ℕ �
 
   -- ---- what is seen
 
-  -- the operation loaded a count of ports above the size of a table of this shape, which may grow
+  -- the operation loaded a count of ports above the size of a table of this shape, which may grow, while the port had no owner
   pub record LoadedAbove (shape : ℕ) (did : Did) : Type 0 where
     pub loaded : did.op ≡ Load (place_of g PortCount)
     pub above : is_above_100 (min did.old 65536) (size_of (unpacked shape)) env.config.max ≡ true
+    pub unbound : IsUnboundAt g words_at port did
 
   -- the table is full by the chain of the port's bucket, or by its count of ports
-  abbrev pub SawWhy : ℕ → Full → ℕ → List Did → Type 0
-  SawWhy table full.Chain shape behind = SawLongChain g words_at mix port table shape behind
-  SawWhy table full.Table shape behind = Any (LoadedAbove shape) behind
+  abbrev pub SawCrowd : ℕ → Full → ℕ → List Did → Type 0
+  SawCrowd table full.Chain shape behind = SawLongChain g words_at mix port table shape behind
+  SawCrowd table full.Table shape behind = Any (LoadedAbove shape) behind
+
+  -- and its future was loaded as none, while the port had no owner
+  pub record SawWhy (table : ℕ) (why : Full) (shape : ℕ) (behind : List Did) : Type 0 where
+    pub crowd : SawCrowd table why shape behind
+    pub unbound : Any (SawNoneBehind g words_at port table) behind
 
   -- with this count a table of this shape is due to grow
   abbrev pub is_due : ℕ → ℕ → Bool
@@ -163,11 +170,18 @@ module _ (env : Env) (words_at : ℕ → List ℕ) (mix : ℕ → ℕ → ℕ �
 
   -- ---- what was seen stays seen
 
+  SawCrowd-push : (table : ℕ) (why : Full) (shape : ℕ) (behind : List Did) (did : Did) → IsNoKeyLoad g did
+      → SawCrowd table why shape behind → SawCrowd table why shape (behind ++ did ∷ [])
+  SawCrowd-push table full.Chain shape behind did no_key saw =
+      SawLongChain-push g words_at mix port table shape behind did no_key saw
+  SawCrowd-push table full.Table shape behind did no_key saw = Any-append_left (LoadedAbove shape) behind (did ∷ []) saw
+
   pub SawWhy-push : (table : ℕ) (why : Full) (shape : ℕ) (behind : List Did) (did : Did) → IsNoKeyLoad g did
       → SawWhy table why shape behind → SawWhy table why shape (behind ++ did ∷ [])
-  SawWhy-push table full.Chain shape behind did no_key saw =
-      SawLongChain-push g words_at mix port table shape behind did no_key saw
-  SawWhy-push table full.Table shape behind did no_key saw = Any-append_left (LoadedAbove shape) behind (did ∷ []) saw
+  SawWhy-push table why shape behind did no_key saw = record {
+    crowd = SawCrowd-push table why shape behind did no_key saw.crowd;
+    unbound = Any-append_left (SawNoneBehind g words_at port table) behind (did ∷ []) saw.unbound;
+  }
 
   unfoldable SawWanted-push : (shape table size : ℕ) (behind : List Did) (did : Did) → SawWanted shape table size behind
       → SawWanted shape table size (behind ++ did ∷ [])
@@ -240,9 +254,12 @@ module _ (env : Env) (words_at : ℕ → List ℕ) (mix : ℕ → ℕ → ℕ �
   -- a count that is above the table's size was loaded by this operation
   pub above-why : (table shape : ℕ) (behind : List Did) (did : Did) → did.op ≡ Load (place_of g PortCount)
       → is_above_100 (min did.old 65536) (size_of (unpacked shape)) env.config.max ≡ true
+      → IsUnboundAt g words_at port did → Any (SawNoneBehind g words_at port table) behind
       → SawWhy table full.Table shape (behind ++ did ∷ [])
-  above-why table shape behind did is above =
-      Any-push (LoadedAbove shape) behind did (record { loaded = is; above = above })
+  above-why table shape behind did is above now unbound = record {
+    crowd = Any-push (LoadedAbove shape) behind did (record { loaded = is; above = above; unbound = now });
+    unbound = Any-append_left (SawNoneBehind g words_at port table) behind (did ∷ []) unbound;
+  }
 
   -- the load of the current table
   pub root-saw : (growing : Growing) (behind : List Did) (did : Did) → did.op ≡ Load (place_of g CurrentTable)
@@ -345,9 +362,13 @@ module _ (env : Env) (words_at : ℕ → List ℕ) (mix : ℕ → ℕ → ℕ �
           let nests : may_nest (exponent_made size) true ≡ nat_le 128 size =
           subst (λ s. nat_le 7 (exponent_made s) ≡ nat_le 128 s) (sym saw.wanted.wanted)
           (nests-wanted env growing.shape (min saw.wanted.count 65536)) in
-          inr (subst (λ n. AreNoPages g (pages_for size) n steps) nests
+          let pages : pages_for size ≡ pages_due size =
+          subst (λ s. pages_for s ≡ pages_due s) (sym saw.wanted.wanted)
+          (pages-wanted env growing.shape (min saw.wanted.count 65536)) in
+          inr (subst (λ p. AreNoPages g p (nat_le 128 size) steps) pages
+          (subst (λ n. AreNoPages g (pages_for size) n steps) nests
           (subst (λ e. AreNoPages g (made_pages e) (may_nest e true) steps) saw.exponent_is
-          (subst (λ a. AreNoPages g (made_pages exponent) (may_nest exponent a) steps) saw.allowed_is none)))
+          (subst (λ a. AreNoPages g (made_pages exponent) (may_nest exponent a) steps) saw.allowed_is none))))
     ];
   }
 

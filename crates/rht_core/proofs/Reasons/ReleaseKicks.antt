@@ -100,8 +100,8 @@ module _ (env : Env) where
     pub walked : Walked env.geometry table shape steps
 
   -- it keeps nothing of the load of a future that was none
-  abbrev NothingOfNone : ℕ → Did → Type 0
-  NothingOfNone table did = Unit {0}
+  abbrev NothingOfNone : ℕ → ℕ → Did → Type 0
+  NothingOfNone table shape did = Unit {0}
 
   abbrev SawSeek : SeekAt → List Did → Type 0
   SawSeek seeks.CurrentTable steps = Unit {0}

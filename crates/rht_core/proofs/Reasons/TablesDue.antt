@@ -43,7 +43,7 @@ use Rattle.rht_core.specs.WorkCauses.{ReadsFuture, HasChosen, IsSized, TriesToAt
 use Rattle.rht_ghost.proofs.Theory.Steps.{by_test}
 use Rattle.rht_core.proofs.Reasons.AttachedTables.{IsNoAttach, no_attach, make-none}
 use Rattle.rht_core.proofs.Reasons.MakesSeen.{SawMaking, SawMade, IsShaped, saw_nothing, make-saw}
-use Rattle.rht_core.proofs.Reasons.MadeSizes.{due_size, shaped_flat, size_of-made}
+use Rattle.rht_core.proofs.Reasons.MadeSizes.{due_size, shaped_flat, size_of-made, pages-sized}
 use Rattle.rht_core.proofs.Reasons.ChoicesMade.{Chosen, futures_next, Began-push, HasLock, SeekSaw, Measures, Since, chosen_by, Since-push, SinceSome-push}
 use Rattle.rht_core.proofs.Reasons.WorksSeen.{NoneAttached, Wants, IsMaking, Makes, IsSupplied, DueSaw, IsTried, IsDue, HasDue, IsMade, IsToAttach, SaysMissing, IsIdle, NoneAttached-push, SaysMissing-push, IsTried-push, SawAtWork, SawNextWork}
 
@@ -325,9 +325,11 @@ module _ (env : Env) (words_at : ℕ → List ℕ) where
       go (state, Done None) since =
           let steps_since = map performed_of since.chose.behind in
           refused-saw wanted (steps ++ did ∷ []) since.chose since.so.wants since.so.none
+          (subst (λ pages. AreSlotsTaken env.geometry steps_since ⊎ AreRunsTaken env.geometry pages 0 [] steps_since)
+          (pages-sized wanted.size since.so.wants.size_in)
           (subst
           (λ e. AreSlotsTaken env.geometry steps_since
-          ⊎ AreRunsTaken env.geometry (made_pages e) 0 [] steps_since) within.size_same since.so.made)
+          ⊎ AreRunsTaken env.geometry (made_pages e) 0 [] steps_since) within.size_same since.so.made))
       go (state, Done (Some table)) since =
           let wants = since.so.wants in
           let seen = since.so.made in

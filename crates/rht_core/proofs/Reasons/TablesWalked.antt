@@ -257,19 +257,19 @@ module _ (g : Geometry) where
   LoadedEarly SeesNone None behind = LoadedNoKey behind × Any SeesNone behind
   LoadedEarly SeesNone (Some next) behind = LoadedNoKey behind
 
-  abbrev pub WalkedAt : (ℕ → Did → Type 0) → ℕ → LocateAt → List Did → Type 0
+  abbrev pub WalkedAt : (ℕ → ℕ → Did → Type 0) → ℕ → LocateAt → List Did → Type 0
   WalkedAt SeesNone table locates.Shape steps = CameTo g table steps
   WalkedAt SeesNone table (locates.Seed shape) steps = WalkedSeeing table shape LoadedNoKey steps
   WalkedAt SeesNone table (locates.Early shape place) steps = WalkedSeeing table shape LoadedNoKey steps
   WalkedAt SeesNone table (locates.Entry shape early place) steps =
-      WalkedSeeing table shape (LoadedEarly (SeesNone table) early) steps × CameBehind early steps
+      WalkedSeeing table shape (LoadedEarly (SeesNone table shape) early) steps × CameBehind early steps
 
   -- where the bucket is missing, it has come to the table behind
   abbrev pub CameBeyond : LocatedBucket → List Did → Type 0
   CameBeyond (buckets.At place) steps = Unit {0}
   CameBeyond (buckets.Missing place early) steps = CameBehind early steps
 
-  abbrev pub WalkedNext : (ℕ → Did → Type 0) → ℕ → LocateModel × Next Located → List Did → Type 0
+  abbrev pub WalkedNext : (ℕ → ℕ → Did → Type 0) → ℕ → LocateModel × Next Located → List Did → Type 0
   WalkedNext SeesNone table (m, Go) steps = WalkedAt SeesNone table m.at steps
   WalkedNext SeesNone table (m, Done there) steps =
       WalkedSeeing table there.shape LoadedNoKey steps × CameBeyond there.bucket steps
@@ -294,7 +294,7 @@ module _ (g : Geometry) where
       followed-table m shape early (place_after place word).0 (place_after place word).1
 
   -- behind the load of the seed
-  hashed-walked : (SeesNone : ℕ → Did → Type 0) (m : LocateModel) (shape bucket : ℕ) (all : List Did)
+  hashed-walked : (SeesNone : ℕ → ℕ → Did → Type 0) (m : LocateModel) (shape bucket : ℕ) (all : List Did)
       → WalkedSeeing m.table shape LoadedNoKey all → WalkedNext SeesNone m.table (hashed m shape bucket) all
   hashed-walked SeesNone m shape bucket all walked =
       cond_both (is_nested shape) _ _ (λ next. WalkedNext SeesNone m.table next all) (λ t. walked) (λ f. (walked, tt))
@@ -326,15 +326,15 @@ module _ (g : Geometry) where
       record { walked = walked.walked; saw = early-no_key SeesNone early walked.walked.last.behind walked.saw }
 
   -- behind an entry
-  followed-walked : (SeesNone : ℕ → Did → Type 0) (m : LocateModel) (shape : ℕ) (early : Option ℕ) (place : PlaceModel)
+  followed-walked : (SeesNone : ℕ → ℕ → Did → Type 0) (m : LocateModel) (shape : ℕ) (early : Option ℕ) (place : PlaceModel)
       (next : Next Bucket) (all : List Did)
-      → WalkedSeeing m.table shape (LoadedEarly (SeesNone m.table) early) all × CameBehind early all
+      → WalkedSeeing m.table shape (LoadedEarly (SeesNone m.table shape) early) all × CameBehind early all
       → WalkedNext SeesNone m.table (entry_followed m shape early place next) all
   followed-walked SeesNone m shape early place Go all walked = walked
   followed-walked SeesNone m shape early place (Done (At word)) all walked =
-      (seeing-no_key (SeesNone m.table) m.table shape early all walked.0, tt)
+      (seeing-no_key (SeesNone m.table shape) m.table shape early all walked.0, tt)
   followed-walked SeesNone m shape early place (Done (Absent entry)) all walked =
-      (seeing-no_key (SeesNone m.table) m.table shape early all walked.0, walked.1)
+      (seeing-no_key (SeesNone m.table shape) m.table shape early all walked.0, walked.1)
 
   -- the table behind that was found is come to
   came-behind : (table : ℕ) (early : Option ℕ) (steps : List Did) (did : Did) → table < 8
@@ -349,8 +349,8 @@ module _ (g : Geometry) where
   came-longer (Some next) steps did came = CameTo-append next steps (did ∷ []) came
 
   -- where the operation loads the future of this table as none, this is known of it
-  abbrev pub TellsNone : (ℕ → Did → Type 0) → ℕ → LocateAt → Did → Type 0
-  TellsNone SeesNone table (locates.Early shape place) did = slot_of did.old ≡ None → SeesNone table did
+  abbrev pub TellsNone : (ℕ → ℕ → Did → Type 0) → ℕ → LocateAt → Did → Type 0
+  TellsNone SeesNone table (locates.Early shape place) did = slot_of did.old ≡ None → SeesNone table shape did
   TellsNone SeesNone table _ did = Unit {0}
 
   -- a load of a word of the slots is of no key
@@ -366,7 +366,7 @@ module _ (g : Geometry) where
   entry-place place within =
       subst (λ (h : Geometry). pages_at g ≤ place_of h (PageWord place.entry)) (sym within.geometry_same) (omega arith)
 
-  pub locate-walked : (SeesNone : ℕ → Did → Type 0) (mix : ℕ → ℕ → ℕ → ℕ) (port : ℕ) (m : LocateModel) (state : LocateAt)
+  pub locate-walked : (SeesNone : ℕ → ℕ → Did → Type 0) (mix : ℕ → ℕ → ℕ → ℕ) (port : ℕ) (m : LocateModel) (state : LocateAt)
       (steps : List Did) (did : Did) → IsLocateAtIn g state
       → m.table < 8 → did.op ≡ locate_plan_at m.geometry m.table state → TellsNone SeesNone m.table state did
       → WalkedAt SeesNone m.table state steps
@@ -381,7 +381,7 @@ module _ (g : Geometry) where
       (no_key-before g did place is (omega (arith, below, nodes_behind g))) walked)
   locate-walked SeesNone mix port m (locates.Early shape way) steps did here below is sees walked =
       let place = place_of g (Slot m.table FutureWord) in
-      let Sees = SeesNone m.table in
+      let Sees = SeesNone m.table shape in
       let early = slot_of did.old in
       let no_key = no_key-before g did place is (omega (arith, below, nodes_behind g)) in (
         WalkedSeeing-push m.table shape LoadedNoKey (LoadedEarly Sees early) steps did
@@ -391,13 +391,13 @@ module _ (g : Geometry) where
             (walked-came m.table shape steps walked.walked.last),
       )
   locate-walked SeesNone mix port m (locates.Entry shape early way) steps did here below is sees walked =
-      let Seen = LoadedEarly (SeesNone m.table) early in
+      let Seen = LoadedEarly (SeesNone m.table shape) early in
       let high = entry-place way here.nested_in.place_in in
       let order = parts_in_order g in
       followed-walked SeesNone m shape early (place_after way did.old).0 (place_after way did.old).1 (steps ++ did ∷ []) (
         WalkedSeeing-push m.table shape Seen Seen steps did
             (behind_slots did (entry_place way) is (omega (arith, high, order.page_map, order.nodes, order.pages)))
-            (λ behind seen. early-push (SeesNone m.table) early behind did (no_key-behind g did (entry_place way) is high) seen)
+            (λ behind seen. early-push (SeesNone m.table shape) early behind did (no_key-behind g did (entry_place way) is high) seen)
             walked.0,
         came-longer early steps did walked.1,
       )

@@ -12,7 +12,7 @@ use Rattle.rht_words.specs.declared.machine.Next.TheVariants.{Go, Done}
 use Rattle.rht_words.specs.Operations.{old_of}
 use Rattle.rht_words.specs.Places.{Slot, FutureWord, PageWord, place_of}
 use Rattle.rht_words.proofs.PlacesApart.{parts_in_order}
-use Rattle.rht_words.specs.Links.{page_of}
+use Rattle.rht_words.specs.Links.{page_of, slot_of}
 use Rattle.rht_arena.specs.TakeRun.{first_run}
 use Rattle.rht_nest.specs.Tables.{is_nested}
 use Rattle.rht_words.specs.declared.machine.Start.{Start}
@@ -38,8 +38,10 @@ use Rattle.rht_ghost.proofs.Theory.Wholes.{Whole}
 use Rattle.rht_ghost.proofs.Theory.Knowledge.{TableMeans}
 use Rattle.rht_ghost.proofs.Theory.Knowns.{OnWay}
 use Rattle.rht_ghost.proofs.Pieces.Locates.{known_locate}
-use Rattle.rht_core.proofs.Reasons.PagesMissed.{SawGrowing, SawGrown, SeesNoFuture, SeesMissing, begins-missing, missing-early, misses-page}
-use Rattle.rht_core.proofs.Tracing.TracedJobs.{Performs}
+use Rattle.rht_core.proofs.Reasons.PagesMissed.{SawGrowing, SawGrown, SeesMissing, begins-missing, missing-early, misses-page}
+use Rattle.rht_core.proofs.Tracing.TracedJobs.{Performs, StandsIn}
+use Rattle.rht_core.proofs.Events.BucketsThere.{BucketsStay}
+use Rattle.rht_core.proofs.Reasons.UnboundSeen.{SeesNoFuture, unbound-early}
 use Rattle.rht_core.proofs.Reasons.TablesWalked.{elsewhere, WalkedSeeing, WalkedSeeing-push, LoadedNoKey, LoadedEarly, WalkedAt, CameBeyond, WalkedNext, TellsNone, same_table, locate-walked}
 use Rattle.rht_core.proofs.Reasons.KeyLoads.{no_key-behind}
 use Rattle.rht_core.proofs.Reasons.ChainsCounted.{HasCounted-none}
@@ -51,28 +53,37 @@ module _ (env : Env) (words_at : ℕ → List ℕ) (mix : ℕ → ℕ → ℕ �
   abbrev Sees : BindAt → List Did → Type 0
   Sees = SawAt env words_at mix port
 
-  -- where the future of the table is loaded and names none, it is 0
+  -- what an operation tells that loads the future of a table as none
+  abbrev SeesNone : ℕ → ℕ → Did → Type 0
+  SeesNone = SeesNoFuture env.geometry words_at mix port
+
+  -- where the future of the table is loaded and names none, it is 0, and the port is bound nowhere or its bucket there
   early-told : (words : List ℕ) (G : Ghost) → Whole env mix (mem env mix words) G
-      → (m : LocateModel) (did : Did) → m.table < 8
+      → (m : LocateModel) (did : Did) → words ≡ words_at did.index → BucketsStay env mix words_at G did.index
+      → m.table < 8
       → m.geometry ≡ env.geometry → did.old ≡ old_of words did.op → (state : LocateAt)
       → did.op ≡ locate_plan_at m.geometry m.table state
       → TableMeans env mix G (known_locate port m.table state)
-      → TellsNone env.geometry (SeesNoFuture env.geometry) m.table state did
-  early-told words G whole m did within same found (locates.Early shape place) plan means = λ none.
+      → TellsNone env.geometry SeesNone m.table state did
+  early-told words G whole m did now stay within same found (locates.Early shape place) plan means = λ none.
       let loads : did.op ≡ Load (place_of env.geometry (Slot m.table FutureWord)) =
       plan ∙ ap (λ (h : Geometry). Load (place_of h (Slot m.table FutureWord))) same in
       let word : did.old ≡ mem env mix words (Slot m.table FutureWord) = found ∙ ap (old_of words) loads in
       let few = future_few env mix words G m.table whole means.shaped.passing.table in
       record {
-        word = record { there = (within, tt); loads = loads };
-        found = no_slot did.old (omega (arith, word, few)) none;
+        none = record {
+          word = record { there = (within, tt); loads = loads };
+          found = no_slot did.old (omega (arith, word, few)) none;
+        };
+        unbound = unbound-early env mix words G whole words_at did.index port m.table shape place None means now stay
+            (sym (ap slot_of word) ∙ none);
       }
-  early-told words G whole m did within same found _ plan means = tt
+  early-told words G whole m did now stay within same found _ plan means = tt
 
   -- what the operations behind the load of a table's shape see before that of an entry, where the future was
   -- this
-  abbrev SeesEntry : ℕ → Option ℕ → List Did → Type 0
-  SeesEntry table early behind = LoadedEarly env.geometry (SeesNoFuture env.geometry table) early behind
+  abbrev SeesEntry : ℕ → ℕ → Option ℕ → List Did → Type 0
+  SeesEntry table shape early behind = LoadedEarly env.geometry (SeesNone table shape) early behind
 
   -- and with the load of an entry that leads to no page
   abbrev SeesMissed : ℕ → ℕ → List Did → Type 0
@@ -98,7 +109,7 @@ module _ (env : Env) (words_at : ℕ → List ℕ) (mix : ℕ → ℕ → ℕ �
     load_missed : (shape : ℕ) (place : PlaceModel) → place.geometry ≡ env.geometry → did.op ≡ place_plan place
         → page_of place.geometry.pages did.old ≡ None
         → TableMeans env mix G (OnWay port m.table shape place None)
-        → WalkedSeeing env.geometry m.table shape (SeesEntry m.table None) steps
+        → WalkedSeeing env.geometry m.table shape (SeesEntry m.table shape None) steps
         → MissedAt m.table shape (buckets.Missing place None) (steps ++ did ∷ [])
     load_missed shape place same plan none on walked =
         let there = place_of env.geometry (PageWord place.entry) in
@@ -111,7 +122,7 @@ module _ (env : Env) (words_at : ℕ → List ℕ) (mix : ℕ → ℕ → ℕ �
         let order = parts_in_order env.geometry in
         let missing =
         misses-page env words_at mix words G whole port m.table shape place did on now same loads leads in
-        WalkedSeeing-push env.geometry m.table shape (SeesEntry m.table None) (SeesMissed m.table shape)
+        WalkedSeeing-push env.geometry m.table shape (SeesEntry m.table shape None) (SeesMissed m.table shape)
         steps did
         (elsewhere env.geometry did there loads
         (λ table below same. absurd (omega (arith, below, same, order.page_map, order.nodes, order.pages))))
@@ -121,7 +132,7 @@ module _ (env : Env) (words_at : ℕ → List ℕ) (mix : ℕ → ℕ → ℕ �
 
     entry-missed : (shape : ℕ) (early : Option ℕ) (place : PlaceModel) → place.geometry ≡ env.geometry
         → did.op ≡ place_plan place → TableMeans env mix G (OnWay port m.table shape place early)
-        → WalkedSeeing env.geometry m.table shape (SeesEntry m.table early) steps
+        → WalkedSeeing env.geometry m.table shape (SeesEntry m.table shape early) steps
         → (page : Option ℕ) → page_of place.geometry.pages did.old ≡ page
         → let next = entry_seen place page in
         MissedNext m.table (entry_followed m shape early next.0 next.1) (steps ++ did ∷ [])
@@ -137,7 +148,7 @@ module _ (env : Env) (words_at : ℕ → List ℕ) (mix : ℕ → ℕ → ℕ �
     located-missed : (state : LocateAt) → IsLocateAtIn env.geometry state
         → did.op ≡ locate_plan_at m.geometry m.table state
         → TableMeans env mix G (known_locate port m.table state)
-        → WalkedAt env.geometry (SeesNoFuture env.geometry) m.table state steps
+        → WalkedAt env.geometry SeesNone m.table state steps
         → MissedNext m.table (locate_after_at mix port m state did.old) (steps ++ did ∷ [])
     located-missed locates.Shape within plan means walked = tt
     located-missed (locates.Seed shape) within plan means walked =
@@ -162,11 +173,11 @@ module _ (env : Env) (words_at : ℕ → List ℕ) (mix : ℕ → ℕ → ℕ �
   bucket-saw attempt table shape (buckets.Missing place None) steps walked came missed = missed
 
   found-saw : (attempt : Attempt) (table : ℕ) (next : LocateModel × Next Located) (steps : List Did)
-      → next.0.table ≡ table → WalkedNext env.geometry (SeesNoFuture env.geometry) table next steps
+      → next.0.table ≡ table → WalkedNext env.geometry SeesNone table next steps
       → MissedNext table next steps
       → Sees (located env port attempt next.0 next.1) steps
   found-saw attempt table (after, Go) steps same walked missed =
-      subst (λ t. WalkedAt env.geometry (SeesNoFuture env.geometry) t after.at steps) (sym same) walked
+      subst (λ t. WalkedAt env.geometry SeesNone t after.at steps) (sym same) walked
   found-saw attempt table (after, Done there) steps same walked missed =
       subst (λ t. Sees (at_bucket env port attempt t there.shape there.bucket) steps) (sym same)
       (bucket-saw attempt table there.shape there.bucket steps walked.0 walked.1 missed)
@@ -174,7 +185,7 @@ module _ (env : Env) (words_at : ℕ → List ℕ) (mix : ℕ → ℕ → ℕ �
   pub locating-saw : (owner : ℕ) (once : Bool) (attempt : Attempt) (locate : LocateModel) (steps : List Did)
       (did : Did)
       → (does : Performs mix env (binds port owner once (at.Locating attempt locate)) did)
-      → does.words ≡ words_at did.index → Sees (at.Locating attempt locate) steps
+      → StandsIn mix env words_at (binds port owner once (at.Locating attempt locate)) did does → Sees (at.Locating attempt locate) steps
       → let next = locate_after mix port locate did.old in
       Sees (located env port attempt next.0 next.1) (steps ++ did ∷ [])
   locating-saw owner once attempt locate steps did does now saw =
@@ -182,14 +193,14 @@ module _ (env : Env) (words_at : ℕ → List ℕ) (mix : ℕ → ℕ → ℕ �
       let within = does.within.at_in.locate_in in
       found-saw attempt locate.table (locate_after mix port locate did.old) all
       (same_table env.geometry mix port locate locate.at did.old)
-      (locate-walked env.geometry (SeesNoFuture env.geometry) mix port locate locate.at steps did within.at_in
+      (locate-walked env.geometry SeesNone mix port locate locate.at steps did within.at_in
       within.table_in
       does.planned
-      (early-told does.words does.ghost does.whole locate did within.table_in within.geometry_same does.found
+      (early-told does.words does.ghost does.whole locate did now.now now.stay within.table_in within.geometry_same does.found
       locate.at does.planned
       does.knows.knowing.means.table)
       saw)
-      (located-missed does.words does.ghost does.whole locate steps did now does.found locate.at within.at_in
+      (located-missed does.words does.ghost does.whole locate steps did now.now does.found locate.at within.at_in
       does.planned
       does.knows.knowing.means.table saw)
 
@@ -197,7 +208,7 @@ module _ (env : Env) (words_at : ℕ → List ℕ) (mix : ℕ → ℕ → ℕ �
 
   -- behind the page it looks at the next entry, or in the bucket
   entered-saw : (attempt : Attempt) (table shape : ℕ) (start : Start PlaceModel ℕ) (all : List Did)
-      → WalkedSeeing env.geometry table shape (SeesEntry table None) all
+      → WalkedSeeing env.geometry table shape (SeesEntry table shape None) all
       → Sees (behind_page env port attempt table shape start) all
   entered-saw attempt table shape (starts.Running next) all seeing = (seeing, tt)
   entered-saw attempt table shape (starts.Done place) all seeing =
@@ -212,22 +223,7 @@ module _ (env : Env) (words_at : ℕ → List ℕ) (mix : ℕ → ℕ → ℕ �
       → Sees (grown env port attempt table shape place (record grow { at = r.0 }) r.1) all
   grown-saw attempt table shape place grow (state, Go) all seeing = seeing
   grown-saw attempt table shape place grow (state, Done None) all seeing =
-      let saw = seeing.saw in
-      inr (record {
-        table = table;
-        shape = shape;
-        walked = seeing.walked.last;
-        nested = saw.nested;
-        size_is = refl;
-        before = saw.before;
-        at = saw.at;
-        taking = saw.taking;
-        split = saw.split;
-        none = saw.none;
-        entry = saw.entry;
-        missing = saw.missing;
-        taken = saw.taken;
-      })
+      inr (record { table = table; shape = shape; walked = seeing.walked.last; size_is = refl; saw = seeing.saw.seen })
   grown-saw attempt table shape place grow (state, Done (Some page)) all seeing =
       entered-saw attempt table shape (entered place page) all
       (record {

@@ -18,7 +18,8 @@ use Rattle.rht_chain.specs.Lock.{lock_after}
 use Rattle.rht_nest.specs.Place.{place_after}
 use Rattle.rht_nest.specs.Tables.{is_nested}
 use Rattle.rht_nest.specs.Unmake.{unmake_after}
-use Rattle.rht_nest.specs.MakeLaws.{pages_for, SeesSlotTaken}
+use Rattle.rht_nest.specs.MakeLaws.{SeesSlotTaken}
+use Rattle.rht_core.specs.Due.{pages_due}
 use Rattle.rht_move.specs.declared.last_table.LastTableAt.{LastTableAt}
 use Rattle.rht_move.specs.declared.last_table.LastTableAt.TheVariants as seeks
 use Rattle.rht_move.specs.declared.rehash.Rehash.{Rehash}
@@ -181,8 +182,8 @@ module _ (env : Env) (words_at : ℕ → List ℕ) where
         room = elim saw.room [
           | inl slots ↦ inl (subst (AreSlotsTaken env.geometry) (sym more)
               (slots_taken-stay (map performed_of behind) (performed_of did) (ap op_place is) slots))
-          | inr runs ↦ inr (subst (AreRunsTaken env.geometry (pages_for size) 0 []) (sym more)
-              (runs_taken-stay env.geometry (pages_for size) 0 [] (map performed_of behind)
+          | inr runs ↦ inr (subst (AreRunsTaken env.geometry (pages_due size) 0 []) (sym more)
+              (runs_taken-stay env.geometry (pages_due size) 0 [] (map performed_of behind)
               (performed_of did) runs))
         ];
       }

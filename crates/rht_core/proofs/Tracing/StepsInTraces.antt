@@ -364,6 +364,12 @@ rising-within from (did ∷ steps) rising =
           (rising-within (did.index + 1) steps rising.1),
     )
 
+-- those behind one of them rise from there on
+pub rising-behind : (from : ℕ) (before : List Did) (at : Did) (behind : List Did) → IsRising from (before ++ at ∷ behind)
+    → IsRising (at.index + 1) behind
+rising-behind from [] at behind rising = rising.1
+rising-behind from (did ∷ before) at behind rising = rising-behind (did.index + 1) before at behind rising.1
+
 -- those before one of them have smaller numbers, and those behind it greater ones
 pub rising_around : (from : ℕ) (before : List Did) (at : Did) (behind : List Did) → IsRising from (before ++ at ∷ behind)
     → AllByRecursion (λ did. did.index < at.index) before × AllByRecursion (λ did. at.index < did.index) behind
