@@ -24,6 +24,8 @@ pub mod ToldHistories
 pub mod AnsweredInOrder
 -- some commands with how they ended
 pub mod WorkedAnswers
+-- a small run, with a history that fits it and five that do not
+pub mod WorkedFits
 -- binds of few ports in a table with buckets and nodes enough: no command about bindings is refused
 pub mod NeverRefused
 -- a resizing that was alone and answers that it moved made another table the current one

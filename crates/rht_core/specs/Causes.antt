@@ -1,6 +1,6 @@
 -- Why calls were answered as they were: a table of causes, by call and by reply, over the call's own operations.
--- Each row says what the operations of a call that ended with this reply have to show. A row with nothing to show says so; a
--- row that no call meets yet, and each reply that isn't one of the call's, can have no cause.
+-- Each row says what the operations of a call that ended with this reply have to show. A row with nothing to show says so. The
+-- last row of a table stands for all other replies, which aren't the call's and can have no cause. So it lets nothing pass.
 use Rattle.std.specs.Prelude.{◌≡◌, ◌↔◌, ℕ, ◌+◌, ◌-◌, ◌<◌, ◌≤◌, ◌⊎◌, Bool, true, List, ◌∷◌, ◌++◌, map}
 use Rattle.std.specs.List.{AllByRecursion, Any}
 use Rattle.rht_words.specs.declared.op.Op.TheVariants.{Load, Add, Sub}
@@ -12,9 +12,9 @@ use Rattle.rht_words.specs.Shapes.{unpacked, size_of}
 use Rattle.rht_policy.specs.Thresholds.{is_above_75}
 use Rattle.rht_policy.specs.Sizes.{most_ports}
 use Rattle.rht_model.specs.declared.history.Call.{Call}
-use Rattle.rht_model.specs.declared.history.Call.TheVariants.{Bind, Find, All, Release, Rebind, Walk, Work, Tidy, Count}
+use Rattle.rht_model.specs.declared.history.Call.TheVariants.{Bind, Find, All, Release, Rebind, Work, Count}
 use Rattle.rht_model.specs.declared.history.Reply.{Reply}
-use Rattle.rht_model.specs.declared.history.Reply.TheVariants.{Bound, Exists, Found, Missing, Listed, Released, Absent, Rebound, TooBig, Again, Busy, NoTable, NoNode, Pending, Elsewhere, Walked, Moved, Idle, Clear, Counted}
+use Rattle.rht_model.specs.declared.history.Reply.TheVariants.{Bound, Exists, Found, Missing, Listed, Released, Absent, Rebound, TooBig, Again, Busy, NoTable, NoNode, Elsewhere, Moved, Idle, Counted}
 use Rattle.rht_arena.specs.Laws.{SeesTaken}
 use Rattle.rht_core.specs.declared.event.Event.{Event}
 use Rattle.rht_core.specs.Runs.{IsAdmitted}
@@ -28,47 +28,12 @@ use Rattle.rht_core.specs.WorkCauses.{SawElsewhere, SawNoTableDue, SawNothingDue
 abbrev pub FindCause : Reply → Type 0
 FindCause (Found owner) = Unit {0}
 FindCause Missing = Unit {0}
-FindCause (Bound kick) = ⊥
-FindCause (Exists owner) = ⊥
-FindCause (Listed len) = ⊥
-FindCause (Released kick) = ⊥
-FindCause Absent = ⊥
-FindCause Rebound = ⊥
-FindCause (TooBig count) = ⊥
-FindCause (Again table) = ⊥
-FindCause (Busy root last) = ⊥
-FindCause (NoTable size) = ⊥
-FindCause NoNode = ⊥
-FindCause (Pending caller section) = ⊥
-FindCause Elsewhere = ⊥
-FindCause (Walked len next) = ⊥
-FindCause (Moved again) = ⊥
-FindCause Idle = ⊥
-FindCause (Clear returned) = ⊥
-FindCause (Counted count) = ⊥
+FindCause _ = ⊥
 
 -- why a listing ended with this reply: it has nothing to show for its owners
 abbrev pub AllCause : Reply → Type 0
 AllCause (Listed len) = Unit {0}
-AllCause (Found owner) = ⊥
-AllCause Missing = ⊥
-AllCause (Bound kick) = ⊥
-AllCause (Exists owner) = ⊥
-AllCause (Released kick) = ⊥
-AllCause Absent = ⊥
-AllCause Rebound = ⊥
-AllCause (TooBig count) = ⊥
-AllCause (Again table) = ⊥
-AllCause (Busy root last) = ⊥
-AllCause (NoTable size) = ⊥
-AllCause NoNode = ⊥
-AllCause (Pending caller section) = ⊥
-AllCause Elsewhere = ⊥
-AllCause (Walked len next) = ⊥
-AllCause (Moved again) = ⊥
-AllCause Idle = ⊥
-AllCause (Clear returned) = ⊥
-AllCause (Counted count) = ⊥
+AllCause _ = ⊥
 
 -- the call found the bit of every node clear
 abbrev pub SawNoNode : Env → Past → Type 0
@@ -80,23 +45,7 @@ abbrev pub RebindCause : Env → Past → Reply → Type 0
 RebindCause env past Rebound = Unit {0}
 RebindCause env past Absent = Unit {0}
 RebindCause env past NoNode = SawNoNode env past
-RebindCause env past (Found owner) = ⊥
-RebindCause env past Missing = ⊥
-RebindCause env past (Bound kick) = ⊥
-RebindCause env past (Exists owner) = ⊥
-RebindCause env past (Listed len) = ⊥
-RebindCause env past (Released kick) = ⊥
-RebindCause env past (TooBig count) = ⊥
-RebindCause env past (Again table) = ⊥
-RebindCause env past (Busy root last) = ⊥
-RebindCause env past (NoTable size) = ⊥
-RebindCause env past (Pending caller section) = ⊥
-RebindCause env past Elsewhere = ⊥
-RebindCause env past (Walked len next) = ⊥
-RebindCause env past (Moved again) = ⊥
-RebindCause env past Idle = ⊥
-RebindCause env past (Clear returned) = ⊥
-RebindCause env past (Counted count) = ⊥
+RebindCause env past _ = ⊥
 
 -- why a resizing ended with this reply: another caller was at work, a table was due that couldn't be had, nothing was due, or another
 -- table became the current one, or the move stopped before a nested one. `words_at` gives the words before the event with each number
@@ -105,22 +54,7 @@ WorkCause env words_at past Elsewhere = SawElsewhere env.geometry past.steps
 WorkCause env words_at past (Moved again) = SawMoved env words_at again past.steps
 WorkCause env words_at past Idle = SawNothingDue env past.steps
 WorkCause env words_at past (NoTable size) = SawNoTableDue env size past.steps
-WorkCause env words_at past (Found owner) = ⊥
-WorkCause env words_at past Missing = ⊥
-WorkCause env words_at past (Bound kick) = ⊥
-WorkCause env words_at past (Exists owner) = ⊥
-WorkCause env words_at past (Listed len) = ⊥
-WorkCause env words_at past (Released kick) = ⊥
-WorkCause env words_at past Absent = ⊥
-WorkCause env words_at past Rebound = ⊥
-WorkCause env words_at past (TooBig count) = ⊥
-WorkCause env words_at past (Again table) = ⊥
-WorkCause env words_at past (Busy root last) = ⊥
-WorkCause env words_at past NoNode = ⊥
-WorkCause env words_at past (Pending caller section) = ⊥
-WorkCause env words_at past (Walked len next) = ⊥
-WorkCause env words_at past (Clear returned) = ⊥
-WorkCause env words_at past (Counted count) = ⊥
+WorkCause env words_at past _ = ⊥
 
 -- the operation raised the count of ports
 abbrev pub IsRaise : Geometry → Did → Type 0
@@ -164,24 +98,7 @@ pub record KicksOnRelease (env : Env) (kick : Bool) (steps : List Did) : Type 0 
 abbrev pub ReleaseCause : Env → Past → Reply → Type 0
 ReleaseCause env past (Released kick) = KicksOnRelease env kick past.steps
 ReleaseCause env past Absent = Unit {0}
-ReleaseCause env past (Found owner) = ⊥
-ReleaseCause env past Missing = ⊥
-ReleaseCause env past (Bound kick) = ⊥
-ReleaseCause env past (Exists owner) = ⊥
-ReleaseCause env past (Listed len) = ⊥
-ReleaseCause env past Rebound = ⊥
-ReleaseCause env past (TooBig count) = ⊥
-ReleaseCause env past (Again table) = ⊥
-ReleaseCause env past (Busy root last) = ⊥
-ReleaseCause env past (NoTable size) = ⊥
-ReleaseCause env past NoNode = ⊥
-ReleaseCause env past (Pending caller section) = ⊥
-ReleaseCause env past Elsewhere = ⊥
-ReleaseCause env past (Walked len next) = ⊥
-ReleaseCause env past (Moved again) = ⊥
-ReleaseCause env past Idle = ⊥
-ReleaseCause env past (Clear returned) = ⊥
-ReleaseCause env past (Counted count) = ⊥
+ReleaseCause env past _ = ⊥
 
 module _ (M : Type 0) (mix : ℕ → ℕ → ℕ → ℕ) where
   -- the operation loaded this count of ports, which is as many as the table may hold or more, and so many there were
@@ -207,25 +124,7 @@ module _ (M : Type 0) (mix : ℕ → ℕ → ℕ → ℕ) where
   -- why a reading of the count ended with this reply
   abbrev pub CountCause : Env → List Event → ℕ → Past → Reply → Type 0
   CountCause env events c past (Counted count) = Any (SawCount M mix env events c count) past.steps
-  CountCause env events c past (Found owner) = ⊥
-  CountCause env events c past Missing = ⊥
-  CountCause env events c past (Bound kick) = ⊥
-  CountCause env events c past (Exists owner) = ⊥
-  CountCause env events c past (Listed len) = ⊥
-  CountCause env events c past (Released kick) = ⊥
-  CountCause env events c past Absent = ⊥
-  CountCause env events c past Rebound = ⊥
-  CountCause env events c past (TooBig count) = ⊥
-  CountCause env events c past (Again table) = ⊥
-  CountCause env events c past (Busy root last) = ⊥
-  CountCause env events c past (NoTable size) = ⊥
-  CountCause env events c past NoNode = ⊥
-  CountCause env events c past (Pending caller section) = ⊥
-  CountCause env events c past Elsewhere = ⊥
-  CountCause env events c past (Walked len next) = ⊥
-  CountCause env events c past (Moved again) = ⊥
-  CountCause env events c past Idle = ⊥
-  CountCause env events c past (Clear returned) = ⊥
+  CountCause env events c past _ = ⊥
 
   -- why a bind of this port ended with this reply; in a table of lists none ends with `Exists`
   abbrev pub BindCause : Env → List Event → ℕ → ℕ → Past → Reply → Type 0
@@ -238,19 +137,7 @@ module _ (M : Type 0) (mix : ℕ → ℕ → ℕ → ℕ) where
   BindCause env events c port past (NoTable size) =
       SawNoTable M mix env events c port size past.steps
       ⊎ SawNoPage env.geometry (words_before M mix env events) mix port size past.steps
-  BindCause env events c port past (Found owner) = ⊥
-  BindCause env events c port past Missing = ⊥
-  BindCause env events c port past (Listed len) = ⊥
-  BindCause env events c port past (Released kick) = ⊥
-  BindCause env events c port past Absent = ⊥
-  BindCause env events c port past Rebound = ⊥
-  BindCause env events c port past (Pending caller section) = ⊥
-  BindCause env events c port past Elsewhere = ⊥
-  BindCause env events c port past (Walked len next) = ⊥
-  BindCause env events c port past (Moved again) = ⊥
-  BindCause env events c port past Idle = ⊥
-  BindCause env events c port past (Clear returned) = ⊥
-  BindCause env events c port past (Counted count) = ⊥
+  BindCause env events c port past _ = ⊥
 
   -- why a call ended with this reply; a call of which there is no machine yet never ends
   abbrev pub CauseOf : Env → List Event → ℕ → Past → Call → Reply → Type 0
@@ -259,10 +146,9 @@ module _ (M : Type 0) (mix : ℕ → ℕ → ℕ → ℕ) where
   CauseOf env events c past (All port) reply = AllCause reply
   CauseOf env events c past (Release port owner) reply = ReleaseCause env past reply
   CauseOf env events c past (Rebind port owner new) reply = RebindCause env past reply
-  CauseOf env events c past (Walk from limit) reply = ⊥
   CauseOf env events c past Work reply = WorkCause env (words_before M mix env events) past reply
-  CauseOf env events c past Tidy reply = ⊥
   CauseOf env events c past Count reply = CountCause env events c past reply
+  CauseOf env events c past _ reply = ⊥
 
   -- a call that has ended has the cause of its reply
   abbrev pub HasCause : Env → List Event → ℕ → Past → Type 0

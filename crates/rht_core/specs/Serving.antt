@@ -7,7 +7,7 @@ use Rattle.rht_model.specs.declared.bindings.Closed.{Closed}
 use Rattle.rht_model.specs.declared.history.Call.{Call}
 use Rattle.rht_model.specs.declared.history.Call.TheVariants.{Work}
 use Rattle.rht_model.specs.declared.history.Reply.{Reply}
-use Rattle.rht_model.specs.declared.history.Reply.TheVariants.{Bound, Exists, Found, Missing, Listed, Released, Absent, Rebound, TooBig, Again, Busy, NoTable, NoNode, Pending, Elsewhere, Walked, Moved, Idle, Clear, Counted}
+use Rattle.rht_model.specs.declared.history.Reply.TheVariants.{Bound, Released, Busy, NoTable, Moved}
 use Rattle.rht_model.specs.declared.finished.Finished.{Finished}
 use Rattle.rht_model.specs.Endings.{Ending, ended_with}
 use Rattle.rht_core.specs.declared.event.Event.{Event}
@@ -25,22 +25,7 @@ asks_for_work call (Bound kick) = kick
 asks_for_work call (Released kick) = kick
 asks_for_work call (Busy root last) = true
 asks_for_work call (NoTable size) = is_bind call
-asks_for_work call (Exists owner) = false
-asks_for_work call (Found owner) = false
-asks_for_work call Missing = false
-asks_for_work call (Listed len) = false
-asks_for_work call Absent = false
-asks_for_work call Rebound = false
-asks_for_work call (TooBig count) = false
-asks_for_work call (Again table) = false
-asks_for_work call NoNode = false
-asks_for_work call (Pending caller section) = false
-asks_for_work call Elsewhere = false
-asks_for_work call (Walked len next) = false
-asks_for_work call (Moved again) = false
-asks_for_work call Idle = false
-asks_for_work call (Clear returned) = false
-asks_for_work call (Counted count) = false
+asks_for_work call _ = false
 
 -- these calls are `work`, at least once: each answered that it moved and is to be made again, but the last one, which answered otherwise
 abbrev pub AreWorks : List Finished → Type 0

@@ -12,8 +12,6 @@ use Rattle.rht_words.proofs.Memory.{Memory}
 use Rattle.rht_words.proofs.LinksRead.{links_tell_apart}
 use Rattle.rht_words.proofs.Members.{in-middle}
 use Rattle.rht_nest.specs.Locate.{LocateModel, locate_new, locate_plan, locate_after}
-use Rattle.rht_nest.specs.declared.locate.LocateAt.{LocateAt}
-use Rattle.rht_nest.specs.declared.locate.LocateAt.TheVariants as locates
 use Rattle.rht_nest.specs.declared.locate.Located.{Located}
 use Rattle.rht_nest.specs.declared.locate.LocatedBucket.{LocatedBucket}
 use Rattle.rht_nest.specs.declared.locate.LocatedBucket.TheVariants as buckets
@@ -30,7 +28,6 @@ use Rattle.rht_model.specs.Answers.{plain}
 use Rattle.rht_model.specs.Answers as answers
 use Rattle.rht_find.specs.Find.{plan_at, after_at, located, locating, bucket_or_early, found_or_not, probed, unlocking, next_table, list_followed, IsFindAtIn}
 use Rattle.rht_find.specs.FindHeld.{held_of_find}
-use Rattle.rht_find.specs.FindHeld as finds
 use Rattle.rht_nest.specs.Early.{early_of_locate}
 use Rattle.rht_find.specs.declared.find.FindAt.{FindAt}
 use Rattle.rht_find.specs.declared.find.FindAt.TheVariants as at
@@ -38,7 +35,7 @@ use Rattle.rht_ghost.proofs.Theory.Ghosts.{Ghost}
 use Rattle.rht_ghost.proofs.Theory.Wholes.{word_index, Whole}
 use Rattle.rht_ghost.proofs.Theory.Knowns.{KnownTable, Nowhere, Passes, AtHome, KnownBucket, Unlocked, Locks, Missed, Member, Listing, Known, knows_plain}
 use Rattle.rht_ghost.proofs.Theory.Knowledge.{plainly, Knowing}
-use Rattle.rht_ghost.proofs.Theory.Answering.{KeepsAnswer, IsLegalOn, IsRight, KnowsEarly, TellsOrRecalls, none_early, keeps, learns, recalls}
+use Rattle.rht_ghost.proofs.Theory.Answering.{KeepsAnswer, IsLegalOn, IsRight, TellsOrRecalls, none_early, keeps, learns, recalls}
 use Rattle.rht_ghost.proofs.Theory.Steps.{answered-map, Holding, mem, owners, owners_in, SilentStep, silent-map, StepWhere, answered_where, reads, HoldsNoneEarly, still_has}
 use Rattle.rht_ghost.proofs.Pieces.Locates.{known_locate, IsThereFor, first_passed, locate_step, LocateKnows, LocatedKnows, LocateSays, Recalls, locate_says, FutureIs, future_is}
 use Rattle.rht_ghost.proofs.Pieces.Locks.{unlock_step}
@@ -53,11 +50,6 @@ at_lock lock = record held.holds_nothing { lock = lock }
 -- what it knows of the way to a bucket, and of the bucket that it has locked
 abbrev knows_of : KnownTable → KnownBucket → Known
 knows_of table bucket = knows_plain None table bucket
-
--- what it knows early is what any call does whose port is bound nowhere
-early_is : (at : LocateAt) → finds.early_of_locate at ≡ early_of_locate (plain Missing) at
-early_is (locates.Entry shape None place) = refl
-early_is _ = refl
 
 module _ (port : ℕ) where
   abbrev at_home : ℕ → Locked → KnownTable
@@ -183,11 +175,11 @@ module _ (env : Env) (mix : ℕ → ℕ → ℕ → ℕ) (c : ℕ) (port : ℕ) 
         λ early. IsThereFor early (known_locate port locate.table locate.at) M in
         let kind = env.config.kind in
         let absent = plain Missing in
-        let early = finds.early_of_locate locate.at in
+        let early = early_of_locate (plain Missing) locate.at in
         answered_where env mix (There early) ⊥ c call words G (locate_plan locate) (before locate)
         (before locate) (Some absent) None (FindNext (at.Locating next, Done Missing))
         (subst (λ e. TellsOrRecalls kind c call None e (There e) now None (Some absent))
-        (sym (early_is locate.at ∙ says.known_early))
+        (sym says.known_early)
         (recalls kind c call None (There (Some absent)) now absent missing_right refl
         (subst (λ e. ¬ There e) says.known_early says.missing)))
         (none_early kind c call (There early) ⊥ now early None refl) (still_has refl)
@@ -205,15 +197,12 @@ module _ (env : Env) (mix : ℕ → ℕ → ℕ → ℕ) (c : ℕ) (port : ℕ) 
         let then_there : Option answers.Answer → Type 0 =
         λ early. IsThereFor early (known_locate port next.table next.at)
         (mem env mix (applied words (locate_plan locate))) in
-        let KnowsThem : Option answers.Answer → Option answers.Answer → Type 0 =
-        λ was is. KnowsEarly env.config.kind c call (now_there was) (then_there is) now was is in
         let Knows : Memory → Ghost → Type 0 = FindNext (at.Locating next, Go) in
-        let was = finds.early_of_locate locate.at in
-        let is = finds.early_of_locate next.at in
+        let was = early_of_locate (plain Missing) locate.at in
+        let is = early_of_locate (plain Missing) next.at in
         answered_where env mix (now_there was) (then_there is) c call words G (locate_plan locate)
         (before locate) (before locate) None is Knows (inl (inl refl))
-        (subst (λ e. KnowsThem e is) (sym (early_is locate.at))
-        (subst (KnowsThem (early_of_locate (plain Missing) locate.at)) (sym (early_is next.at)) says))
+        says
         (still_has refl)
         (silent-map env mix (λ M' G' w k. record { knowing = record { only = k.only; means = k.means }; fits = tt }) step)
     found_place locate (next, Done there) step says = found_bucket locate next there.shape there.bucket says step

@@ -1,11 +1,10 @@
 -- What a look-up holds in each of its states: the lock of a bucket, and its answer once it is known. On its way over the entries of a
 -- nested table, from the load of a future on that leads to no table, it knows early what it will answer should the bucket be missing.
-use Rattle.std.specs.Prelude.{ℕ, Option, None, Some, option_map}
+use Rattle.std.specs.Prelude.{ℕ, Option, Some, option_map}
 use Rattle.rht_words.specs.Held.{Held, holds_nothing, ended_with}
 use Rattle.rht_words.specs.declared.machine.Next.{Next}
 use Rattle.rht_words.specs.declared.machine.Next.TheVariants.{Go, Done}
-use Rattle.rht_nest.specs.declared.locate.LocateAt.{LocateAt}
-use Rattle.rht_nest.specs.declared.locate.LocateAt.TheVariants as locates
+use Rattle.rht_nest.specs.Early.{early_of_locate}
 use Rattle.rht_chain.specs.Probe.{lock_of_probe}
 use Rattle.rht_chain.specs.Locked.{answer_behind}
 use Rattle.rht_model.specs.Answers.{Answer, plain}
@@ -19,18 +18,10 @@ use Rattle.rht_find.specs.declared.find.FindAt.TheVariants as at
 abbrev pub holds_lock : Option ℕ → Held Answer
 holds_lock lock = record holds_nothing { lock = lock }
 
--- its answer should the bucket be missing, where no table was behind
-abbrev pub early_of_locate : LocateAt → Option Answer
-early_of_locate locates.Shape = None
-early_of_locate (locates.Seed shape) = None
-early_of_locate (locates.Early shape place) = None
-early_of_locate (locates.Entry shape None place) = Some (plain Missing)
-early_of_locate (locates.Entry shape (Some next) place) = None
-
 -- what it holds in a state
 abbrev pub held_of_find : FindAt → Held Answer
 held_of_find at.CurrentTable = holds_nothing
-held_of_find (at.Locating locate) = record holds_nothing { early = early_of_locate locate.at }
+held_of_find (at.Locating locate) = record holds_nothing { early = early_of_locate (plain Missing) locate.at }
 held_of_find (at.Probing table probe) = holds_lock (lock_of_probe probe.at)
 held_of_find (at.Future table bucket) = holds_lock (Some bucket.place)
 held_of_find (at.FirstOwner table bucket node) = holds_lock (Some bucket.place)

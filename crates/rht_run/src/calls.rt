@@ -81,15 +81,15 @@ impl<M: Mix> Table<M> {
     ///
     /// It is refused as `NoNode` where it found the bit of each node clear, each at some operation of its
     /// own; and as `TooBig` where it loaded that count, which is as many ports as the table may hold or
-    /// more. The other refusals come where the last table that it walked is full: it counted 16 nodes or
-    /// more in a bucket of it, or loaded a count above its size, and it may grow. `Again` names the table
-    /// that this call attached behind that one, or found there as its future; for the other two it found
-    /// none there. `Busy` comes where another table is the current one, and by the count the full one
-    /// isn't due to grow. `NoTable` comes where it found each slot taken, or each run of pages in its
-    /// turn and then, from 128 buckets on, each page, for the size that was wanted: twice that of the
-    /// full table where this is due to grow by the count, and otherwise its own. It also comes, with
-    /// the last table's own size, where that table is nested, it found the page of the port's bucket
-    /// missing there, and found each page taken.
+    /// more. The other refusals come where the last table that it walked is full: it counted 16 nodes
+    /// or more in the port's own bucket of it, or loaded a count above its size, and it may grow.
+    /// `Again` names the table that this call attached behind that one, or found there as its future;
+    /// for the other two it found none there. `Busy` comes where another table is the current one, and
+    /// by the count the full one isn't due to grow. `NoTable` comes where it found each slot taken, or
+    /// each run of pages in its turn and then, from 128 buckets on, each page, for the size that was
+    /// wanted: twice that of the full table where this is due to grow by the count, and otherwise its
+    /// own. It also comes, with the last table's own size, where that table is nested, it found the
+    /// page of the port's bucket missing there, and found each page taken.
     pub fn bind_once<R: Wait>(&self, rt: &R, pass: &mut Pass<M>, port: Port, owner: u32) -> Reply
         requires pass { IsPassOf M.mix_of self.now pass.old }
         requires idle { is_idle pass.old.local ≡ true }
