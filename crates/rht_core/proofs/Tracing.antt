@@ -16,3 +16,5 @@ pub mod StepsInTraces
 pub mod LoneCalls
 -- in every run each call that has ended has a reply of its kind
 pub mod RepliesInRuns
+-- and what of jobs where something else is kept
+pub mod JobsBeside

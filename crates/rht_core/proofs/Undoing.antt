@@ -20,6 +20,8 @@ pub mod PastRefusal
 pub mod StoredShapes
 -- what a job holds and does that may still be refused, or end without a change
 pub mod RefusableJobs
+-- which call enters a page
+pub mod EnteringBinds
 -- what it does with a lock and no node
 pub mod LockedJobs
 -- in every run a call that changes nothing by its reply has undone what it did

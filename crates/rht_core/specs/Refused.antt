@@ -8,11 +8,11 @@ use Rattle.std.specs.Int.{bit_at}
 use Rattle.rht_words.specs.declared.op.Op.TheVariants.{Store, Exchange, Or}
 use Rattle.rht_words.specs.declared.env.Env.{Env}
 use Rattle.rht_words.specs.declared.geometry.Geometry.{Geometry}
-use Rattle.rht_words.specs.Links.{table_of, entry_of}
+use Rattle.rht_words.specs.Links.{entry_of}
 use Rattle.rht_words.specs.Maps.{bit_of}
 use Rattle.rht_words.specs.Members.{In}
 use Rattle.rht_words.specs.Operations.{op_place, word_after}
-use Rattle.rht_words.specs.Places.{CurrentTable, NextSerial, Slot, SlotWord, ShapeWord, FutureWord, StateWord, PageMap, PageWord, Node, NodeWord, words_in, place_of, word_at}
+use Rattle.rht_words.specs.Places.{NextSerial, Slot, SlotWord, ShapeWord, FutureWord, StateWord, PageMap, PageWord, Node, NodeWord, words_in, place_of}
 use Rattle.rht_words.specs.Shapes.{unpacked, size_of}
 use Rattle.rht_model.specs.declared.history.Call.{Call}
 use Rattle.rht_model.specs.declared.history.Call.TheVariants.{Bind}
@@ -25,9 +25,9 @@ use Rattle.rht_nest.specs.Place.{nested_place, missing_at}
 use Rattle.rht_nest.specs.Tables.{is_nested, pages_of_shape}
 use Rattle.rht_core.specs.declared.event.Event.{Event}
 use Rattle.rht_core.specs.Runs.{IsAdmitted}
-use Rattle.rht_stands.specs.StandsFor.{tables_from, in_force, page_word, shape_of}
+use Rattle.rht_stands.specs.StandsFor.{page_word, shape_of}
 use Rattle.rht_core.specs.Traces.{Did, Past, performed_of, traced_of}
-use Rattle.rht_core.specs.Seen.{words_before}
+use Rattle.rht_core.specs.Seen.{CameTo, words_before}
 use Rattle.rht_core.specs.ResizeCauses.{Attaches}
 use Rattle.rht_core.specs.RunHistories.{ChangesBindings}
 pub use Rattle.rht_words.specs.TableWords.{IsTableWord}
@@ -130,50 +130,44 @@ pub record IsOfAttached (g : Geometry) (steps : List Did) (place bit : ℕ) : Ty
   pub attached : AttachedWith g table slot shape steps
   pub of_it : (place ≡ place_of g (Slot table FutureWord)) ⊎ IsOfSlot g slot place ⊎ IsOfPages g shape place bit
 
--- A page is entered behind an entry of a nested table that leads to none. By the words before that the table is in force, or was: futures
--- lead to it from the current table, or from it to the current one. And the way to one of its buckets ends at the entry.
-module _ (g : Geometry) (words : List ℕ) where
-  abbrev pub IsOrWasInForce : ℕ → Type 0
-  IsOrWasInForce table =
-      In table (in_force g words) ⊎ In (table_of (word_at g words CurrentTable)) (tables_from g words 8 (Some table))
+-- The operations of a call came to a nested table. By these words the way to one of its buckets ends at this entry, which leads to no page.
+-- To have come to it is asked since the words of a slot alone don't tell a table that is there from one that was.
+pub record IsMissingEntry (g : Geometry) (words : List ℕ) (entry : ℕ) (steps : List Did) : Type 0 where
+  pub table : ℕ
+  pub table_in : table < 8
+  pub came : CameTo g table steps
+  pub nested : is_nested (shape_of g words table) ≡ true
+  pub bucket : ℕ
+  pub within : bucket < size_of (unpacked (shape_of g words table))
+  pub ends : missing_at (page_word g words) (nested_place g (shape_of g words table) bucket) ≡ Some entry
 
-  -- the way to a bucket of such a table, whose slot isn't free, ends at this entry, which leads to no page
-  pub record IsMissingEntry (entry : ℕ) : Type 0 where
-    pub table : ℕ
-    pub table_in : table < 8
-    pub taken : word_at g words (Slot table StateWord) ≢ 0
-    pub known : IsOrWasInForce table
-    pub nested : is_nested (shape_of g words table) ≡ true
-    pub bucket : ℕ
-    pub within : bucket < size_of (unpacked (shape_of g words table))
-    pub ends : missing_at (page_word g words) (nested_place g (shape_of g words table) bucket) ≡ Some entry
+-- the operation puts this page behind this entry, which led to none
+pub record PutsPage (g : Geometry) (entry page : ℕ) (did : Did) : Type 0 where
+  pub page_in : page < g.pages
+  pub entry_in : entry < 64 * g.pages
+  pub exchanges : did.op ≡ Exchange (place_of g (PageWord entry)) 0 (entry_of page)
+  pub found : did.old ≡ 0
 
-  -- the operation entered this page there
-  pub record EntersPage (entry page : ℕ) (did : Did) : Type 0 where
-    pub page_in : page < g.pages
-    pub entry_in : entry < 64 * g.pages
-    pub missing : IsMissingEntry entry
-    pub exchanges : did.op ≡ Exchange (place_of g (PageWord entry)) 0 (entry_of page)
-    pub found : did.old ≡ 0
-
--- one of these operations took this page, and none behind it gave it back or entered it
-pub record HasTaken (g : Geometry) (words_at : ℕ → List ℕ) (page : ℕ) (steps : List Did) : Type 0 where
+-- one of these operations took this page, and none behind it gave it back or put it behind an entry
+pub record HasTaken (g : Geometry) (page : ℕ) (steps : List Did) : Type 0 where
   pub before : List Did
   pub at : Did
   pub behind : List Did
   pub split : steps ≡ before ++ at ∷ behind
   pub takes : TakesPage g page (performed_of at)
   pub kept : AllByRecursion (λ did. ¬ GivesPage g page (performed_of did)) behind
-  pub unentered : AllByRecursion (λ did. (entry : ℕ) → ¬ EntersPage g (words_at did.index) entry page did) behind
+  pub unentered : AllByRecursion (λ did. (entry : ℕ) → ¬ PutsPage g entry page did) behind
 
--- one of these operations entered the page there, when those before it had taken the page, and neither given it back nor entered it
+-- One of these operations entered the page there. Those before it had taken the page, and neither given it back nor entered it. And they
+-- had come to a table in which the page was missing.
 pub record EnteredWhenTaken (g : Geometry) (words_at : ℕ → List ℕ) (entry page : ℕ) (steps : List Did) : Type 0 where
   pub before : List Did
   pub at : Did
   pub behind : List Did
   pub split : steps ≡ before ++ at ∷ behind
-  pub enters : EntersPage g (words_at at.index) entry page at
-  pub took : HasTaken g words_at page before
+  pub enters : PutsPage g entry page at
+  pub missing : IsMissingEntry g (words_at at.index) entry before
+  pub took : HasTaken g page before
 
 -- what is left of a page that these operations took and then entered: its entry, and its bit
 pub record IsOfEntered (g : Geometry) (words_at : ℕ → List ℕ) (steps : List Did) (place bit : ℕ) : Type 0 where

@@ -229,9 +229,9 @@ pub fn at_rest<M: Mix>()
 /// that it attached: the futures that lead to them, the words of their slots, and the bits of their pages, by
 /// the last shape that it stored for each before attaching it; and the entries of nested tables behind which
 /// it entered pages that it had taken, and neither given back nor entered before, with the bits of these
-/// pages. By the words before, the table of such an entry was in force or had been, and the way to one of its
-/// buckets ended there. It doesn't say what stands in these words, nor that a refused bind attached or
-/// entered none.
+/// pages. Its operations had come to the table of such an entry, and by the words before the way to one of
+/// that table's buckets ended there. It doesn't say what stands in these words, nor that a refused bind
+/// attached or entered none.
 pub fn refused<M: Mix>()
     ensures { Refused M M.mix_of }
 {}
@@ -239,8 +239,8 @@ pub fn refused<M: Mix>()
 /// In every run each call that has ended, whatever its reply, has let go of the work lock, and of the lock
 /// of each bucket: it turned the lowest bit of the word an even number of times. The one exception is the
 /// word of an entry at which the call, a bind, entered a page that it had taken; by the words before, the
-/// entry was one of a nested table and led to none. It says nothing of a call in progress, nor that a lock
-/// is ever given back.
+/// entry was one of a nested table to which the call had come, and led to none. It says nothing of a call in
+/// progress, nor that a lock is ever given back.
 pub fn let_go<M: Mix>()
     ensures { LetGo M M.mix_of }
 {}

@@ -18,7 +18,7 @@ use Rattle.rht_core.specs.ResizeCauses.{SeesRunLost, AreRunsTaken, IsGivenBack, 
 use Rattle.rht_core.proofs.Reasons.PagesTaken.{load_takes_none}
 
 -- what is so of none of these is so of no one
-none_is : {X : Type 0} (P : X → Type 0) (xs : List X) → AllByRecursion (λ x. P x → ⊥) xs → Any P xs → ⊥
+pub none_is : {X : Type 0} (P : X → Type 0) (xs : List X) → AllByRecursion (λ x. P x → ⊥) xs → Any P xs → ⊥
 none_is P [] none (k, x, within, is, p) = absurd (omega (arith, within))
 none_is P (y ∷ xs) none (zero, x, within, is, p) = none.0 (subst P (sym is) p)
 none_is P (y ∷ xs) none (suc k, x, within, is, p) = none_is P xs none.1 (k, x, omega (arith, within), is, p)

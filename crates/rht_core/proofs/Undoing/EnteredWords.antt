@@ -1,21 +1,22 @@
--- What the words say of an entry behind which a page is entered: its table is in force or was, and the way to some bucket ends there. No
--- word of a bucket is such an entry.
-use Rattle.std.proofs.Common.{◌≡◌, ◌≢◌, ℕ, ◌/◌, ◌<◌, List, Some, true, false, sym, ◌∙◌, ap, subst, inl, inr, arith}
-use Rattle.std.proofs.lemmas.Bool.{lt-ltb, le-ltb, cases_lt, both_ways}
+-- What the words say of an entry behind which a page is entered: the way to some bucket of its table ends there. No word of a bucket is
+-- such an entry.
+use Rattle.std.proofs.Common.{◌≡◌, ℕ, ◌/◌, ◌<◌, List, Some, true, false, sym, ◌∙◌, ap, subst, inl, inr, arith}
+use Rattle.std.proofs.lemmas.Bool.{lt-ltb, le-ltb, both_ways}
 use Rattle.rht_words.specs.declared.env.Env.{Env}
-use Rattle.rht_words.specs.Places.{Slot, ShapeWord, StateWord, PageWord}
+use Rattle.rht_words.specs.Places.{Slot, ShapeWord, PageWord}
 use Rattle.rht_words.specs.Shapes.{unpacked, size_of}
 use Rattle.rht_words.proofs.Memory.{Memory}
 use Rattle.rht_nest.specs.Place.{nested_place, missing_at}
 use Rattle.rht_nest.specs.Tables.{is_nested}
+use Rattle.rht_core.specs.Traces.{Did}
+use Rattle.rht_core.specs.Seen.{CameTo}
 use Rattle.rht_core.specs.Refused.{IsMissingEntry}
-use Rattle.rht_ghost.proofs.Theory.Ghosts.{PageOf, has_entries, SlotOwner, SlotFree, Ghost, has_table, index_at, state_word, is_entry, is_entry_of, entry_word, table_of_page, table_at}
+use Rattle.rht_ghost.proofs.Theory.Ghosts.{PageOf, has_entries, Ghost, has_table, index_at, is_entry, is_entry_of, entry_word, table_of_page, table_at}
 use Rattle.rht_ghost.proofs.Theory.Wholes.{IsNested, Whole}
 use Rattle.rht_ghost.proofs.Theory.Entries.{page_within, entry_in, entry_nested}
 use Rattle.rht_ghost.proofs.Theory.MissingEntries.{missed_at, ends_at_entry}
 use Rattle.rht_ghost.proofs.Theory.Readiness.{IsEntering}
 use Rattle.rht_ghost.proofs.Theory.Steps.{mem}
-use Rattle.rht_core.proofs.Meaning.TablesInForce.{table_in_force, leads_to_current}
 
 module _ (env : Env) (mix : ℕ → ℕ → ℕ → ℕ) where
   -- entries of a table lead where their words do
@@ -28,18 +29,11 @@ module _ (env : Env) (mix : ℕ → ℕ → ℕ → ℕ) where
       whole.entries j (omega (arith, within)) is
       ∙ ap (λ o. entry_word ((G.table (table_of_page o)).entry j)) of
 
-  -- the state word of a slot that has a table says that it isn't free
-  not_free : (owner : SlotOwner) → has_table owner ≡ true → state_word owner ≢ 0
-  not_free SlotFree has is = cc
-  not_free _ has is = cc
-
-  table_taken : (M : Memory) (G : Ghost) → Whole env mix M G → (slot : ℕ) → slot < 8 → has_table (G.slot slot) ≡ true
-      → M (Slot slot StateWord) ≢ 0
-  table_taken M G whole slot l has is = not_free (G.slot slot) has (sym (whole.slots.states slot l) ∙ is)
-
-  pub entering_missing : (d j p : ℕ) (words : List ℕ) (G : Ghost) → Whole env mix (mem env mix words) G
-      → IsEntering env mix d j p G → mem env mix words (PageWord j) ≡ 0 → IsMissingEntry env.geometry words j
-  entering_missing d j p words G whole ready unset =
+  -- the entry behind which a page is entered, by a call that came to its table
+  pub entering_missing : (d j p : ℕ) (words : List ℕ) (G : Ghost) (steps : List Did) → Whole env mix (mem env mix words) G
+      → IsEntering env mix d j p G → mem env mix words (PageWord j) ≡ 0
+      → CameTo env.geometry (G.table (table_at G j)).slot steps → IsMissingEntry env.geometry words j steps
+  entering_missing d j p words G steps whole ready unset came =
       let M = mem env mix words in
       let at = entry_in env mix G j ready.entry in
       let τ = table_at G j in
@@ -53,11 +47,7 @@ module _ (env : Env) (mix : ℕ → ℕ → ℕ → ℕ) where
       record {
         table = table.slot;
         table_in = right.slot_in;
-        taken = table_taken M G whole table.slot right.slot_in right.has_slot;
-        known = elim (cases_lt τ G.current) [
-          | inl before ↦ inr (leads_to_current env mix words G whole τ (omega (arith, before)))
-          | inr from ↦ inl (table_in_force env mix words G whole τ (omega (arith, from)) attached)
-        ];
+        came = came;
         nested = subst (λ s. is_nested s ≡ true) (sym shape)
             (lt-ltb 0 (unpacked table.shape).nest (let is = nested.shaped.nest_is in omega (arith, is)));
         bucket = missed.bucket;
@@ -67,9 +57,9 @@ module _ (env : Env) (mix : ℕ → ℕ → ℕ → ℕ) where
       }
 
   -- an entry of a table that was attached at which a way ends is none of a bucket's words
-  pub missing_is_entry : (words : List ℕ) (G : Ghost) → Whole env mix (mem env mix words) G → (j : ℕ)
-      → (missing : IsMissingEntry env.geometry words j) → has_table (G.slot missing.table) ≡ true → is_entry G j ≡ true
-  missing_is_entry words G whole j missing has =
+  pub missing_is_entry : (words : List ℕ) (G : Ghost) → Whole env mix (mem env mix words) G → (j : ℕ) (steps : List Did)
+      → (missing : IsMissingEntry env.geometry words j steps) → has_table (G.slot missing.table) ≡ true → is_entry G j ≡ true
+  missing_is_entry words G whole j steps missing has =
       let M = mem env mix words in
       let of = whole.tables.slots missing.table has in
       let τ = index_at G missing.table in

@@ -19,8 +19,9 @@ use Rattle.rht_arena.specs.Laws.{map_place}
 use Rattle.rht_arena.specs.RunLaws.{page_place}
 use Rattle.rht_nest.specs.Tables.{pages_of_shape}
 use Rattle.rht_core.specs.Traces.{Did}
+use Rattle.rht_core.specs.Seen.{CameTo}
 use Rattle.rht_core.specs.Refused.{turned, turns, IsTableWord, StoresLast, MayAttach}
-use Rattle.rht_ghost.proofs.Theory.Ghosts.{Ghost, PageHeld}
+use Rattle.rht_ghost.proofs.Theory.Ghosts.{Ghost, PageHeld, table_at}
 use Rattle.rht_ghost.proofs.Theory.Wholes.{place_at, Whole}
 use Rattle.rht_ghost.proofs.Theory.Steps.{bare, Holding, LeavesBits, mem}
 use Rattle.rht_core.proofs.Undoing.TurnedBits.{node_bit, locked_bit, work_bit, slot_bit, pages_bit, held_bits}
@@ -60,6 +61,11 @@ pub record MayAttachWith (g : Geometry) (call : Call) (slot : ℕ) (pages : List
   pub among : (page : ℕ) → In page pages → page < g.pages
   pub of_shape : (page : ℕ) → In page pages → In page (pages_of_shape shape)
 
+-- where a call may enter a page at an entry, it has come to the entry's table
+pub record MayEnter (g : Geometry) (call : Call) (steps : List Did) (G : Ghost) (entry : ℕ) : Type 0 where
+  pub may : MayAttach call
+  pub came : CameTo g (G.table (table_at G entry)).slot steps
+
 -- The call may be refused before an operation and behind it, where it holds this: it has raised no count
 -- and moves nothing. Where it has a lock and no node, the operation leaves its word, or drops the lock. Its
 -- pages are its own, and it attaches and enters only what it may.
@@ -76,7 +82,7 @@ pub record MayGoBack (g : Geometry) (call : Call) (steps : List Did) (did : Did)
       → did.op ≡ Exchange (place_of g (Slot last FutureWord)) 0 (future_of slot) → before.slot ≡ Some slot
       → MayAttachWith g call slot before.pages steps
   pub enters : (entry page : ℕ) → did.op ≡ Exchange (place_of g (PageWord entry)) 0 (entry_of page)
-      → In page before.pages → MayAttach call
+      → In page before.pages → MayEnter g call steps G entry
 
 -- Such an operation behind these, how it finds the words, and what the call holds before it and behind it.
 pub record GoesBack (env : Env) (mix : ℕ → ℕ → ℕ → ℕ) (words_at : ℕ → List ℕ) (call : Call) : Type 0 where

@@ -13,10 +13,10 @@ use Rattle.rht_words.specs.declared.machine.Next.{Next}
 use Rattle.rht_words.specs.declared.machine.Next.TheVariants.{Go, Done}
 use Rattle.rht_words.specs.declared.op.Op.TheVariants.{Exchange}
 use Rattle.rht_words.specs.declared.op.Op.{Op}
-use Rattle.rht_words.specs.Links.{entry_of, future_of}
+use Rattle.rht_words.specs.Links.{entry_of}
 use Rattle.rht_words.specs.Members.{In}
-use Rattle.rht_words.specs.Operations.{op_place, old_of}
-use Rattle.rht_words.specs.Places.{WorkLock, Slot, FutureWord, PageWord, place_of}
+use Rattle.rht_words.specs.Operations.{old_of}
+use Rattle.rht_words.specs.Places.{WorkLock, PageWord, place_of}
 use Rattle.rht_words.proofs.Memory.{Memory}
 use Rattle.rht_words.proofs.PlacesApart.{parts_in_order}
 use Rattle.rht_model.specs.declared.history.Call.{Call}
@@ -56,7 +56,10 @@ use Rattle.rht_ghost.proofs.Theory.Ghosts.{Ghost}
 use Rattle.rht_ghost.proofs.Theory.Steps.{Holding, mem, Does, Move, TakesNode, GivesNode, Links, Rebinds, SaysChange}
 use Rattle.rht_core.proofs.Machines.JobSteps.{JobIn}
 use Rattle.rht_core.proofs.Events.JobsOfCallers.{same_call}
-use Rattle.rht_core.proofs.Tracing.TracedJobs.{Performs, LeadsOn, IsEndedSo, jobs_keep_in}
+use Rattle.rht_core.proofs.Tracing.TracedJobs.{Performs, LeadsOn, IsEndedSo}
+use Rattle.rht_core.proofs.Tracing.JobsBeside.{kept_beside}
+use Rattle.rht_core.proofs.Reasons.CausesInRuns.{JobSaw, EndsSeen, job-leads, first_job-saw}
+use Rattle.rht_core.proofs.Undoing.EnteringBinds.{CameToEnter, attaching-none, saw-came, came_to_entry}
 use Rattle.rht_core.proofs.Undoing.TurnedBits.{turns-push}
 use Rattle.rht_core.proofs.Undoing.UndoneSoFar.{one_more}
 use Rattle.rht_core.proofs.Undoing.EnteredWords.{entering_missing}
@@ -121,18 +124,10 @@ module _ (env : Env) (mix : ℕ → ℕ → ℕ → ℕ) (c : ℕ) (M : Memory) 
       absurd (front-none page list.claimed (has_relinked list.before relink.at) had)
   bind-early port owner once _ is had = absurd had
 
-  -- the future of a table in a slot is no word of a page
-  attaching-none : (last slot : ℕ) → last < 8
-      → did.op ≡ Exchange (place_of env.geometry (Slot last FutureWord)) 0 (future_of slot) → ⊥
-  attaching-none last slot low is =
-      let same : place_of env.geometry (Slot last FutureWord) ≡ place_of env.geometry (PageWord entry) = ap op_place (sym is ∙ exchanges) in
-      let order = parts_in_order env.geometry in
-      absurd (omega (arith, low, same, order.pages, order.nodes, order.page_map))
-
   work-early : (state : WorkAt) → IsWorkAtIn env state → did.op ≡ job_plan env (works state) → In page (held_of_work state).pages
       → IsEarly (works state)
   work-early (working.Making wanted make) within is had = record { not_past = refl; untold = λ says. says }
-  work-early (working.Attaching root last slot shape) within is had = absurd (attaching-none last slot within.last_in is)
+  work-early (working.Attaching root last slot shape) within is had = absurd (attaching-none env mix c M G did entry page exchanges last slot within.last_in is)
   work-early (working.Unmaking root unmake) within is had =
       absurd (unmake-enters env mix c M G did entry page exchanges unmake.geometry unmake.slot unmake.at is)
   work-early _ within is had = absurd had
@@ -215,6 +210,7 @@ module _ (M : Type 0) (mix : ℕ → ℕ → ℕ → ℕ) (env : Env) (events : 
             behind = has.behind ++ did ∷ [];
             split = ap (λ before. before ++ did ∷ []) has.split ∙ append_assoc has.before (has.at ∷ has.behind) (did ∷ []);
             enters = has.enters;
+            missing = has.missing;
             took = has.took;
           };
         };
@@ -224,7 +220,7 @@ module _ (M : Type 0) (mix : ℕ → ℕ → ℕ → ℕ) (env : Env) (events : 
   nothing_held n even = omega (arith, even)
 
   module _ (job : Job) (steps : List Did) (did : Did) (performs : Performs mix env job did)
-      (here : performs.words ≡ words_at did.index) (kept : Now job steps) where
+      (here : performs.words ≡ words_at did.index) (came : CameToEnter g job steps) (kept : Now job steps) where
     abbrev all : List Did
     all = steps ++ did ∷ []
 
@@ -275,11 +271,14 @@ module _ (M : Type 0) (mix : ℕ → ℕ → ℕ → ℕ) (env : Env) (events : 
                   enters = record {
                     page_in = e.ready.among;
                     entry_in = e.ready.within;
-                    missing = subst (λ ws. IsMissingEntry g ws e.entry) here
-                        (entering_missing env mix performs.caller e.entry e.page performs.words performs.ghost performs.whole e.ready unset);
                     exchanges = e.does.entering;
                     found = e.does.found;
                   };
+                  missing = subst (λ ws. IsMissingEntry g ws e.entry steps) here
+                      (entering_missing env mix performs.caller e.entry e.page performs.words performs.ghost steps performs.whole e.ready
+                      unset
+                      (came_to_entry env mix performs.caller there performs.ghost did e.entry e.page e.does.entering performs.whole steps
+                      job is_early.not_past performs.within performs.knows performs.planned e.does.had came));
                   took = may.undoes.took e.page e.does.had;
                 };
               };
@@ -323,7 +322,7 @@ module _ (M : Type 0) (mix : ℕ → ℕ → ℕ → ℕ) (env : Env) (events : 
     goes_on : LeadsOn M mix env Now Gone job all next
     goes_on =
         by_next next (same_call mix env job did.old) turned_then node_next
-        (refusals.goes M mix env events job steps did performs here kept.0)
+        (refusals.goes M mix env events job steps did performs here came kept.0)
 
   -- ---- the beginning
 
@@ -376,10 +375,13 @@ module _ (M : Type 0) (mix : ℕ → ℕ → ℕ → ℕ) (env : Env) (events : 
 
 pub let_go : (M : Type 0) (mix : ℕ → ℕ → ℕ → ℕ) → LetGo M mix
 let_go M mix env events c admitted =
-    let keeping =
-    jobs_keep_in M mix env (Now M mix env events) (Gone M mix env events) events
+    each M mix env events ((traced_of {M = M} mix env events).traces c).past
+    (kept_beside M mix env events (JobSaw env (words_before M mix env events) mix) (Now M mix env events)
+    (EndsSeen M mix env events) (Gone M mix env events)
+    (record { begins = first_job-saw M mix env events; goes = job-leads M mix env events })
     (record {
       begins = λ call job is. (refusals.begins M mix env events call job is, begins M mix env events call job is);
-      goes = λ job steps did performs here kept. goes_on M mix env events job steps did performs here kept;
-    }) c admitted in
-    each M mix env events ((traced_of {M = M} mix env events).traces c).past keeping.past
+      goes = λ job steps did performs stands saw kept.
+          goes_on M mix env events job steps did performs stands.now
+          (saw-came env (words_before M mix env events) mix job steps saw) kept;
+    }) c admitted)

@@ -143,7 +143,7 @@ work-refusable state at_lock = has_no_lock refl refl refl
 work-refusable state _ = has_no_lock refl refl refl
 
 -- the jobs that take no node and make no table
-abbrev TakesNothing : Job → Type 0
+abbrev pub TakesNothing : Job → Type 0
 TakesNothing (finds port state) = Unit {0}
 TakesNothing (binds port owner once state) = ⊥
 TakesNothing (lists port room state) = Unit {0}
@@ -153,10 +153,10 @@ TakesNothing (works state) = ⊥
 TakesNothing counts = Unit {0}
 
 -- such a one may hold a lock, and nothing else
-record HoldsLockAlone (h : Holding) : Type 0 where
-  refusable : IsRefusable h
-  slot : h.slot ≡ None
-  pages : h.pages ≡ []
+pub record HoldsLockAlone (h : Holding) : Type 0 where
+  pub refusable : IsRefusable h
+  pub slot : h.slot ≡ None
+  pub pages : h.pages ≡ []
 
 lock_alone : {h : Holding} → h.raised ≡ false → h.moving ≡ false → h.slot ≡ None → h.pages ≡ [] → HoldsLockAlone h
 lock_alone low still slot pages = record { refusable = record { low = low; still = still }; slot = slot; pages = pages }
@@ -175,7 +175,7 @@ release-alone (releasing.Unlinking found relink) may = absurd (cc)
 release-alone (releasing.Lowering node shape) may = absurd (cc)
 release-alone _ may = lock_alone refl refl refl refl
 
-alone : (job : Job) → TakesNothing job → is_past job ≡ false → HoldsLockAlone (held_of job)
+pub alone : (job : Job) → TakesNothing job → is_past job ≡ false → HoldsLockAlone (held_of job)
 alone (finds port state) takes may = find-alone state
 alone (lists port room state) takes may = all-alone room.items state
 alone (releases port owner state) takes may = release-alone state may
@@ -305,14 +305,14 @@ module _ (env : Env) (mix : ℕ → ℕ → ℕ → ℕ) (c : ℕ) (M : Memory) 
 
   module _ (did : Did) (entry page : ℕ) (exchanges : did.op ≡ Exchange (place_of g (PageWord entry)) 0 (entry_of page)) where
     -- the taking of a run enters no page
-    take-none : (take : TakeRunModel) (at : TakeRunAt)
+    pub take-none : (take : TakeRunModel) (at : TakeRunAt)
         → take_run_plan_at take.geometry take.pages at ≡ Exchange (place_of g (PageWord entry)) 0 (entry_of page) → ⊥
     take-none take (takes.MapWord first index) same = cc
     take-none take (takes.Claim first index) same = cc
     take-none take (takes.GiveBack first index bits) same = cc
 
     -- a making that exchanges has no page
-    make-enters : (exponent seed : ℕ) (h : Geometry) (state : MakeAt) → did.op ≡ make_plan_at h exponent seed state
+    pub make-enters : (exponent seed : ℕ) (h : Geometry) (state : MakeAt) → did.op ≡ make_plan_at h exponent seed state
         → In page (pages_of_make exponent state) → ⊥
     make-enters exponent seed h (makes.Slot slot) is i = i
     make-enters exponent seed h (makes.Taking slot take) is i = take-none take take.at (sym is ∙ exchanges)
@@ -320,11 +320,11 @@ module _ (env : Env) (mix : ℕ → ℕ → ℕ → ℕ) (c : ℕ) (M : Memory) 
     make-enters exponent seed h (makes.SlotBack slot) is i = i
     make-enters exponent seed h _ is i = let same = sym is ∙ exchanges in cc
 
-    rebind-enters : (state : RebindAt) → rebind_is_past state ≡ false → In page (held_of_rebind state).pages → ⊥
+    pub rebind-enters : (state : RebindAt) → rebind_is_past state ≡ false → In page (held_of_rebind state).pages → ⊥
     rebind-enters (rebinding.Replacing node found relink) may i = absurd (cc)
     rebind-enters _ may i = i
 
-    work-enters : (state : WorkAt) → IsEarlyWork state → did.op ≡ job_plan env (works state)
+    pub work-enters : (state : WorkAt) → IsEarlyWork state → did.op ≡ job_plan env (works state)
         → In page (held_of_work state).pages → ⊥
     work-enters state (at_making wanted make) is i = make-enters make.exponent make.seed make.geometry make.at is i
     work-enters state _ is i = i

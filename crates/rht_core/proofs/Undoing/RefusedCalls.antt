@@ -53,7 +53,10 @@ use Rattle.rht_ghost.proofs.Theory.Steps.{Holding, mem, ghost_after, Does, SaysC
 use Rattle.rht_core.proofs.Meaning.BoundPorts.{stands_for_bound}
 use Rattle.rht_core.proofs.Events.Worlds.{run_of-next, step_words}
 use Rattle.rht_core.proofs.Events.JobsOfCallers.{same_call}
-use Rattle.rht_core.proofs.Tracing.TracedJobs.{Performs, LeadsOn, IsEndedSo, jobs_keep_in}
+use Rattle.rht_core.proofs.Tracing.TracedJobs.{Performs, LeadsOn, IsEndedSo}
+use Rattle.rht_core.proofs.Tracing.JobsBeside.{kept_beside}
+use Rattle.rht_core.proofs.Reasons.CausesInRuns.{JobSaw, EndsSeen, job-leads, first_job-saw}
+use Rattle.rht_core.proofs.Undoing.EnteringBinds.{CameToEnter, saw-came, came_to_entry}
 use Rattle.rht_core.proofs.Tracing.TracesAtEvents.{at_events}
 use Rattle.rht_core.proofs.Undoing.TurnedBits.{held_bits}
 use Rattle.rht_core.proofs.Undoing.UndoneSoFar.{Undoes, GoneWhereEntered, Undoes-push}
@@ -276,7 +279,8 @@ module _ (M : Type 0) (mix : ℕ → ℕ → ℕ → ℕ) (env : Env) (events : 
     by_next (after, Go) same leaves undoes stored = go_on after same leaves undoes stored (is_past after) refl
     by_next (after, Done ending) same leaves undoes stored = end after ending leaves undoes
 
-    module _ (performs : Performs mix env job did) (here : performs.words ≡ words_before M mix env events did.index) where
+    module _ (performs : Performs mix env job did) (here : performs.words ≡ words_before M mix env events did.index)
+        (came : CameToEnter g job steps) where
       abbrev after : Holding
       after = held_next (job_after mix env job did.old)
 
@@ -321,8 +325,13 @@ module _ (M : Type 0) (mix : ℕ → ℕ → ℕ → ℕ) (env : Env) (events : 
                   attaches env mix performs.caller (mem env mix performs.words) performs.ghost steps did last slot
                   low exchanges job may performs.knows kept.stored performs.planned has;
               enters = λ entry page exchanges has.
-                  enters env mix performs.caller (mem env mix performs.words) performs.ghost did entry page exchanges
-                  job may performs.planned has;
+                  let there = mem env mix performs.words in
+                  record {
+                    may = enters env mix performs.caller there performs.ghost did entry page exchanges job may performs.planned has;
+                    came =
+                        came_to_entry env mix performs.caller there performs.ghost did entry page exchanges performs.whole steps
+                        job may performs.within performs.knows performs.planned has came;
+                  };
             };
           } in
           elim (kept_by goes_back step.move step.ready
@@ -340,18 +349,18 @@ module _ (M : Type 0) (mix : ℕ → ℕ → ℕ → ℕ) (env : Env) (events : 
   -- ---- each operation, and the beginning
 
   pub goes : (job : Job) (steps : List Did) (did : Did) (performs : Performs mix env job did)
-      → performs.words ≡ words_before M mix env events did.index → Going job steps
+      → performs.words ≡ words_before M mix env events did.index → CameToEnter g job steps → Going job steps
       → Leads job (steps ++ did ∷ []) (job_after mix env job did.old)
-  goes job steps did performs here (inl past) = past-leads (steps ++ did ∷ []) job did performs past
-  goes job steps did performs here (inr (inl says)) =
+  goes job steps did performs here came (inl past) = past-leads (steps ++ did ∷ []) job did performs past
+  goes job steps did performs here came (inr (inl says)) =
       change-leads (steps ++ did ∷ []) job (job_after mix env job did.old)
       (change_stays env.config.kind performs.caller (call_of job) _ _ _ _ (held_of job).answer
       (held_next (job_after mix env job did.old)).answer performs.step.says says)
-  goes job steps did performs here (inr (inr kept)) = by_case (is_past job) refl
+  goes job steps did performs here came (inr (inr kept)) = by_case (is_past job) refl
     where
       by_case : (t : Bool) → is_past job ≡ t → Leads job (steps ++ did ∷ []) (job_after mix env job did.old)
       by_case true past = past-leads (steps ++ did ∷ []) job did performs past
-      by_case false may = leads_on job steps did may kept performs here
+      by_case false may = leads_on job steps did may kept performs here came
 
   of_first : (first job : Job) → Some first ≡ Some job → Going first [] → Going job []
   of_first first job is going = let same : first ≡ job = cc in subst (λ j. Going j []) same going
@@ -427,8 +436,14 @@ module _ (M : Type 0) (mix : ℕ → ℕ → ℕ → ℕ) (env : Env) (events : 
 
 pub refused : (M : Type 0) (mix : ℕ → ℕ → ℕ → ℕ) → Refused M mix
 refused M mix env events c admitted =
-    let keeping =
-    jobs_keep_in M mix env (Going M mix env events) (Undone M mix env events) events
-    (record { begins = begins M mix env events; goes = goes M mix env events }) c admitted in
-    each M mix env events c ((traced_of {M = M} mix env events).traces c).past keeping.past
+    each M mix env events c ((traced_of {M = M} mix env events).traces c).past
+    (kept_beside M mix env events (JobSaw env (words_before M mix env events) mix) (Going M mix env events)
+    (EndsSeen M mix env events) (Undone M mix env events)
+    (record { begins = first_job-saw M mix env events; goes = job-leads M mix env events })
+    (record {
+      begins = begins M mix env events;
+      goes = λ job steps did performs stands saw kept.
+          goes M mix env events job steps did performs stands.now
+          (saw-came env (words_before M mix env events) mix job steps saw) kept;
+    }) c admitted)
     (at_events M mix env events admitted c).past

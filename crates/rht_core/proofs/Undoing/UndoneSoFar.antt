@@ -11,7 +11,7 @@ use Rattle.rht_words.proofs.EachElement.{AllByRecursion-push, Any-append_left}
 use Rattle.rht_model.specs.declared.history.Call.{Call}
 use Rattle.rht_arena.specs.RunLaws.{TakesPage, GivesPage}
 use Rattle.rht_core.specs.Traces.{Did, performed_of}
-use Rattle.rht_core.specs.Refused.{turned, turns, IsTableWord, GivesBackNode, GivesBackSlot, IsOfNodeGiven, IsOfSlotGiven, IsOfAttached, EntersPage, HasTaken, IsOfEntered, IsExcepted}
+use Rattle.rht_core.specs.Refused.{turned, turns, IsTableWord, GivesBackNode, GivesBackSlot, IsOfNodeGiven, IsOfSlotGiven, IsOfAttached, PutsPage, HasTaken, IsOfEntered, IsExcepted}
 use Rattle.rht_ghost.proofs.Theory.Steps.{Holding}
 use Rattle.rht_core.proofs.Undoing.TurnedBits.{turns-push, held_bits}
 
@@ -51,7 +51,7 @@ module _ (g : Geometry) (words_at : ℕ → List ℕ) (call : Call) where
     pub node_in : (node : ℕ) → h.node ≡ Some node → node < g.nodes
     pub slot_in : (slot : ℕ) → h.slot ≡ Some slot → slot < 8
     pub pages_in : (page : ℕ) → In page h.pages → page < g.pages
-    pub took : (page : ℕ) → In page h.pages → HasTaken g words_at page steps
+    pub took : (page : ℕ) → In page h.pages → HasTaken g page steps
 
   -- ---- with one operation more
 
@@ -113,6 +113,7 @@ module _ (g : Geometry) (words_at : ℕ → List ℕ) (call : Call) where
                 ap (λ before. before ++ did ∷ []) has.split
                 ∙ append_assoc has.before (has.at ∷ has.behind) (did ∷ []);
             enters = has.enters;
+            missing = has.missing;
             took = has.took;
           };
           of_it = is.of_it;
@@ -150,8 +151,8 @@ module _ (g : Geometry) (words_at : ℕ → List ℕ) (call : Call) where
 
     -- a page that they have taken they have still taken with one more that neither gives it back nor enters
     -- it
-    still-taken : (page : ℕ) → HasTaken g words_at page steps → (GivesPage g page (performed_of did) → ⊥)
-        → ((entry : ℕ) → EntersPage g (words_at did.index) entry page did → ⊥) → HasTaken g words_at page all
+    still-taken : (page : ℕ) → HasTaken g page steps → (GivesPage g page (performed_of did) → ⊥)
+        → ((entry : ℕ) → PutsPage g entry page did → ⊥) → HasTaken g page all
     still-taken page has stays unentered = record {
       before = has.before;
       at = has.at;
@@ -164,12 +165,12 @@ module _ (g : Geometry) (words_at : ℕ → List ℕ) (call : Call) where
           AllByRecursion-push (λ step. GivesPage g page (performed_of step) → ⊥) has.behind did has.kept
           stays;
       unentered =
-          AllByRecursion-push (λ step. (entry : ℕ) → EntersPage g (words_at step.index) entry page step → ⊥)
+          AllByRecursion-push (λ step. (entry : ℕ) → PutsPage g entry page step → ⊥)
           has.behind did has.unentered unentered;
     }
 
     -- and so they have with one more that takes it
-    now-taken : (page : ℕ) → TakesPage g page (performed_of did) → HasTaken g words_at page all
+    now-taken : (page : ℕ) → TakesPage g page (performed_of did) → HasTaken g page all
     now-taken page takes =
         record {
           before = steps;

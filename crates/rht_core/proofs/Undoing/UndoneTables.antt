@@ -9,12 +9,12 @@ use Rattle.rht_words.specs.Operations.{op_place, old_of}
 use Rattle.rht_words.specs.Places.{Slot, FutureWord, StateWord, PageMap, PageWord, place_of}
 use Rattle.rht_words.proofs.Members.{one_if}
 use Rattle.rht_model.specs.declared.history.Call.{Call}
-use Rattle.rht_core.specs.Refused.{AttachedWith, IsOfSlot, IsOfPages, IsMissingEntry, EntersPage, EnteredWhenTaken}
+use Rattle.rht_core.specs.Refused.{AttachedWith, IsOfSlot, IsOfPages, IsMissingEntry, EnteredWhenTaken}
 use Rattle.rht_ghost.proofs.Theory.Steps.{bare, Holding, mem, DoesAttach, DoesEnter}
 use Rattle.rht_ghost.proofs.Theory.Readiness.{IsEntering}
 use Rattle.rht_core.proofs.Undoing.EnteredWords.{entering_missing}
 use Rattle.rht_core.proofs.Undoing.TurnedBits.{one_bit-there, turned-far, slot_bit, pages_bit, page_or_none}
-use Rattle.rht_core.proofs.Undoing.GoingBack.{by_none, unturned, GoesBack, every, Kept, MayBeLeft, by_pages, own_node, HadOrTakes, off_map, behind_map, with_same}
+use Rattle.rht_core.proofs.Undoing.GoingBack.{by_none, unturned, GoesBack, every, Kept, MayBeLeft, MayEnter, by_pages, own_node, HadOrTakes, off_map, behind_map, with_same}
 use Rattle.rht_core.proofs.Undoing.UndonePages.{same_pages}
 
 module _ {env : Env} {mix : ℕ → ℕ → ℕ → ℕ} {words_at : ℕ → List ℕ} {call : Call}
@@ -122,16 +122,8 @@ module _ {env : Env} {mix : ℕ → ℕ → ℕ → ℕ} {words_at : ℕ → Lis
       unset : mem env mix step.words (PageWord j) ≡ 0
       unset = sym (ap (old_of step.words) does.entering) ∙ sym step.found ∙ does.found
 
-      enters_it : EntersPage g (words_at step.did.index) j p step.did
-      enters_it = record {
-        page_in = ready.among;
-        entry_in = ready.within;
-        missing =
-            subst (λ ws. IsMissingEntry g ws j) (sym step.here)
-            (entering_missing env mix step.caller j p step.words step.ghost step.whole ready unset);
-        exchanges = does.entering;
-        found = does.found;
-      }
+      may : MayEnter g call step.steps step.ghost j
+      may = step.may.enters j p does.entering does.had
 
       entered : EnteredWhenTaken g words_at j p (every step)
       entered = record {
@@ -139,14 +131,17 @@ module _ {env : Env} {mix : ℕ → ℕ → ℕ → ℕ} {words_at : ℕ → Lis
         at = step.did;
         behind = [];
         split = refl;
-        enters = enters_it;
+        enters = record { page_in = ready.among; entry_in = ready.within; exchanges = does.entering; found = does.found };
+        missing =
+            subst (λ ws. IsMissingEntry g ws j step.steps) (sym step.here)
+            (entering_missing env mix step.caller j p step.words step.ghost step.steps step.whole ready unset may.came);
         took = step.so_far.took p does.had;
       }
 
       left : (place bit : ℕ) → ((place ≡ place_of g (PageWord j)) ⊎ IsBitOf p place bit)
           → MayBeLeft step place bit
       left place bit of_it = inl (inr (inr (inr (
-        step.may.enters j p does.entering does.had,
+        may.may,
         inr (record {
           entry = j;
           page = p;

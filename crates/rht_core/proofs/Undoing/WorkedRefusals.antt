@@ -1,14 +1,14 @@
 -- Operations after which a call that changes nothing hasn't undone what it did, the fewest of each kind: a bind that never unlocks an empty
--- bucket, or enters a page that it never took, which is the same exchange; one that enters a page where none is missing; one that leaks a
--- slot which it had made a table in and given back before; a resizing that leaves the work lock taken; and a look-up that leaves its
--- bucket locked.
-use Rattle.std.proofs.Common.{◌≡◌, ◌⊎◌, ℕ, ◌+◌, ◌*◌, ◌/◌, ◌%◌, ◌<◌, Bool, true, List, [], ◌∷◌, ◌++◌, length, length-append, refl, sym, ap, ◌∙◌, subst, inl, inr, arith}
+-- bucket, or enters a page that it never took, which is the same exchange; one that enters a page where none is missing, or that came to no
+-- table before, whatever the words say; one that leaks a slot which it had made a table in and given back before; a resizing that leaves
+-- the work lock taken; and a look-up that leaves its bucket locked.
+use Rattle.std.proofs.Common.{◌≡◌, ◌≢◌, ◌⊎◌, ℕ, ◌+◌, ◌*◌, ◌/◌, ◌%◌, ◌<◌, Bool, true, List, [], ◌∷◌, ◌++◌, length, length-append, refl, sym, ap, ◌∙◌, subst, inl, inr, arith}
 use Rattle.std.specs.List.{AllByRecursion, Any}
 use Rattle.rht_words.specs.declared.env.Env.{Env}
 use Rattle.rht_words.specs.declared.geometry.Geometry.{Geometry}
 use Rattle.rht_words.specs.declared.op.Op.{Op}
-use Rattle.rht_words.specs.declared.op.Op.TheVariants.{Store, Exchange, And}
-use Rattle.rht_words.specs.Places.{NextSerial, WorkLock, Slot, SlotWord, FutureWord, StateWord, LoadedSection, PageMap, PageWord, words_in, place_of}
+use Rattle.rht_words.specs.declared.op.Op.TheVariants.{Load, Store, Exchange, And}
+use Rattle.rht_words.specs.Places.{CurrentTable, NextSerial, WorkLock, Slot, SlotWord, FutureWord, StateWord, LoadedSection, PageMap, PageWord, words_in, place_of}
 use Rattle.rht_words.proofs.EachElement.{AllByRecursion-cut}
 use Rattle.rht_words.proofs.PlacesApart.{parts_in_order}
 use Rattle.rht_model.specs.declared.history.Call.{Call}
@@ -19,11 +19,12 @@ use Rattle.rht_model.specs.Answers.{is_refusal}
 use Rattle.rht_model.specs.Endings.{plain_ending, ended_with}
 use Rattle.rht_core.specs.declared.event.Event.{Event}
 use Rattle.rht_core.specs.Traces.{Did, Past}
-use Rattle.rht_core.specs.Seen.{words_before}
+use Rattle.rht_core.specs.Seen.{LoadsCurrent, CameTo, as_current, as_future, words_before}
 use Rattle.rht_core.specs.ResizeCauses.{Attaches}
-use Rattle.rht_core.specs.Refused.{changes_nothing, turned, turns, IsTableWord, GivesBackNode, GivesBackSlot, AttachedWith, IsMissingEntry, EntersPage, EnteredWhenTaken, IsExcepted, IsUndone}
+use Rattle.rht_core.specs.Refused.{changes_nothing, turned, turns, IsTableWord, GivesBackNode, GivesBackSlot, AttachedWith, IsMissingEntry, PutsPage, EnteredWhenTaken, IsExcepted, IsUndone}
 use Rattle.rht_core.proofs.Histories.Behind.{Any-push_cases, Any-none}
-use Rattle.rht_core.proofs.Undoing.TurnedBits.{turned-here, turned-far}
+use Rattle.rht_core.proofs.Reasons.WorkedPages.{none_is}
+use Rattle.rht_core.proofs.Undoing.TurnedBits.{turned-here, turned-far, turned-same}
 
 -- an operation that found this word
 abbrev done : Op → ℕ → Did
@@ -56,22 +57,6 @@ module _ (g : Geometry) (words_at : ℕ → List ℕ) where
   one_only : (P : Did → Type 0) (did : Did) → Any P (did ∷ []) → P did
   one_only P did some = elim (Any-push_cases P [] did some) [ inl none ↦ absurd (Any-none P none) | inr is ↦ is ]
 
-  two_only : (P : Did → Type 0) (first second : Did) → Any P (first ∷ second ∷ []) → P first ⊎ P second
-  two_only P first second some = elim (Any-push_cases P (first ∷ []) second some) [
-    | inl before ↦ inl (one_only P first before)
-    | inr is ↦ inr is
-  ]
-
-  -- none of these operations enters a page
-  abbrev EnterNone : List Did → Type 0
-  EnterNone steps = AllByRecursion (λ did. (entry page : ℕ) → EntersPage g (words_at did.index) entry page did → ⊥) steps
-
-  none_entered : (steps : List Did) → EnterNone steps → (entry page : ℕ) → EnteredWhenTaken g words_at entry page steps → ⊥
-  none_entered steps none entry page has =
-      let P : Did → Type 0 = λ did. (e p : ℕ) → EntersPage g (words_at did.index) e p did → ⊥ in
-      let parts = AllByRecursion-cut P has.before (has.at ∷ has.behind) (subst (AllByRecursion P) has.split none) in
-      parts.1.0 entry page has.enters
-
   -- nothing stands before one operation alone
   none_before : (one at : Did) (before behind : List Did) → one ∷ [] ≡ before ++ at ∷ behind → before ≡ []
   none_before one at [] behind is = refl
@@ -92,6 +77,54 @@ module _ (g : Geometry) (words_at : ℕ → List ℕ) where
   never_taken one entry page has =
       let took = has.took in
       no_split took.before took.behind took.at (sym (none_before one has.at has.before has.behind has.split) ∙ took.split)
+
+  -- what such an operation found, behind which the call entered a page
+  record Entered (entry page : ℕ) (last : Did) (before : List Did) : Type 0 where
+    puts : PutsPage g entry page last
+    missing : IsMissingEntry g (words_at last.index) entry before
+
+  -- where the first two of three operations put no page behind an entry, only the last one can have entered one
+  only_last : (first second third : Did) (entry page : ℕ) → (PutsPage g entry page first → ⊥) → (PutsPage g entry page second → ⊥)
+      → EnteredWhenTaken g words_at entry page (first ∷ second ∷ third ∷ [])
+      → Entered entry page third (first ∷ second ∷ [])
+  only_last first second third entry page not_first not_second has =
+      go has.before has.at has.behind has.split has.enters has.missing
+    where
+      go : (before : List Did) (at : Did) (behind : List Did) → first ∷ second ∷ third ∷ [] ≡ before ++ at ∷ behind
+          → PutsPage g entry page at → IsMissingEntry g (words_at at.index) entry before
+          → Entered entry page third (first ∷ second ∷ [])
+      go [] at behind is puts missing =
+          let same : at ≡ first = (let e = sym is in cc) in absurd (not_first (subst (PutsPage g entry page) same puts))
+      go (a ∷ []) at behind is puts missing =
+          let same : at ≡ second = (let e = sym is in cc) in absurd (not_second (subst (PutsPage g entry page) same puts))
+      go (a ∷ b ∷ []) at behind is puts missing =
+          let same : at ≡ third = (let e = sym is in cc) in
+          let one : a ≡ first = (let e = sym is in cc) in
+          let two : b ≡ second = (let e = sym is in cc) in
+          record {
+            puts = subst (PutsPage g entry page) same puts;
+            missing = subst (λ did. IsMissingEntry g (words_at did.index) entry (first ∷ second ∷ [])) same
+                (subst (λ x. IsMissingEntry g (words_at at.index) entry (x ∷ second ∷ [])) one
+                (subst (λ y. IsMissingEntry g (words_at at.index) entry (a ∷ y ∷ [])) two missing));
+          }
+      go (a ∷ b ∷ c ∷ before) at behind is puts missing =
+          let lengths = ap length is in
+          let sum = length-append before (at ∷ behind) in
+          absurd (omega (arith, lengths, sum))
+
+  -- who never loads the current table has come to none
+  pub never_came : (table : ℕ) (steps : List Did)
+      → AllByRecursion (λ did. did.op ≢ Load (place_of g CurrentTable)) steps → CameTo g table steps → ⊥
+  never_came table steps none (as_current _ _ any) =
+      none_is (LoadsCurrent g table) steps (no_load steps none) any
+    where
+      no_load : (all : List Did) → AllByRecursion (λ did. did.op ≢ Load (place_of g CurrentTable)) all
+          → AllByRecursion (λ did. LoadsCurrent g table did → ⊥) all
+      no_load [] each = tt
+      no_load (did ∷ all) each = (λ loads. each.0 loads.0.loads, no_load all each.1)
+  never_came table steps none (as_future front _ before at behind _ came loads named split) =
+      let P : Did → Type 0 = λ did. did.op ≢ Load (place_of g CurrentTable) in
+      never_came front before (AllByRecursion-cut P before (at ∷ behind) (subst (AllByRecursion P) split none)).0 came
 
   -- ---- a bind that never unlocks an empty bucket, or enters the first page, which it never took
 
@@ -136,61 +169,71 @@ module _ (g : Geometry) (words_at : ℕ → List ℕ) where
     pub never_unlocked : (port owner : ℕ) → Breaks g words_at (Bind port owner true) (locks_it ∷ []) bucket 0
     never_unlocked port owner = lock_kept (Bind port owner true)
 
-    -- ---- a bind that enters a page where none is missing, whatever it took before from the first word of the map
+    -- ---- a bind that looks at one word, takes a page, and enters it where none is missing
 
-    module _ (mask old : ℕ) (no_entry : IsMissingEntry g (words_at 0) index → ⊥) where
-      abbrev takes_page : Did
+    module _ (seen word mask old : ℕ) where
+      abbrev pub looks : Did
+      looks = done (Load seen) word
+
+      abbrev pub takes_page : Did
       takes_page = done (And (place_of g (PageMap 0)) mask) old
 
-      pub none_missing : (port owner : ℕ) → Breaks g words_at (Bind port owner true) (takes_page ∷ locks_it ∷ []) bucket 0
-      none_missing port owner = record {
+      -- whatever it took before from the first word of the map
+      pub none_missing : (IsMissingEntry g (words_at 0) index (looks ∷ takes_page ∷ []) → ⊥) → (port owner : ℕ)
+          → Breaks g words_at (Bind port owner true) (looks ∷ takes_page ∷ locks_it ∷ []) bucket 0
+      none_missing no_entry port owner = record {
         place_in = omega (arith, within);
         bit_in = omega arith;
-        odd = one_turn (turned bucket 0 takes_page) (turned bucket 0 locks_it) (turned-far bucket 0 takes_page apart)
-            (turned-here bucket 0 locks_it refl);
+        odd = one_turn (turned bucket 0 looks) (turned bucket 0 takes_page) (turned bucket 0 locks_it)
+            (turned-same bucket 0 looks (λ at. refl)) (turned-far bucket 0 takes_page apart) (turned-here bucket 0 locks_it refl);
         unexcepted = unexcepted;
       }
         where
-          one_turn : (first second : ℕ) → first ≡ 0 → second ≡ 1 → (first + (second + 0)) % 2 ≡ 1
-          one_turn first second none one = omega (arith, none, one)
+          one_turn : (first second third : ℕ) → first ≡ 0 → second ≡ 0 → third ≡ 1 → (first + (second + (third + 0))) % 2 ≡ 1
+          one_turn first second third none too one = omega (arith, none, too, one)
 
           apart : place_of g (PageMap 0) ≡ bucket → ⊥
           apart same = let order = parts_in_order g in absurd (omega (arith, within, same, order.nodes, order.pages))
 
           -- the entry that it would have to be
-          entered_here : (entry page : ℕ) → EntersPage g (words_at 0) entry page locks_it → ⊥
-          entered_here entry page enters =
-              let at : bucket ≡ place_of g (PageWord entry) = (let is = enters.exchanges in cc) in
+          entered_here : (entry page : ℕ) → EnteredWhenTaken g words_at entry page (looks ∷ takes_page ∷ locks_it ∷ []) → ⊥
+          entered_here entry page has =
+              let is = only_last looks takes_page locks_it entry page (λ puts. let load = puts.exchanges in absurd (cc))
+              (λ puts. let clears = puts.exchanges in absurd (cc)) has in
+              let at : bucket ≡ place_of g (PageWord entry) = (let exchange = is.puts.exchanges in cc) in
               let same : entry ≡ index = omega (arith, at) in
-              no_entry (subst (IsMissingEntry g (words_at 0)) same enters.missing)
+              no_entry (subst (λ e. IsMissingEntry g (words_at 0) e (looks ∷ takes_page ∷ [])) same is.missing)
 
-          enters_none : (entry page : ℕ) → EntersPage g (words_at 0) entry page takes_page → ⊥
-          enters_none entry page enters = let is = enters.exchanges in absurd (cc)
+          all_three : (P : Did → Type 0) → (P looks → ⊥) → (P takes_page → ⊥) → (P locks_it → ⊥)
+              → Any P (looks ∷ takes_page ∷ locks_it ∷ []) → ⊥
+          all_three P first second third = none_is P (looks ∷ takes_page ∷ locks_it ∷ []) (first, (second, (third, tt)))
 
-          attaches_none : (table slot : ℕ) → Attaches g table slot takes_page → ⊥
-          attaches_none table slot attaches = let is = attaches.exchanges in absurd (cc)
-
-          takes_gives_node : (node : ℕ) → GivesBackNode g node takes_page → ⊥
-          takes_gives_node node is = let gives = is.gives in absurd (cc)
-
-          takes_gives_slot : (slot : ℕ) → GivesBackSlot g slot takes_page → ⊥
-          takes_gives_slot slot is = let gives = is.gives in absurd (cc)
-
-          unexcepted : IsExcepted g words_at (Bind port owner true) (takes_page ∷ locks_it ∷ []) bucket 0 → ⊥
+          unexcepted : IsExcepted g words_at (Bind port owner true) (looks ∷ takes_page ∷ locks_it ∷ []) bucket 0 → ⊥
           unexcepted (inl serial) = behind_serial serial
-          unexcepted (inr (inl node)) = elim (two_only (GivesBackNode g node.node) takes_page locks_it node.given) [
-            | inl first ↦ takes_gives_node node.node first
-            | inr second ↦ gives_no_node node.node second
-          ]
-          unexcepted (inr (inr (inl slot))) = elim (two_only (GivesBackSlot g slot.slot) takes_page locks_it slot.given) [
-            | inl first ↦ takes_gives_slot slot.slot first
-            | inr second ↦ gives_no_slot slot.slot second
-          ]
+          unexcepted (inr (inl node)) =
+              all_three (GivesBackNode g node.node) (λ is. let gives = is.gives in absurd (cc))
+              (λ is. let gives = is.gives in absurd (cc)) (gives_no_node node.node) node.given
+          unexcepted (inr (inr (inl slot))) =
+              all_three (GivesBackSlot g slot.slot) (λ is. let gives = is.gives in absurd (cc))
+              (λ is. let gives = is.gives in absurd (cc)) (gives_no_slot slot.slot) slot.given
           unexcepted (inr (inr (inr (may, inl it)))) =
-              none_attached (takes_page ∷ locks_it ∷ []) (attaches_none, (other_exchange bucket 1 0 behind_slots, tt))
+              none_attached (looks ∷ takes_page ∷ locks_it ∷ []) (
+                (λ table slot attaches. let is = attaches.exchanges in absurd (cc)),
+                (
+                  (λ table slot attaches. let is = attaches.exchanges in absurd (cc)),
+                  (other_exchange bucket 1 0 behind_slots, tt),
+                ),
+              )
               it.table it.slot it.shape it.attached
-          unexcepted (inr (inr (inr (may, inr it)))) =
-              none_entered (takes_page ∷ locks_it ∷ []) (enters_none, (entered_here, tt)) it.entry it.page it.entered
+          unexcepted (inr (inr (inr (may, inr it)))) = entered_here it.entry it.page it.entered
+
+      -- and one that came to no table, whatever the words say of slots
+      pub came_to_none : seen ≢ place_of g CurrentTable → (port owner : ℕ)
+          → Breaks g words_at (Bind port owner true) (looks ∷ takes_page ∷ locks_it ∷ []) bucket 0
+      came_to_none elsewhere =
+          none_missing (λ missing.
+          never_came missing.table (looks ∷ takes_page ∷ [])
+          ((λ is. elsewhere (let same = is in cc)), ((λ is. let same = is in absurd (cc)), tt)) missing.came)
 
   -- ---- a bind that leaks a slot
 
