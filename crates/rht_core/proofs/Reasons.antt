@@ -78,3 +78,5 @@ pub mod TableWordsKept
 pub mod OwnTables
 -- so in every run tables are attached when, by whom and of which size they are to be
 pub mod AttachedInRuns
+-- and what attaches one wrongly
+pub mod WorkedAttachings

@@ -1,0 +1,98 @@
+-- Operations that attach a table wrongly, whatever the call did before: a look-up that attaches one behind a table in force; a bind that
+-- attaches one of 4 buckets where each shape that it loaded was that of 64; and a bind that makes another table the current one.
+use Rattle.std.proofs.Common.{◌≡◌, ◌≢◌, ℕ, ◌*◌, ◌<◌, Bool, List, ◌∷◌, refl, sym, ap, ◌∙◌, subst, inl, inr, arith}
+use Rattle.std.specs.List.{AllByRecursion}
+use Rattle.std.proofs.lemmas.Bool.{cond_both}
+use Rattle.rht_words.specs.declared.env.Env.{Env}
+use Rattle.rht_words.specs.declared.geometry.Geometry.{Geometry}
+use Rattle.rht_words.specs.declared.op.Op.TheVariants.{Load, Store, Exchange}
+use Rattle.rht_words.specs.Links.{future_of}
+use Rattle.rht_words.specs.Members.{In}
+use Rattle.rht_words.specs.Places.{CurrentTable, Slot, ShapeWord, FutureWord, place_of, word_at}
+use Rattle.rht_words.specs.Shapes.{unpacked, size_of}
+use Rattle.rht_words.proofs.EachElement.{AllByRecursion-cut, AllByRecursion-push}
+use Rattle.rht_policy.specs.Thresholds.{is_above_75}
+use Rattle.rht_stands.specs.StandsFor.{in_force}
+use Rattle.rht_model.specs.declared.history.Call.{Call}
+use Rattle.rht_model.specs.declared.history.Call.TheVariants.{Bind, Find}
+use Rattle.rht_core.specs.declared.event.Event.{Event}
+use Rattle.rht_core.specs.Traces.{Did}
+use Rattle.rht_core.specs.Seen.{words_before}
+use Rattle.rht_core.specs.ResizeCauses.{wanted_size}
+use Rattle.rht_core.specs.Attached.{ChangesTable, size_made, AttachesFull, AttachesRightly, ChangesRightly}
+
+-- where it loads the shape of a table, that is one of so many buckets
+abbrev pub FindsSize : Geometry → ℕ → Did → Type 0
+FindsSize g size did =
+    (table : ℕ) → table < 8 → did.op ≡ Load (place_of g (Slot table ShapeWord)) → size_of (unpacked did.old) ≡ size
+
+module _ (M : Type 0) (mix : ℕ → ℕ → ℕ → ℕ) (env : Env) (events : List Event) (c index : ℕ) (before : List Did) where
+  abbrev g : Geometry
+  g = env.geometry
+
+  abbrev words : List ℕ
+  words = words_before M mix env events index
+
+  abbrev Rightly : Call → Did → Type 0
+  Rightly call did = ChangesRightly M mix env events c call before did
+
+  -- ---- an exchange that attaches the table of this slot behind one in force
+
+  module _ (table slot : ℕ) (table_in : table < 8) (slot_in : slot < 8) (stands : In table (in_force g words)) where
+    abbrev attaches : Did
+    attaches = record { index = index; op = Exchange (place_of g (Slot table FutureWord)) 0 (future_of slot); old = 0 }
+
+    changes : ChangesTable g table attaches
+    changes = record {
+      slot_in = table_in;
+      word = FutureWord;
+      of_table = tt;
+      there = refl;
+      other = λ same. absurd (omega (arith, same));
+    }
+
+    -- the table isn't the call's own
+    attached_so : (call : Call) → Rightly call attaches → AttachesRightly M mix env events c call table before attaches
+    attached_so call right = elim (right.tables table changes) [
+      | inl own ↦ absurd (own.apart stands)
+      | inr so ↦ so
+    ]
+
+    -- by a look-up
+    pub look_up_attaches : (port : ℕ) → Rightly (Find port) attaches → ⊥
+    look_up_attaches port right = (attached_so (Find port) right).cause
+
+    -- by a bind that saw tables of 64 buckets alone, where the one that it attaches has 4
+    module _ (few : size_of (unpacked (word_at g words (Slot slot ShapeWord))) ≡ 4) (seen : AllByRecursion (FindsSize g 64) before) where
+      -- what is wanted behind a table of 64 buckets has so many, or twice as many
+      wanted : (shape count : ℕ) → size_of (unpacked shape) ≡ 64 → 4 ≢ size_made (wanted_size env shape count)
+      wanted shape count is =
+          cond_both (is_above_75 count (size_of (unpacked shape)) env.config.max) (2 * size_of (unpacked shape))
+          (size_of (unpacked shape)) (λ size. 4 ≢ size_made size)
+          (λ t same. absurd (omega (arith, is, same))) (λ f same. absurd (omega (arith, is, same)))
+
+      other_size : (port made shape : ℕ) → size_of (unpacked shape) ≡ 4
+          → AttachesFull M mix env events c port table made shape before attaches → ⊥
+      other_size port made shape small full =
+          let walked = full.full.walked in
+          let all = AllByRecursion-push (FindsSize g 64) before attaches seen (λ t low loads. absurd (cc)) in
+          let at = (AllByRecursion-cut (FindsSize g 64) walked.before (walked.at ∷ walked.behind)
+          (subst (AllByRecursion (FindsSize g 64)) walked.split all)).1.0 in
+          let many : size_of (unpacked full.full.shape) ≡ 64 =
+          ap (λ s. size_of (unpacked s)) (sym walked.found) ∙ at table walked.table_in walked.loaded in
+          wanted full.full.shape full.count many (sym small ∙ full.sized)
+
+      pub bind_attaches_small : (port owner : ℕ) (once : Bool) → Rightly (Bind port owner once) attaches → ⊥
+      bind_attaches_small port owner once right =
+          let so = attached_so (Bind port owner once) right in
+          let same : future_of slot ≡ future_of so.slot = let is = so.attaches.exchanges in cc in
+          let one : slot ≡ so.slot = omega (arith, same) in
+          let shape : word_at g words (Slot slot ShapeWord) ≡ so.shape = ap (λ s. word_at g words (Slot s ShapeWord)) one ∙ so.shape_is in
+          other_size port so.slot so.shape (ap (λ s. size_of (unpacked s)) (sym shape) ∙ few) so.cause
+
+  -- ---- a store of another table as the current one
+
+  pub bind_moves_on : (port owner old table : ℕ) (once : Bool) → table ≢ old
+      → Rightly (Bind port owner once) (record { index = index; op = Store (place_of g CurrentTable) table; old = old }) → ⊥
+  bind_moves_on port owner old table once other right =
+      let works = (right.current (record { there = refl; other = other })).0 in absurd (cc)
