@@ -1,8 +1,9 @@
 -- When a table is attached, by whom, and of which size.
 -- What the words of a slot say of its table is changed by the caller alone that has taken the slot for a new table. Of a table in force it
 -- stays as it is, but for its future. That becomes another one only by the exchange that attaches the next table. A bind does that which
--- saw the table full, or a resizing that chose one. And the current table becomes another one only by a resizing, which goes on to the next.
-use Rattle.std.specs.Prelude.{◌≡◌, ◌≢◌, ℕ, ◌^◌, ◌<◌, ◌⊎◌, ◌≤◌, min, true, false, Some, List, [], ◌∷◌, ◌++◌, IfSome}
+-- saw the table full, or a resizing that chose one. The current table becomes another one only by a resizing, which goes on to the next. And
+-- where an entry of a nested table leads to no page, a bind alone enters one, on the way to its own port's bucket.
+use Rattle.std.specs.Prelude.{◌≡◌, ◌≢◌, ℕ, ◌^◌, ◌*◌, ◌<◌, ◌⊎◌, ◌≤◌, min, true, false, Some, List, [], ◌∷◌, ◌++◌, IfSome}
 use Rattle.std.specs.List.{AllByRecursion, Any}
 use Rattle.rht_words.specs.declared.op.Op.TheVariants.{Load, Store}
 use Rattle.rht_words.specs.declared.env.Env.{Env}
@@ -10,23 +11,25 @@ use Rattle.rht_words.specs.declared.geometry.Geometry.{Geometry}
 use Rattle.rht_words.specs.Links.{table_of, slot_of}
 use Rattle.rht_words.specs.Members.{In}
 use Rattle.rht_words.specs.Operations.{op_place, word_after}
-use Rattle.rht_words.specs.Places.{SlotWord, CurrentTable, PortCount, Slot, ShapeWord, FutureWord, SerialWord, StateWord, place_of, word_at}
+use Rattle.rht_words.specs.Places.{SlotWord, CurrentTable, PortCount, Slot, ShapeWord, FutureWord, SeedWord, SerialWord, StateWord, PageWord, place_of, word_at}
 use Rattle.rht_words.specs.Shapes.{unpacked, size_of}
 use Rattle.rht_words.specs.TableWords.{IsTableWord}
+use Rattle.rht_policy.specs.Mix.{bucket_of}
 use Rattle.rht_policy.specs.Thresholds.{is_above_75}
 use Rattle.rht_nest.specs.MakeLaws.{TakesSlot, TakesSerial}
+use Rattle.rht_nest.specs.Place.{nested_place, missing_at}
 use Rattle.rht_nest.specs.Tables.{is_nested}
-use Rattle.rht_stands.specs.StandsFor.{in_force}
+use Rattle.rht_stands.specs.StandsFor.{in_force, page_word}
 use Rattle.rht_model.specs.declared.history.Call.{Call}
 use Rattle.rht_model.specs.declared.history.Call.TheVariants.{Bind, Work}
 use Rattle.rht_move.specs.declared.work.choice.Choice.TheVariants as choices
 use Rattle.rht_core.specs.declared.event.Event.{Event}
 use Rattle.rht_core.specs.Runs.{IsAdmitted}
 use Rattle.rht_core.specs.Traces.{Did, Traced, performed_of, traced_of}
-use Rattle.rht_core.specs.Seen.{LoadsCurrent, words_before}
+use Rattle.rht_core.specs.Seen.{LoadsCurrent, LastWalked, words_before}
 use Rattle.rht_core.specs.ResizeCauses.{Loaded, Attaches, WalkedFull, wanted_size}
 use Rattle.rht_core.specs.WorkCauses.{HasChosen}
-use Rattle.rht_core.specs.Refused.{StoresLast}
+use Rattle.rht_core.specs.Refused.{StoresLast, IsMissingEntry, EntersPage, HasTaken}
 
 -- the operation changes one of the words that say something of the table in this slot
 pub record ChangesTable (g : Geometry) (slot : ℕ) (did : Did) : Type 0 where
@@ -47,6 +50,18 @@ pub record MovesOn (g : Geometry) (words : List ℕ) (did : Did) : Type 0 where
   pub table_in : table < 8
   pub becomes : word_after did.old did.op ≡ table
   pub followed : slot_of (word_at g words (Slot (table_of did.old) FutureWord)) ≡ Some table
+
+-- the table of this slot is in force by these words, or is retired
+abbrev pub IsInForceOrRetired : Geometry → List ℕ → ℕ → Type 0
+IsInForceOrRetired g words table = In table (in_force g words) ⊎ (word_at g words (Slot table StateWord) ≡ 2)
+
+-- the operation changes this entry of such a table, which is nested: by the words before, the way to one of its buckets ends at the entry
+pub record ChangesMissing (g : Geometry) (words : List ℕ) (entry : ℕ) (did : Did) : Type 0 where
+  pub entry_in : entry < 64 * g.pages
+  pub missing : IsMissingEntry g words entry
+  pub stands : IsInForceOrRetired g words missing.table
+  pub there : op_place did.op ≡ place_of g (PageWord entry)
+  pub other : word_after did.old did.op ≢ did.old
 
 -- the operation lets go of this slot: it gives it back, or attaches the table in it behind another one
 abbrev pub LetsSlotGo : Geometry → ℕ → Did → Type 0
@@ -92,6 +107,27 @@ pub record AttachesDue (env : Env) (table slot shape : ℕ) (before : List Did) 
   pub numbered : StoresDrawn env.geometry slot chose.behind
   pub sized : size_of (unpacked shape) ≡ size
   pub flat : is_nested shape ≡ false
+
+-- where these are the words before the event with each number
+module _ (g : Geometry) (words_at : ℕ → List ℕ) (mix : ℕ → ℕ → ℕ → ℕ) where
+  -- A bind of this port enters a page at this entry, which it had taken. It had walked a table last, and by the words before, the way to the
+  -- port's bucket in that table ends there. The bucket's number is by the table's seed as it then is.
+  pub record EntersOnWay (port entry : ℕ) (before : List Did) (did : Did) : Type 0 where
+    pub page : ℕ
+    pub enters : EntersPage g (words_at did.index) entry page did
+    pub took : HasTaken g words_at page before
+    pub table : ℕ
+    pub shape : ℕ
+    pub walked : LastWalked g table shape before
+    pub bucket : ℕ
+    pub bucket_is : bucket ≡ bucket_of mix port shape (word_at g (words_at did.index) (Slot table SeedWord))
+    pub within : bucket < size_of (unpacked shape)
+    pub ends : missing_at (page_word g (words_at did.index)) (nested_place g shape bucket) ≡ Some entry
+
+  -- only binds enter pages
+  abbrev pub EnterCause : Call → ℕ → List Did → Did → Type 0
+  EnterCause (Bind port owner once) entry before did = EntersOnWay port entry before did
+  EnterCause _ entry before did = ⊥
 
 module _ (M : Type 0) (mix : ℕ → ℕ → ℕ → ℕ) (env : Env) (events : List Event) (c : ℕ) where
   -- A bind of this port attaches a table behind this one. Up to this operation it saw this one full. In between it loaded a count of ports,
@@ -139,12 +175,16 @@ module _ (M : Type 0) (mix : ℕ → ℕ → ℕ → ℕ) (env : Env) (events : 
     pub cause : AttachCause call table slot shape before did
 
   -- Where the operation changes what a slot's words say of a table, that is the call's own, or it attaches another one behind it. And where it
-  -- changes which table is the current one, the call is a resizing, and goes on to the next table.
+  -- changes which table is the current one, the call is a resizing, and goes on to the next table. Where it changes an entry that leads to no
+  -- page, the call is a bind, and enters a page there.
   pub record ChangesRightly (call : Call) (before : List Did) (did : Did) : Type 0 where
     pub tables : (slot : ℕ) → ChangesTable env.geometry slot did → IsOwnTable slot before did ⊎ AttachesRightly call slot before did
     pub current :
         ChangesCurrent env.geometry did
         → (call ≡ Work) × MovesOn env.geometry (words_before M mix env events did.index) did
+    pub entries :
+        (entry : ℕ) → ChangesMissing env.geometry (words_before M mix env events did.index) entry did
+        → EnterCause env.geometry (words_before M mix env events) mix call entry before did
 
   -- so do all calls of the caller, those that have ended and the one in progress
   pub record HasAttachedRightly (r : Traced M) : Type 0 where

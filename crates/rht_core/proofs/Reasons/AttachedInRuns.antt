@@ -1,8 +1,8 @@
--- In every run tables are attached by binds that saw the last table full and by resizings that chose one, of the sizes that are due, and
--- nobody changes the words of a table but its maker.
+-- In every run tables are attached by binds that saw the last table full, and by resizings that chose one, of the sizes that are due. Nobody
+-- changes the words of a table but its maker, and a missing page is entered by a bind on its way.
 --
--- Of each operation it is kept, with those before it, that where it changes a word of a slot's table the call has the slot or attaches
--- the table that it has made.
+-- This is kept of each operation, with those before it: where it changes a word of a slot's table the call has the slot, or attaches the
+-- table that it has made.
 use Rattle.std.proofs.Common.{◌≡◌, ◌⊎◌, ℕ, true, false, List, [], ◌∷◌, ◌++◌, Option, Some, None, inl, inr, refl, sym, ap, ◌∙◌, subst, arith}
 use Rattle.std.specs.Prelude.{IfSome, min, max, ◌≤◌, take, drop}
 use Rattle.std.specs.List.{AllByRecursion}
@@ -11,7 +11,7 @@ use Rattle.rht_words.specs.declared.geometry.Geometry.{Geometry}
 use Rattle.rht_words.specs.declared.machine.Next.{Next}
 use Rattle.rht_words.specs.declared.machine.Next.TheVariants.{Go, Done}
 use Rattle.rht_words.specs.Members.{In}
-use Rattle.rht_words.specs.Places.{Slot, ShapeWord, FutureWord, word_at}
+use Rattle.rht_words.specs.Places.{Slot, ShapeWord, FutureWord, PageWord, place_of, word_at}
 use Rattle.rht_words.specs.Shapes.{unpacked, size_of}
 use Rattle.rht_words.proofs.EachElement.{AllByRecursion-cut}
 use Rattle.rht_policy.specs.Thresholds.{is_above_75}
@@ -29,7 +29,7 @@ use Rattle.rht_core.specs.Traces.{Did, Past, traced_of}
 use Rattle.rht_core.specs.Laws.{IsRecorded, IsPastCall}
 use Rattle.rht_core.specs.Seen.{words_before}
 use Rattle.rht_core.specs.ResizeCauses.{Attaches, wanted_size}
-use Rattle.rht_core.specs.Attached.{ChangesTable, ChangesCurrent, MovesOn, HasTakenSlot, EachBehind, AttachesDue, size_made, AttachesFull, AttachCause, IsOwnTable, ChangesRightly, Attached}
+use Rattle.rht_core.specs.Attached.{ChangesMissing, EnterCause, ChangesTable, ChangesCurrent, MovesOn, HasTakenSlot, EachBehind, AttachesDue, size_made, AttachesFull, AttachCause, IsOwnTable, ChangesRightly, Attached}
 use Rattle.rht_ghost.proofs.Theory.Ghosts.{Ghost, has_table, SlotHeld}
 use Rattle.rht_ghost.proofs.Theory.Wholes.{Whole}
 use Rattle.rht_ghost.proofs.Theory.Steps.{mem, Does}
@@ -60,6 +60,16 @@ use Rattle.rht_core.proofs.Reasons.TableWordsKept.{FitBefore, by_move, current_b
 use Rattle.rht_core.proofs.Reasons.RefusedBinds.{Behind, SawWhy, SawToAttach, Settled}
 use Rattle.rht_core.proofs.Reasons.OwnTables.{bind-taken, work-taken, own_slot, moving_works, AttachesNow, attaches_now, by_bind, by_work}
 use Rattle.rht_core.proofs.Reasons.BindCauses.{walked_full, unclamped}
+use Rattle.rht_words.specs.declared.op.Op.TheVariants.{Load}
+use Rattle.rht_words.specs.Operations.{old_of}
+use Rattle.rht_words.specs.Links.{page_of}
+use Rattle.rht_core.specs.Refused.{EntersPage, HasTaken}
+use Rattle.rht_ghost.proofs.Theory.Knowledge.{TableMeans}
+use Rattle.rht_ghost.proofs.Pieces.OpenEntries.{known_growing}
+use Rattle.rht_core.proofs.Reasons.PagesMissed.{misses-page}
+use Rattle.rht_core.proofs.Undoing.LocksLetGo.{early}
+use Rattle.rht_core.proofs.Undoing.MissingKept.{EntersThere, EntersNow, by_entering, entered_by_move, enters_now}
+use Rattle.rht_core.proofs.Undoing.RefusedCalls as refusals
 use Rattle.rht_core.proofs.Reasons.CausesInRuns.{JobSaw, EndsSeen, job-leads, first_job-saw}
 
 module _ (M : Type 0) (mix : ℕ → ℕ → ℕ → ℕ) (env : Env) (events : List Event) (c : ℕ) where
@@ -96,9 +106,10 @@ module _ (M : Type 0) (mix : ℕ → ℕ → ℕ → ℕ) (env : Env) (events : 
     pub tables : (slot : ℕ) → ChangesTable g slot did
         → IsOwnTable M mix env events c slot before did ⊎ AttachesSeen call slot before did
     pub current : ChangesCurrent g did → (call ≡ Work) × MovesOn g (words_at did.index) did
+    pub entries : (entry : ℕ) → ChangesMissing g (words_at did.index) entry did → EnterCause g words_at mix call entry before did
 
   abbrev pub Now : Job → List Did → Type 0
-  Now job steps = JobSaw env words_at mix job steps × EachBehind (ChangesSeen (call_of job)) [] steps
+  Now job steps = JobSaw env words_at mix job steps × refusals.Going M mix env events job steps × EachBehind (ChangesSeen (call_of job)) [] steps
 
   abbrev pub Ended : Call → Ending → List Did → Type 0
   Ended call ending steps = EndsSeen M mix env events call ending steps × EachBehind (ChangesSeen call) [] steps
@@ -201,9 +212,65 @@ module _ (M : Type 0) (mix : ℕ → ℕ → ℕ → ℕ) (env : Env) (events : 
           };
         }
 
+    -- a page is entered where the way to the port's bucket ends, by the words as they then are
+    entering : (job : Job) (entry page : ℕ) → EntersNow env entry page job → (performs : Performs mix env job did)
+        → performs.words ≡ words_at did.index → JobSaw env words_at mix job steps → HasTaken g words_at page steps
+        → EntersPage g (words_at did.index) entry page did → EnterCause g words_at mix (call_of job) entry steps did
+    entering job entry page (by_entering port owner once attempt table shape place grow p at_is on) performs now saw took enters =
+        let same_g = performs.within.at_in.place_in.geometry_same in
+        let here : place_of g (PageWord place.entry) ≡ place_of g (PageWord entry) =
+        ap (λ (h : Geometry). place_of h (PageWord place.entry)) (sym same_g) ∙ sym performs.knows.fits ∙ on in
+        let same : place.entry ≡ entry = omega (arith, here) in
+        let on_way = subst (λ a. TableMeans env mix performs.ghost (known_growing port table shape place a)) at_is
+        performs.knows.knowing.means.table in
+        let unset : mem env mix performs.words (PageWord place.entry) ≡ 0 =
+        ap (λ i. mem env mix performs.words (PageWord i)) same ∙ sym (ap (old_of performs.words) enters.exchanges) ∙ sym performs.found
+        ∙ enters.found in
+        let load : Did = record { index = did.index; op = Load (place_of g (PageWord place.entry)); old = 0 } in
+        let missing = misses-page env words_at mix performs.words performs.ghost performs.whole port table shape place load on_way now
+        same_g refl (ap (page_of g.pages) unset) in
+        record {
+          page = page;
+          enters = enters;
+          took = took;
+          table = table;
+          shape = shape;
+          walked = saw.0.walked.last;
+          bucket = missing.bucket;
+          bucket_is = missing.bucket_is;
+          within = missing.within;
+          ends = missing.ends ∙ ap Some same;
+        }
+
+    entered : (job : Job) (entry : ℕ) (performs : Performs mix env job did) → performs.words ≡ words_at did.index
+        → JobSaw env words_at mix job steps → refusals.Going M mix env events job steps → ChangesMissing g (words_at did.index) entry did
+        → (there : EntersThere env mix performs.caller performs.ghost did (held_of job) (held_next (job_after mix env job did.old)) entry)
+        → EnterCause g words_at mix (call_of job) entry steps did
+    entered job entry performs now saw going changed there =
+        let page = there.page in
+        let is_early = early env mix performs.caller (mem env mix performs.words) performs.ghost did entry page there.does.entering job
+        performs.within performs.planned there.does.had in
+        let took : HasTaken g words_at page steps = elim going [
+          | inl past ↦ absurd (let both = sym is_early.not_past ∙ past in cc)
+          | inr goes_on ↦ elim goes_on [
+            | inl says ↦ absurd (is_early.untold says)
+            | inr may ↦ may.undoes.took page there.does.had
+          ]
+        ] in
+        entering job entry page
+        (enters_now env mix performs.caller (mem env mix performs.words) performs.ghost did entry page there.does.entering job performs.within
+        performs.planned there.does.had) performs now saw took
+        (record {
+          page_in = there.ready.among;
+          entry_in = changed.entry_in;
+          missing = changed.missing;
+          exchanges = there.does.entering;
+          found = there.does.found;
+        })
+
     changes : (job : Job) (performs : Performs mix env job did) → performs.words ≡ words_at did.index
-        → JobSaw env words_at mix job steps → ChangesSeen (call_of job) steps did
-    changes job performs now saw =
+        → JobSaw env words_at mix job steps → refusals.Going M mix env events job steps → ChangesSeen (call_of job) steps did
+    changes job performs now saw going =
         let next = job_after mix env job did.old in
         let step = performs.step in
         let there = mem env mix performs.words in
@@ -225,23 +292,30 @@ module _ (M : Type 0) (mix : ℕ → ℕ → ℕ → ℕ) (env : Env) (events : 
               let publishing = current_by_move env mix performs.caller performs.words performs.ghost did (held_of job) (held_next next)
               performs.whole performs.all performs.found fits changed step.move step.ready step.made.whole does in
               (moving_works job publishing.moves, subst (λ ws. MovesOn g ws did) now publishing.on);
+          entries = λ entry changed.
+              entered job entry performs now saw going changed
+              (entered_by_move env mix performs.caller performs.words performs.ghost did (held_of job) (held_next next) performs.whole
+              performs.all performs.found entry (subst (λ ws. ChangesMissing g ws entry did) (sym now) changed) step.move step.ready
+              step.made.whole does);
         }
 
     -- an operation leads on with this too
     by_next : (job : Job) (next : Job × Next Ending) → call_of next.0 ≡ call_of job
         → EachBehind (ChangesSeen (call_of job)) [] (steps ++ did ∷ [])
         → LeadsOn M mix env (JobSaw env words_at mix) (EndsSeen M mix env events) job (steps ++ did ∷ []) next
+        → LeadsOn M mix env (refusals.Going M mix env events) (refusals.Undone M mix env events) job (steps ++ did ∷ []) next
         → LeadsOn M mix env Now Ended job (steps ++ did ∷ []) next
-    by_next job (after, Go) same each leads =
-        (leads, subst (λ call. EachBehind (ChangesSeen call) [] (steps ++ did ∷ [])) (sym same) each)
-    by_next job (after, Done ending) same each leads = (leads, each)
+    by_next job (after, Go) same each leads going =
+        (leads, going, subst (λ call. EachBehind (ChangesSeen call) [] (steps ++ did ∷ [])) (sym same) each)
+    by_next job (after, Done ending) same each leads going = (leads, each)
 
     goes : (job : Job) (performs : Performs mix env job did) → StandsIn mix env words_at job did performs → Now job steps
         → LeadsOn M mix env Now Ended job (steps ++ did ∷ []) (job_after mix env job did.old)
-    goes job performs stands (saw, each) =
+    goes job performs stands (saw, going, each) =
         by_next job (job_after mix env job did.old) (same_call mix env job did.old)
-        (each-push (ChangesSeen (call_of job)) [] steps did each (changes job performs stands.now saw))
+        (each-push (ChangesSeen (call_of job)) [] steps did each (changes job performs stands.now saw going))
         (job-leads M mix env events job steps did performs stands saw)
+        (refusals.goes M mix env events job steps did performs stands.now going)
 
   -- ---- what was seen is the cause, where each operation was recorded at its event
 
@@ -336,6 +410,7 @@ module _ (M : Type 0) (mix : ℕ → ℕ → ℕ → ℕ) (env : Env) (events : 
         })
       ];
       current = seen.current;
+      entries = seen.entries;
     }
 
     all_rightly : (call : Call) (steps : List Did) → AllByRecursion IsRecordedHere steps → EachBehind (ChangesSeen call) [] steps
@@ -358,7 +433,7 @@ module _ (M : Type 0) (mix : ℕ → ℕ → ℕ → ℕ) (env : Env) (events : 
         subst (λ call. IfSome call (λ call. EachBehind (ChangesRightly M mix env events c call) [] steps)) (sym idle.call) tt
     now_rightly (Some job) book steps recorded work =
         subst (λ call. IfSome call (λ call. EachBehind (ChangesRightly M mix env events c call) [] steps)) (sym work.call)
-        (all_rightly (call_of job) steps recorded work.now.1)
+        (all_rightly (call_of job) steps recorded work.now.2)
 
 pub attached : (M : Type 0) (mix : ℕ → ℕ → ℕ → ℕ) → Attached M mix
 attached M mix env events c admitted =
@@ -366,7 +441,7 @@ attached M mix env events c admitted =
     let keeping =
     jobs_keep_standing M mix env (Now M mix env events c) (Ended M mix env events c) events
     (record {
-      begins = λ call job is. (first_job-saw M mix env events call job is, tt);
+      begins = λ call job is. (first_job-saw M mix env events call job is, refusals.begins M mix env events call job is, tt);
       goes = λ job steps did performs stands kept. goes M mix env events c admitted steps did job performs stands kept;
     }) c admitted in
     let were = at_events M mix env events admitted c in

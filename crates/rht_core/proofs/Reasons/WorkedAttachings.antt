@@ -1,25 +1,29 @@
--- Operations that attach a table wrongly, whatever the call did before: a look-up that attaches one behind a table in force; a bind that
--- attaches one of 4 buckets where each shape that it loaded was that of 64; and a bind that makes another table the current one.
-use Rattle.std.proofs.Common.{◌≡◌, ◌≢◌, ℕ, ◌*◌, ◌<◌, Bool, List, ◌∷◌, refl, sym, ap, ◌∙◌, subst, inl, inr, arith}
+-- Operations that attach a table or enter a page wrongly, whatever the call did before: a look-up that attaches a table behind one in
+-- force; a bind that attaches one of 4 buckets where each shape that it loaded was that of 64; a bind that makes another table the current
+-- one; a look-up that enters a page; and a bind that enters one where no way to its port's bucket ends.
+use Rattle.std.proofs.Common.{◌≡◌, ◌≢◌, ℕ, ◌*◌, ◌<◌, Bool, List, ◌∷◌, refl, sym, ap, ◌∙◌, subst, inl, inr, arith, Some}
 use Rattle.std.specs.List.{AllByRecursion}
 use Rattle.std.proofs.lemmas.Bool.{cond_both}
 use Rattle.rht_words.specs.declared.env.Env.{Env}
 use Rattle.rht_words.specs.declared.geometry.Geometry.{Geometry}
 use Rattle.rht_words.specs.declared.op.Op.TheVariants.{Load, Store, Exchange}
-use Rattle.rht_words.specs.Links.{future_of}
+use Rattle.rht_words.specs.Links.{future_of, entry_of}
 use Rattle.rht_words.specs.Members.{In}
-use Rattle.rht_words.specs.Places.{CurrentTable, Slot, ShapeWord, FutureWord, place_of, word_at}
+use Rattle.rht_words.specs.Places.{CurrentTable, Slot, ShapeWord, SeedWord, FutureWord, PageWord, place_of, word_at}
 use Rattle.rht_words.specs.Shapes.{unpacked, size_of}
 use Rattle.rht_words.proofs.EachElement.{AllByRecursion-cut, AllByRecursion-push}
 use Rattle.rht_policy.specs.Thresholds.{is_above_75}
-use Rattle.rht_stands.specs.StandsFor.{in_force}
+use Rattle.rht_policy.specs.Mix.{bucket_of}
+use Rattle.rht_nest.specs.Place.{nested_place, missing_at}
+use Rattle.rht_stands.specs.StandsFor.{in_force, page_word}
+use Rattle.rht_core.specs.Refused.{IsMissingEntry}
 use Rattle.rht_model.specs.declared.history.Call.{Call}
 use Rattle.rht_model.specs.declared.history.Call.TheVariants.{Bind, Find}
 use Rattle.rht_core.specs.declared.event.Event.{Event}
 use Rattle.rht_core.specs.Traces.{Did}
 use Rattle.rht_core.specs.Seen.{words_before}
 use Rattle.rht_core.specs.ResizeCauses.{wanted_size}
-use Rattle.rht_core.specs.Attached.{ChangesTable, size_made, AttachesFull, AttachesRightly, ChangesRightly}
+use Rattle.rht_core.specs.Attached.{ChangesTable, size_made, AttachesFull, AttachesRightly, ChangesRightly, IsInForceOrRetired, ChangesMissing}
 
 -- where it loads the shape of a table, that is one of so many buckets
 abbrev pub FindsSize : Geometry → ℕ → Did → Type 0
@@ -96,3 +100,33 @@ module _ (M : Type 0) (mix : ℕ → ℕ → ℕ → ℕ) (env : Env) (events : 
       → Rightly (Bind port owner once) (record { index = index; op = Store (place_of g CurrentTable) table; old = old }) → ⊥
   bind_moves_on port owner old table once other right =
       let works = (right.current (record { there = refl; other = other })).0 in absurd (cc)
+
+  -- ---- an exchange that enters a page at an entry which leads to none
+
+  module _ (entry page : ℕ) (entry_in : entry < 64 * g.pages) (missing : IsMissingEntry g words entry)
+      (stands : IsInForceOrRetired g words missing.table) where
+    abbrev enters : Did
+    enters = record { index = index; op = Exchange (place_of g (PageWord entry)) 0 (entry_of page); old = 0 }
+
+    changes_missing : ChangesMissing g words entry enters
+    changes_missing = record {
+      entry_in = entry_in;
+      missing = missing;
+      stands = stands;
+      there = refl;
+      other = λ same. absurd (omega (arith, same));
+    }
+
+    -- by a look-up
+    pub look_up_enters : (port : ℕ) → Rightly (Find port) enters → ⊥
+    look_up_enters port right = right.entries entry changes_missing
+
+    -- by a bind, where the way to its port's bucket ends elsewhere in each table, whichever shape it loaded
+    pub bind_enters_elsewhere : (port owner : ℕ) (once : Bool)
+        → ((table shape : ℕ) → missing_at (page_word g words)
+        (nested_place g shape (bucket_of mix port shape (word_at g words (Slot table SeedWord)))) ≢ Some entry)
+        → Rightly (Bind port owner once) enters → ⊥
+    bind_enters_elsewhere port owner once elsewhere right =
+        let way = right.entries entry changes_missing in
+        elsewhere way.table way.shape
+        (ap (λ bucket. missing_at (page_word g words) (nested_place g way.shape bucket)) (sym way.bucket_is) ∙ way.ends)

@@ -305,14 +305,14 @@ module _ (env : Env) (mix : ℕ → ℕ → ℕ → ℕ) (c : ℕ) (M : Memory) 
 
   module _ (did : Did) (entry page : ℕ) (exchanges : did.op ≡ Exchange (place_of g (PageWord entry)) 0 (entry_of page)) where
     -- the taking of a run enters no page
-    take-none : (take : TakeRunModel) (at : TakeRunAt)
+    pub take-none : (take : TakeRunModel) (at : TakeRunAt)
         → take_run_plan_at take.geometry take.pages at ≡ Exchange (place_of g (PageWord entry)) 0 (entry_of page) → ⊥
     take-none take (takes.MapWord first index) same = cc
     take-none take (takes.Claim first index) same = cc
     take-none take (takes.GiveBack first index bits) same = cc
 
     -- a making that exchanges has no page
-    make-enters : (exponent seed : ℕ) (h : Geometry) (state : MakeAt) → did.op ≡ make_plan_at h exponent seed state
+    pub make-enters : (exponent seed : ℕ) (h : Geometry) (state : MakeAt) → did.op ≡ make_plan_at h exponent seed state
         → In page (pages_of_make exponent state) → ⊥
     make-enters exponent seed h (makes.Slot slot) is i = i
     make-enters exponent seed h (makes.Taking slot take) is i = take-none take take.at (sym is ∙ exchanges)
