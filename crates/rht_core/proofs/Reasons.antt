@@ -16,6 +16,8 @@ pub mod PagesTaken
 pub mod PagesGivenBack
 -- what the making of a table has seen so far
 pub mod MakesSeen
+-- and by which of its operations it has taken the slot
+pub mod SlotsTaken
 -- what a bind that finds the last table full has seen for a refusal
 pub mod RefusedBinds
 -- at which operation of a bind its port has no owner
@@ -72,3 +74,11 @@ pub mod CalmBinds
 pub mod CalmCalls
 -- that the call itself held none of the pages that it saw taken, and what breaks that
 pub mod WorkedPages
+-- that an operation which changes words of tables attaches one, or is on a slot that the call has
+pub mod TableWordsKept
+-- which the call took, and from which a bind or a resizing attaches the table that it has made
+pub mod OwnTables
+-- so in every run tables are attached when, by whom and of which size they are to be
+pub mod AttachedInRuns
+-- and what attaches one wrongly
+pub mod WorkedAttachings

@@ -30,6 +30,8 @@ pub mod RefusedCalls
 pub mod LocksTurned
 -- in every run a call that has ended has let go of its locks
 pub mod LocksLetGo
+-- where a missing page is entered, and by whom
+pub mod MissingKept
 -- operations that leave something undone
 pub mod WorkedRefusals
 -- and those that keep a lock

@@ -61,3 +61,5 @@ pub mod FewPorts
 pub mod Refused
 -- which locks a call has let go
 pub mod LetGo
+-- when a table is attached, by whom, and of which size
+pub mod Attached

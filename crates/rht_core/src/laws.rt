@@ -1,6 +1,7 @@
 //! The laws of every run. Each function is empty, and its clause is the law.
 
 ghost use Rattle.rht_core.specs.Alone.{Alone};
+ghost use Rattle.rht_core.specs.Attached.{Attached};
 ghost use Rattle.rht_core.specs.Causes.{Causes};
 ghost use Rattle.rht_core.specs.Counts.{Counted, AtRest};
 ghost use Rattle.rht_core.specs.FewPorts.{FewPorts, OneCaller};
@@ -250,6 +251,34 @@ pub fn let_go<M: Mix>()
 /// sections.
 pub fn sections<M: Mix>()
     ensures { Sections M M.mix_of }
+{}
+
+/// In every run, of each call, ended or in progress, no operation changes what the words of a slot say of a
+/// table, but for two cases. The table is the call's own: its operations took the slot, which was free, and
+/// have neither given it back nor attached the table since. By the words before, it isn't in force. Or the
+/// operation attaches a table of the call's own behind this one, by an exchange that finds its future to be
+/// none. By the words before, that table has no future, and the shape that is told next.
+///
+/// The call is then a bind or a `Work`. A bind saw the table full up to this operation, by its port's bucket or
+/// by the count. In between it loaded a count, and no other behind that. By that count a table is wanted of
+/// twice the size, or of the same where the bind had loaded this one as the current one. Behind the count it
+/// stored in the slot, last of all shapes, that of a table of the wanted size, or of 2^17 buckets where more
+/// are wanted. With fewer than 128 buckets that table is flat. A `Work` had chosen, by what it loaded under the
+/// work lock, that a table of this size is due behind this one, which was the last. Behind that it stored, last
+/// of all shapes, that of a flat table of this size. Either had drawn the serial that it stored last.
+///
+/// No operation changes which table is the current one, but for one of a `Work`, which makes that table
+/// current that was the future of the one before.
+///
+/// An entry leads to no page where the way to a bucket of a nested table ends, which is in force or retired. No
+/// operation changes such an entry, but for one of a bind that enters a page there. The bind had taken the
+/// page, and by the words before, the way to its own port's bucket ends there, in the table that it walked last.
+///
+/// It says nothing of who changes the words that say whether slots are free. So a call might free a slot before
+/// it takes it. Nor does it say what a nested table asks for besides its size, or that a table is ever attached,
+/// or a page entered.
+pub fn attached<M: Mix>()
+    ensures { Attached M M.mix_of }
 {}
 
 /// In every run a call is answered `NoNode` only where as many calls as there are nodes have taken one,

@@ -78,7 +78,7 @@ opening_word-fits env _ = omega arith
 -- ---- what a caller does
 
 -- the reading of the count is on one of the words
-planned_count : (env : Env) → IsPlannedIn env.geometry (count_plan_in env)
+pub planned_count : (env : Env) → IsPlannedIn env.geometry (count_plan_in env)
 planned_count env = record { within = omega arith; apart = λ same. absurd (omega arith); fits = omega arith }
 
 -- the way to a port begins in range

@@ -172,7 +172,7 @@ module _ (M : Type 0) (mix : ℕ → ℕ → ℕ → ℕ) (env : Env) (events : 
       )
 
   -- no clamp has changed a count that was loaded
-  unclamped : (did : Did) → IsRecordedHere did → did.op ≡ Load (place_of env.geometry PortCount)
+  pub unclamped : (did : Did) → IsRecordedHere did → did.op ≡ Load (place_of env.geometry PortCount)
       → min did.old 65536 ≡ did.old
   unclamped did was loads =
       let few = load_few env mix M events c did admitted loads was in
@@ -186,7 +186,7 @@ module _ (M : Type 0) (mix : ℕ → ℕ → ℕ → ℕ) (env : Env) (events : 
       subst (λ n. min n 65536 ≡ n) loaded.found (unclamped did was loaded.word.loads)
 
   -- a table is full by the count that was loaded, or its bucket has too many nodes
-  crowded : (port table : ℕ) (why : Full) (shape : ℕ) (behind : List Did) → AllByRecursion IsRecordedHere behind
+  pub crowded : (port table : ℕ) (why : Full) (shape : ℕ) (behind : List Did) → AllByRecursion IsRecordedHere behind
       → SawCrowd env words_at mix port table why shape behind → SawCrowded M mix env events c port table shape behind
   crowded port table full.Chain shape behind recorded saw = inl saw
   crowded port table full.Table shape behind recorded (k, did, within, is, above) =
@@ -210,7 +210,7 @@ module _ (M : Type 0) (mix : ℕ → ℕ → ℕ → ℕ) (env : Env) (events : 
       )
 
   -- the operations before the one that settled a reply were recorded too, and so the table was full
-  recorded_before : (port table : ℕ) (Saw : Full → ℕ → List Did → Type 0) (Last : Did → Type 0) (steps : List Did)
+  pub recorded_before : (port table : ℕ) (Saw : Full → ℕ → List Did → Type 0) (Last : Did → Type 0) (steps : List Did)
       → AllByRecursion IsRecordedHere steps → (settled : Settled env words_at mix port table Saw Last steps)
       → AllByRecursion IsRecordedHere settled.before
   recorded_before port table Saw Last steps recorded settled =
@@ -218,7 +218,7 @@ module _ (M : Type 0) (mix : ℕ → ℕ → ℕ → ℕ) (env : Env) (events : 
       let behind = (recorded_at steps walked.before walked.behind walked.at walked.split recorded).2 in
       (recorded_at walked.behind settled.before settled.rest settled.at settled.split behind).0
 
-  abbrev walked_full : (port table : ℕ) (Saw : Full → ℕ → List Did → Type 0) (Last : Did → Type 0)
+  abbrev pub walked_full : (port table : ℕ) (Saw : Full → ℕ → List Did → Type 0) (Last : Did → Type 0)
       (steps : List Did)
       → AllByRecursion IsRecordedHere steps → (settled : Settled env words_at mix port table Saw Last steps)
       → SawWhy env words_at mix port table settled.why settled.shape settled.before

@@ -33,7 +33,7 @@ use Rattle.rht_core.proofs.Reasons.PagesMissed.{SawGrowing, SeesMissing, NoPageS
 use Rattle.rht_core.proofs.Reasons.UnboundSeen.{SeesNoFuture}
 use Rattle.rht_core.proofs.Reasons.TablesWalked.{CameTo-append, LastWalked-push, Walked, WalkedSeeing, WalkedAt}
 use Rattle.rht_core.proofs.Reasons.ChainsCounted.{HasCounted, WalkCounted}
-use Rattle.rht_core.proofs.Reasons.RefusedBinds.{Behind, SawWhy, SawRoot, SawRefusal, SawToMake, FollowedSeen, FollowedSeen-push, BusySeen, BusySeen-push, NoTableSeen, NoTableSeen-push}
+use Rattle.rht_core.proofs.Reasons.RefusedBinds.{Behind, SawWhy, SawRoot, SawRefusal, SawToMake, SawToAttach, FollowedSeen, FollowedSeen-push, BusySeen, BusySeen-push, NoTableSeen, NoTableSeen-push}
 use Rattle.rht_core.proofs.Reasons.NewNodesSeen.{SawNew}
 use Rattle.rht_core.proofs.Reasons.RaisesSeen.{Raised, IsStill, Raised-push}
 
@@ -133,7 +133,7 @@ module _ (env : Env) (words_at : ℕ → List ℕ) (mix : ℕ → ℕ → ℕ �
   SawAt (at.FutureAgain growing refusal) steps =
       Behind env.geometry growing.table growing.shape (SawRefusal env words_at mix port growing refusal) steps
   SawAt (at.Attaching growing slot shape) steps =
-      Behind env.geometry growing.table growing.shape (SawWhy env words_at mix port growing.table growing.why growing.shape) steps
+      Behind env.geometry growing.table growing.shape (SawToAttach env words_at mix port growing slot shape) steps
   SawAt (at.Unmaking attempt unmake answer) steps = SawForReply answer steps
   SawAt (at.Giving give reply) steps = SawFor reply steps
 

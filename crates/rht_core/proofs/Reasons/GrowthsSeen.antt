@@ -32,7 +32,7 @@ use Rattle.rht_core.specs.Traces.{Did}
 use Rattle.rht_core.specs.Seen.{IsNoShapeLoad}
 use Rattle.rht_core.proofs.Tracing.TracedJobs.{Performs}
 use Rattle.rht_core.proofs.Reasons.TablesWalked.{no_load, elsewhere}
-use Rattle.rht_core.proofs.Reasons.RefusedBinds.{Behind, Behind-push, SawWhy, SawRoot, SawOther, SawRefusal, SawToMake, refusal-why, FollowedSeen, begins-making, other-saw, no_room-saw, busy-saw, no_table-saw, followed-saw}
+use Rattle.rht_core.proofs.Reasons.RefusedBinds.{Behind, Behind-push, SawWhy, SawRoot, SawOther, SawRefusal, SawToMake, refusal-why, FollowedSeen, begins-making, other-saw, no_room-saw, busy-saw, no_table-saw, followed-saw, to_attach-saw, SawToAttach}
 use Rattle.rht_ghost.proofs.Theory.Steps.{mem, by_test}
 use Rattle.rht_core.proofs.Reasons.BindsSeen.{SawAt, SawForReply}
 use Rattle.rht_core.proofs.Reasons.NamedFutures.{no_slot, slot_named, nonzero_named, future_few}
@@ -129,8 +129,10 @@ module _ (env : Env) (words_at : ℕ → List ℕ) (mix : ℕ → ℕ → ℕ �
     walked = saw.walked;
     saw = no_room-saw env words_at mix port growing size make.exponent make.nested state saw.walked.behind saw.saw;
   }
-  made-saw growing size make (state, Done (Some table)) all saw =
-      record { walked = saw.walked; saw = saw.saw.why }
+  made-saw growing size make (state, Done (Some table)) all saw = record {
+    walked = saw.walked;
+    saw = to_attach-saw env words_at mix port growing size make.exponent make.nested state table.0 table.1 saw.walked.behind saw.saw;
+  }
 
   -- a future that was loaded again
   pub again-saw : (growing : Growing) (refusal : Refusal) (future : Option ℕ) (steps : List Did) (did : Did)
@@ -163,10 +165,12 @@ module _ (env : Env) (words_at : ℕ → List ℕ) (mix : ℕ → ℕ → ℕ �
   pub attach-saw : (growing : Growing) (slot shape : ℕ) (steps : List Did) (did : Did) → growing.table < 8
       → slot < 8
       → did.op ≡ plan_at env (at.Attaching growing slot shape) → did.old ≤ 8
-      → Behind env.geometry growing.table growing.shape (SawWhy env words_at mix port growing.table growing.why growing.shape) steps
+      → Behind env.geometry growing.table growing.shape (SawToAttach env words_at mix port growing slot shape) steps
       → Sees (checked_attach env once growing slot shape did.old) (steps ++ did ∷ [])
-  attach-saw growing slot shape steps did within slot_in is few saw =
+  attach-saw growing slot shape steps did within slot_in is few made =
       let all = steps ++ did ∷ [] in
+      let saw : Behind env.geometry growing.table growing.shape (SawWhy env words_at mix port growing.table growing.why growing.shape) steps =
+      record { walked = made.walked; saw = made.saw.why } in
       let none = no_load env.geometry did _ is (λ place load. cc) in
       let won = behind_attempt env (has_attached growing.attempt) (ended_attempt once slot) in
       let other = table_of (did.old - 1) in

@@ -22,6 +22,7 @@ use Rattle.rht_move.specs.Choice.{choice_of, is_sparse}
 use Rattle.rht_move.specs.Laws.{IsOfASize}
 use Rattle.rht_move.specs.declared.work.choice.Choice.TheVariants.{Attach, Later, Nothing}
 use Rattle.rht_move.proofs.DueSizes.{tables_due_have_sizes}
+use Rattle.rht_core.specs.Attached.{size_made}
 
 -- the greatest table that a shape can have is never too full
 pub due_size : (env : Env) (count shape : ℕ) (alone : Bool)
@@ -146,3 +147,29 @@ size_of-made size page nested is =
     let same : max 2 (min (made_shape (exponent_made size) nested page % 32) 18) ≡ e =
     ap (λ n. max 2 (min n 18)) read ∙ omega (arith, made, low, high) in
     ap (λ n. 2 ^ n) same ∙ sym is.power.1
+
+-- and so has the table that is made for a wanted size, or the greatest one
+size_of-pow : (e page : ℕ) (nested : Bool) → 2 ≤ e → e < 32
+    → size_of (unpacked (made_shape (exponent_made (2 ^ e)) nested page)) ≡ size_made (2 ^ e)
+size_of-pow e page nested low few =
+    let made : exponent_made (2 ^ e) ≡ min e 17 = omega (arith, exponent_of-pow e few, low) in
+    let read = exponent_read (exponent_made (2 ^ e)) page nested (omega (arith, made)) in
+    let same : max 2 (min (made_shape (exponent_made (2 ^ e)) nested page % 32) 18) ≡ min e 17 = omega (arith, read, made, low) in
+    ap (λ n. 2 ^ n) same
+    ∙ elim (cases_lt e 17) [
+      | inl small ↦
+          let less : min e 17 ≡ e = omega (arith, small) in
+          ap (λ n. 2 ^ n) less ∙ omega (arith, powers-rise e 17 (omega (arith, small)))
+      | inr large ↦
+          let most : min e 17 ≡ 17 = omega (arith, large) in
+          ap (λ n. 2 ^ n) most ∙ omega (arith, powers-rise 17 e large)
+    ]
+
+pub size_of-wanted : (env : Env) (shape count page : ℕ) (nested : Bool)
+    → size_of (unpacked (made_shape (exponent_made (wanted_size env shape count)) nested page)) ≡ size_made (wanted_size env shape count)
+size_of-wanted env shape count page nested =
+    let e = max 2 (min (unpacked shape).exponent 18) in
+    let So : ℕ → Type 0 = λ size. size_of (unpacked (made_shape (exponent_made size) nested page)) ≡ size_made size in
+    cond_both (is_above_75 count (size_of (unpacked shape)) env.config.max) (2 * size_of (unpacked shape)) (size_of (unpacked shape)) So
+    (λ t. subst So (pow-add 2 1 e) (size_of-pow (1 + e) page nested (omega arith) (omega arith)))
+    (λ f. size_of-pow e page nested (omega arith) (omega arith))

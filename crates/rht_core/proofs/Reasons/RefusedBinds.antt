@@ -5,8 +5,8 @@
 -- count of ports, what the making of a table has seen, and the operation that comes last, the load of the future or the exchange
 -- that attaches a table.
 use Rattle.std.proofs.Common.{◌≡◌, ◌≢◌, ◌⊎◌, ℕ, ◌<◌, Bool, true, false, nat_le, List, [], ◌∷◌, ◌++◌, map, min, refl, sym, ap, ◌∙◌, subst, inl, inr, append_assoc, arith}
-use Rattle.std.specs.Prelude.{Option, None}
-use Rattle.std.specs.List.{Any}
+use Rattle.std.specs.Prelude.{Option, None, Some}
+use Rattle.std.specs.List.{Any, AllByRecursion}
 use Rattle.std.proofs.lemmas.List.{map-append}
 use Rattle.std.proofs.lemmas.List.Quantifiers.{Any-push}
 use Rattle.rht_words.specs.Machines.{Performed}
@@ -21,7 +21,7 @@ use Rattle.rht_words.specs.Links.{table_of}
 use Rattle.rht_words.specs.Shapes.{unpacked, size_of}
 use Rattle.rht_words.proofs.EachElement.{Any-append_left}
 use Rattle.rht_policy.specs.Thresholds.{is_above_75, is_above_100}
-use Rattle.rht_nest.specs.Make.{MakeModel, may_nest, made_pages, make_plan_at, make_after_at, IsMakeIn}
+use Rattle.rht_nest.specs.Make.{MakeModel, may_nest, made_pages, make_plan_at, make_after_at, IsMakeIn, made_shape}
 use Rattle.rht_nest.specs.MakeLaws.{pages_for}
 use Rattle.rht_nest.specs.Tables.{exponent_made}
 use Rattle.rht_nest.specs.declared.make.MakeAt.{MakeAt}
@@ -38,8 +38,11 @@ use Rattle.rht_core.proofs.Reasons.TablesWalked.{nodes_behind, LastWalked-push}
 use Rattle.rht_core.proofs.Reasons.KeyLoads.{no_key-before, no_key-make}
 use Rattle.rht_core.proofs.Reasons.ChainsCounted.{SawLongChain-push}
 use Rattle.rht_core.proofs.Reasons.MakesSeen.{SawMade, saw_nothing, make-saw}
-use Rattle.rht_core.proofs.Reasons.MadeSizes.{nests-wanted, pages-wanted}
+use Rattle.rht_core.proofs.Reasons.MadeSizes.{nests-wanted, pages-wanted, size_of-wanted}
 use Rattle.rht_core.specs.Due.{pages_due}
+use Rattle.rht_core.specs.Refused.{StoresLast}
+use Rattle.rht_core.specs.Attached.{HasTakenSlot, StoresDrawn, size_made}
+use Rattle.rht_core.proofs.Reasons.SlotsTaken.{IsNoCount, Owns, make-own}
 
 module _ (g : Geometry) where
   -- behind the load of the last table's shape the operations saw this
@@ -136,6 +139,18 @@ module _ (env : Env) (words_at : ℕ → List ℕ) (mix : ℕ → ℕ → ℕ �
     pub exponent_is : exponent ≡ exponent_made size
     pub allowed_is : allowed ≡ true
     pub made : SawMade g exponent (may_nest exponent allowed) next (map performed_of wanted.making)
+    pub own : Owns g exponent next wanted.making
+
+  -- A table of this shape was made in a slot that the call took: it has the size that was wanted, or the greatest one, and is to be attached.
+  pub record SawToAttach (growing : Growing) (slot shape : ℕ) (behind : List Did) : Type 0 where
+    pub why : SawWhy growing.table growing.why growing.shape behind
+    pub size : ℕ
+    pub wanted : SawWanted growing.shape growing.table size behind
+    pub uncounted : AllByRecursion (IsNoCount g) wanted.making
+    pub taken : HasTakenSlot g slot wanted.making
+    pub stored : StoresLast g slot shape wanted.making
+    pub numbered : StoresDrawn g slot wanted.making
+    pub sized : size_of (unpacked shape) ≡ size_made size
 
   -- The operations behind the load of the last table's shape saw this first, and that the table is full; and one comes behind
   -- these of which the rest is so. This settles the reply.
@@ -303,6 +318,7 @@ module _ (env : Env) (words_at : ℕ → List ℕ) (mix : ℕ → ℕ → ℕ �
     exponent_is = refl;
     allowed_is = refl;
     made = saw_nothing g (exponent_made size) (may_nest (exponent_made size) true) [] tt tt;
+    own = record { slot = tt; uncounted = tt };
   }
 
   pub other-saw : (growing : Growing) (root : ℕ) (behind : List Did) (did : Did)
@@ -346,6 +362,27 @@ module _ (env : Env) (words_at : ℕ → List ℕ) (mix : ℕ → ℕ → ℕ �
             subst (λ (h : Geometry). SawMade g make.exponent (may_nest make.exponent make.nested) (make_after_at h make.exponent make.nested make.at did.old)
             (map performed_of (making ++ did ∷ []))) (sym within.geometry_same)
             (subst (SawMade g make.exponent (may_nest make.exponent make.nested) (make_after_at g make.exponent make.nested make.at did.old)) (sym all) after);
+        own = make-own g make.exponent make.geometry make.seed make.nested make.at making did is saw.own;
+      }
+
+  -- one was made
+  pub to_attach-saw : (growing : Growing) (size exponent : ℕ) (allowed : Bool) (state : MakeAt) (slot shape : ℕ) (behind : List Did)
+      → SawToMake growing size exponent allowed (state, Done (Some (slot, shape))) behind → SawToAttach growing slot shape behind
+  to_attach-saw growing size exponent allowed state slot shape behind saw =
+      let made = saw.own.slot in
+      record {
+        why = saw.why;
+        size = size;
+        wanted = saw.wanted;
+        uncounted = saw.own.uncounted;
+        taken = made.taken;
+        stored = made.stored;
+        numbered = made.numbered;
+        sized =
+            ap (λ word. size_of (unpacked word)) made.shape_is
+            ∙ ap (λ e. size_of (unpacked (made_shape e made.nested made.page))) saw.exponent_is
+            ∙ subst (λ s. size_of (unpacked (made_shape (exponent_made s) made.nested made.page)) ≡ size_made s) (sym saw.wanted.wanted)
+            (size_of-wanted env growing.shape (min saw.wanted.count 65536) made.page made.nested);
       }
 
   -- no table was made

@@ -46,6 +46,7 @@ use Rattle.rht_core.proofs.Reasons.MakesSeen.{SawMaking, SawMade, IsShaped, saw_
 use Rattle.rht_core.proofs.Reasons.MadeSizes.{due_size, shaped_flat, size_of-made, pages-sized}
 use Rattle.rht_core.proofs.Reasons.ChoicesMade.{Chosen, futures_next, Began-push, HasLock, SeekSaw, Measures, Since, chosen_by, Since-push, SinceSome-push}
 use Rattle.rht_core.proofs.Reasons.WorksSeen.{NoneAttached, Wants, IsMaking, Makes, IsSupplied, DueSaw, IsTried, IsDue, HasDue, IsMade, IsToAttach, SaysMissing, IsIdle, NoneAttached-push, SaysMissing-push, IsTried-push, SawAtWork, SawNextWork}
+use Rattle.rht_core.proofs.Reasons.SlotsTaken.{make-own}
 
 -- an operation of the making of a table, which found this word
 abbrev made_step : Geometry → MakeModel → ℕ → Performed
@@ -167,6 +168,7 @@ module _ (env : Env) (words_at : ℕ → List ℕ) where
       };
       none = tt;
       made = saw_nothing env.geometry (exponent_made size) false [] tt tt;
+      own = record { slot = tt; uncounted = tt };
     };
   }
   begun-saw root last Later steps did is chosen saw = record {
@@ -312,6 +314,7 @@ module _ (env : Env) (words_at : ℕ → List ℕ) where
         wants = making.wants;
         none = NoneAttached-push env of.last behind did quiet making.none;
         made = making-saw wanted make behind did within is making.made;
+        own = make-own env.geometry make.exponent make.geometry make.seed make.nested make.at behind did is making.own;
       }))
     where
       quiet : IsNoAttach env.geometry did
@@ -333,6 +336,7 @@ module _ (env : Env) (words_at : ℕ → List ℕ) where
       go (state, Done (Some table)) since =
           let wants = since.so.wants in
           let seen = since.so.made in
+          let own = since.so.own.slot in
           let sized = shaped-size wanted.size make.exponent table.0 seen.0 seen.1
           (map performed_of since.chose.behind) wants.size_in within.size_same within.make_in.greatest
           seen.3 seen.2 in (
@@ -344,6 +348,13 @@ module _ (env : Env) (words_at : ℕ → List ℕ) where
                 last_same = wants.last_same;
                 none = since.so.none;
                 sized = sized;
+                taken = own.taken;
+                stored = own.stored;
+                numbered = own.numbered;
+                size_is =
+                    ap (λ word. size_of (unpacked word)) own.shape_is
+                    ∙ ap (λ e. size_of (unpacked (made_shape e own.nested own.page))) within.size_same
+                    ∙ size_of-made wanted.size own.page own.nested wants.size_in;
               };
             },
           )
@@ -351,7 +362,7 @@ module _ (env : Env) (words_at : ℕ → List ℕ) where
   -- ---- the table is attached, or another one was
 
   pub attached-saw : (root last slot shape : ℕ) (steps : List Did) (did : Did) → last < 8 → slot < 8
-      → did.op ≡ plan_at env (at.Attaching root last slot shape) → IsToAttach env root last slot steps
+      → did.op ≡ plan_at env (at.Attaching root last slot shape) → IsToAttach env root last slot shape steps
       → Sees (attached env.geometry root slot shape did.old) (steps ++ did ∷ [])
   attached-saw root last slot shape steps did last_in slot_in is (size, since) =
       by_test
@@ -395,7 +406,7 @@ module _ (env : Env) (words_at : ℕ → List ℕ) where
           → HasDue env root due (steps ++ did ∷ [])
       some since = record { choice = Attach size; since = since }
 
-      tried : (of : Chosen) (behind : List Did) → IsMade env root last slot size of behind
+      tried : (of : Chosen) (behind : List Did) → IsMade env root last slot shape size of behind
           → IsTried env (Attach size) of (behind ++ did ∷ [])
       tried of behind due other same stays =
           let sizes : size ≡ other = cc in

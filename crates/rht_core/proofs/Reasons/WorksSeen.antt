@@ -38,6 +38,10 @@ use Rattle.rht_core.proofs.Tracing.LoneCalls.{Spares}
 use Rattle.rht_core.proofs.Reasons.AttachedTables.{IsNoAttach}
 use Rattle.rht_core.proofs.Reasons.MakesSeen.{SawMade}
 use Rattle.rht_core.proofs.Reasons.ChoicesMade.{AreFuturesAt, Chosen, HasLock, SeekSaw, Measures, Since, SinceSome, SinceSome-push}
+use Rattle.rht_core.specs.Refused.{StoresLast}
+use Rattle.rht_core.specs.Attached.{HasTakenSlot, StoresDrawn}
+use Rattle.rht_core.proofs.Reasons.SlotsTaken.{Owns}
+use Rattle.rht_words.specs.Shapes.{unpacked, size_of}
 
 module _ (env : Env) where
   -- ---- what has become of what was chosen
@@ -59,6 +63,7 @@ module _ (env : Env) where
     pub wants : Wants wanted of
     pub none : NoneAttached of.last behind
     pub made : SawMade env.geometry exponent false next (map performed_of behind)
+    pub own : Owns env.geometry exponent next behind
 
   abbrev pub Makes : Wanted → MakeModel → List Did → Type 0
   Makes wanted make = Since env (Attach wanted.size) (IsMaking wanted make.exponent (make.at, Go))
@@ -92,15 +97,19 @@ module _ (env : Env) where
   abbrev pub HasDue : ℕ → Due → List Did → Type 0
   HasDue root due = SinceSome env (IsDue root due)
 
-  -- a table of the size that was due is to be attached behind this one
-  pub record IsMade (root last slot size : ℕ) (of : Chosen) (behind : List Did) : Type 0 where
+  -- a table of the size that was due, in a slot that was taken and has this shape, is to be attached behind this one
+  pub record IsMade (root last slot shape size : ℕ) (of : Chosen) (behind : List Did) : Type 0 where
     pub root_same : of.root ≡ root
     pub last_same : of.last ≡ last
     pub none : NoneAttached of.last behind
     pub sized : IsSized env.geometry slot size (map performed_of behind)
+    pub taken : HasTakenSlot env.geometry slot behind
+    pub stored : StoresLast env.geometry slot shape behind
+    pub numbered : StoresDrawn env.geometry slot behind
+    pub size_is : size_of (unpacked shape) ≡ size
 
-  abbrev pub IsToAttach : ℕ → ℕ → ℕ → List Did → Type 0
-  IsToAttach root last slot steps = (size : ℕ) × Since env (Attach size) (IsMade root last slot size) steps
+  abbrev pub IsToAttach : ℕ → ℕ → ℕ → ℕ → List Did → Type 0
+  IsToAttach root last slot shape steps = (size : ℕ) × Since env (Attach size) (IsMade root last slot shape size) steps
 
   -- whether it is to say that the table that was due isn't attached
   abbrev pub SaysMissing : Bool → ℕ → Choice → List Did → Type 0
@@ -295,7 +304,7 @@ module _ (env : Env) (words_at : ℕ → List ℕ) where
   SawAtWork (at.LastTable root seek) steps = SeekSaw env root seek.at steps
   SawAtWork (at.Count root last) steps = Measures env root last steps
   SawAtWork (at.Making wanted make) steps = Makes env wanted make steps
-  SawAtWork (at.Attaching root last slot shape) steps = IsToAttach env root last slot steps
+  SawAtWork (at.Attaching root last slot shape) steps = IsToAttach env root last slot shape steps
   SawAtWork (at.Unmaking root unmake) steps = HasDue env root dues.Later steps
   SawAtWork (at.RootFuture root due) steps = HasDue env root due steps
   SawAtWork (at.RootShape root future again) steps = Moves env root future again steps

@@ -72,35 +72,35 @@ use Rattle.rht_core.proofs.Undoing.LocksTurned.{IsLockPlace, lock_bits, Turning,
 
 module _ (page : ℕ) where
   -- a job without pages enters none
-  find-none : (state : FindAt) → In page (held_of_find state).pages → ⊥
+  pub find-none : (state : FindAt) → In page (held_of_find state).pages → ⊥
   find-none finding.CurrentTable i = i
   find-none _ i = i
 
-  all-none : (owners : List ℕ) (state : AllAt) → In page (held_of_all owners state).pages → ⊥
+  pub all-none : (owners : List ℕ) (state : AllAt) → In page (held_of_all owners state).pages → ⊥
   all-none owners (listing.Seeking seek) i = i
   all-none owners _ i = i
 
-  front-none : (claimed : Claimed) (stored : Bool) → In page (bind_held.holds_replacing claimed stored).pages → ⊥
+  pub front-none : (claimed : Claimed) (stored : Bool) → In page (bind_held.holds_replacing claimed stored).pages → ⊥
   front-none claimed true i = i
   front-none claimed false i = i
 
-  replacing-none : (node : ℕ) (found : FoundPort) (stored : Bool)
+  pub replacing-none : (node : ℕ) (found : FoundPort) (stored : Bool)
       → In page (rebind_held.holds_replacing node found stored).pages → ⊥
   replacing-none node found true i = i
   replacing-none node found false i = i
 
-  relinking-none : (found : FoundPort) (raised stored : Bool) → In page (holds_relinking found raised stored).pages → ⊥
+  pub relinking-none : (found : FoundPort) (raised stored : Bool) → In page (holds_relinking found raised stored).pages → ⊥
   relinking-none found raised true i = i
   relinking-none found raised false i = i
 
-  release-none : (state : ReleaseAt) → In page (held_of_release state).pages → ⊥
+  pub release-none : (state : ReleaseAt) → In page (held_of_release state).pages → ⊥
   release-none (releasing.Promoting found relink) i =
       relinking-none found false (has_relinked found.before relink.at) i
   release-none (releasing.Unlinking found relink) i =
       relinking-none found true (has_relinked found.before relink.at) i
   release-none _ i = i
 
-  rebind-none : (state : RebindAt) → In page (held_of_rebind state).pages → ⊥
+  pub rebind-none : (state : RebindAt) → In page (held_of_rebind state).pages → ⊥
   rebind-none (rebinding.Replacing node found relink) i =
       replacing-none node found (has_relinked found.before relink.at) i
   rebind-none _ i = i
@@ -132,7 +132,7 @@ module _ (env : Env) (mix : ℕ → ℕ → ℕ → ℕ) (c : ℕ) (M : Memory) 
       absurd (unmake-enters env mix c M G did entry page exchanges unmake.geometry unmake.slot unmake.at is)
   work-early _ within is had = absurd had
 
-  early : (job : Job) → JobIn env mix c job → did.op ≡ job_plan env job → In page (held_of job).pages → IsEarly job
+  pub early : (job : Job) → JobIn env mix c job → did.op ≡ job_plan env job → In page (held_of job).pages → IsEarly job
   early (finds port state) within is had = absurd (find-none page state had)
   early (binds port owner once state) within is had = bind-early port owner once state is had
   early (lists port room state) within is had = absurd (all-none page room.items state had)

@@ -1,0 +1,345 @@
+-- A call that has a slot has taken it by an operation of its own, and has not let it go since; and an exchange that attaches a table from
+-- this slot is that of a bind or a resizing which has made the table.
+use Rattle.std.proofs.Common.{◌≡◌, ℕ, ◌<◌, Bool, true, false, List, [], ◌∷◌, Some, refl, sym, ap, ◌∙◌, subst, arith}
+use Rattle.rht_words.specs.declared.op.Op.TheVariants.{Exchange}
+use Rattle.rht_words.specs.declared.env.Env.{Env}
+use Rattle.rht_words.specs.declared.geometry.Geometry.{Geometry}
+use Rattle.rht_words.specs.Links.{future_of}
+use Rattle.rht_words.specs.Operations.{op_place}
+use Rattle.rht_words.specs.Places.{Slot, FutureWord, PageMap, place_of}
+use Rattle.rht_words.proofs.Memory.{Memory}
+use Rattle.rht_words.proofs.PlacesApart.{parts_in_order}
+use Rattle.rht_nest.specs.Make.{make_plan_at, slot_of_make}
+use Rattle.rht_nest.specs.declared.make.MakeAt.{MakeAt}
+use Rattle.rht_nest.specs.declared.make.MakeAt.TheVariants as makes
+use Rattle.rht_nest.specs.Unmake.{unmake_plan_at}
+use Rattle.rht_nest.specs.declared.unmake.UnmakeAt.{UnmakeAt}
+use Rattle.rht_nest.specs.declared.unmake.UnmakeAt.TheVariants as unmakes
+use Rattle.rht_find.specs.FindHeld.{held_of_find}
+use Rattle.rht_find.specs.declared.find.FindAt.{FindAt}
+use Rattle.rht_find.specs.declared.find.FindAt.TheVariants as finding
+use Rattle.rht_bind.specs.BindHeld.{held_of_bind, holds_replacing}
+use Rattle.rht_bind.specs.declared.bind.Claimed.{Claimed}
+use Rattle.rht_bind.specs.declared.bind.growth.Growing.{Growing}
+use Rattle.rht_bind.specs.declared.bind.BindAt.{BindAt}
+use Rattle.rht_bind.specs.declared.bind.BindAt.TheVariants as binding
+use Rattle.rht_chain.specs.Relink.{has_relinked}
+use Rattle.rht_release.specs.declared.found_port.FoundPort.{FoundPort}
+use Rattle.rht_release.specs.AllHeld.{held_of_all}
+use Rattle.rht_release.specs.declared.all.AllAt.{AllAt}
+use Rattle.rht_release.specs.declared.all.AllAt.TheVariants as listing
+use Rattle.rht_release.specs.ReleaseHeld.{held_of_release, holds_relinking}
+use Rattle.rht_release.specs.declared.release.ReleaseAt.{ReleaseAt}
+use Rattle.rht_release.specs.declared.release.ReleaseAt.TheVariants as releasing
+use Rattle.rht_release.specs.RebindHeld as rebind_held
+use Rattle.rht_release.specs.RebindHeld.{held_of_rebind}
+use Rattle.rht_release.specs.declared.rebind.RebindAt.{RebindAt}
+use Rattle.rht_release.specs.declared.rebind.RebindAt.TheVariants as rebinding
+use Rattle.rht_move.specs.WorkHeld.{held_of_work}
+use Rattle.rht_move.specs.declared.work.WorkAt.{WorkAt}
+use Rattle.rht_move.specs.declared.work.WorkAt.TheVariants as working
+use Rattle.rht_model.specs.declared.history.Call.TheVariants.{Work}
+use Rattle.rht_core.specs.Jobs.{Job, finds, binds, lists, releases, rebinds, works, counts, call_of, job_plan, held_of}
+use Rattle.rht_core.specs.Traces.{Did}
+use Rattle.rht_core.specs.ResizeCauses.{Attaches}
+use Rattle.rht_core.specs.Attached.{HasTakenSlot}
+use Rattle.rht_ghost.proofs.Theory.Ghosts.{Ghost, SlotHeld}
+use Rattle.rht_ghost.proofs.Theory.Knowledge.{MakingMeans}
+use Rattle.rht_ghost.proofs.Pieces.Makes.{known_of_make}
+use Rattle.rht_core.proofs.Machines.JobSteps.{JobKnows}
+use Rattle.rht_core.proofs.Reasons.AttachedTables.{make-none, unmake-none}
+use Rattle.rht_core.proofs.Reasons.SlotsTaken.{OwnAt, slot_taken-behind}
+use Rattle.rht_core.proofs.Reasons.TableWordsKept.{IsWordHere, high_far, state_far}
+use Rattle.rht_core.proofs.Reasons.RefusedBinds.{Behind, SawToAttach}
+use Rattle.rht_core.proofs.Reasons.BindsSeen.{SawAt}
+use Rattle.rht_core.proofs.Reasons.WorksSeen.{IsToAttach, SawAtWork}
+use Rattle.rht_core.proofs.Reasons.CausesInRuns.{JobSaw}
+
+-- ---- jobs without a slot
+
+module _ (slot : ℕ) where
+  find-slotless : (state : FindAt) → (held_of_find state).slot ≡ Some slot → ⊥
+  find-slotless finding.CurrentTable has = cc
+  find-slotless _ has = cc
+
+  all-slotless : (owners : List ℕ) (state : AllAt) → (held_of_all owners state).slot ≡ Some slot → ⊥
+  all-slotless owners (listing.Seeking seek) has = cc
+  all-slotless owners _ has = cc
+
+  front-slotless : (claimed : Claimed) (stored : Bool) → (holds_replacing claimed stored).slot ≡ Some slot → ⊥
+  front-slotless claimed true has = cc
+  front-slotless claimed false has = cc
+
+  replacing-slotless : (node : ℕ) (found : FoundPort) (stored : Bool)
+      → (rebind_held.holds_replacing node found stored).slot ≡ Some slot → ⊥
+  replacing-slotless node found true has = cc
+  replacing-slotless node found false has = cc
+
+  relinking-slotless : (found : FoundPort) (raised stored : Bool) → (holds_relinking found raised stored).slot ≡ Some slot → ⊥
+  relinking-slotless found raised true has = cc
+  relinking-slotless found raised false has = cc
+
+  release-slotless : (state : ReleaseAt) → (held_of_release state).slot ≡ Some slot → ⊥
+  release-slotless (releasing.Promoting found relink) has =
+      relinking-slotless found false (has_relinked found.before relink.at) has
+  release-slotless (releasing.Unlinking found relink) has =
+      relinking-slotless found true (has_relinked found.before relink.at) has
+  release-slotless _ has = cc
+
+  rebind-slotless : (state : RebindAt) → (held_of_rebind state).slot ≡ Some slot → ⊥
+  rebind-slotless (rebinding.Replacing node found relink) has =
+      replacing-slotless node found (has_relinked found.before relink.at) has
+  rebind-slotless _ has = cc
+
+module _ (env : Env) (words_at : ℕ → List ℕ) (mix : ℕ → ℕ → ℕ → ℕ) (c : ℕ) (M : Memory) (G : Ghost) (steps : List Did)
+    (did : Did) (slot : ℕ) where
+  abbrev g : Geometry
+  g = env.geometry
+
+  -- the slot from which a table is attached was taken
+  pub bind-taken : (port : ℕ) (growing : Growing) (shape : ℕ)
+      → Behind g growing.table growing.shape (SawToAttach env words_at mix port growing slot shape) steps → HasTakenSlot g slot steps
+  bind-taken port growing shape saw =
+      let behind = saw.walked in
+      let wanted = saw.saw.wanted in
+      subst (HasTakenSlot g slot) (sym behind.split)
+      (slot_taken-behind g slot behind.before behind.at behind.behind
+      (subst (HasTakenSlot g slot) (sym wanted.parts)
+      (slot_taken-behind g slot wanted.sooner wanted.counting wanted.making saw.saw.taken)))
+
+  pub work-taken : (root last shape : ℕ) → IsToAttach env root last slot shape steps → HasTakenSlot g slot steps
+  work-taken root last shape (size, since) =
+      let chose = since.chose in
+      subst (HasTakenSlot g slot) (sym chose.split)
+      (slot_taken-behind g slot (chose.lock ∷ chose.current ∷ chose.futures) chose.shape (chose.count ∷ chose.behind)
+      (slot_taken-behind g slot [] chose.count chose.behind since.so.taken))
+
+  -- the caller has the slot, which its own operations took
+  pub record IsOwnSlot : Type 0 where
+    pub taken : HasTakenSlot g slot steps
+    pub held : G.slot slot ≡ SlotHeld c
+
+  -- ---- an operation on a word of its table
+
+  module _ (slot_in : slot < 8) (here : IsWordHere g slot slot_in (op_place did.op)) where
+    -- the giving back of a table is on none
+    unmake-elsewhere : (h : Geometry) (other : ℕ) (state : UnmakeAt) → did.op ≡ unmake_plan_at h other state → ⊥
+    unmake-elsewhere h other (unmakes.Giving give) is =
+        let order = parts_in_order give.geometry in
+        high_far g slot slot_in (place_of give.geometry (PageMap give.index)) (omega (arith, order.page_map))
+        (subst (IsWordHere g slot slot_in) (ap op_place is) here)
+    unmake-elsewhere h other unmakes.SlotBack is =
+        state_far g slot slot_in other (subst (IsWordHere g slot slot_in) (ap op_place is) here)
+
+    make-own : (exponent seed : ℕ) (h : Geometry) (state : MakeAt) (making : List Did) → OwnAt g exponent state making
+        → slot_of_make state ≡ Some slot → did.op ≡ make_plan_at h exponent seed state → HasTakenSlot g slot making
+    make-own exponent seed h (makes.Slot s) making own has is = absurd (cc)
+    make-own exponent seed h (makes.SlotBack s) making own has is =
+        absurd (state_far g slot slot_in s (subst (IsWordHere g slot slot_in) (ap op_place is) here))
+    make-own exponent seed h (makes.Taking s take) making own has is =
+        let same : s ≡ slot = cc in subst (λ x. HasTakenSlot g x making) same own
+    make-own exponent seed h (makes.TakingTop s take) making own has is =
+        let same : s ≡ slot = cc in subst (λ x. HasTakenSlot g x making) same own
+    make-own exponent seed h (makes.NextSerial s nested page) making own has is =
+        let same : s ≡ slot = cc in subst (λ x. HasTakenSlot g x making) same own
+    make-own exponent seed h (makes.Shape s nested page serial) making own has is =
+        let same : s ≡ slot = cc in subst (λ x. HasTakenSlot g x making) same own.taken
+    make-own exponent seed h (makes.Seed s nested page serial) making own has is =
+        let same : s ≡ slot = cc in subst (λ x. HasTakenSlot g x making) same own.has.taken
+    make-own exponent seed h (makes.Future s nested page serial) making own has is =
+        let same : s ≡ slot = cc in subst (λ x. HasTakenSlot g x making) same own.has.taken
+    make-own exponent seed h (makes.Serial s nested page serial) making own has is =
+        let same : s ≡ slot = cc in subst (λ x. HasTakenSlot g x making) same own.has.taken
+
+    make-held : (exponent seed : ℕ) (state : MakeAt) → MakingMeans env mix c M G (known_of_make exponent seed state)
+        → slot_of_make state ≡ Some slot → G.slot slot ≡ SlotHeld c
+    make-held exponent seed (makes.Slot s) means has = absurd (cc)
+    make-held exponent seed (makes.Taking s take) means has =
+        let same : s ≡ slot = cc in subst (λ x. G.slot x ≡ SlotHeld c) same means.slot.has.mine
+    make-held exponent seed (makes.TakingTop s take) means has =
+        let same : s ≡ slot = cc in subst (λ x. G.slot x ≡ SlotHeld c) same means.slot.has.mine
+    make-held exponent seed (makes.SlotBack s) means has =
+        let same : s ≡ slot = cc in subst (λ x. G.slot x ≡ SlotHeld c) same means.slot.has.mine
+    make-held exponent seed (makes.NextSerial s nested page) means has =
+        let same : s ≡ slot = cc in subst (λ x. G.slot x ≡ SlotHeld c) same means.slot.has.mine
+    make-held exponent seed (makes.Shape s nested page serial) means has =
+        let same : s ≡ slot = cc in subst (λ x. G.slot x ≡ SlotHeld c) same means.slot.has.mine
+    make-held exponent seed (makes.Seed s nested page serial) means has =
+        let same : s ≡ slot = cc in subst (λ x. G.slot x ≡ SlotHeld c) same means.slot.has.mine
+    make-held exponent seed (makes.Future s nested page serial) means has =
+        let same : s ≡ slot = cc in subst (λ x. G.slot x ≡ SlotHeld c) same means.slot.has.mine
+    make-held exponent seed (makes.Serial s nested page serial) means has =
+        let same : s ≡ slot = cc in subst (λ x. G.slot x ≡ SlotHeld c) same means.slot.has.mine
+
+    bind-own : (port owner : ℕ) (once : Bool) (state : BindAt) → JobKnows env mix c (binds port owner once state) M G
+        → SawAt env words_at mix port state steps → did.op ≡ job_plan env (binds port owner once state)
+        → (held_of_bind state).slot ≡ Some slot → IsOwnSlot
+    bind-own port owner once (binding.Making growing size make) knows saw is has =
+        let behind = saw.walked in
+        let wanted = saw.saw.wanted in
+        let making = make-own make.exponent make.seed make.geometry make.at wanted.making saw.saw.own.slot has is in
+        record {
+          taken =
+              subst (HasTakenSlot g slot) (sym behind.split)
+              (slot_taken-behind g slot behind.before behind.at behind.behind
+              (subst (HasTakenSlot g slot) (sym wanted.parts)
+              (slot_taken-behind g slot wanted.sooner wanted.counting wanted.making making)));
+          held = make-held make.exponent make.seed make.at knows.knowing.means.making has;
+        }
+    bind-own port owner once (binding.Attaching growing s shape) knows saw is has =
+        let same : s ≡ slot = cc in
+        record {
+          taken =
+              bind-taken port growing shape
+              (subst (λ x. SawAt env words_at mix port (binding.Attaching growing x shape) steps) same saw);
+          held = subst (λ x. G.slot x ≡ SlotHeld c) same knows.knowing.means.making.has.mine;
+        }
+    bind-own port owner once (binding.Unmaking attempt unmake answer) knows saw is has =
+        absurd (unmake-elsewhere unmake.geometry unmake.slot unmake.at is)
+    bind-own port owner once (binding.Replacing list relink) knows saw is has =
+        absurd (front-slotless slot list.claimed (has_relinked list.before relink.at) has)
+    bind-own port owner once _ knows saw is has = absurd (cc)
+
+    work-own : (state : WorkAt) → JobKnows env mix c (works state) M G → SawAtWork env words_at state steps
+        → did.op ≡ job_plan env (works state) → (held_of_work state).slot ≡ Some slot → IsOwnSlot
+    work-own (working.Making wanted make) knows saw is has =
+        let chose = saw.chose in
+        let making = make-own make.exponent make.seed make.geometry make.at chose.behind saw.so.own.slot has is in
+        record {
+          taken =
+              subst (HasTakenSlot g slot) (sym chose.split)
+              (slot_taken-behind g slot (chose.lock ∷ chose.current ∷ chose.futures) chose.shape (chose.count ∷ chose.behind)
+              (slot_taken-behind g slot [] chose.count chose.behind making));
+          held = make-held make.exponent make.seed make.at knows.knowing.means.making has;
+        }
+    work-own (working.Attaching root last s shape) knows saw is has =
+        let same : s ≡ slot = cc in
+        record {
+          taken =
+              work-taken root last shape
+              (subst (λ x. SawAtWork env words_at (working.Attaching root last x shape) steps) same saw);
+          held = subst (λ x. G.slot x ≡ SlotHeld c) same knows.knowing.means.making.has.mine;
+        }
+    work-own (working.Unmaking root unmake) knows saw is has =
+        absurd (unmake-elsewhere unmake.geometry unmake.slot unmake.at is)
+    work-own _ knows saw is has = absurd (cc)
+
+    pub own_slot : (job : Job) → JobKnows env mix c job M G → JobSaw env words_at mix job steps → did.op ≡ job_plan env job
+        → (held_of job).slot ≡ Some slot → IsOwnSlot
+    own_slot (finds port state) knows saw is has = absurd (find-slotless slot state has)
+    own_slot (binds port owner once state) knows saw is has = bind-own port owner once state knows saw.0 is has
+    own_slot (lists port room state) knows saw is has = absurd (all-slotless slot room.items state has)
+    own_slot (releases port owner state) knows saw is has = absurd (release-slotless slot state has)
+    own_slot (rebinds port owner new state) knows saw is has = absurd (rebind-slotless slot state has)
+    own_slot (works state) knows saw is has = work-own state knows saw is has
+    own_slot counts knows saw is has = absurd (cc)
+
+-- ---- an exchange that attaches its table
+
+module _ (env : Env) (did : Did) (slot table : ℕ) where
+  -- the job attaches the table that it has made, which has this shape
+  pub data AttachesNow : Job → Type 0 where
+    by_bind : (port owner : ℕ) (once : Bool) (growing : Growing) (shape : ℕ) → growing.table ≡ table
+        → AttachesNow (binds port owner once (binding.Attaching growing slot shape))
+    by_work : (root last shape : ℕ) → last ≡ table → AttachesNow (works (working.Attaching root last slot shape))
+
+module _ (env : Env) (did : Did) (slot table : ℕ) (attaches : Attaches env.geometry table slot did) where
+  abbrev h : Geometry
+  h = env.geometry
+
+  abbrev Now : Job → Type 0
+  Now = AttachesNow env did slot table
+
+  -- the table behind which it does is this one
+  same_table : (other s : ℕ) → did.op ≡ Exchange (place_of h (Slot other FutureWord)) 0 (future_of s) → other ≡ table
+  same_table other s is =
+      let at : place_of h (Slot other FutureWord) ≡ place_of h (Slot table FutureWord) = ap op_place (sym is ∙ attaches.exchanges) in
+      omega (arith, at)
+
+  bind-attaches : (port owner : ℕ) (once : Bool) (state : BindAt) → did.op ≡ job_plan env (binds port owner once state)
+      → (held_of_bind state).slot ≡ Some slot → Now (binds port owner once state)
+  bind-attaches port owner once (binding.Making growing size make) is has =
+      absurd (make-none h make.geometry make.exponent make.seed make.at table 0 (future_of slot) attaches.table_in
+      (sym is ∙ attaches.exchanges))
+  bind-attaches port owner once (binding.Attaching growing s shape) is has =
+      let same : slot ≡ s = cc in
+      subst (λ x. Now (binds port owner once (binding.Attaching growing x shape))) same
+      (by_bind port owner once growing shape (same_table growing.table s is))
+  bind-attaches port owner once (binding.Unmaking attempt unmake answer) is has =
+      absurd (unmake-none h unmake.geometry unmake.slot unmake.at table 0 (future_of slot) attaches.table_in
+      (sym is ∙ attaches.exchanges))
+  bind-attaches port owner once (binding.Replacing list relink) is has =
+      absurd (front-slotless slot list.claimed (has_relinked list.before relink.at) has)
+  bind-attaches port owner once _ is has = absurd (cc)
+
+  work-attaches : (state : WorkAt) → did.op ≡ job_plan env (works state) → (held_of_work state).slot ≡ Some slot
+      → Now (works state)
+  work-attaches (working.Making wanted make) is has =
+      absurd (make-none h make.geometry make.exponent make.seed make.at table 0 (future_of slot) attaches.table_in
+      (sym is ∙ attaches.exchanges))
+  work-attaches (working.Attaching root last s shape) is has =
+      let same : slot ≡ s = cc in
+      subst (λ x. Now (works (working.Attaching root last x shape))) same
+      (by_work root last shape (same_table last s is))
+  work-attaches (working.Unmaking root unmake) is has =
+      absurd (unmake-none h unmake.geometry unmake.slot unmake.at table 0 (future_of slot) attaches.table_in
+      (sym is ∙ attaches.exchanges))
+  work-attaches _ is has = absurd (cc)
+
+  pub attaches_now : (job : Job) → did.op ≡ job_plan env job → (held_of job).slot ≡ Some slot → Now job
+  attaches_now (finds port state) is has = absurd (find-slotless slot state has)
+  attaches_now (binds port owner once state) is has = bind-attaches port owner once state is has
+  attaches_now (lists port room state) is has = absurd (all-slotless slot room.items state has)
+  attaches_now (releases port owner state) is has = absurd (release-slotless slot state has)
+  attaches_now (rebinds port owner new state) is has = absurd (rebind-slotless slot state has)
+  attaches_now (works state) is has = work-attaches state is has
+  attaches_now counts is has = absurd (cc)
+
+-- ---- a call that moves tables
+
+front-unmoving : (claimed : Claimed) (stored : Bool) → (holds_replacing claimed stored).moving ≡ true → ⊥
+front-unmoving claimed true moves = cc
+front-unmoving claimed false moves = cc
+
+bind-unmoving : (state : BindAt) → (held_of_bind state).moving ≡ true → ⊥
+bind-unmoving (binding.Replacing list relink) moves = front-unmoving list.claimed (has_relinked list.before relink.at) moves
+bind-unmoving _ moves = cc
+
+find-unmoving : (state : FindAt) → (held_of_find state).moving ≡ true → ⊥
+find-unmoving finding.CurrentTable moves = cc
+find-unmoving _ moves = cc
+
+all-unmoving : (owners : List ℕ) (state : AllAt) → (held_of_all owners state).moving ≡ true → ⊥
+all-unmoving owners (listing.Seeking seek) moves = cc
+all-unmoving owners _ moves = cc
+
+replacing-unmoving : (node : ℕ) (found : FoundPort) (stored : Bool)
+    → (rebind_held.holds_replacing node found stored).moving ≡ true → ⊥
+replacing-unmoving node found true moves = cc
+replacing-unmoving node found false moves = cc
+
+relinking-unmoving : (found : FoundPort) (raised stored : Bool) → (holds_relinking found raised stored).moving ≡ true → ⊥
+relinking-unmoving found raised true moves = cc
+relinking-unmoving found raised false moves = cc
+
+release-unmoving : (state : ReleaseAt) → (held_of_release state).moving ≡ true → ⊥
+release-unmoving (releasing.Promoting found relink) moves =
+    relinking-unmoving found false (has_relinked found.before relink.at) moves
+release-unmoving (releasing.Unlinking found relink) moves =
+    relinking-unmoving found true (has_relinked found.before relink.at) moves
+release-unmoving _ moves = cc
+
+rebind-unmoving : (state : RebindAt) → (held_of_rebind state).moving ≡ true → ⊥
+rebind-unmoving (rebinding.Replacing node found relink) moves =
+    replacing-unmoving node found (has_relinked found.before relink.at) moves
+rebind-unmoving _ moves = cc
+
+-- is a resizing
+pub moving_works : (job : Job) → (held_of job).moving ≡ true → call_of job ≡ Work
+moving_works (finds port state) moves = absurd (find-unmoving state moves)
+moving_works (binds port owner once state) moves = absurd (bind-unmoving state moves)
+moving_works (lists port room state) moves = absurd (all-unmoving room.items state moves)
+moving_works (releases port owner state) moves = absurd (release-unmoving state moves)
+moving_works (rebinds port owner new state) moves = absurd (rebind-unmoving state moves)
+moving_works (works state) moves = refl
+moving_works counts moves = absurd (cc)

@@ -1,0 +1,132 @@
+-- Operations that attach a table or enter a page wrongly, whatever the call did before: a look-up that attaches a table behind one in
+-- force; a bind that attaches one of 4 buckets where each shape that it loaded was that of 64; a bind that makes another table the current
+-- one; a look-up that enters a page; and a bind that enters one where no way to its port's bucket ends.
+use Rattle.std.proofs.Common.{◌≡◌, ◌≢◌, ℕ, ◌*◌, ◌<◌, Bool, List, ◌∷◌, refl, sym, ap, ◌∙◌, subst, inl, inr, arith, Some}
+use Rattle.std.specs.List.{AllByRecursion}
+use Rattle.std.proofs.lemmas.Bool.{cond_both}
+use Rattle.rht_words.specs.declared.env.Env.{Env}
+use Rattle.rht_words.specs.declared.geometry.Geometry.{Geometry}
+use Rattle.rht_words.specs.declared.op.Op.TheVariants.{Load, Store, Exchange}
+use Rattle.rht_words.specs.Links.{future_of, entry_of}
+use Rattle.rht_words.specs.Members.{In}
+use Rattle.rht_words.specs.Places.{CurrentTable, Slot, ShapeWord, SeedWord, FutureWord, PageWord, place_of, word_at}
+use Rattle.rht_words.specs.Shapes.{unpacked, size_of}
+use Rattle.rht_words.proofs.EachElement.{AllByRecursion-cut, AllByRecursion-push}
+use Rattle.rht_policy.specs.Thresholds.{is_above_75}
+use Rattle.rht_policy.specs.Mix.{bucket_of}
+use Rattle.rht_nest.specs.Place.{nested_place, missing_at}
+use Rattle.rht_stands.specs.StandsFor.{in_force, page_word}
+use Rattle.rht_core.specs.Refused.{IsMissingEntry}
+use Rattle.rht_model.specs.declared.history.Call.{Call}
+use Rattle.rht_model.specs.declared.history.Call.TheVariants.{Bind, Find}
+use Rattle.rht_core.specs.declared.event.Event.{Event}
+use Rattle.rht_core.specs.Traces.{Did}
+use Rattle.rht_core.specs.Seen.{words_before}
+use Rattle.rht_core.specs.ResizeCauses.{wanted_size}
+use Rattle.rht_core.specs.Attached.{ChangesTable, size_made, AttachesFull, AttachesRightly, ChangesRightly, IsInForceOrRetired, ChangesMissing}
+
+-- where it loads the shape of a table, that is one of so many buckets
+abbrev pub FindsSize : Geometry → ℕ → Did → Type 0
+FindsSize g size did =
+    (table : ℕ) → table < 8 → did.op ≡ Load (place_of g (Slot table ShapeWord)) → size_of (unpacked did.old) ≡ size
+
+module _ (M : Type 0) (mix : ℕ → ℕ → ℕ → ℕ) (env : Env) (events : List Event) (c index : ℕ) (before : List Did) where
+  abbrev g : Geometry
+  g = env.geometry
+
+  abbrev words : List ℕ
+  words = words_before M mix env events index
+
+  abbrev Rightly : Call → Did → Type 0
+  Rightly call did = ChangesRightly M mix env events c call before did
+
+  -- ---- an exchange that attaches the table of this slot behind one in force
+
+  module _ (table slot : ℕ) (table_in : table < 8) (slot_in : slot < 8) (stands : In table (in_force g words)) where
+    abbrev attaches : Did
+    attaches = record { index = index; op = Exchange (place_of g (Slot table FutureWord)) 0 (future_of slot); old = 0 }
+
+    changes : ChangesTable g table attaches
+    changes = record {
+      slot_in = table_in;
+      word = FutureWord;
+      of_table = tt;
+      there = refl;
+      other = λ same. absurd (omega (arith, same));
+    }
+
+    -- the table isn't the call's own
+    attached_so : (call : Call) → Rightly call attaches → AttachesRightly M mix env events c call table before attaches
+    attached_so call right = elim (right.tables table changes) [
+      | inl own ↦ absurd (own.apart stands)
+      | inr so ↦ so
+    ]
+
+    -- by a look-up
+    pub look_up_attaches : (port : ℕ) → Rightly (Find port) attaches → ⊥
+    look_up_attaches port right = (attached_so (Find port) right).cause
+
+    -- by a bind that saw tables of 64 buckets alone, where the one that it attaches has 4
+    module _ (few : size_of (unpacked (word_at g words (Slot slot ShapeWord))) ≡ 4) (seen : AllByRecursion (FindsSize g 64) before) where
+      -- what is wanted behind a table of 64 buckets has so many, or twice as many
+      wanted : (shape count : ℕ) → size_of (unpacked shape) ≡ 64 → 4 ≢ size_made (wanted_size env shape count)
+      wanted shape count is =
+          cond_both (is_above_75 count (size_of (unpacked shape)) env.config.max) (2 * size_of (unpacked shape))
+          (size_of (unpacked shape)) (λ size. 4 ≢ size_made size)
+          (λ t same. absurd (omega (arith, is, same))) (λ f same. absurd (omega (arith, is, same)))
+
+      other_size : (port made shape : ℕ) → size_of (unpacked shape) ≡ 4
+          → AttachesFull M mix env events c port table made shape before attaches → ⊥
+      other_size port made shape small full =
+          let walked = full.full.walked in
+          let all = AllByRecursion-push (FindsSize g 64) before attaches seen (λ t low loads. absurd (cc)) in
+          let at = (AllByRecursion-cut (FindsSize g 64) walked.before (walked.at ∷ walked.behind)
+          (subst (AllByRecursion (FindsSize g 64)) walked.split all)).1.0 in
+          let many : size_of (unpacked full.full.shape) ≡ 64 =
+          ap (λ s. size_of (unpacked s)) (sym walked.found) ∙ at table walked.table_in walked.loaded in
+          wanted full.full.shape full.count many (sym small ∙ full.sized)
+
+      pub bind_attaches_small : (port owner : ℕ) (once : Bool) → Rightly (Bind port owner once) attaches → ⊥
+      bind_attaches_small port owner once right =
+          let so = attached_so (Bind port owner once) right in
+          let same : future_of slot ≡ future_of so.slot = let is = so.attaches.exchanges in cc in
+          let one : slot ≡ so.slot = omega (arith, same) in
+          let shape : word_at g words (Slot slot ShapeWord) ≡ so.shape = ap (λ s. word_at g words (Slot s ShapeWord)) one ∙ so.shape_is in
+          other_size port so.slot so.shape (ap (λ s. size_of (unpacked s)) (sym shape) ∙ few) so.cause
+
+  -- ---- a store of another table as the current one
+
+  pub bind_moves_on : (port owner old table : ℕ) (once : Bool) → table ≢ old
+      → Rightly (Bind port owner once) (record { index = index; op = Store (place_of g CurrentTable) table; old = old }) → ⊥
+  bind_moves_on port owner old table once other right =
+      let works = (right.current (record { there = refl; other = other })).0 in absurd (cc)
+
+  -- ---- an exchange that enters a page at an entry which leads to none
+
+  module _ (entry page : ℕ) (entry_in : entry < 64 * g.pages) (missing : IsMissingEntry g words entry)
+      (stands : IsInForceOrRetired g words missing.table) where
+    abbrev enters : Did
+    enters = record { index = index; op = Exchange (place_of g (PageWord entry)) 0 (entry_of page); old = 0 }
+
+    changes_missing : ChangesMissing g words entry enters
+    changes_missing = record {
+      entry_in = entry_in;
+      missing = missing;
+      stands = stands;
+      there = refl;
+      other = λ same. absurd (omega (arith, same));
+    }
+
+    -- by a look-up
+    pub look_up_enters : (port : ℕ) → Rightly (Find port) enters → ⊥
+    look_up_enters port right = right.entries entry changes_missing
+
+    -- by a bind, where the way to its port's bucket ends elsewhere in each table, whichever shape it loaded
+    pub bind_enters_elsewhere : (port owner : ℕ) (once : Bool)
+        → ((table shape : ℕ) → missing_at (page_word g words)
+        (nested_place g shape (bucket_of mix port shape (word_at g words (Slot table SeedWord)))) ≢ Some entry)
+        → Rightly (Bind port owner once) enters → ⊥
+    bind_enters_elsewhere port owner once elsewhere right =
+        let way = right.entries entry changes_missing in
+        elsewhere way.table way.shape
+        (ap (λ bucket. missing_at (page_word g words) (nested_place g way.shape bucket)) (sym way.bucket_is) ∙ way.ends)

@@ -1,0 +1,207 @@
+-- When a table is attached, by whom, and of which size.
+-- What the words of a slot say of its table is changed by the caller alone that has taken the slot for a new table. Of a table in force it
+-- stays as it is, but for its future. That becomes another one only by the exchange that attaches the next table. A bind does that which
+-- saw the table full, or a resizing that chose one. The current table becomes another one only by a resizing, which goes on to the next. And
+-- where an entry of a nested table leads to no page, a bind alone enters one, on the way to its own port's bucket.
+use Rattle.std.specs.Prelude.{◌≡◌, ◌≢◌, ℕ, ◌^◌, ◌*◌, ◌<◌, ◌⊎◌, ◌≤◌, min, true, false, Some, List, [], ◌∷◌, ◌++◌, IfSome}
+use Rattle.std.specs.List.{AllByRecursion, Any}
+use Rattle.rht_words.specs.declared.op.Op.TheVariants.{Load, Store}
+use Rattle.rht_words.specs.declared.env.Env.{Env}
+use Rattle.rht_words.specs.declared.geometry.Geometry.{Geometry}
+use Rattle.rht_words.specs.Links.{table_of, slot_of}
+use Rattle.rht_words.specs.Members.{In}
+use Rattle.rht_words.specs.Operations.{op_place, word_after}
+use Rattle.rht_words.specs.Places.{SlotWord, CurrentTable, PortCount, Slot, ShapeWord, FutureWord, SeedWord, SerialWord, StateWord, PageWord, place_of, word_at}
+use Rattle.rht_words.specs.Shapes.{unpacked, size_of}
+use Rattle.rht_words.specs.TableWords.{IsTableWord}
+use Rattle.rht_policy.specs.Mix.{bucket_of}
+use Rattle.rht_policy.specs.Thresholds.{is_above_75}
+use Rattle.rht_nest.specs.MakeLaws.{TakesSlot, TakesSerial}
+use Rattle.rht_nest.specs.Place.{nested_place, missing_at}
+use Rattle.rht_nest.specs.Tables.{is_nested}
+use Rattle.rht_stands.specs.StandsFor.{in_force, page_word, shape_of}
+use Rattle.rht_model.specs.declared.history.Call.{Call}
+use Rattle.rht_model.specs.declared.history.Call.TheVariants.{Bind, Work}
+use Rattle.rht_move.specs.declared.work.choice.Choice.TheVariants as choices
+use Rattle.rht_core.specs.declared.event.Event.{Event}
+use Rattle.rht_core.specs.Runs.{IsAdmitted}
+use Rattle.rht_core.specs.Traces.{Did, Traced, performed_of, traced_of}
+use Rattle.rht_core.specs.Seen.{LoadsCurrent, LastWalked, words_before}
+use Rattle.rht_core.specs.ResizeCauses.{Loaded, Attaches, WalkedFull, wanted_size}
+use Rattle.rht_core.specs.WorkCauses.{HasChosen}
+use Rattle.rht_core.specs.Refused.{StoresLast, PutsPage, HasTaken}
+
+-- the operation changes one of the words that say something of the table in this slot
+pub record ChangesTable (g : Geometry) (slot : ℕ) (did : Did) : Type 0 where
+  pub slot_in : slot < 8
+  pub word : SlotWord
+  pub of_table : IsTableWord word
+  pub there : op_place did.op ≡ place_of g (Slot slot word)
+  pub other : word_after did.old did.op ≢ did.old
+
+-- the operation changes which table is the current one
+pub record ChangesCurrent (g : Geometry) (did : Did) : Type 0 where
+  pub there : op_place did.op ≡ place_of g CurrentTable
+  pub other : word_after did.old did.op ≢ did.old
+
+-- it makes that table the current one which stood behind it by the words before
+pub record MovesOn (g : Geometry) (words : List ℕ) (did : Did) : Type 0 where
+  pub table : ℕ
+  pub table_in : table < 8
+  pub becomes : word_after did.old did.op ≡ table
+  pub followed : slot_of (word_at g words (Slot (table_of did.old) FutureWord)) ≡ Some table
+
+-- the table of this slot is in force by these words, or is retired
+abbrev pub IsInForceOrRetired : Geometry → List ℕ → ℕ → Type 0
+IsInForceOrRetired g words table = In table (in_force g words) ⊎ (word_at g words (Slot table StateWord) ≡ 2)
+
+-- By these words the way to a bucket of such a table, which is nested, ends at this entry, which leads to no page.
+pub record IsMissingIn (g : Geometry) (words : List ℕ) (entry : ℕ) : Type 0 where
+  pub table : ℕ
+  pub table_in : table < 8
+  pub stands : IsInForceOrRetired g words table
+  pub nested : is_nested (shape_of g words table) ≡ true
+  pub bucket : ℕ
+  pub within : bucket < size_of (unpacked (shape_of g words table))
+  pub ends : missing_at (page_word g words) (nested_place g (shape_of g words table) bucket) ≡ Some entry
+
+-- the operation changes such an entry
+pub record ChangesMissing (g : Geometry) (words : List ℕ) (entry : ℕ) (did : Did) : Type 0 where
+  pub entry_in : entry < 64 * g.pages
+  pub missing : IsMissingIn g words entry
+  pub there : op_place did.op ≡ place_of g (PageWord entry)
+  pub other : word_after did.old did.op ≢ did.old
+
+-- the operation lets go of this slot: it gives it back, or attaches the table in it behind another one
+abbrev pub LetsSlotGo : Geometry → ℕ → Did → Type 0
+LetsSlotGo g slot did = (did.op ≡ Store (place_of g (Slot slot StateWord)) 0) ⊎ ((table : ℕ) × Attaches g table slot did)
+
+-- the operations took this slot, which was free, and none of them let it go behind that
+pub record HasTakenSlot (g : Geometry) (slot : ℕ) (steps : List Did) : Type 0 where
+  pub before : List Did
+  pub at : Did
+  pub behind : List Did
+  pub split : steps ≡ before ++ at ∷ behind
+  pub takes : TakesSlot g slot (performed_of at)
+  pub kept : AllByRecursion (λ did. ¬ LetsSlotGo g slot did) behind
+
+-- The last serial that these operations stored in this slot is one that they had drawn: an operation before found it in the next serial and
+-- raised that by 1.
+pub record StoresDrawn (g : Geometry) (slot : ℕ) (steps : List Did) : Type 0 where
+  pub before : List Did
+  pub at : Did
+  pub behind : List Did
+  pub split : steps ≡ before ++ at ∷ behind
+  pub serial : ℕ
+  pub drawn : Any (λ other. TakesSerial g serial (performed_of other)) before
+  pub stores : at.op ≡ Store (place_of g (Slot slot SerialWord)) serial
+  pub last : AllByRecursion (λ other. op_place other.op ≢ place_of g (Slot slot SerialWord)) behind
+
+-- each of these operations is so, with the operations before it
+abbrev pub EachBehind : (List Did → Did → Type 0) → List Did → List Did → Type 0
+EachBehind So before [] = Unit {0}
+EachBehind So before (did ∷ steps) = So before did × EachBehind So (before ++ did ∷ []) steps
+
+-- a table has at most 2^17 buckets, however many are wanted
+abbrev pub size_made : ℕ → ℕ
+size_made wanted = min wanted (2 ^ 17)
+
+-- A resizing attaches a table behind this one. It had chosen that one of this size is due behind this one, which was the last. Behind that it
+-- stored this shape in the slot last, that of a flat table of this size, and a serial that it had drawn.
+pub record AttachesDue (env : Env) (table slot shape : ℕ) (before : List Did) : Type 0 where
+  pub size : ℕ
+  pub chose : HasChosen env (choices.Attach size) before
+  pub last : chose.last ≡ table
+  pub stored : StoresLast env.geometry slot shape chose.behind
+  pub numbered : StoresDrawn env.geometry slot chose.behind
+  pub sized : size_of (unpacked shape) ≡ size
+  pub flat : is_nested shape ≡ false
+
+-- where these are the words before the event with each number
+module _ (g : Geometry) (words_at : ℕ → List ℕ) (mix : ℕ → ℕ → ℕ → ℕ) where
+  -- A bind of this port enters a page at this entry, which it had taken. It had walked a table last, and by the words before, the way to the
+  -- port's bucket in that table ends there. The bucket's number is by the table's seed as it then is.
+  pub record EntersOnWay (port entry : ℕ) (before : List Did) (did : Did) : Type 0 where
+    pub page : ℕ
+    pub enters : PutsPage g entry page did
+    pub took : HasTaken g page before
+    pub table : ℕ
+    pub shape : ℕ
+    pub walked : LastWalked g table shape before
+    pub bucket : ℕ
+    pub bucket_is : bucket ≡ bucket_of mix port shape (word_at g (words_at did.index) (Slot table SeedWord))
+    pub within : bucket < size_of (unpacked shape)
+    pub ends : missing_at (page_word g (words_at did.index)) (nested_place g shape bucket) ≡ Some entry
+
+  -- only binds enter pages
+  abbrev pub EnterCause : Call → ℕ → List Did → Did → Type 0
+  EnterCause (Bind port owner once) entry before did = EntersOnWay port entry before did
+  EnterCause _ entry before did = ⊥
+
+module _ (M : Type 0) (mix : ℕ → ℕ → ℕ → ℕ) (env : Env) (events : List Event) (c : ℕ) where
+  -- A bind of this port attaches a table behind this one. Up to this operation it saw this one full. In between it loaded a count of ports,
+  -- and no other one behind that. By this count a table is wanted of twice this one's size, or of the same where this one was loaded as the
+  -- current one. Behind the count it stored this shape in the slot last, that of a table of the wanted size, and a serial that it had drawn.
+  -- A table of fewer than 128 buckets is flat.
+  pub record AttachesFull (port table slot shape : ℕ) (before : List Did) (did : Did) : Type 0 where
+    pub full : WalkedFull M mix env events c port table (before ++ did ∷ [])
+    pub now : full.rest ≡ []
+    pub sooner : List Did
+    pub counting : Did
+    pub making : List Did
+    pub parts : full.before ≡ sooner ++ counting ∷ making
+    pub count : ℕ
+    pub counted : Loaded env.geometry PortCount count counting
+    pub last : AllByRecursion (λ other. other.op ≢ Load (place_of env.geometry PortCount)) making
+    pub grows :
+        (is_above_75 count (size_of (unpacked full.shape)) env.config.max ≡ true)
+        ⊎ Any (LoadsCurrent env.geometry table) sooner
+    pub stored : StoresLast env.geometry slot shape making
+    pub numbered : StoresDrawn env.geometry slot making
+    pub sized : size_of (unpacked shape) ≡ size_made (wanted_size env full.shape count)
+    pub nested : is_nested shape ≡ true → 128 ≤ size_of (unpacked shape)
+
+  -- why a call attaches the table of this slot, which has this shape, behind another one: only binds and resizings do
+  abbrev pub AttachCause : Call → ℕ → ℕ → ℕ → List Did → Did → Type 0
+  AttachCause (Bind port owner once) table slot shape before did = AttachesFull port table slot shape before did
+  AttachCause Work table slot shape before did = AttachesDue env table slot shape before
+  AttachCause _ table slot shape before did = ⊥
+
+  -- the call has taken this slot for a table of its own, which isn't in force by the words before
+  pub record IsOwnTable (slot : ℕ) (before : List Did) (did : Did) : Type 0 where
+    pub taken : HasTakenSlot env.geometry slot before
+    pub apart : ¬ In slot (in_force env.geometry (words_before M mix env events did.index))
+
+  -- The operation attaches a table of the call's own behind this one, and has a cause for it. By the words before, the slot of that table has
+  -- the shape that the cause names, and no table behind it.
+  pub record AttachesRightly (call : Call) (table : ℕ) (before : List Did) (did : Did) : Type 0 where
+    pub slot : ℕ
+    pub attaches : Attaches env.geometry table slot did
+    pub own : IsOwnTable slot before did
+    pub shape : ℕ
+    pub shape_is : word_at env.geometry (words_before M mix env events did.index) (Slot slot ShapeWord) ≡ shape
+    pub none_behind : word_at env.geometry (words_before M mix env events did.index) (Slot slot FutureWord) ≡ 0
+    pub cause : AttachCause call table slot shape before did
+
+  -- Where the operation changes what a slot's words say of a table, that is the call's own, or it attaches another one behind it. And where it
+  -- changes which table is the current one, the call is a resizing, and goes on to the next table. Where it changes an entry that leads to no
+  -- page, the call is a bind, and enters a page there.
+  pub record ChangesRightly (call : Call) (before : List Did) (did : Did) : Type 0 where
+    pub tables : (slot : ℕ) → ChangesTable env.geometry slot did → IsOwnTable slot before did ⊎ AttachesRightly call slot before did
+    pub current :
+        ChangesCurrent env.geometry did
+        → (call ≡ Work) × MovesOn env.geometry (words_before M mix env events did.index) did
+    pub entries :
+        (entry : ℕ) → ChangesMissing env.geometry (words_before M mix env events did.index) entry did
+        → EnterCause env.geometry (words_before M mix env events) mix call entry before did
+
+  -- so do all calls of the caller, those that have ended and the one in progress
+  pub record HasAttachedRightly (r : Traced M) : Type 0 where
+    pub past : AllByRecursion (λ past. EachBehind (ChangesRightly past.done.call) [] past.steps) (r.traces c).past
+    pub progress : IfSome (r.world.books c).call (λ call. EachBehind (ChangesRightly call) [] (r.traces c).steps)
+
+-- in every run each operation changes what slots' words say of tables rightly
+abbrev pub Attached : (M : Type 0) → (ℕ → ℕ → ℕ → ℕ) → Type 0
+Attached M mix =
+    (env : Env) (events : List Event) (c : ℕ) → IsAdmitted env.config.kind events
+    → HasAttachedRightly M mix env events c (traced_of mix env events)
