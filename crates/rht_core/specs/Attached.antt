@@ -19,7 +19,7 @@ use Rattle.rht_policy.specs.Thresholds.{is_above_75}
 use Rattle.rht_nest.specs.MakeLaws.{TakesSlot, TakesSerial}
 use Rattle.rht_nest.specs.Place.{nested_place, missing_at}
 use Rattle.rht_nest.specs.Tables.{is_nested}
-use Rattle.rht_stands.specs.StandsFor.{in_force, page_word, shape_of}
+use Rattle.rht_stands.specs.StandsFor.{in_force, page_word}
 use Rattle.rht_model.specs.declared.history.Call.{Call}
 use Rattle.rht_model.specs.declared.history.Call.TheVariants.{Bind, Work}
 use Rattle.rht_move.specs.declared.work.choice.Choice.TheVariants as choices
@@ -29,7 +29,7 @@ use Rattle.rht_core.specs.Traces.{Did, Traced, performed_of, traced_of}
 use Rattle.rht_core.specs.Seen.{LoadsCurrent, LastWalked, words_before}
 use Rattle.rht_core.specs.ResizeCauses.{Loaded, Attaches, WalkedFull, wanted_size}
 use Rattle.rht_core.specs.WorkCauses.{HasChosen}
-use Rattle.rht_core.specs.Refused.{StoresLast, PutsPage, HasTaken}
+use Rattle.rht_core.specs.Refused.{StoresLast, IsWaysEnd, PutsPage, HasTaken}
 
 -- the operation changes one of the words that say something of the table in this slot
 pub record ChangesTable (g : Geometry) (slot : ℕ) (did : Did) : Type 0 where
@@ -55,20 +55,13 @@ pub record MovesOn (g : Geometry) (words : List ℕ) (did : Did) : Type 0 where
 abbrev pub IsInForceOrRetired : Geometry → List ℕ → ℕ → Type 0
 IsInForceOrRetired g words table = In table (in_force g words) ⊎ (word_at g words (Slot table StateWord) ≡ 2)
 
--- By these words the way to a bucket of such a table, which is nested, ends at this entry, which leads to no page.
-pub record IsMissingIn (g : Geometry) (words : List ℕ) (entry : ℕ) : Type 0 where
+-- the operation changes this entry, which by the words before is a way's end of such a table, and so leads to no page
+pub record ChangesMissing (g : Geometry) (words : List ℕ) (entry : ℕ) (did : Did) : Type 0 where
+  pub entry_in : entry < 64 * g.pages
   pub table : ℕ
   pub table_in : table < 8
   pub stands : IsInForceOrRetired g words table
-  pub nested : is_nested (shape_of g words table) ≡ true
-  pub bucket : ℕ
-  pub within : bucket < size_of (unpacked (shape_of g words table))
-  pub ends : missing_at (page_word g words) (nested_place g (shape_of g words table) bucket) ≡ Some entry
-
--- the operation changes such an entry
-pub record ChangesMissing (g : Geometry) (words : List ℕ) (entry : ℕ) (did : Did) : Type 0 where
-  pub entry_in : entry < 64 * g.pages
-  pub missing : IsMissingIn g words entry
+  pub way : IsWaysEnd g words table entry
   pub there : op_place did.op ≡ place_of g (PageWord entry)
   pub other : word_after did.old did.op ≢ did.old
 

@@ -130,16 +130,20 @@ pub record IsOfAttached (g : Geometry) (steps : List Did) (place bit : ℕ) : Ty
   pub attached : AttachedWith g table slot shape steps
   pub of_it : (place ≡ place_of g (Slot table FutureWord)) ⊎ IsOfSlot g slot place ⊎ IsOfPages g shape place bit
 
--- The operations of a call came to a nested table. By these words the way to one of its buckets ends at this entry, which leads to no page.
--- To have come to it is asked since the words of a slot alone don't tell a table that is there from one that was.
-pub record IsMissingEntry (g : Geometry) (words : List ℕ) (entry : ℕ) (steps : List Did) : Type 0 where
-  pub table : ℕ
-  pub table_in : table < 8
-  pub came : CameTo g table steps
+-- by these words the table in this slot is nested, and the way to one of its buckets ends at this entry, which leads to no page
+pub record IsWaysEnd (g : Geometry) (words : List ℕ) (table entry : ℕ) : Type 0 where
   pub nested : is_nested (shape_of g words table) ≡ true
   pub bucket : ℕ
   pub within : bucket < size_of (unpacked (shape_of g words table))
   pub ends : missing_at (page_word g words) (nested_place g (shape_of g words table) bucket) ≡ Some entry
+
+-- The operations of a call came to a table of which this entry is a way's end. To have come to it is asked since the words of a slot alone
+-- don't tell a table that is there from one that was.
+pub record IsMissingEntry (g : Geometry) (words : List ℕ) (entry : ℕ) (steps : List Did) : Type 0 where
+  pub table : ℕ
+  pub table_in : table < 8
+  pub came : CameTo g table steps
+  pub way : IsWaysEnd g words table entry
 
 -- the operation puts this page behind this entry, which led to none
 pub record PutsPage (g : Geometry) (entry page : ℕ) (did : Did) : Type 0 where

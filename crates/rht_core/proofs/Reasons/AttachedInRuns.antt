@@ -63,11 +63,12 @@ use Rattle.rht_core.proofs.Reasons.BindCauses.{walked_full, unclamped}
 use Rattle.rht_words.specs.declared.op.Op.TheVariants.{Load}
 use Rattle.rht_words.specs.Operations.{old_of}
 use Rattle.rht_words.specs.Links.{page_of}
-use Rattle.rht_core.specs.Refused.{EntersPage, HasTaken}
+use Rattle.rht_core.specs.Refused.{PutsPage, HasTaken}
 use Rattle.rht_ghost.proofs.Theory.Knowledge.{TableMeans}
 use Rattle.rht_ghost.proofs.Pieces.OpenEntries.{known_growing}
 use Rattle.rht_core.proofs.Reasons.PagesMissed.{misses-page}
 use Rattle.rht_core.proofs.Undoing.LocksLetGo.{early}
+use Rattle.rht_core.proofs.Undoing.EnteringBinds.{saw-came}
 use Rattle.rht_core.proofs.Undoing.MissingKept.{EntersThere, EntersNow, by_entering, entered_by_move, enters_now}
 use Rattle.rht_core.proofs.Undoing.RefusedCalls as refusals
 use Rattle.rht_core.proofs.Reasons.CausesInRuns.{JobSaw, EndsSeen, job-leads, first_job-saw}
@@ -214,8 +215,8 @@ module _ (M : Type 0) (mix : ℕ → ℕ → ℕ → ℕ) (env : Env) (events : 
 
     -- a page is entered where the way to the port's bucket ends, by the words as they then are
     entering : (job : Job) (entry page : ℕ) → EntersNow env entry page job → (performs : Performs mix env job did)
-        → performs.words ≡ words_at did.index → JobSaw env words_at mix job steps → HasTaken g words_at page steps
-        → EntersPage g (words_at did.index) entry page did → EnterCause g words_at mix (call_of job) entry steps did
+        → performs.words ≡ words_at did.index → JobSaw env words_at mix job steps → HasTaken g page steps
+        → PutsPage g entry page did → EnterCause g words_at mix (call_of job) entry steps did
     entering job entry page (by_entering port owner once attempt table shape place grow p at_is on) performs now saw took enters =
         let same_g = performs.within.at_in.place_in.geometry_same in
         let here : place_of g (PageWord place.entry) ≡ place_of g (PageWord entry) =
@@ -250,7 +251,7 @@ module _ (M : Type 0) (mix : ℕ → ℕ → ℕ → ℕ) (env : Env) (events : 
         let page = there.page in
         let is_early = early env mix performs.caller (mem env mix performs.words) performs.ghost did entry page there.does.entering job
         performs.within performs.planned there.does.had in
-        let took : HasTaken g words_at page steps = elim going [
+        let took : HasTaken g page steps = elim going [
           | inl past ↦ absurd (let both = sym is_early.not_past ∙ past in cc)
           | inr goes_on ↦ elim goes_on [
             | inl says ↦ absurd (is_early.untold says)
@@ -263,7 +264,6 @@ module _ (M : Type 0) (mix : ℕ → ℕ → ℕ → ℕ) (env : Env) (events : 
         (record {
           page_in = there.ready.among;
           entry_in = changed.entry_in;
-          missing = changed.missing;
           exchanges = there.does.entering;
           found = there.does.found;
         })
@@ -315,7 +315,7 @@ module _ (M : Type 0) (mix : ℕ → ℕ → ℕ → ℕ) (env : Env) (events : 
         by_next job (job_after mix env job did.old) (same_call mix env job did.old)
         (each-push (ChangesSeen (call_of job)) [] steps did each (changes job performs stands.now saw going))
         (job-leads M mix env events job steps did performs stands saw)
-        (refusals.goes M mix env events job steps did performs stands.now going)
+        (refusals.goes M mix env events job steps did performs stands.now (saw-came env words_at mix job steps saw) going)
 
   -- ---- what was seen is the cause, where each operation was recorded at its event
 

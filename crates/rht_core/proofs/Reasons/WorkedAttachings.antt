@@ -16,7 +16,7 @@ use Rattle.rht_policy.specs.Thresholds.{is_above_75}
 use Rattle.rht_policy.specs.Mix.{bucket_of}
 use Rattle.rht_nest.specs.Place.{nested_place, missing_at}
 use Rattle.rht_stands.specs.StandsFor.{in_force, page_word}
-use Rattle.rht_core.specs.Refused.{IsMissingEntry}
+use Rattle.rht_core.specs.Refused.{IsWaysEnd}
 use Rattle.rht_model.specs.declared.history.Call.{Call}
 use Rattle.rht_model.specs.declared.history.Call.TheVariants.{Bind, Find}
 use Rattle.rht_core.specs.declared.event.Event.{Event}
@@ -103,16 +103,18 @@ module _ (M : Type 0) (mix : ℕ → ℕ → ℕ → ℕ) (env : Env) (events : 
 
   -- ---- an exchange that enters a page at an entry which leads to none
 
-  module _ (entry page : ℕ) (entry_in : entry < 64 * g.pages) (missing : IsMissingEntry g words entry)
-      (stands : IsInForceOrRetired g words missing.table) where
+  module _ (entry page : ℕ) (entry_in : entry < 64 * g.pages) (slot : ℕ) (low : slot < 8)
+      (way : IsWaysEnd g words slot entry) (stands : IsInForceOrRetired g words slot) where
     abbrev enters : Did
     enters = record { index = index; op = Exchange (place_of g (PageWord entry)) 0 (entry_of page); old = 0 }
 
     changes_missing : ChangesMissing g words entry enters
     changes_missing = record {
       entry_in = entry_in;
-      missing = missing;
+      table = slot;
+      table_in = low;
       stands = stands;
+      way = way;
       there = refl;
       other = λ same. absurd (omega (arith, same));
     }

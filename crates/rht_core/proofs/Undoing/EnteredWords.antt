@@ -10,7 +10,7 @@ use Rattle.rht_nest.specs.Place.{nested_place, missing_at}
 use Rattle.rht_nest.specs.Tables.{is_nested}
 use Rattle.rht_core.specs.Traces.{Did}
 use Rattle.rht_core.specs.Seen.{CameTo}
-use Rattle.rht_core.specs.Refused.{IsMissingEntry}
+use Rattle.rht_core.specs.Refused.{IsMissingEntry, IsWaysEnd}
 use Rattle.rht_ghost.proofs.Theory.Ghosts.{PageOf, has_entries, Ghost, has_table, index_at, is_entry, is_entry_of, entry_word, table_of_page, table_at}
 use Rattle.rht_ghost.proofs.Theory.Wholes.{IsNested, Whole}
 use Rattle.rht_ghost.proofs.Theory.Entries.{page_within, entry_in, entry_nested}
@@ -48,33 +48,35 @@ module _ (env : Env) (mix : ℕ → ℕ → ℕ → ℕ) where
         table = table.slot;
         table_in = right.slot_in;
         came = came;
-        nested = subst (λ s. is_nested s ≡ true) (sym shape)
-            (lt-ltb 0 (unpacked table.shape).nest (let is = nested.shaped.nest_is in omega (arith, is)));
-        bucket = missed.bucket;
-        within = subst (λ s. missed.bucket < size_of (unpacked s)) (sym shape) missed.within;
-        ends = subst (λ s. missing_at (λ i. M (PageWord i)) (nested_place env.geometry s missed.bucket) ≡ Some j) (sym shape)
-            missed.ends;
+        way = record {
+          nested = subst (λ s. is_nested s ≡ true) (sym shape)
+              (lt-ltb 0 (unpacked table.shape).nest (let is = nested.shaped.nest_is in omega (arith, is)));
+          bucket = missed.bucket;
+          within = subst (λ s. missed.bucket < size_of (unpacked s)) (sym shape) missed.within;
+          ends = subst (λ s. missing_at (λ i. M (PageWord i)) (nested_place env.geometry s missed.bucket) ≡ Some j) (sym shape)
+              missed.ends;
+        };
       }
 
   -- an entry of a table that was attached at which a way ends is none of a bucket's words
-  pub missing_is_entry : (words : List ℕ) (G : Ghost) → Whole env mix (mem env mix words) G → (j : ℕ) (steps : List Did)
-      → (missing : IsMissingEntry env.geometry words j steps) → has_table (G.slot missing.table) ≡ true → is_entry G j ≡ true
-  missing_is_entry words G whole j steps missing has =
+  pub missing_is_entry : (words : List ℕ) (G : Ghost) → Whole env mix (mem env mix words) G → (j slot : ℕ)
+      → IsWaysEnd env.geometry words slot j → has_table (G.slot slot) ≡ true → is_entry G j ≡ true
+  missing_is_entry words G whole j slot way has =
       let M = mem env mix words in
-      let of = whole.tables.slots missing.table has in
-      let τ = index_at G missing.table in
+      let of = whole.tables.slots slot has in
+      let τ = index_at G slot in
       let table = G.table τ in
       let right = whole.tables.each τ of.attached in
-      let shape : M (Slot missing.table ShapeWord) ≡ table.shape =
+      let shape : M (Slot slot ShapeWord) ≡ table.shape =
       ap (λ s. M (Slot s ShapeWord)) (sym of.slot) ∙ right.shape_is in
       elim right.placed [
         | inl flat ↦
-            let is : is_nested table.shape ≡ true = sym (ap is_nested shape) ∙ missing.nested in
+            let is : is_nested table.shape ≡ true = sym (ap is_nested shape) ∙ way.nested in
             let none : is_nested table.shape ≡ false = le-ltb 0 (unpacked table.shape).nest (let f = flat.flat in omega (arith, f)) in
             absurd (both_ways (is_nested table.shape) none is)
         | inr nested ↦
             let at = ends_at_entry env mix table G.page τ nested (λ i. M (PageWord i)) (entries_read M G whole τ of.attached)
-            missing.bucket j
-            (subst (λ s. missing_at (λ i. M (PageWord i)) (nested_place env.geometry s missing.bucket) ≡ Some j) shape missing.ends) in
+            way.bucket j
+            (subst (λ s. missing_at (λ i. M (PageWord i)) (nested_place env.geometry s way.bucket) ≡ Some j) shape way.ends) in
             ap (λ o. is_entry_of G.table o (j / 64)) at.of ∙ at.has
       ]

@@ -77,8 +77,7 @@ module _ (env : Env) (mix : ℕ → ℕ → ℕ → ℕ) (c : ℕ) (words : List
 
   of_entry : is_entry G entry ≡ true
   of_entry =
-      missing_is_entry env mix words G whole entry changes.missing
-      (standing_has changes.missing.table changes.missing.table_in changes.stands)
+      missing_is_entry env mix words G whole entry changes.table changes.way (standing_has changes.table changes.table_in changes.stands)
 
   -- a move that leaves where the entry leads leaves its word
   unchanged : (G' : Ghost) → Whole env mix (mem env mix (applied words did.op)) G' → is_entry G' entry ≡ true
