@@ -70,3 +70,5 @@ pub mod CalmBinds
 pub mod CalmCalls
 -- that the call itself held none of the pages that it saw taken, and what breaks that
 pub mod WorkedPages
+-- that a new attempt has to come to its tables anew
+pub mod WorkedAttempts

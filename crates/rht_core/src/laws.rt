@@ -104,9 +104,9 @@ pub fn taken_alone<M: Mix>()
 /// `Exists` only in a table of one owner each. The kick of a `Bound` or a `Released` is as `kicks` says.
 ///
 /// `Again`, `Busy` and `NoTable` of a bind have as their cause first that the last table that it walked is
-/// full. It came to that table from the current one on along the futures, and counted 16 nodes or more in
-/// its port's bucket there, by the table's seed as it then was, with so many ports bound at the last one.
-/// None of the keys that it loaded for this is the port. Or it loaded a count above the table's size, and
+/// full. It came to that table along the futures, from its last load of the current one before, and
+/// counted 16 nodes or more in its port's bucket there, by the table's seed as it then was, with so many
+/// ports bound at the last one. None of the keys that it loaded for this is the port. Or it loaded a count above the table's size, and
 /// the table may grow. `Again` names the table that the bind then attached behind that one, or found there
 /// as its future. For `Busy` and `NoTable` it then loaded that future as none. Before, for `Busy`, it had
 /// found that another table is the current one, and that by the count the full one isn't due to grow; for
@@ -146,9 +146,9 @@ pub fn causes<M: Mix>()
 /// than three tenths of its buckets, rounded down, and more buckets than the least size. It has lowered
 /// none before.
 ///
-/// The last table that a call walked is the one whose shape it loaded last, and to which it had come: it
-/// loaded it as the current one, or as the future of one to which it had come. It doesn't say that `work`
-/// is then made, or finds anything to do.
+/// The last table that a call walked is the one whose shape it loaded last, and to which it had come from
+/// its last load of the current one before: it loaded it as that, or as the future of one to which it had
+/// come so. It doesn't say that `work` is then made, or finds anything to do.
 pub fn kicks<M: Mix>()
     ensures { Kicks M M.mix_of }
 {}
