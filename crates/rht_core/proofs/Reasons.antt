@@ -82,3 +82,5 @@ pub mod OwnTables
 pub mod AttachedInRuns
 -- and what attaches one wrongly
 pub mod WorkedAttachings
+-- that a new attempt has to come to its tables anew
+pub mod WorkedAttempts

@@ -1,6 +1,6 @@
 -- What the operations of a call show of tables and of the count of ports.
 use Rattle.std.specs.Prelude.{◌≡◌, ◌≢◌, ℕ, Some, ◌+◌, ◌<◌, ◌≤◌, ◌==◌, ◌&&◌, not, List, ◌∷◌, ◌++◌, take, count_by}
-use Rattle.std.specs.List.{AllByRecursion, Any, range_with_len}
+use Rattle.std.specs.List.{AllByRecursion, range_with_len}
 use Rattle.rht_words.specs.declared.op.Op.TheVariants.{Load}
 use Rattle.rht_words.specs.declared.env.Env.{Env}
 use Rattle.rht_words.specs.declared.geometry.Geometry.{Geometry}
@@ -26,16 +26,26 @@ pub record LoadsWord (g : Geometry) (address : Address) (did : Did) : Type 0 whe
 abbrev pub LoadsCurrent : Geometry → ℕ → Did → Type 0
 LoadsCurrent g table did = LoadsWord g CurrentTable did × (table_of did.old ≡ table)
 
--- The operations came to the table of this slot: they loaded it as the current one, or they came to another one first, and then
--- loaded it as that one's future.
+-- the operation doesn't load which table is the current one
+abbrev pub IsNoCurrentLoad : Geometry → Did → Type 0
+IsNoCurrentLoad g did = did.op ≢ Load (place_of g CurrentTable)
+
+-- The operations came to the table of this slot from their last load of the current table on. That found this one, or from it they came to
+-- another one, and then loaded this one as its future.
 pub data CameTo (g : Geometry) : ℕ → List Did → Type 0 where
-  as_current : (table : ℕ) (steps : List Did) → Any (LoadsCurrent g table) steps → CameTo g table steps
+  as_current :
+      (table : ℕ) (before : List Did) (at : Did) (behind steps : List Did)
+      → LoadsCurrent g table at
+      → steps ≡ before ++ at ∷ behind
+      → AllByRecursion (IsNoCurrentLoad g) behind
+      → CameTo g table steps
   as_future :
       (front table : ℕ) (before : List Did) (at : Did) (behind steps : List Did)
       → CameTo g front before
       → LoadsWord g (Slot front FutureWord) at
       → slot_of at.old ≡ Some table
       → steps ≡ before ++ at ∷ behind
+      → AllByRecursion (IsNoCurrentLoad g) behind
       → CameTo g table steps
 
 -- the operation doesn't load the shape of a table
@@ -43,7 +53,7 @@ abbrev pub IsNoShapeLoad : Geometry → Did → Type 0
 IsNoShapeLoad g did = (table : ℕ) → table < 8 → did.op ≢ Load (place_of g (Slot table ShapeWord))
 
 -- The last table of which these operations loaded the shape is that of this slot, and this shape was found. They had come to
--- that table before.
+-- that table before, from their last load of the current table up to then.
 pub record LastWalked (g : Geometry) (table shape : ℕ) (steps : List Did) : Type 0 where
   pub before : List Did
   pub at : Did

@@ -106,21 +106,21 @@ pub fn taken_alone<M: Mix>()
 /// `Exists` only in a table of one owner each. The kick of a `Bound` or a `Released` is as `kicks` says.
 ///
 /// `Again`, `Busy` and `NoTable` of a bind have as their cause first that the last table that it walked is
-/// full. It came to that table from the current one on along the futures, and counted 16 nodes or more in
-/// its port's bucket there, by the table's seed as it then was, with so many ports bound at the last one.
-/// None of the keys that it loaded for this is the port. Or it loaded a count above the table's size, while
-/// its port had no owner, and the table may grow. In either case it loaded that table's future as none, while
-/// its port had no owner. `Again` names the table that the bind then attached behind that one, or found there
-/// as its future. For `Busy` and `NoTable` it then loaded that future as none. Before, for `Busy`, it had
-/// found that another table is the current one, and that by the count the full one isn't due to grow; for
-/// `NoTable`, that there is no slot, or no pages for the size that is wanted: twice the full table's where
-/// that is due to grow by the count, and else its own, where it is the current one. No slot: each is taken,
-/// by each of its operations on the state of one. No pages: each run is taken in its turn, by a page that it
-/// hadn't taken itself. Where a table of 128 buckets or more is wanted, it had then given back each page
-/// that it took, and behind that each page is taken in its turn, which it hadn't taken since. Or `NoTable` has another cause: the last table that the
-/// bind walked is nested and has the size that is named, the bind loaded its future as none, while its port
-/// had no owner, then an entry of it that led to no page, at which the way to the port's bucket ends, and
-/// behind that each page was seen taken in its turn.
+/// full. It came to that table along the futures, from its last load of the current one before, and counted
+/// 16 nodes or more in its port's bucket there, by the table's seed as it then was, with so many ports bound
+/// at the last one. None of the keys that it loaded for this is the port. Or it loaded a count above the
+/// table's size, while its port had no owner, and the table may grow. In either case it loaded that table's
+/// future as none, while its port had no owner. `Again` names the table that the bind then attached behind
+/// that one, or found there as its future. For `Busy` and `NoTable` it then loaded that future as none.
+/// Before, for `Busy`, it had found that another table is the current one, and that by the count the full one
+/// isn't due to grow; for `NoTable`, that there is no slot, or no pages for the size that is wanted: twice the
+/// full table's where that is due to grow by the count, and else its own, where it is the current one. No slot:
+/// each is taken, by each of its operations on the state of one. No pages: each run is taken in its turn, by a
+/// page that it hadn't taken itself. Where a table of 128 buckets or more is wanted, it had then given back each
+/// page that it took, and behind that each page is taken in its turn, which it hadn't taken since. Or `NoTable`
+/// has another cause: the last table that the bind walked is nested and has the size that is named, the bind
+/// loaded its future as none, while its port had no owner, then an entry of it that led to no page, at which
+/// the way to the port's bucket ends, and behind that each page was seen taken in its turn.
 ///
 /// A `Work` that was answered `Elsewhere` found the work lock taken. Any other one took it, looked for
 /// the last table from the current one on and chose by its shape and by the count what is due:
@@ -149,9 +149,9 @@ pub fn causes<M: Mix>()
 /// than three tenths of its buckets, rounded down, and more buckets than the least size. It has lowered
 /// none before.
 ///
-/// The last table that a call walked is the one whose shape it loaded last, and to which it had come: it
-/// loaded it as the current one, or as the future of one to which it had come. It doesn't say that `work`
-/// is then made, or finds anything to do.
+/// The last table that a call walked is the one whose shape it loaded last, and to which it had come from
+/// its last load of the current one before: it loaded it as that, or as the future of one to which it had
+/// come so. It doesn't say that `work` is then made, or finds anything to do.
 pub fn kicks<M: Mix>()
     ensures { Kicks M M.mix_of }
 {}
@@ -201,20 +201,19 @@ pub fn counted<M: Mix>()
     ensures { Counted M M.mix_of }
 {}
 
-/// In every run, while nobody is in a call, no bucket is locked of a table that is in force or stands in
-/// a slot that isn't free, and the word of each bucket of a retired table is 0; each node is free,
-/// in the list of a port, or out, and never two of these; those that are out are as many as the calls
-/// that were answered `Released` or `Rebound`; in a table of one owner for each port no list has a
-/// second node; the count is the number of ports that are bound; the work lock is free; each page is
-/// free, or one of a table whose slot isn't, in the run of a flat one, or the top page or one to which an
-/// entry leads in a nested one; each slot that isn't free is retired, or has a table in force; and each
-/// caller's section word is even, so none is in a read section. So no
-/// node is lost: a bind that is refused, or finds its port bound, has given its
-/// node back, and so has a rebind that is answered `Absent`. And no slot or page is lost: each that isn't
-/// free is a table's that is in force or retired, so what was taken for a table that wasn't attached, or
-/// for an entry behind which another page was entered, has been given back, and each table that was left
-/// behind is retired. It doesn't say which nodes are out or
-/// which call took one, that no table in force is retired, nor that such a moment comes.
+/// In every run, while nobody is in a call, no bucket is locked of a table that is in force or stands in a
+/// slot that isn't free, and the word of each bucket of a retired table is 0; each node is free, in the list
+/// of a port, or out, and never two of these; those that are out are as many as the calls that were answered
+/// `Released` or `Rebound`; in a table of one owner for each port no list has a second node; the count is the
+/// number of ports that are bound; the work lock is free; each page is free, or one of a table whose slot
+/// isn't, in the run of a flat one, or the top page or one to which an entry leads in a nested one; each slot
+/// that isn't free is retired, or has a table in force; and each caller's section word is even, so none is in
+/// a read section. So no node is lost: a bind that is refused, or finds its port bound, has given its node
+/// back, and so has a rebind that is answered `Absent`. And no slot or page is lost: each that isn't free is
+/// a table's that is in force or retired, so what was taken for a table that wasn't attached, or for an entry
+/// behind which another page was entered, has been given back, and each table that was left behind is
+/// retired. It doesn't say which nodes are out or which call took one, that no table in force is retired, nor
+/// that such a moment comes.
 pub fn at_rest<M: Mix>()
     ensures { AtRest M M.mix_of }
 {}
@@ -237,10 +236,10 @@ pub fn refused<M: Mix>()
     ensures { Refused M M.mix_of }
 {}
 
-/// In every run each call that has ended, whatever its reply, has let go of the work lock, and of the lock
-/// of each bucket: it turned the lowest bit of the word an even number of times. The one exception is the
-/// word of an entry at which the call, a bind, entered a page that it had taken; by the words before, the
-/// entry was one of a nested table to which the call had come, and led to none. It says nothing of a call in
+/// In every run each call that has ended, whatever its reply, has let go of the work lock, and of the lock of
+/// each bucket: it turned the lowest bit of the word an even number of times. The one exception is the word
+/// of an entry at which the call, a bind, entered a page that it had taken; by the words before, the entry
+/// was one of a nested table to which the call had come, and led to none. It says nothing of a call in
 /// progress, nor that a lock is ever given back.
 pub fn let_go<M: Mix>()
     ensures { LetGo M M.mix_of }

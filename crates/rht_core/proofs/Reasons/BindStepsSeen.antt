@@ -50,7 +50,7 @@ use Rattle.rht_core.proofs.Reasons.NamedFutures.{no_slot, future_few}
 use Rattle.rht_words.specs.Machines.{GoesOrEnds}
 use Rattle.rht_core.proofs.Reasons.PagesMissed.{SawGrowing, SawGrown, grow-saw, SeesMissing, SeesMissing-push}
 use Rattle.rht_core.proofs.Tracing.TracedJobs.{Performs, StandsIn}
-use Rattle.rht_core.proofs.Reasons.TablesWalked.{IsAside, grow_loads, IsNoRaise, no_load, aside, elsewhere, node_loads, probe_loads, relink_stores, came-current, came-future, walked-came, LastWalked-push, Walked, Walked-push, WalkedSeeing, WalkedSeeing-push, make_loads}
+use Rattle.rht_core.proofs.Reasons.TablesWalked.{IsAside, grow_loads, IsNoRaise, no_load, aside, elsewhere, node_loads, probe_loads, relink_stores, came-current, came-future, walked-came, LastWalked-push, Walked, Walked-push, WalkedSeeing, WalkedSeeing-push, make_loads, grow_current, other_load}
 use Rattle.rht_core.proofs.Reasons.KeyLoads.{no_key, no_key-grow}
 use Rattle.rht_core.proofs.Reasons.ChainsCounted.{HasCounted, HasCounted-push, CountedUnless, WalkCounted, CountedNext, probe-counted, long-counted}
 use Rattle.rht_core.proofs.Reasons.AttachedTables.{no_attach, AttachedSo, AttachedSo-push, SawAttached, relink-none, unmake-none}
@@ -166,7 +166,7 @@ module _ (env : Env) (words_at : ℕ → List ℕ) (mix : ℕ → ℕ → ℕ �
   unfolding LastWalked-push
   count-saw claimed steps did is now seeing =
       let walked = seeing.walked in
-      let beside = elsewhere env.geometry did _ is (λ table below same. absurd (omega arith)) in
+      let beside = elsewhere env.geometry did _ is (λ first. absurd (omega (arith, first))) (λ table below same. absurd (omega arith)) in
       let count = did.old in
       let above = is_above_100 (min count 65536) (size_of (unpacked claimed.shape)) env.config.max in
       let all = steps ++ did ∷ [] in
@@ -253,6 +253,7 @@ module _ (env : Env) (words_at : ℕ → List ℕ) (mix : ℕ → ℕ → ℕ �
         let After = SawGrown env.geometry after in
         let apart : IsAside env.geometry did = record {
           no_shape = grow_loads env.geometry grow.entry grow.at did does.planned;
+          no_current = grow_current env.geometry grow.entry grow.at did does.planned;
           no_raise = λ adds. grow-none env.geometry grow.entry grow.at (sym does.planned ∙ adds);
         } in
         let seeing : WalkedSeeing env.geometry table shape
@@ -307,9 +308,9 @@ module _ (env : Env) (words_at : ℕ → List ℕ) (mix : ℕ → ℕ → ℕ �
         claimed.shape place length behind does.knows.knowing.means.table enough has)
         (λ table named. came-future env.geometry claimed.table table steps did does.within.at_in.table_in
         does.planned named
-        (walked-came env.geometry claimed.table claimed.shape steps saw.walked.last))
+        (walked-came env.geometry claimed.table claimed.shape steps saw.walked))
         (WalkedSeeing-push env.geometry claimed.table claimed.shape counted (SawFuture claimed length (slot_of did.old)) steps did
-        (elsewhere env.geometry did _ does.planned (λ table below same. absurd (omega arith)))
+        (elsewhere env.geometry did _ does.planned (λ first. absurd (omega (arith, first))) (λ table below same. absurd (omega arith)))
         (λ behind has. (
           HasCounted-push env.geometry words_at mix port claimed.table claimed.shape place length behind did
               (no_key-future env.geometry did claimed.table does.within.at_in.table_in does.planned) has,
@@ -342,13 +343,11 @@ module _ (env : Env) (words_at : ℕ → List ℕ) (mix : ℕ → ℕ → ℕ �
     bind-saw (at.Root growing) steps did does now saw so unraised =
         Behind-push env.geometry growing.table growing.shape (SawWhy env words_at mix port growing.table growing.why growing.shape)
         (SawRoot env words_at mix port growing (table_of did.old)) steps did
-        (elsewhere env.geometry did _ does.planned
-        (λ table below same. absurd (omega (arith, same)))).no_shape
+        (other_load env.geometry did _ does.planned (λ table below same. absurd (omega (arith, same))))
         (λ behind why. root-saw env words_at mix port growing behind did does.planned why) saw
     bind-saw (at.GrowthCount growing root) steps did does now saw so unraised =
         want-saw env words_at mix port once growing root steps did does.planned
-        (elsewhere env.geometry did _ does.planned
-        (λ table below same. absurd (omega (arith, same)))).no_shape saw
+        (other_load env.geometry did _ does.planned (λ table below same. absurd (omega (arith, same)))) saw
     bind-saw (at.Making growing size make) steps did does now saw so unraised =
         let after = make_after_at make.geometry make.exponent make.nested make.at did.old in
         made-saw env words_at mix port once growing size make after (steps ++ did ∷ [])

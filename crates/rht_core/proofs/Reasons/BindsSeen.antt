@@ -167,5 +167,5 @@ module _ (env : Env) (words_at : ℕ → List ℕ) (mix : ℕ → ℕ → ℕ �
 
   pub SawThen-push : (next : Then Reply) (steps : List Did) (did : Did) → IsStill env did → SawThen next steps
       → SawThen next (steps ++ did ∷ [])
-  SawThen-push (Table table) steps did none came = CameTo-append env.geometry table steps (did ∷ []) came
+  SawThen-push (Table table) steps did none came = CameTo-append env.geometry table steps (did ∷ []) (none.aside.no_current, tt) came
   SawThen-push (Answer reply) steps did none saw = SawFor-push reply steps did none saw

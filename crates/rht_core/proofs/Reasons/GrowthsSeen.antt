@@ -31,7 +31,7 @@ use Rattle.rht_bind.specs.declared.bind.BindAt.{BindAt}
 use Rattle.rht_core.specs.Traces.{Did}
 use Rattle.rht_core.specs.Seen.{IsNoShapeLoad}
 use Rattle.rht_core.proofs.Tracing.TracedJobs.{Performs}
-use Rattle.rht_core.proofs.Reasons.TablesWalked.{no_load, elsewhere}
+use Rattle.rht_core.proofs.Reasons.TablesWalked.{no_load, elsewhere, other_load}
 use Rattle.rht_core.proofs.Reasons.RefusedBinds.{Behind, Behind-push, SawWhy, SawRoot, SawOther, SawRefusal, SawToMake, refusal-why, FollowedSeen, begins-making, other-saw, no_room-saw, busy-saw, no_table-saw, followed-saw, to_attach-saw, SawToAttach}
 use Rattle.rht_ghost.proofs.Theory.Steps.{mem, by_test}
 use Rattle.rht_core.proofs.Reasons.BindsSeen.{SawAt, SawForReply}
@@ -143,18 +143,18 @@ module _ (env : Env) (words_at : ℕ → List ℕ) (mix : ℕ → ℕ → ℕ �
       → Sees (refused_or_found env once growing refusal future) (steps ++ did ∷ [])
   again-saw growing (refusals.Busy root) None steps did within is few reads saw =
       busy-saw env words_at mix port growing root steps did
-      (elsewhere env.geometry did _ is (λ other below same. absurd (omega (arith, same)))).no_shape within is
+      (other_load env.geometry did _ is (λ other below same. absurd (omega (arith, same)))) within is
       (no_slot did.old few reads) saw
   again-saw growing (refusals.NoTable size) None steps did within is few reads saw =
       inl (no_table-saw env words_at mix port growing size steps did
-      (elsewhere env.geometry did _ is (λ other below same. absurd (omega (arith, same)))).no_shape within is
+      (other_load env.geometry did _ is (λ other below same. absurd (omega (arith, same)))) within is
       (no_slot did.old few reads) saw)
   again-saw growing refusal (Some table) steps did within is few reads saw =
       let named = slot_named did.old table reads in
       behind-saw growing.attempt (ended_attempt once table) (steps ++ did ∷ [])
       (ended-saw table (steps ++ did ∷ [])
       (followed-saw env words_at mix port growing table steps did
-      (elsewhere env.geometry did _ is (λ other below same. absurd (omega (arith, same)))).no_shape
+      (other_load env.geometry did _ is (λ other below same. absurd (omega (arith, same))))
       (inr (record { table_in = within; slot_in = named.0; tells = inl is; found = named.1 }))
       (record {
         walked = saw.walked;

@@ -48,7 +48,7 @@ use Rattle.rht_release.specs.declared.release.ReleaseAt.TheVariants as at
 use Rattle.rht_release.specs.Release.{plan_at, after_at, sought, owner_compared, list_followed, cut_or_chain, unlink_or_promote, promoted, unlinked, removed_reply, kicks, IsReleaseAtIn}
 use Rattle.rht_move.specs.Choice.{is_sparse}
 use Rattle.rht_core.specs.Traces.{Did}
-use Rattle.rht_core.specs.Seen.{CameTo, IsNoShapeLoad, LastWalked}
+use Rattle.rht_core.specs.Seen.{CameTo, IsNoShapeLoad, LastWalked, IsNoCurrentLoad}
 use Rattle.rht_core.specs.Causes.{IsLowering, IsSparseBy, KicksOnRelease}
 use Rattle.rht_core.proofs.Reasons.TablesWalked.{IsAside, aside, node_loads, probe_loads, relink_stores, CameTo-append, came-current, came-future, walked-came, Walked, Walked-push, WalkedAt, CameBehind, CameBeyond, WalkedNext, TellsNone, same_table, locate-walked}
 
@@ -190,7 +190,7 @@ module _ (env : Env) where
       → Walked env.geometry table shape all
       → let next = found_or_future table shape probe end found in
       SawNextRelease all (sought (record { geometry = h; at = next.0 }) next.1)
-  seen-saw table shape probe end None h all walked = walked-came env.geometry table shape all walked.last
+  seen-saw table shape probe end None h all walked = walked-came env.geometry table shape all walked
   seen-saw table shape probe end (Some node) h all walked = walked
 
   probed-saw : (table shape : ℕ) (probe : ProbeModel) (end : Next Probed) (h : Geometry) (all : List Did)
@@ -209,11 +209,11 @@ module _ (env : Env) where
       came-future env.geometry table next steps did within is named came
 
   left-saw : (g : Geometry) (table : ℕ) (unlock : Unlock) (future : Option ℕ) (h : Geometry) (steps : List Did) (did : Did)
-      → IfSome future (λ next. CameTo env.geometry next steps)
+      → IsNoCurrentLoad env.geometry did → IfSome future (λ next. CameTo env.geometry next steps)
       → let next = left g table unlock future in
       SawNextRelease (steps ++ did ∷ []) (sought (record { geometry = h; at = next.0 }) next.1)
-  left-saw g table unlock None h steps did came = tt
-  left-saw g table unlock (Some next) h steps did came = CameTo-append env.geometry next steps (did ∷ []) came
+  left-saw g table unlock None h steps did none came = tt
+  left-saw g table unlock (Some next) h steps did none came = CameTo-append env.geometry next steps (did ∷ []) (none, tt) came
 
   -- and so it has nothing to tell of one
   nothing-told : (table : ℕ) (state : LocateAt) (did : Did) → TellsNone env.geometry NothingOfNone table state did
@@ -238,7 +238,7 @@ module _ (env : Env) where
   seek-saw mix port h (seeks.Future table bucket) steps did within is saw =
       led-saw table (slot_of did.old) steps did within.table_in is refl saw
   seek-saw mix port h (seeks.Leaving table unlock future) steps did within is saw =
-      left-saw h table unlock future h steps did saw
+      left-saw h table unlock future h steps did (λ load. let same = sym is ∙ load in cc) saw
 
   -- ---- in the port's list
 

@@ -11,8 +11,9 @@ use Rattle.rht_words.specs.declared.op.Op.{Op}
 use Rattle.rht_words.specs.declared.op.Op.TheVariants.{Load, Add}
 use Rattle.rht_words.specs.declared.geometry.Geometry.{Geometry}
 use Rattle.rht_words.specs.Links.{table_of, slot_of}
-use Rattle.rht_words.specs.Places.{CurrentTable, PortCount, Node, NodeWord, ChainLink, KeyWord, Slot, ShapeWord, SeedWord, FutureWord, PageWord, IsBucketPlace, nodes_at, pages_at, place_of}
-use Rattle.rht_words.proofs.EachElement.{Any-append_left, AllByRecursion-push}
+use Rattle.rht_words.specs.Operations.{op_place}
+use Rattle.rht_words.specs.Places.{CurrentTable, PageMap, PortCount, Node, NodeWord, ChainLink, KeyWord, Slot, ShapeWord, SeedWord, FutureWord, PageWord, IsBucketPlace, nodes_at, pages_at, place_of}
+use Rattle.rht_words.proofs.EachElement.{Any-append_left, AllByRecursion-push, AllByRecursion-append}
 use Rattle.rht_words.proofs.PlacesApart.{parts_in_order}
 use Rattle.rht_nest.specs.Locate.{LocateModel, locate_plan_at, locate_after_at, hashed, entry_followed, IsLocateAtIn}
 use Rattle.rht_nest.specs.declared.locate.LocateAt.{LocateAt}
@@ -49,7 +50,7 @@ use Rattle.rht_nest.specs.Make.{make_plan_at}
 use Rattle.rht_nest.specs.declared.make.MakeAt.{MakeAt}
 use Rattle.rht_nest.specs.declared.make.MakeAt.TheVariants as makes
 use Rattle.rht_core.specs.Traces.{Did}
-use Rattle.rht_core.specs.Seen.{LoadsCurrent, CameTo, as_current, as_future, IsNoShapeLoad, LastWalked}
+use Rattle.rht_core.specs.Seen.{CameTo, as_current, as_future, IsNoCurrentLoad, IsNoShapeLoad, LastWalked}
 use Rattle.rht_core.specs.Causes.{IsRaise}
 use Rattle.rht_core.specs.ResizeCauses.{IsNoKeyLoad}
 use Rattle.rht_core.proofs.Reasons.KeyLoads.{no_key-before, no_key-behind}
@@ -63,6 +64,7 @@ module _ (g : Geometry) where
 
   pub record IsAside (did : Did) : Type 0 where
     pub no_shape : IsNoShapeLoad g did
+    pub no_current : IsNoCurrentLoad g did
     pub no_raise : IsNoRaise did
 
   -- an operation that is no load
@@ -76,21 +78,29 @@ module _ (g : Geometry) where
   aside did op is no_load_is no_add =
       record {
         no_shape = no_load did op is no_load_is;
+        no_current = λ load. no_load_is (place_of g CurrentTable) (sym is ∙ load);
         no_raise = λ adds. no_add (place_of g PortCount) 1
             (sym is ∙ adds);
       }
 
   -- a load of another place
-  pub elsewhere : (did : Did) (place : ℕ) → did.op ≡ Load place
+  pub other_load : (did : Did) (place : ℕ) → did.op ≡ Load place
+      → ((table : ℕ) → table < 8 → place ≢ place_of g (Slot table ShapeWord)) → IsNoShapeLoad g did
+  other_load did place is apart table below load = apart table below (let same = sym is ∙ load in cc)
+
+  -- that isn't the first one, where the current table stands
+  pub elsewhere : (did : Did) (place : ℕ) → did.op ≡ Load place → place ≢ 0
       → ((table : ℕ) → table < 8 → place ≢ place_of g (Slot table ShapeWord)) → IsAside did
-  elsewhere did place is apart = record {
-    no_shape = λ table below load. apart table below (let same = sym is ∙ load in cc);
+  elsewhere did place is behind_first apart = record {
+    no_shape = other_load did place is apart;
+    no_current = λ load. behind_first (let same = sym is ∙ load in cc);
     no_raise = λ adds. let same = sym is ∙ adds in cc;
   }
 
   -- a load of a place behind the slots
   behind_slots : (did : Did) (place : ℕ) → did.op ≡ Load place → 280 ≤ place → IsAside did
-  behind_slots did place is high = elsewhere did place is (λ table below same. absurd (omega arith))
+  behind_slots did place is high =
+      elsewhere did place is (λ first. absurd (omega (arith, high, first))) (λ table below same. absurd (omega arith))
 
   -- nodes and buckets stand behind the slots
   pub nodes_behind : (h : Geometry) → 280 ≤ nodes_at h
@@ -133,15 +143,31 @@ module _ (g : Geometry) where
       → IsNoShapeLoad g did
   run_loads h pages (runs.MapWord first index) did is =
       let order = parts_in_order h in
-      (elsewhere did _ is (λ table below same. absurd (omega (arith, same, below, order.page_map)))).no_shape
+      other_load did _ is (λ table below same. absurd (omega (arith, same, below, order.page_map)))
   run_loads h pages (runs.Claim first index) did is = no_load did _ is (λ place load. cc)
   run_loads h pages (runs.GiveBack first index bits) did is = no_load did _ is (λ place load. cc)
+
+  -- and so no current table
+  run_current : (h : Geometry) (pages : ℕ) (state : TakeRunAt) (did : Did) → did.op ≡ take_run_plan_at h pages state
+      → IsNoCurrentLoad g did
+  run_current h pages (runs.MapWord first index) did is load =
+      let order = parts_in_order h in
+      let same : place_of h (PageMap index) ≡ place_of g CurrentTable = (let both = sym is ∙ load in cc) in
+      absurd (omega (arith, same, order.page_map))
+  run_current h pages (runs.Claim first index) did is load = let same = sym is ∙ load in cc
+  run_current h pages (runs.GiveBack first index bits) did is load = let same = sym is ∙ load in cc
 
   -- nor does the entering of a page
   pub grow_loads : (entry : ℕ) (state : GrowAt) (did : Did) → did.op ≡ grow_plan_at entry state → IsNoShapeLoad g did
   grow_loads entry (grows.Taking take) did is = run_loads take.geometry take.pages take.at did is
   grow_loads entry (grows.Entering page) did is = no_load did _ is (λ place load. cc)
   grow_loads entry (grows.Giving there give) did is = no_load did _ is (λ place load. cc)
+
+  -- nor does that load the current table
+  pub grow_current : (entry : ℕ) (state : GrowAt) (did : Did) → did.op ≡ grow_plan_at entry state → IsNoCurrentLoad g did
+  grow_current entry (grows.Taking take) did is load = run_current take.geometry take.pages take.at did is load
+  grow_current entry (grows.Entering page) did is load = let same = sym is ∙ load in cc
+  grow_current entry (grows.Giving there give) did is load = let same = sym is ∙ load in cc
 
   -- nor does the making of a table load a shape
   pub make_loads : (h : Geometry) (exponent seed : ℕ) (state : MakeAt) (did : Did)
@@ -152,34 +178,30 @@ module _ (g : Geometry) where
 
   -- ---- the way to a table
 
-  -- what came to a table has come to it whatever follows
-  pub CameTo-append : (table : ℕ) (steps more : List Did) → CameTo g table steps → CameTo g table (steps ++ more)
-  CameTo-append table steps more (as_current _ _ any) =
-      as_current table (steps ++ more) (Any-append_left (LoadsCurrent g table) steps more any)
-  CameTo-append table steps more (as_future front _ before at behind _ came loads named split) =
+  -- what came to a table has come to it while the current table isn't loaded again
+  pub CameTo-append : (table : ℕ) (steps more : List Did) → AllByRecursion (IsNoCurrentLoad g) more → CameTo g table steps
+      → CameTo g table (steps ++ more)
+  CameTo-append table steps more none (as_current _ before at behind _ loads split last) =
+      as_current table before at (behind ++ more) (steps ++ more) loads
+      (ap (λ l. l ++ more) split ∙ append_assoc before (at ∷ behind) more)
+      (AllByRecursion-append (IsNoCurrentLoad g) behind more last none)
+  CameTo-append table steps more none (as_future front _ before at behind _ came loads named split last) =
       as_future front table before at (behind ++ more) (steps ++ more) came loads named
       (ap (λ l. l ++ more) split ∙ append_assoc before (at ∷ behind) more)
+      (AllByRecursion-append (IsNoCurrentLoad g) behind more last none)
 
   -- by the load of the current table
   pub came-current : (steps : List Did) (did : Did) → did.op ≡ Load (place_of g CurrentTable)
       → CameTo g (table_of did.old) (steps ++ did ∷ [])
   came-current steps did is =
-      let table = table_of did.old in
-      as_current table (steps ++ did ∷ [])
-      (Any-push (LoadsCurrent g table) steps did (record { there = tt; loads = is }, refl))
+      as_current (table_of did.old) steps did [] (steps ++ did ∷ []) (record { there = tt; loads = is }, refl) refl tt
 
   -- and by that of a future
   pub came-future : (front table : ℕ) (steps : List Did) (did : Did) → front < 8
       → did.op ≡ Load (place_of g (Slot front FutureWord)) → slot_of did.old ≡ Some table → CameTo g front steps
       → CameTo g table (steps ++ did ∷ [])
   came-future front table steps did within is named came =
-      as_future front table steps did [] (steps ++ did ∷ []) came (record { there = (within, tt); loads = is }) named refl
-
-  -- a table that was walked was come to
-  pub walked-came : (table shape : ℕ) (steps : List Did) → LastWalked g table shape steps → CameTo g table steps
-  walked-came table shape steps walked =
-      subst (CameTo g table) (sym walked.split)
-      (CameTo-append table walked.before (walked.at ∷ walked.behind) walked.reached)
+      as_future front table steps did [] (steps ++ did ∷ []) came (record { there = (within, tt); loads = is }) named refl tt
 
   -- ---- the last table
 
@@ -198,10 +220,11 @@ module _ (g : Geometry) where
     last = AllByRecursion-push (IsNoShapeLoad g) walked.behind did walked.last none;
   }
 
-  -- since then no count was raised
+  -- since then no count was raised, and the current table wasn't loaded again
   pub record Walked (table shape : ℕ) (steps : List Did) : Type 0 where
     pub last : LastWalked g table shape steps
     pub unraised : AllByRecursion IsNoRaise last.behind
+    pub in_attempt : AllByRecursion (IsNoCurrentLoad g) last.behind
 
   unfoldable pub Walked-push : (table shape : ℕ) (steps : List Did) (did : Did) → IsAside did → Walked table shape steps
       → Walked table shape (steps ++ did ∷ [])
@@ -209,7 +232,19 @@ module _ (g : Geometry) where
   Walked-push table shape steps did is walked = record {
     last = LastWalked-push table shape steps did is.no_shape walked.last;
     unraised = AllByRecursion-push IsNoRaise walked.last.behind did walked.unraised is.no_raise;
+    in_attempt = AllByRecursion-push (IsNoCurrentLoad g) walked.last.behind did walked.in_attempt is.no_current;
   }
+
+  -- a table that was walked was come to
+  pub walked-came : (table shape : ℕ) (steps : List Did) → Walked table shape steps → CameTo g table steps
+  walked-came table shape steps walked =
+      let last = walked.last in
+      subst (CameTo g table) (sym last.split)
+      (CameTo-append table last.before (last.at ∷ last.behind)
+      ((λ load. let same = sym last.loaded ∙ load in absurd (no_first table (ap op_place same))), walked.in_attempt) last.reached)
+    where
+      no_first : (t : ℕ) → place_of g (Slot t ShapeWord) ≡ place_of g CurrentTable → ⊥
+      no_first t same = omega (arith, same)
 
   -- it begins with the load of the shape
   Walked-new : (table : ℕ) (steps : List Did) (did : Did) → table < 8
@@ -227,6 +262,7 @@ module _ (g : Geometry) where
       last = tt;
     };
     unraised = tt;
+    in_attempt = tt;
   }
 
   -- and the operations since then saw this
@@ -343,10 +379,10 @@ module _ (g : Geometry) where
   came-behind table None steps did within is named came = tt
   came-behind table (Some next) steps did within is named came = came-future table next steps did within is named came
 
-  came-longer : (early : Option ℕ) (steps : List Did) (did : Did) → CameBehind early steps
+  came-longer : (early : Option ℕ) (steps : List Did) (did : Did) → IsNoCurrentLoad g did → CameBehind early steps
       → CameBehind early (steps ++ did ∷ [])
-  came-longer None steps did came = tt
-  came-longer (Some next) steps did came = CameTo-append next steps (did ∷ []) came
+  came-longer None steps did none came = tt
+  came-longer (Some next) steps did none came = CameTo-append next steps (did ∷ []) (none, tt) came
 
   -- where the operation loads the future of this table as none, this is known of it
   abbrev pub TellsNone : (ℕ → ℕ → Did → Type 0) → ℕ → LocateAt → Did → Type 0
@@ -377,7 +413,8 @@ module _ (g : Geometry) where
   locate-walked SeesNone mix port m (locates.Seed shape) steps did here below is sees walked =
       let place = place_of g (Slot m.table SeedWord) in
       hashed-walked SeesNone m shape (bucket_of mix port shape did.old) (steps ++ did ∷ [])
-      (seeing-load m.table shape steps did place is (elsewhere did place is (λ table in_it same. absurd (omega arith)))
+      (seeing-load m.table shape steps did place is
+      (elsewhere did place is (λ first. absurd (omega (arith, first))) (λ table in_it same. absurd (omega arith)))
       (no_key-before g did place is (omega (arith, below, nodes_behind g))) walked)
   locate-walked SeesNone mix port m (locates.Early shape way) steps did here below is sees walked =
       let place = place_of g (Slot m.table FutureWord) in
@@ -385,19 +422,19 @@ module _ (g : Geometry) where
       let early = slot_of did.old in
       let no_key = no_key-before g did place is (omega (arith, below, nodes_behind g)) in (
         WalkedSeeing-push m.table shape LoadedNoKey (LoadedEarly Sees early) steps did
-            (elsewhere did place is (λ table in_it same. absurd (omega arith)))
+            (elsewhere did place is (λ first. absurd (omega (arith, first))) (λ table in_it same. absurd (omega arith)))
             (λ behind none. early-new Sees early behind did no_key sees none) walked,
         came-behind m.table (slot_of did.old) steps did below is refl
-            (walked-came m.table shape steps walked.walked.last),
+            (walked-came m.table shape steps walked.walked),
       )
   locate-walked SeesNone mix port m (locates.Entry shape early way) steps did here below is sees walked =
       let Seen = LoadedEarly (SeesNone m.table shape) early in
       let high = entry-place way here.nested_in.place_in in
       let order = parts_in_order g in
+      let apart = behind_slots did (entry_place way) is (omega (arith, high, order.page_map, order.nodes, order.pages)) in
       followed-walked SeesNone m shape early (place_after way did.old).0 (place_after way did.old).1 (steps ++ did ∷ []) (
-        WalkedSeeing-push m.table shape Seen Seen steps did
-            (behind_slots did (entry_place way) is (omega (arith, high, order.page_map, order.nodes, order.pages)))
+        WalkedSeeing-push m.table shape Seen Seen steps did apart
             (λ behind seen. early-push (SeesNone m.table shape) early behind did (no_key-behind g did (entry_place way) is high) seen)
             walked.0,
-        came-longer early steps did walked.1,
+        came-longer early steps did apart.no_current walked.1,
       )

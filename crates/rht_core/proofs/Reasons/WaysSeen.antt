@@ -125,6 +125,7 @@ module _ (env : Env) (words_at : ℕ → List ℕ) (mix : ℕ → ℕ → ℕ �
         WalkedSeeing-push env.geometry m.table shape (SeesEntry m.table shape None) (SeesMissed m.table shape)
         steps did
         (elsewhere env.geometry did there loads
+        (λ first. absurd (omega (arith, first, order.page_map, order.nodes, order.pages)))
         (λ table below same. absurd (omega (arith, below, same, order.page_map, order.nodes, order.pages))))
         (λ behind seen. begins-missing env words_at mix port m.table shape place.entry behind did on.nested
         missing

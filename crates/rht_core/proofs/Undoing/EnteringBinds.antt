@@ -44,7 +44,7 @@ pub saw-came : (env : Env) (words_at : ℕ → List ℕ) (mix : ℕ → ℕ → 
 saw-came env words_at mix job steps saw port owner once attempt table shape place grow is =
     let here : JobSaw env words_at mix (binds port owner once (binding.Entering attempt table shape place grow)) steps =
     subst (λ j. JobSaw env words_at mix j steps) is saw in
-    walked-came env.geometry table shape steps here.0.walked.last
+    walked-came env.geometry table shape steps here.0.walked
 
 module _ (env : Env) (mix : ℕ → ℕ → ℕ → ℕ) (c : ℕ) (M : Memory) (G : Ghost) (did : Did) (entry page : ℕ)
     (exchanges : did.op ≡ Exchange (place_of env.geometry (PageWord entry)) 0 (entry_of page)) where

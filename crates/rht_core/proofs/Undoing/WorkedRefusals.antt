@@ -19,7 +19,7 @@ use Rattle.rht_model.specs.Answers.{is_refusal}
 use Rattle.rht_model.specs.Endings.{plain_ending, ended_with}
 use Rattle.rht_core.specs.declared.event.Event.{Event}
 use Rattle.rht_core.specs.Traces.{Did, Past}
-use Rattle.rht_core.specs.Seen.{LoadsCurrent, CameTo, as_current, as_future, words_before}
+use Rattle.rht_core.specs.Seen.{CameTo, as_current, as_future, words_before}
 use Rattle.rht_core.specs.ResizeCauses.{Attaches}
 use Rattle.rht_core.specs.Refused.{changes_nothing, turned, turns, IsTableWord, GivesBackNode, GivesBackSlot, AttachedWith, IsMissingEntry, PutsPage, EnteredWhenTaken, IsExcepted, IsUndone}
 use Rattle.rht_core.proofs.Histories.Behind.{Any-push_cases, Any-none}
@@ -115,14 +115,10 @@ module _ (g : Geometry) (words_at : ℕ → List ℕ) where
   -- who never loads the current table has come to none
   pub never_came : (table : ℕ) (steps : List Did)
       → AllByRecursion (λ did. did.op ≢ Load (place_of g CurrentTable)) steps → CameTo g table steps → ⊥
-  never_came table steps none (as_current _ _ any) =
-      none_is (LoadsCurrent g table) steps (no_load steps none) any
-    where
-      no_load : (all : List Did) → AllByRecursion (λ did. did.op ≢ Load (place_of g CurrentTable)) all
-          → AllByRecursion (λ did. LoadsCurrent g table did → ⊥) all
-      no_load [] each = tt
-      no_load (did ∷ all) each = (λ loads. each.0 loads.0.loads, no_load all each.1)
-  never_came table steps none (as_future front _ before at behind _ came loads named split) =
+  never_came table steps none (as_current _ before at behind _ loads split last) =
+      let P : Did → Type 0 = λ did. did.op ≢ Load (place_of g CurrentTable) in
+      (AllByRecursion-cut P before (at ∷ behind) (subst (AllByRecursion P) split none)).1.0 loads.0.loads
+  never_came table steps none (as_future front _ before at behind _ came loads named split last) =
       let P : Did → Type 0 = λ did. did.op ≢ Load (place_of g CurrentTable) in
       never_came front before (AllByRecursion-cut P before (at ∷ behind) (subst (AllByRecursion P) split none)).0 came
 
