@@ -40,3 +40,7 @@ pub mod SizedTables
 pub mod OneCaller
 -- so it is in runs, where it is so of the first table
 pub mod GoodRuns
+-- no table is smaller than the least size or greater than the greatest one
+pub mod BoundedTables
+-- what is true of each table in force
+pub mod TablesInRuns

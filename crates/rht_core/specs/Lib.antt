@@ -59,3 +59,5 @@ pub mod FewPorts
 pub mod Refused
 -- which locks a call has let go
 pub mod LetGo
+-- what is true of each table in force
+pub mod Tables

@@ -10,6 +10,7 @@ ghost use Rattle.rht_core.specs.ListedOwners.{ListedOwners};
 ghost use Rattle.rht_core.specs.NeverRefused.{RoomyTakesAll, OneWorkerAsModel};
 ghost use Rattle.rht_core.specs.NodesUsed.{Nodes};
 ghost use Rattle.rht_core.specs.Refused.{Refused};
+ghost use Rattle.rht_core.specs.Tables.{Tables};
 ghost use Rattle.rht_core.specs.RunHistories.{HasFittingHistory};
 ghost use Rattle.rht_core.specs.ToldHistories.{HasToldHistory};
 ghost use Rattle.rht_core.specs.Worked.{Worked};
@@ -247,6 +248,15 @@ pub fn let_go<M: Mix>()
 /// that no node is free when the reply comes: some may have been given back.
 pub fn nodes<M: Mix>()
     ensures { Nodes M M.mix_of }
+{}
+
+/// In every run each table in force has as many buckets as the config's least size, or more, and at most
+/// 2^17; and no more than its greatest size, where there is one. Its slot is taken and isn't retired, and
+/// its seed is the config's and its own serial together, in 32 bits. Futures lead from the current table
+/// along all of these, none twice, to one that has none. It says nothing of tables that are being made, or
+/// are retired, nor which of these sizes a table has.
+pub fn tables<M: Mix>()
+    ensures { Tables M M.mix_of }
 {}
 
 /// In a run of a table that begins with 64 buckets or more and doesn't shrink, and whose binds, those that

@@ -1,0 +1,57 @@
+-- What is true of each table in force, in every run: how many buckets it has, and what its slot says.
+-- Sizes are those that a call reads: the binary exponent in a shape's word is cut, so that none is below 4 or above 2^18.
+use Rattle.std.specs.Prelude.{◌≡◌, ◌≢◌, ℕ, ◌+◌, ◌%◌, ◌^◌, ◌<◌, ◌≤◌, List, [], ◌∷◌, ◌++◌}
+use Rattle.rht_words.specs.declared.env.Env.{Env}
+use Rattle.rht_words.specs.Members.{In, IsDistinct}
+use Rattle.rht_words.specs.Places.{CurrentTable, Slot, SlotWord, SeedWord, FutureWord, SerialWord, StateWord, word_at}
+use Rattle.rht_words.specs.Shapes.{unpacked, size_of}
+use Rattle.rht_core.specs.declared.event.Event.{Event}
+use Rattle.rht_core.specs.Runs.{World, run_of, IsAdmitted}
+use Rattle.rht_stands.specs.StandsFor.{in_force, shape_of}
+
+-- ---- one table
+
+module _ (env : Env) (words : List ℕ) where
+  -- this word of a slot
+  abbrev pub slot_word : ℕ → SlotWord → ℕ
+  slot_word slot word = word_at env.geometry words (Slot slot word)
+
+  -- how many buckets the table in this slot has
+  abbrev pub table_size : ℕ → ℕ
+  table_size slot = size_of (unpacked (shape_of env.geometry words slot))
+
+  -- The table has the config's least number of buckets or more, and 2^17 at most; where the config names a greatest number, no more than
+  -- that. Its slot is taken and not retired. Its seed is the config's and its serial together, in 32 bits.
+  pub record IsTableRight (slot : ℕ) : Type 0 where
+    pub least : env.config.min ≤ table_size slot
+    pub most : table_size slot ≤ 131072
+    pub greatest : env.config.max ≢ 0 → table_size slot ≤ env.config.max
+    pub state : slot_word slot StateWord ≡ 1
+    pub seed : slot_word slot SeedWord ≡ (env.config.seed + slot_word slot SerialWord) % 2 ^ 32
+
+  -- ---- all of them
+
+  -- the last of these slots has a table without a future
+  pub record EndsSomewhere (tables : List ℕ) : Type 0 where
+    pub front : List ℕ
+    pub last : ℕ
+    pub split : tables ≡ front ++ last ∷ []
+    pub none : slot_word last FutureWord ≡ 0
+
+  -- The word of the current table names one of the eight slots. Each table in force is right, none is met twice along the futures, and the
+  -- last one has no future.
+  pub record AreTablesRight : Type 0 where
+    pub current : word_at env.geometry words CurrentTable < 8
+    pub each : (slot : ℕ) → In slot (in_force env.geometry words) → IsTableRight slot
+    pub distinct : IsDistinct (in_force env.geometry words)
+    pub ends : EndsSomewhere (in_force env.geometry words)
+
+-- ---- the law
+
+module _ (M : Type 0) (mix : ℕ → ℕ → ℕ → ℕ) where
+  -- in every run the tables in force are right
+  abbrev pub Tables : Type 0
+  Tables =
+      (env : Env) (events : List Event) → IsAdmitted env.config.kind events
+      → let w : World M = run_of mix env events in
+      AreTablesRight env w.core.words
