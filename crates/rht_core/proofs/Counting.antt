@@ -42,5 +42,11 @@ pub mod OneCaller
 pub mod GoodRuns
 -- no table is smaller than the least size or greater than the greatest one
 pub mod BoundedTables
+-- which operation draws a serial, and which draw a job has
+pub mod SerialDraws
+pub mod DrawnJobs
+-- in every run each table has a draw of its own
+pub mod DrawnRuns
+pub mod NumberedTables
 -- what is true of each table in force
 pub mod TablesInRuns

@@ -1,12 +1,12 @@
--- What is true of each table in force, in every run: how many buckets it has, and what its slot says.
+-- What is true of each table in force, in every run: how many buckets it has, what its slot says, and which serial it has.
 -- Sizes are those that a call reads: the binary exponent in a shape's word is cut, so that none is below 4 or above 2^18.
-use Rattle.std.specs.Prelude.{◌≡◌, ◌≢◌, ℕ, ◌+◌, ◌%◌, ◌^◌, ◌<◌, ◌≤◌, List, [], ◌∷◌, ◌++◌}
+use Rattle.std.specs.Prelude.{◌≡◌, ◌≢◌, ℕ, ◌+◌, ◌%◌, ◌^◌, ◌<◌, ◌≤◌, ◌==◌, List, [], ◌∷◌, ◌++◌, cond}
 use Rattle.rht_words.specs.declared.env.Env.{Env}
 use Rattle.rht_words.specs.Members.{In, IsDistinct}
-use Rattle.rht_words.specs.Places.{CurrentTable, Slot, SlotWord, SeedWord, FutureWord, SerialWord, StateWord, word_at}
+use Rattle.rht_words.specs.Places.{CurrentTable, NextSerial, Slot, SlotWord, SeedWord, FutureWord, SerialWord, StateWord, word_at}
 use Rattle.rht_words.specs.Shapes.{unpacked, size_of}
 use Rattle.rht_core.specs.declared.event.Event.{Event}
-use Rattle.rht_core.specs.Runs.{World, run_of, IsAdmitted}
+use Rattle.rht_core.specs.Runs.{World, opening, world_step, run_of, IsAdmitted}
 use Rattle.rht_stands.specs.StandsFor.{in_force, shape_of}
 
 -- ---- one table
@@ -46,12 +46,39 @@ module _ (env : Env) (words : List ℕ) where
     pub distinct : IsDistinct (in_force env.geometry words)
     pub ends : EndsSomewhere (in_force env.geometry words)
 
+  -- So many serials were drawn, the first table's at opening, and the next one is of that number. Each table in force has one of
+  -- these draws, and no two tables in force have the same. A serial is the number of its draw, cut to 64 bits.
+  pub record AreNumbered (drawn : ℕ) : Type 0 where
+    pub next : word_at env.geometry words NextSerial ≡ drawn % 2 ^ 64
+    pub draw : ℕ → ℕ
+    pub before : (slot : ℕ) → In slot (in_force env.geometry words) → draw slot < drawn
+    pub serial : (slot : ℕ) → In slot (in_force env.geometry words) → slot_word slot SerialWord ≡ draw slot % 2 ^ 64
+    pub apart : (one other : ℕ) → In one (in_force env.geometry words) → In other (in_force env.geometry words)
+        → draw one ≡ draw other → one ≡ other
+
+-- ---- how many serials were drawn
+
+-- the word of the next serial
+abbrev pub next_serial : {M : Type 0} → World M → ℕ
+next_serial w = word_at w.core.env.geometry w.core.words NextSerial
+
+module _ (M : Type 0) (mix : ℕ → ℕ → ℕ → ℕ) where
+  -- how many of these events, which follow on this world, draw one: an event does so that changes the next serial
+  abbrev pub drawn_from : World M → List Event → ℕ
+  drawn_from w [] = 0
+  drawn_from w (event ∷ events) =
+      cond (next_serial w == next_serial (world_step mix w event)) 0 1 + drawn_from (world_step mix w event) events
+
+  -- how many serials a run has drawn, with that of the first table
+  abbrev pub drawn_in : Env → List Event → ℕ
+  drawn_in env events = 1 + drawn_from (opening env) events
+
 -- ---- the law
 
 module _ (M : Type 0) (mix : ℕ → ℕ → ℕ → ℕ) where
-  -- in every run the tables in force are right
+  -- in every run the tables in force are right, and each has a serial of its own
   abbrev pub Tables : Type 0
   Tables =
       (env : Env) (events : List Event) → IsAdmitted env.config.kind events
       → let w : World M = run_of mix env events in
-      AreTablesRight env w.core.words
+      AreTablesRight env w.core.words × AreNumbered env w.core.words (drawn_in M mix env events)

@@ -19,6 +19,7 @@ use Rattle.rht_stands.specs.StandsFor.{in_force}
 use Rattle.rht_core.proofs.Meaning.TablesInForce.{in_force_is, in_force_distinct, last_in_force}
 use Rattle.rht_core.proofs.Counting.GoodShapes.{AreAll}
 use Rattle.rht_core.proofs.Counting.BoundedTables.{IsSizeIn, IsBounded, Fits, works_bounded, binds_bounded}
+use Rattle.rht_core.proofs.Counting.NumberedTables.{numbered}
 use Rattle.rht_core.proofs.Counting.GoodRuns.{runs-good}
 
 -- the first table has a size that it may have
@@ -87,4 +88,4 @@ module _ (env : Env) (mix : ℕ → ℕ → ℕ → ℕ) (words : List ℕ) (G :
 pub tables : (M : Type 0) (mix : ℕ → ℕ → ℕ → ℕ) → Tables M mix
 tables M mix env events admitted =
     let has = runs-good env (IsBounded env) (Fits env) (works_bounded env) (binds_bounded env) mix M (first-bounded env) events admitted in
-    tables-right env mix (run_of {M = M} mix env events).core.words has.ghost has.inv.whole has.good
+    (tables-right env mix (run_of {M = M} mix env events).core.words has.ghost has.inv.whole has.good, numbered M mix env events admitted)
