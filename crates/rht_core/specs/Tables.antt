@@ -82,3 +82,23 @@ module _ (M : Type 0) (mix : ℕ → ℕ → ℕ → ℕ) where
       (env : Env) (events : List Event) → IsAdmitted env.config.kind events
       → let w : World M = run_of mix env events in
       AreTablesRight env w.core.words × AreNumbered env w.core.words (drawn_in M mix env events)
+
+  -- the words behind these events
+  abbrev pub words_behind : Env → List Event → List ℕ
+  words_behind env events = (run_of {M = M} mix env events).core.words
+
+  -- a table that was in force, and one that is, are one table: they have the same slot, which was in force in between
+  pub record IsStill (env : Env) (before between : List Event) (one other : ℕ) : Type 0 where
+    pub same : one ≡ other
+    pub stayed : In one (in_force env.geometry (words_behind env (before ++ between)))
+
+  -- No serial comes back, where fewer than 2^64 were drawn: a table in force that has the serial of one that was in force before is that one.
+  abbrev pub NeverAgain : Type 0
+  NeverAgain =
+      (env : Env) (before between behind : List Event) → IsAdmitted env.config.kind (before ++ between ++ behind)
+      → drawn_in M mix env (before ++ between ++ behind) < 2 ^ 64 → (one other : ℕ)
+      → In one (in_force env.geometry (words_behind env before))
+      → In other (in_force env.geometry (words_behind env (before ++ between ++ behind)))
+      → slot_word env (words_behind env before) one SerialWord
+      ≡ slot_word env (words_behind env (before ++ between ++ behind)) other SerialWord
+      → IsStill env before between one other

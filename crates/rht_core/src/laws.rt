@@ -10,7 +10,7 @@ ghost use Rattle.rht_core.specs.ListedOwners.{ListedOwners};
 ghost use Rattle.rht_core.specs.NeverRefused.{RoomyTakesAll, OneWorkerAsModel};
 ghost use Rattle.rht_core.specs.NodesUsed.{Nodes};
 ghost use Rattle.rht_core.specs.Refused.{Refused};
-ghost use Rattle.rht_core.specs.Tables.{Tables};
+ghost use Rattle.rht_core.specs.Tables.{Tables, NeverAgain};
 ghost use Rattle.rht_core.specs.RunHistories.{HasFittingHistory};
 ghost use Rattle.rht_core.specs.ToldHistories.{HasToldHistory};
 ghost use Rattle.rht_core.specs.Worked.{Worked};
@@ -258,7 +258,8 @@ pub fn nodes<M: Mix>()
 /// force has a draw of its own, and its serial is the number of that. It says nothing of tables that are
 /// being made, or are no longer in force, nor which of these sizes a table has.
 pub fn tables<M: Mix>()
-    ensures { Tables M M.mix_of }
+    ensures each { Tables M M.mix_of }
+    ensures never_again { NeverAgain M M.mix_of }
 {}
 
 /// In a run of a table that begins with 64 buckets or more and doesn't shrink, and whose binds, those that

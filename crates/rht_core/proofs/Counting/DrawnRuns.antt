@@ -127,6 +127,34 @@ attached-drawn drawn serial serial' G G' T C c draw stored same one old new has 
     low : (τ : ℕ) → τ ≢ G.attached → τ < G'.attached → τ < G.attached
     low τ ne l = omega (arith, ne, l, one)
 
+-- later tables are more, and those that there were have their slots and their draws
+pub record AreGrown (G : Ghost) (T : ℕ → ℕ) (G' : Ghost) (T' : ℕ → ℕ) : Type 0 where
+  pub attached : G.attached ≤ G'.attached
+  pub current : G.current ≤ G'.current
+  pub slots : (τ : ℕ) → τ < G.attached → (G'.table τ).slot ≡ (G.table τ).slot
+  pub draws : (τ : ℕ) → τ < G.attached → T' τ ≡ T τ
+
+none-grown : (G : Ghost) (T : ℕ → ℕ) → AreGrown G T G T
+none-grown G T = record {
+  attached = omega arith;
+  current = omega arith;
+  slots = λ τ l. refl;
+  draws = λ τ l. refl;
+}
+
+grown-on : (G G' G'' : Ghost) (T T' T'' : ℕ → ℕ) → AreGrown G T G' T' → AreGrown G' T' G'' T'' → AreGrown G T G'' T''
+grown-on G G' G'' T T' T'' first second =
+    let more = first.attached in
+    let on = second.attached in
+    let from = first.current in
+    let to = second.current in
+    record {
+      attached = omega (arith, more, on);
+      current = omega (arith, from, to);
+      slots = λ τ l. second.slots τ (omega (arith, l, more)) ∙ first.slots τ l;
+      draws = λ τ l. second.draws τ (omega (arith, l, more)) ∙ first.draws τ l;
+    }
+
 -- ---- moves of the ghost
 
 pub record IsAttach (move : Move) : Type 0 where
@@ -170,6 +198,23 @@ module _ (env : Env) (mix : ℕ → ℕ → ℕ → ℕ) where
       pub drawn_are : AreDrawn drawn (memory_of w NextSerial) ghost of_table of_caller
       pub jobs : (c : ℕ) → DrawnLeft (memory_of w) (of_caller c) (job_of (view_of w c).local.doing)
 
+    -- the same with another number that is the same
+    abbrev pub recount : (w : World L) (n m : ℕ) → n ≡ m → HasDrawn w n → HasDrawn w m
+    recount w n m same has = record {
+      ghost = has.ghost;
+      inv = has.inv;
+      all = has.all;
+      of_table = has.of_table;
+      of_caller = has.of_caller;
+      drawn_are = subst (λ i. AreDrawn i (memory_of w NextSerial) has.ghost has.of_table has.of_caller) same has.drawn_are;
+      jobs = has.jobs;
+    }
+
+    -- it is so of a later world, whose tables have grown
+    pub record IsLater (w : World L) (drawn : ℕ) (has : HasDrawn w drawn) (v : World L) (count : ℕ) : Type 0 where
+      pub now : HasDrawn v count
+      pub grown : AreGrown has.ghost has.of_table now.ghost now.of_table
+
     first_rebind-drawn : (M : Memory) (has : Option ℕ) (port owner new : ℕ) (kind : Kind)
         → IfSome (first_rebind env port owner new kind) (DrawnJob M has)
     first_rebind-drawn M has port owner new Single = tt
@@ -199,6 +244,7 @@ module _ (env : Env) (mix : ℕ → ℕ → ℕ → ℕ) where
           pub of_caller : ℕ → Option ℕ
           pub drawn_are : AreDrawn count (after NextSerial) G' of_table of_caller
           pub others : (k : ℕ) → k ≢ c → of_caller k ≡ has.of_caller k
+          pub same : (τ : ℕ) → τ < has.ghost.attached → of_table τ ≡ has.of_table τ
           pub left : DrawnLeft after (of_caller c) (told (job_after mix env of.job (old_of w.core.words op))).0
 
         -- it has left the next serial, or has added one to it
@@ -267,6 +313,7 @@ module _ (env : Env) (mix : ℕ → ℕ → ℕ → ℕ) where
                       (ap (λ (H : Ghost). (H.table G.attached).serial) moved ∙ ap (λ (t : Table). t.serial) (put-same G.table G.attached new))
                       is (sym serial ∙ of_draw) has.drawn_are;
                   others = λ k ne. put-other has.of_caller c None k ne;
+                  same = λ τ l. put-other has.of_table G.attached draw τ (omega (arith, l));
                   left = on (put has.of_caller c None c)
                       (λ draws_it. absurd (attaching-draws at.slot of.job there draws_it))
                       (λ making none. absurd (attaching-makes at.slot of.job there making));
@@ -285,6 +332,7 @@ module _ (env : Env) (mix : ℕ → ℕ → ℕ → ℕ) where
                 drawn_are = still-drawn drawn (M NextSerial) (after NextSerial) has.ghost G' has.of_table has.of_caller same tables
                     has.drawn_are;
                 others = λ k ne. refl;
+                same = λ τ l. refl;
                 left = on (has.of_caller c) (λ d. absurd (adds-not_spared (job_plan env of.job) (job-adds env of.job d) spares))
                     (λ making none. refl);
               }
@@ -300,6 +348,7 @@ module _ (env : Env) (mix : ℕ → ℕ → ℕ → ℕ) where
                     (put has.of_caller c (Some drawn)) refl tables
                     (more-drawn drawn (M NextSerial) (after NextSerial) has.ghost has.of_table has.of_caller c adds has.drawn_are);
                 others = λ k ne. put-other has.of_caller c (Some drawn) k ne;
+                same = λ τ l. refl;
                 left = subst (λ now. DrawnLeft after now (told (job_after mix env of.job (old_of w.core.words op))).0)
                     (sym (put-same has.of_caller c (Some drawn)))
                     (on (Some drawn) (λ d. has.drawn_are.next) (λ making none. absurd (none draws_it)));
@@ -312,6 +361,16 @@ module _ (env : Env) (mix : ℕ → ℕ → ℕ → ℕ) where
           | inr at ↦ attach-draws at
         ]
 
+        step-grown : AreGrown has.ghost has.of_table G' step-draws.of_table
+        step-grown =
+            let grow = (of.step.made.others (suc c) (λ e. absurd (omega (arith, e)))).tables.grow in
+            record {
+              attached = grow.attached;
+              current = grow.current;
+              slots = λ τ l. (grow.tables τ l).slot;
+              draws = step-draws.same;
+            }
+
         -- what the others have still holds
         others-left : (k : ℕ) → k ≢ c → DrawnLeft after (step-draws.of_caller k) (job_of (view_of w k).local.doing)
         others-left k ne =
@@ -322,7 +381,7 @@ module _ (env : Env) (mix : ℕ → ℕ → ℕ → ℕ) where
       -- ---- one event
 
       abbrev Counted : World L → Type 0
-      Counted v = HasDrawn v (drawn + cond (next_serial w == next_serial v) 0 1)
+      Counted v = IsLater w drawn has v (drawn + cond (next_serial w == next_serial v) 0 1)
 
       serial-of : (v : World L) → v.core.env ≡ env → next_serial v ≡ memory_of v NextSerial
       serial-of v same = ap (λ (e : Env). word_at e.geometry v.core.words NextSerial) same
@@ -335,7 +394,10 @@ module _ (env : Env) (mix : ℕ → ℕ → ℕ → ℕ) where
           omega (arith, none)
 
       nothing-drawn : (v : World L) → v ≡ w → Counted v
-      nothing-drawn v same = subst Counted (sym same) (subst (HasDrawn w) (same-counted w refl) has)
+      nothing-drawn v same = subst Counted (sym same) (record {
+        now = recount w drawn (drawn + cond (next_serial w == next_serial w) 0 1) (same-counted w refl) has;
+        grown = none-grown has.ghost has.of_table;
+      })
 
       enroll-drawn : IsAdmittedEvent env.config.kind Enroll → Counted (world_step mix w Enroll)
       enroll-drawn may =
@@ -347,16 +409,20 @@ module _ (env : Env) (mix : ℕ → ℕ → ℕ → ℕ) where
           (is_write env.geometry w.core.words EnrolledCallers op has.all.stays.all_words tt refl).others NextSerial tt (λ e. cc) in
           let serials = serial-of v k.inv.same_env ∙ same ∙ sym (serial-of w has.inv.same_env) in
           record {
-            ghost = has.ghost;
-            inv = subst (Inv env mix L v.core) k.ghost_kept k.inv;
-            all = event-all L mix env w Enroll may has.all;
-            of_table = has.of_table;
-            of_caller = has.of_caller;
-            drawn_are = subst (λ n. AreDrawn n (memory_of v NextSerial) has.ghost has.of_table has.of_caller) (same-counted v serials)
-                (still-drawn drawn (M NextSerial) (memory_of v NextSerial) has.ghost has.ghost has.of_table has.of_caller same
-                (record { attached = refl; serials = λ τ. refl }) has.drawn_are);
-            jobs = λ c. left-still c M (memory_of v) has.ghost has.ghost (rely c).holdings (has.of_caller c)
-                (job_of (view_of w c).local.doing) (has.inv.each c) (has.jobs c);
+            now =
+                record {
+                  ghost = has.ghost;
+                  inv = subst (Inv env mix L v.core) k.ghost_kept k.inv;
+                  all = event-all L mix env w Enroll may has.all;
+                  of_table = has.of_table;
+                  of_caller = has.of_caller;
+                  drawn_are = subst (λ n. AreDrawn n (memory_of v NextSerial) has.ghost has.of_table has.of_caller) (same-counted v serials)
+                      (still-drawn drawn (M NextSerial) (memory_of v NextSerial) has.ghost has.ghost has.of_table has.of_caller same
+                      (record { attached = refl; serials = λ τ. refl }) has.drawn_are);
+                  jobs = λ c. left-still c M (memory_of v) has.ghost has.ghost (rely c).holdings (has.of_caller c)
+                      (job_of (view_of w c).local.doing) (has.inv.each c) (has.jobs c);
+                };
+            grown = none-grown has.ghost has.of_table;
           }
 
       begin-drawn : (c : ℕ) (call : Call) (machine : Option (Doing L)) → IsAdmittedEvent env.config.kind (Begin c call)
@@ -366,17 +432,21 @@ module _ (env : Env) (mix : ℕ → ℕ → ℕ → ℕ) where
           let v = world_step mix w (Begin c call) in
           let k = kept env mix L w.core has.ghost (Begin c call) has.all has.inv in
           record {
-            ghost = has.ghost;
-            inv = subst (Inv env mix L v.core) k.ghost_kept k.inv;
-            all = event-all L mix env w (Begin c call) may has.all;
-            of_table = has.of_table;
-            of_caller = has.of_caller;
-            drawn_are = subst (λ n. AreDrawn n (M NextSerial) has.ghost has.of_table has.of_caller) (same-counted v refl) has.drawn_are;
-            jobs = λ i. elim (cases_eq i c) [
-              | inl e ↦ subst (λ d. DrawnLeft M (has.of_caller d) (job_of (view_of v d).local.doing)) (sym e) self
-              | inr ne ↦ subst (λ (view : View L). DrawnLeft M (has.of_caller i) (job_of view.local.doing))
-                  (sym (begin_other L mix w c call i ne)) (has.jobs i)
-            ];
+            now =
+                record {
+                  ghost = has.ghost;
+                  inv = subst (Inv env mix L v.core) k.ghost_kept k.inv;
+                  all = event-all L mix env w (Begin c call) may has.all;
+                  of_table = has.of_table;
+                  of_caller = has.of_caller;
+                  drawn_are = subst (λ n. AreDrawn n (M NextSerial) has.ghost has.of_table has.of_caller) (same-counted v refl) has.drawn_are;
+                  jobs = λ i. elim (cases_eq i c) [
+                    | inl e ↦ subst (λ d. DrawnLeft M (has.of_caller d) (job_of (view_of v d).local.doing)) (sym e) self
+                    | inr ne ↦ subst (λ (view : View L). DrawnLeft M (has.of_caller i) (job_of view.local.doing))
+                        (sym (begin_other L mix w c call i ne)) (has.jobs i)
+                  ];
+                };
+            grown = none-grown has.ghost has.of_table;
           }
         where
           self : DrawnLeft M (has.of_caller c) (job_of (view_of (world_step mix w (Begin c call)) c).local.doing)
@@ -404,24 +474,28 @@ module _ (env : Env) (mix : ℕ → ℕ → ℕ → ℕ) where
           ∙ ap (λ s. drawn + cond (s == after c op is moves.0 NextSerial) 0 1) (sym (serial-of w has.inv.same_env))
           ∙ ap (λ s. drawn + cond (next_serial w == s) 0 1) (sym (serial-of v k.inv.same_env ∙ same)) in
           record {
-            ghost = k.ghost;
-            inv = k.inv;
-            all = event-all L mix env w (Step c) may has.all;
-            of_table = draws.of_table;
-            of_caller = draws.of_caller;
-            drawn_are =
-                subst (λ n. AreDrawn n (memory_of v NextSerial) k.ghost draws.of_table draws.of_caller) count
-                (subst (λ s. AreDrawn draws.count s k.ghost draws.of_table draws.of_caller) (sym same)
-                (subst (λ H. AreDrawn draws.count (after c op is moves.0 NextSerial) H draws.of_table draws.of_caller) (sym moves.1)
-                draws.drawn_are));
-            jobs = λ i.
-                subst (λ ws. DrawnLeft (mem env mix ws) (draws.of_caller i) (job_of (view_of v i).local.doing)) (sym words)
-                (elim (cases_eq i c) [
-                  | inl e ↦ subst (λ d. DrawnLeft (after c op is moves.0) (draws.of_caller d) (job_of (view_of v d).local.doing)) (sym e)
-                      (self moves.0)
-                  | inr ne ↦ subst (λ (view : View L). DrawnLeft (after c op is moves.0) (draws.of_caller i) (job_of view.local.doing))
-                      (sym (step_other L mix w c i ne)) (others-left c op is moves.0 i ne)
-                ]);
+            now =
+                record {
+                  ghost = k.ghost;
+                  inv = k.inv;
+                  all = event-all L mix env w (Step c) may has.all;
+                  of_table = draws.of_table;
+                  of_caller = draws.of_caller;
+                  drawn_are =
+                      subst (λ n. AreDrawn n (memory_of v NextSerial) k.ghost draws.of_table draws.of_caller) count
+                      (subst (λ s. AreDrawn draws.count s k.ghost draws.of_table draws.of_caller) (sym same)
+                      (subst (λ H. AreDrawn draws.count (after c op is moves.0 NextSerial) H draws.of_table draws.of_caller) (sym moves.1)
+                      draws.drawn_are));
+                  jobs = λ i.
+                      subst (λ ws. DrawnLeft (mem env mix ws) (draws.of_caller i) (job_of (view_of v i).local.doing)) (sym words)
+                      (elim (cases_eq i c) [
+                        | inl e ↦ subst (λ d. DrawnLeft (after c op is moves.0) (draws.of_caller d) (job_of (view_of v d).local.doing)) (sym e)
+                            (self moves.0)
+                        | inr ne ↦ subst (λ (view : View L). DrawnLeft (after c op is moves.0) (draws.of_caller i) (job_of view.local.doing))
+                            (sym (step_other L mix w c i ne)) (others-left c op is moves.0 i ne)
+                      ]);
+                };
+            grown = subst (λ H. AreGrown has.ghost has.of_table H draws.of_table) (sym moves.1) (step-grown c op is moves.0);
           }
         where
           self : (of : StepOf env mix L w.core has.ghost c op)
@@ -462,16 +536,24 @@ module _ (env : Env) (mix : ℕ → ℕ → ℕ → ℕ) where
       jobs = λ c. rw (idle_at_opening env mix L c) tt;
     }
 
-    from-drawn : (w : World L) (drawn : ℕ) (events : List Event) → IsAdmitted env.config.kind events → HasDrawn w drawn
-        → HasDrawn (run_from mix w events) (drawn + drawn_from L mix w events)
-    from-drawn w drawn [] admitted has = subst (HasDrawn w) (let same : drawn ≡ drawn + 0 = omega arith in same) has
+    pub from-drawn : (w : World L) (drawn : ℕ) (events : List Event) → IsAdmitted env.config.kind events → (has : HasDrawn w drawn)
+        → IsLater w drawn has (run_from mix w events) (drawn + drawn_from L mix w events)
+    from-drawn w drawn [] admitted has = record {
+      now = recount w drawn (drawn + 0) (let same : drawn ≡ drawn + 0 = omega arith in same) has;
+      grown = none-grown has.ghost has.of_table;
+    }
     from-drawn w drawn (event ∷ events) admitted has =
         let next = world_step mix w event in
-        let one = cond (next_serial w == next_serial next) 0 1 in
-        subst (HasDrawn (run_from mix next events))
-        (let same : drawn + one + drawn_from L mix next events ≡ drawn + (one + drawn_from L mix next events) = omega arith in same)
-        (from-drawn next (drawn + one) events admitted.1 (event-drawn w drawn has event admitted.0))
+        let one = cond {A = ℕ} (next_serial w == next_serial next) 0 1 in
+        let first = event-drawn w drawn has event admitted.0 in
+        let rest = from-drawn next (drawn + one) events admitted.1 first.now in
+        record {
+          now = recount (run_from mix next events) (drawn + one + drawn_from L mix next events) (drawn + (one + drawn_from L mix next events))
+              (let same : drawn + one + drawn_from L mix next events ≡ drawn + (one + drawn_from L mix next events) = omega arith in same)
+              rest.now;
+          grown = grown-on has.ghost first.now.ghost rest.now.ghost has.of_table first.now.of_table rest.now.of_table first.grown rest.grown;
+        }
 
     pub runs-drawn : (events : List Event) → IsAdmitted env.config.kind events
         → HasDrawn (run_of mix env events) (1 + drawn_from L mix (opening env) events)
-    runs-drawn events admitted = from-drawn (opening env) 1 events admitted opening-drawn
+    runs-drawn events admitted = (from-drawn (opening env) 1 events admitted opening-drawn).now
