@@ -198,7 +198,7 @@ module _ (env : Env) (mix : ℕ → ℕ → ℕ → ℕ) (c : ℕ) (port owner :
       (make_after_at env.geometry make.exponent make.nested make.at old)
       (make_step env mix c (holds_node (Some growing.attempt.node) None)
       (wants_table port owner growing) words G all whole
-      make is.make_in known.knowing))
+      make is.make_in is.seed_same known.knowing))
 
   -- the table is given back, and then the attempt has ended
   unmade_next : (attempt : Attempt) (unmake : UnmakeModel) (answer : Option Reply)
@@ -274,7 +274,7 @@ module _ (env : Env) (mix : ℕ → ℕ → ℕ → ℕ) (c : ℕ) (port owner :
         let is = whole.tables.slots growing.table known.knowing.means.table in
         let made_is = known.knowing.means.making in
         let M' = mem env mix (applied words op) in
-        let ready : IsAttaching env mix c slot shape seed M G = record { made = made_is; seed_is = refl } in
+        let ready : IsAttaching env mix c slot shape seed serial M G = record { made = made_is; seed_is = refl; serial_is = refl } in
         let value : word_after (old_of words op) op ≡ future_of slot =
         ap (λ w. cond (w == 0) (future_of slot) w) none in
         let here : IsWrite env.geometry M M' (Slot growing.table FutureWord) (future_of slot) =

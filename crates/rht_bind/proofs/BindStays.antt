@@ -1,6 +1,6 @@
 -- Whatever words it is told, a bind stays in its table: a case a state.
 -- Slots, links, shapes and the node map are read totally, so what they name is there or is none.
-use Rattle.std.proofs.Common.{ℕ, ◌<◌, ◌≤◌, refl, sym, subst, arith}
+use Rattle.std.proofs.Common.{◌≡◌, ℕ, ◌<◌, ◌≤◌, refl, sym, subst, arith}
 use Rattle.std.specs.Prelude.{Bool, true, false, Option, Some, None, min, nat_le, nat_eq, ◌*◌, ◌==◌}
 use Rattle.std.proofs.lemmas.Bool.{cond_both}
 use Rattle.rht_words.specs.declared.env.Env.{Env}
@@ -239,6 +239,7 @@ module _ (mix : ℕ → ℕ → ℕ → ℕ) (env : Env) (port : ℕ) (once : Bo
   making-in : (growing : Growing) (size : ℕ) → IsGrowingIn g growing → IsBindAtIn env (making env growing size)
   making-in growing size within = record {
     growing_in = within;
+    seed_same = refl;
     make_in = record { geometry_same = refl; least = omega arith; greatest = omega arith; at_in = omega arith };
   }
 
@@ -263,12 +264,12 @@ module _ (mix : ℕ → ℕ → ℕ → ℕ) (env : Env) (port : ℕ) (once : Bo
       rw is.shape_is (packed_word is.nested exponent is.page few (omega (arith, is.run_in.within, pages_few)))
 
   made-in : (growing : Growing) (size exponent : ℕ) (allowed : Bool) (make : MakeModel) (next : Next (Option (ℕ × ℕ)))
-      → exponent ≤ 17 → IsGrowingIn g growing → MakeIsIn g exponent allowed (make, next)
+      → exponent ≤ 17 → IsGrowingIn g growing → make.seed ≡ env.config.seed → MakeIsIn g exponent allowed (make, next)
       → IsBindAtIn env (made growing size make next)
-  made-in growing size exponent allowed make Go few within stays =
-      record { growing_in = within; make_in = stays.make_in }
-  made-in growing size exponent allowed make (Done None) few within stays = record { growing_in = within; refusal_in = tt }
-  made-in growing size exponent allowed make (Done (Some table)) few within stays = record {
+  made-in growing size exponent allowed make Go few within seed stays =
+      record { growing_in = within; seed_same = seed; make_in = stays.make_in }
+  made-in growing size exponent allowed make (Done None) few within seed stays = record { growing_in = within; refusal_in = tt }
+  made-in growing size exponent allowed make (Done (Some table)) few within seed stays = record {
     growing_in = within;
     slot_in = stays.made_in.slot_in;
     shape_in = made_word exponent table.0 table.1 allowed few stays.made_in;
@@ -337,7 +338,7 @@ module _ (mix : ℕ → ℕ → ℕ → ℕ) (env : Env) (port : ℕ) (once : Bo
   bind_stays (at.GrowthCount growing root) word within told = want-in growing root word within
   bind_stays (at.Making growing size make) word within told =
       made-in growing size make.exponent make.nested (make_after make word).0 (make_after make word).1 within.make_in.greatest
-      within.growing_in (make_stays g make word within.make_in told)
+      within.growing_in within.seed_same (make_stays g make word within.make_in told)
   bind_stays (at.FutureAgain growing refusal) word within told =
       refused-in growing refusal (slot_of word) within.growing_in
   bind_stays (at.Attaching growing slot shape) word within told = attach-in growing slot shape word within

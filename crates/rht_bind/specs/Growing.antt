@@ -1,5 +1,5 @@
 -- What a bind does that finds the last table full: the states between, and what they name.
-use Rattle.std.specs.Prelude.{ℕ, ◌-◌, ◌*◌, ◌<◌, ◌==◌, Bool, true, min, nat_eq, Option, None, Some, if◌then◌else◌}
+use Rattle.std.specs.Prelude.{◌≡◌, ℕ, ◌-◌, ◌*◌, ◌<◌, ◌==◌, Bool, true, min, nat_eq, Option, None, Some, if◌then◌else◌}
 use Rattle.rht_words.specs.declared.machine.Next.{Next}
 use Rattle.rht_words.specs.declared.machine.Next.TheVariants.{Go, Done}
 use Rattle.rht_words.specs.declared.env.Env.{Env}
@@ -112,10 +112,11 @@ pub record IsWantingIn (g : Geometry) (growing : Growing) (root : ℕ) : Type 0 
   pub growing_in : IsGrowingIn g growing
   pub root_in : root < 8
 
--- it makes a table
-pub record IsMakingIn (g : Geometry) (growing : Growing) (make : MakeModel) : Type 0 where
-  pub growing_in : IsGrowingIn g growing
-  pub make_in : IsMakeIn g make
+-- it makes a table, with the config's seed
+pub record IsMakingIn (env : Env) (growing : Growing) (make : MakeModel) : Type 0 where
+  pub growing_in : IsGrowingIn env.geometry growing
+  pub seed_same : make.seed ≡ env.config.seed
+  pub make_in : IsMakeIn env.geometry make
 
 -- its refusal names a slot, where it names one
 abbrev pub IsRefusalIn : Refusal → Type 0

@@ -27,7 +27,26 @@ pub mod OutnumberedNodes
 pub mod SparedSlots
 -- in a run with few ports no table is made
 pub mod FewPorts
+-- what a resizing and a bind make, and what they attach
+pub mod MakingWorks
+pub mod MakingBinds
+-- what is true of shapes by which tables are made is so of all
+pub mod GoodShapes
+-- which jobs attach a table
+pub mod AttachingJobs
 -- no table is nested, or smaller than 16 buckets, where the first one isn't, shrinking is off and binds attach none
 pub mod SizedTables
 -- in a run of one caller with fewer than 16 ports no bind is refused because a table is full
 pub mod OneCaller
+-- so it is in runs, where it is so of the first table
+pub mod GoodRuns
+-- no table is smaller than the least size or greater than the greatest one
+pub mod BoundedTables
+-- which operation draws a serial, and which draw a job has
+pub mod SerialDraws
+pub mod DrawnJobs
+-- in every run each table has a draw of its own
+pub mod DrawnRuns
+pub mod NumberedTables
+-- what is true of each table in force
+pub mod TablesInRuns

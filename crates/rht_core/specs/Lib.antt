@@ -63,3 +63,5 @@ pub mod Refused
 pub mod LetGo
 -- when a table is attached, by whom, and of which size
 pub mod Attached
+-- what is true of each table in force
+pub mod Tables

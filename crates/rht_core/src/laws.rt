@@ -11,6 +11,7 @@ ghost use Rattle.rht_core.specs.ListedOwners.{ListedOwners};
 ghost use Rattle.rht_core.specs.NeverRefused.{RoomyTakesAll, OneWorkerAsModel};
 ghost use Rattle.rht_core.specs.NodesUsed.{Nodes};
 ghost use Rattle.rht_core.specs.Refused.{Refused};
+ghost use Rattle.rht_core.specs.Tables.{Tables, NeverAgain};
 ghost use Rattle.rht_core.specs.RunHistories.{HasFittingHistory};
 ghost use Rattle.rht_core.specs.Sections.{Sections};
 ghost use Rattle.rht_core.specs.ToldHistories.{HasToldHistory};
@@ -286,6 +287,18 @@ pub fn attached<M: Mix>()
 /// that no node is free when the reply comes: some may have been given back.
 pub fn nodes<M: Mix>()
     ensures { Nodes M M.mix_of }
+{}
+
+/// In every run each table in force has as many buckets as the config's least size, or more, and at most
+/// 2^17; and no more than its greatest size, where there is one. Its slot is taken and isn't retired, and
+/// its seed is the config's and its own serial together, in 32 bits. Futures lead from the current table
+/// along all of these, none twice, to one that has none. So many serials were drawn as events changed the
+/// next one, and one more, the first table's; the next serial is that number, in 64 bits. Each table in
+/// force has a draw of its own, and its serial is the number of that. It says nothing of tables that are
+/// being made, or are no longer in force, nor which of these sizes a table has.
+pub fn tables<M: Mix>()
+    ensures each { Tables M M.mix_of }
+    ensures never_again { NeverAgain M M.mix_of }
 {}
 
 /// In a run of a table that begins with 64 buckets or more and doesn't shrink, and whose binds, those that

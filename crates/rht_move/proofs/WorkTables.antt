@@ -219,7 +219,7 @@ module _ (env : Env) (mix : ℕ → ℕ → ℕ → ℕ) (c : ℕ) (words : List
       (made_leads wanted make (make_after_at env.geometry make.exponent make.nested make.at word)
       (make_step env mix c holds_work
       (knows_work MakesNothing (Rooted wanted.root (From wanted.last.table))) words G all
-      whole make is.make_in known))
+      whole make is.make_in is.seed_same known))
 
   -- what is known while the table is attached that was made, with its pages in the other form
   pub attach_due : (root last slot shape : ℕ) → last < 8 → WorkKnows (at.Attaching root last slot shape) M G

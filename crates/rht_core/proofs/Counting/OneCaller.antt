@@ -18,7 +18,7 @@ use Rattle.rht_words.specs.declared.machine.Next.{Next}
 use Rattle.rht_words.specs.declared.machine.Next.TheVariants.{Go, Done}
 use Rattle.rht_words.specs.Links.{future_of}
 use Rattle.rht_words.specs.Machines.{GoesOrEnds}
-use Rattle.rht_words.specs.Operations.{op_place, old_of}
+use Rattle.rht_words.specs.Operations.{old_of}
 use Rattle.rht_words.specs.Places.{PortCount, Slot, ShapeWord, FutureWord, place_of, word_at}
 use Rattle.rht_words.specs.Shapes.{size_of}
 use Rattle.rht_words.specs.Sizes.{first_size}
@@ -39,7 +39,6 @@ use Rattle.rht_bind.specs.declared.bind.Claimed.{Claimed}
 use Rattle.rht_bind.specs.declared.bind.BindAt.{BindAt}
 use Rattle.rht_bind.specs.declared.bind.BindAt.TheVariants as at
 use Rattle.rht_move.specs.LastTable.{LastTableModel, last_table_plan_at}
-use Rattle.rht_move.specs.declared.last_table.LastTableAt.{LastTableAt}
 use Rattle.rht_move.specs.declared.last_table.LastTableAt.TheVariants as last_tables
 use Rattle.rht_move.specs.Work as work
 use Rattle.rht_move.specs.declared.work.WorkAt.{WorkAt}
@@ -74,15 +73,16 @@ use Rattle.rht_core.proofs.Events.SoundRuns.{has_place, made_in}
 use Rattle.rht_core.proofs.Events.Worlds.{induct_by_last, beginning-some, planned-some, run_of-push, begin_none, begin_self, begin_other, step_none, step_self, step_other}
 use Rattle.rht_core.proofs.Tracing.TracedJobs.{Performs, IsAtJob, jobs_keep_standing}
 use Rattle.rht_core.proofs.Tracing.TracedRuns.{world-traced_of}
-use Rattle.rht_core.proofs.Reasons.AttachedTables.{lock-none, make-none, unmake-none}
 use Rattle.rht_core.proofs.Reasons.CausesInRuns.{JobSaw, EndsSeen, job-leads, first_job-saw}
 use Rattle.rht_core.proofs.Reasons.CalmCalls.{below-max, below-size}
 use Rattle.rht_core.proofs.Reasons.CalmBinds.{CalmBind, IsCalmAt, calm-bind, bind-spares}
 use Rattle.rht_core.proofs.Counting.CountedPorts.{fewer-AreBound}
 use Rattle.rht_core.proofs.Counting.FewPorts.{before-push, GoesOn, next-goes, may_make, job-spares}
 use Rattle.rht_core.proofs.Counting.FullTables.{taken}
-use Rattle.rht_core.proofs.Counting.SizedTables.{IsSized, AreSized, SizedWork, sized-work, moved-sized, slot-sized}
-use Rattle.rht_core.proofs.Counting.SparedSlots.{IsBesideSlots, SparesSlots}
+use Rattle.rht_core.proofs.Counting.GoodShapes.{moved-good, slot-good}
+use Rattle.rht_core.proofs.Counting.SizedTables.{IsSized, AreSized, SizedWork, sized-work}
+use Rattle.rht_core.proofs.Counting.AttachingJobs.{work-attaches}
+use Rattle.rht_core.proofs.Counting.SparedSlots.{spares-none}
 use Rattle.rht_core.proofs.Histories.BoundAmong.{count-few}
 
 -- what is said of every number
@@ -94,86 +94,14 @@ pub record HasFew (env : Env) (words : List ℕ) : Type 0 where
   pub count : word_at env.geometry words PortCount ≤ 16
   pub bound : AreBound (stands_for env.geometry words) 16 → ⊥
 
--- ---- which operations attach a table
-
 module _ (env : Env) where
-  -- one that leaves the words of slots doesn't
-  spares-none : (op : Op) (last old new : ℕ) → SparesSlots op → last < 8
-      → op ≡ Exchange (place_of env.geometry (Slot last FutureWord)) old new → ⊥
-  spares-none op last old new (inl (place, load)) l is = cc
-  spares-none op last old new (inr beside) l is = go (subst IsBesideSlots (ap op_place is) beside)
-    where
-      go : IsBesideSlots (place_of env.geometry (Slot last FutureWord)) → ⊥
-      go (inl same) = omega (arith, same)
-      go (inr (inl same)) = omega (arith, same)
-      go (inr (inr high)) = omega (arith, high, l)
-
-  -- and of a resizing one does
-  record IsAttachingAt (state : WorkAt) (slot : ℕ) : Type 0 where
-    root : ℕ
-    last : ℕ
-    shape : ℕ
-    is : state ≡ work_at.Attaching root last slot shape
-
-  work-attaches : (state : WorkAt) → work.IsWorkAtIn env state → (table slot : ℕ) → table < 8
-      → work.plan_at env state ≡ Exchange (place_of env.geometry (Slot table FutureWord)) 0 (future_of slot) → IsAttachingAt state slot
-  work-attaches (work_at.Attaching root last slot' shape) within table slot l e =
-      let next : future_of slot' ≡ future_of slot = cc in
-      let same : slot' ≡ slot = omega (arith, next) in
-      record { root = root; last = last; shape = shape; is = ap (λ s. work_at.Attaching root last s shape) same }
-  work-attaches work_at.WorkLock within table slot l e =
-      let same : 1 ≡ place_of env.geometry (Slot table FutureWord) = cc in absurd (omega (arith, same))
-  work-attaches (work_at.Making wanted make) within table slot l e =
-      absurd (make-none env.geometry make.geometry make.exponent make.seed make.at table 0 (future_of slot) l e)
-  work-attaches (work_at.Unmaking root unmake) within table slot l e =
-      absurd (unmake-none env.geometry unmake.geometry unmake.slot unmake.at table 0 (future_of slot) l e)
-  work-attaches (work_at.Locking rehash number lock) within table slot l e =
-      absurd (lock-none env.geometry lock.place lock.at within.lock_in.place_in table 0 (future_of slot) l e)
-  work-attaches (work_at.LockingSecond emptying entry second lock) within table slot l e =
-      absurd (lock-none env.geometry lock.place lock.at within.lock_in.place_in table 0 (future_of slot) l e)
-  work-attaches (work_at.LastTable root seek) within table slot l e = absurd (last-none seek.at e)
-    where
-      last-none : (state : LastTableAt)
-          → last_table_plan_at seek.geometry state ≡ Exchange (place_of env.geometry (Slot table FutureWord)) 0 (future_of slot) → ⊥
-      last-none (last_tables.Future t) e = cc
-      last-none (last_tables.Shape t) e = cc
-  work-attaches (work_at.EntryTable emptying seek) within table slot l e = absurd (last-none seek.at e)
-    where
-      last-none : (state : LastTableAt)
-          → last_table_plan_at seek.geometry state ≡ Exchange (place_of env.geometry (Slot table FutureWord)) 0 (future_of slot) → ⊥
-      last-none (last_tables.Future t) e = cc
-      last-none (last_tables.Shape t) e = cc
-  work-attaches (work_at.Walking emptying target walk) within table slot l e = absurd (cc)
-  work-attaches (work_at.CuttingOff emptying entry) within table slot l e = absurd (cut-none entry.before e)
-    where
-      cut-none : (before : Option ℕ)
-          → work.cut_plan env.geometry emptying.bucket.place before ≡ Exchange (place_of env.geometry (Slot table FutureWord)) 0 (future_of slot)
-          → ⊥
-      cut-none None e = cc
-      cut-none (Some node) e = cc
-  work-attaches work_at.CurrentTable within table slot l e = absurd (cc)
-  work-attaches (work_at.Count root last) within table slot l e = absurd (cc)
-  work-attaches (work_at.RootFuture root due) within table slot l e = absurd (cc)
-  work-attaches (work_at.RootShape root future again) within table slot l e = absurd (cc)
-  work-attaches (work_at.Entry rehash number place) within table slot l e = absurd (cc)
-  work-attaches (work_at.Seed emptying last) within table slot l e = absurd (cc)
-  work-attaches (work_at.BucketWord emptying target) within table slot l e = absurd (cc)
-  work-attaches (work_at.Key emptying target entry) within table slot l e = absurd (cc)
-  work-attaches (work_at.EntryLink emptying entry second) within table slot l e = absurd (cc)
-  work-attaches (work_at.Linking emptying entry second) within table slot l e = absurd (cc)
-  work-attaches (work_at.Unlocking rehash number unlock stop) within table slot l e = absurd (cc)
-  work-attaches (work_at.Publishing rehash) within table slot l e = absurd (cc)
-  work-attaches (work_at.NewFuture rehash) within table slot l e = absurd (cc)
-  work-attaches (work_at.Retiring root again) within table slot l e = absurd (cc)
-  work-attaches (work_at.LettingGo outcome) within table slot l e = absurd (cc)
-
   -- ---- calls
 
   module _ (keeps : env.config.shrink ≡ false) where
     -- a bind that hasn't found a table full, a resizing that makes none that is too small, or another call
     abbrev OneJob : Job → Type 0
     OneJob (binds port owner once state) = CalmBind env Any Any state
-    OneJob (works state) = SizedWork env keeps state
+    OneJob (works state) = SizedWork state
     OneJob _ = Unit {0}
 
     abbrev OneEnd : Call → Ending → Type 0
@@ -182,8 +110,8 @@ module _ (env : Env) where
     abbrev OneOn : Job → Job × Next Ending → Type 0
     OneOn job next = GoesOn OneJob OneEnd job next
 
-    work-one : (next : WorkAt × Next Reply) → SizedWork env keeps next.0
-        → GoesOrEnds (λ state. SizedWork env keeps state) (λ (reply : Reply). Unit {0}) next
+    work-one : (next : WorkAt × Next Reply) → SizedWork next.0
+        → GoesOrEnds (λ state. SizedWork state) (λ (reply : Reply). Unit {0}) next
     work-one (state, Go) sized = sized
     work-one (state, Done reply) sized = tt
 
@@ -258,7 +186,7 @@ module _ (env : Env) where
           let found : did.old ≡ old_of does.words (last_table_plan_at seek.geometry seek.at) =
           does.found ∙ ap (old_of does.words) does.planned in
           subst IsSized (sym (found ∙ ap (λ s. old_of does.words (last_table_plan_at seek.geometry s)) shape))
-          (slot-sized env mix does.words does.ghost does.whole here.sized slot aim.table)
+          (slot-good env mix IsSized does.words does.ghost does.whole here.sized slot aim.table)
 
       -- so each call goes on so, or ends so
       one-leads : (job : Job) (steps : List Did) → (does : Performs mix env job did) → AreSized does.ghost
@@ -280,17 +208,17 @@ module _ (env : Env) where
 
     module _ (mix : ℕ → ℕ → ℕ → ℕ) (c : ℕ) (M : Memory) (G : Ghost) where
       attach-sized : (job : Job) → JobIn env mix c job → JobKnows env mix c job M G → OneJob job → (last slot shape : ℕ) → last < 8
-          → job_plan env job ≡ Exchange (place_of env.geometry (Slot last FutureWord)) 0 (future_of slot)
+          → (held_of job).slot ≡ Some slot → job_plan env job ≡ Exchange (place_of env.geometry (Slot last FutureWord)) 0 (future_of slot)
           → M (Slot slot ShapeWord) ≡ shape → IsSized shape
-      attach-sized (binds port owner once state) within knows one last slot shape l e is =
-          absurd (spares-none _ last 0 (future_of slot) (bind-spares env Any Any state within.at_in one) l e)
-      attach-sized (works state) within knows one last slot shape l e is =
-          let at = work-attaches state within last slot l e in
+      attach-sized (binds port owner once state) within knows one last slot shape l has e is =
+          absurd (spares-none env _ last 0 (future_of slot) (bind-spares env Any Any state within.at_in one) l e)
+      attach-sized (works state) within knows one last slot shape l has e is =
+          let at = work-attaches env mix last slot l state has e in
           let known = subst (λ s. JobKnows env mix c (works s) M G) at.is knows in
-          let sized : IsSized at.shape = subst (SizedWork env keeps) at.is one in
+          let sized : IsSized at.shape = subst SizedWork at.is one in
           subst IsSized (sym known.knowing.means.making.shape_is ∙ is) sized
-      attach-sized job within knows one last slot shape l e is =
-          absurd (spares-none _ last 0 (future_of slot) (job-spares env mix c job within tt) l e)
+      attach-sized job within knows one last slot shape l has e is =
+          absurd (spares-none env _ last 0 (future_of slot) (job-spares env mix c job within tt) l e)
 
 -- ---- runs
 
@@ -404,13 +332,13 @@ module _ (L : Type 0) (mix : ℕ → ℕ → ℕ → ℕ) (env : Env) (keeps : e
         → AreSized (ghost_after env mix c of.step.move has.ghost)
     step-sized c op of =
         let one = subst (λ (j : Option Job). IfSome j (OneJob env keeps)) of.is (has.ones c).0 in
-        moved-sized env mix c of.step.move has.ghost has.sized
+        moved-good env mix IsSized c of.step.move has.ghost has.sized
         (λ slot shape seed serial at.
         let does = subst (λ m. Does env mix m op (old_of w.core.words op) (held_of of.job)
         (held_next (job_after mix env of.job (old_of w.core.words op)))) at of.step.does in
         let ready = subst (ReadyFor env mix c (mem env mix w.core.words) has.ghost) at of.step.ready in
         attach-sized env keeps mix c (mem env mix w.core.words) has.ghost of.job of.within of.knows one does.last slot shape does.within
-        (sym of.plan ∙ does.attaching) ready.made.shape_is)
+        does.has (sym of.plan ∙ does.attaching) ready.made.shape_is)
 
     -- ---- one event
 

@@ -1,13 +1,13 @@
 -- Which operations leave the words of all slots, of the current table and of the next serial: loads, and those on the work lock, on the
 -- count of ports, and on words behind the slots. Look-ups, listings, releases and rebinds have no other; nor have the pieces of a bind but
 -- the making of a table.
-use Rattle.std.proofs.Common.{◌≡◌, ◌⊎◌, ℕ, ◌≤◌, List, get_or, refl, sym, ap, subst, inl, inr, arith}
+use Rattle.std.proofs.Common.{◌≡◌, ◌⊎◌, ℕ, ◌<◌, ◌≤◌, List, get_or, refl, sym, ap, subst, inl, inr, arith}
 use Rattle.rht_words.specs.declared.op.Op.{Op}
-use Rattle.rht_words.specs.declared.op.Op.TheVariants.{Load}
+use Rattle.rht_words.specs.declared.op.Op.TheVariants.{Load, Exchange}
 use Rattle.rht_words.specs.declared.env.Env.{Env}
 use Rattle.rht_words.specs.declared.geometry.Geometry.{Geometry}
 use Rattle.rht_words.specs.Operations.{op_place, old_of, word_after, applied}
-use Rattle.rht_words.specs.Places.{Node, NodeWord, KeyWord, OwnerWord, ListLink, ChainLink, IsBucketPlace, nodes_at, place_of}
+use Rattle.rht_words.specs.Places.{Slot, FutureWord, Node, NodeWord, KeyWord, OwnerWord, ListLink, ChainLink, IsBucketPlace, nodes_at, place_of}
 use Rattle.rht_words.proofs.PlacesApart.{parts_in_order}
 use Rattle.rht_words.proofs.WordChanges.{applied-other}
 use Rattle.rht_arena.specs.GiveNode.{GiveNodeModel, give_node_plan}
@@ -108,7 +108,7 @@ locate-spares h table locates.Shape = by_load _ _ refl
 locate-spares h table _ = by_load _ _ refl
 
 module _ (g : Geometry) where
-  lock-spares : (place : ℕ) (state : LockAt) → IsBucketPlace g place → SparesSlots (lock_plan_at place state)
+  pub lock-spares : (place : ℕ) (state : LockAt) → IsBucketPlace g place → SparesSlots (lock_plan_at place state)
   lock-spares place locks.Word there = by_load _ place refl
   lock-spares place (locks.Exchange word) there = at_bucket g _ there
 
@@ -172,3 +172,14 @@ module _ (env : Env) where
   rebind-spares (rebinds.Replacing node found relink) within = relink-spares g relink relink.at within.relink_in.place_in
   rebind-spares (rebinds.Unlocking node table unlock) within = unlock-spares g unlock within.unlock_in
   rebind-spares (rebinds.Giving give) within = give_node-spares give
+
+-- an operation that leaves the words of slots attaches no table
+pub spares-none : (env : Env) (op : Op) (last old new : ℕ) → SparesSlots op → last < 8
+    → op ≡ Exchange (place_of env.geometry (Slot last FutureWord)) old new → ⊥
+spares-none env op last old new (inl (place, load)) l is = cc
+spares-none env op last old new (inr beside) l is = go (subst IsBesideSlots (ap op_place is) beside)
+  where
+    go : IsBesideSlots (place_of env.geometry (Slot last FutureWord)) → ⊥
+    go (inl same) = omega (arith, same)
+    go (inr (inl same)) = omega (arith, same)
+    go (inr (inr high)) = omega (arith, high, l)

@@ -4,7 +4,7 @@ use Rattle.std.specs.Prelude.{Some, None}
 use Rattle.std.specs.Int.{bit_at}
 use Rattle.std.proofs.lemmas.Bool.{cases_eq, cases_lt, lt-ltb, le-ltb, ne_eqb}
 use Rattle.rht_words.specs.declared.env.Env.{Env}
-use Rattle.rht_words.specs.Places.{Address, CurrentTable, PortCount, Slot, ShapeWord, SeedWord, FutureWord, NodeMap, PageWord, IsAddress, WorkLock, StateWord, PageMap}
+use Rattle.rht_words.specs.Places.{Address, CurrentTable, PortCount, Slot, ShapeWord, SeedWord, FutureWord, SerialWord, NodeMap, PageWord, IsAddress, WorkLock, StateWord, PageMap}
 use Rattle.rht_words.specs.declared.shape.Shape.{Shape}
 use Rattle.rht_words.specs.Shapes.{size_of, unpacked}
 use Rattle.rht_words.specs.Opening.{opening_word, opening_words, first_pages, first_shape}
@@ -100,6 +100,8 @@ module _ (env : Env) (mix : ℕ → ℕ → ℕ → ℕ) where
         live = λ l. live;
         shape_is = opened (Slot 0 ShapeWord) (omega arith, tt);
         seed_is = opened (Slot 0 SeedWord) (omega arith, tt);
+        serial_is = opened (Slot 0 SerialWord) (omega arith, tt);
+        seeded = let seed = env.settled.seed in omega (arith, seed);
         future_is = opened (Slot 0 FutureWord) (omega arith, tt);
         placed = inl (record {
           flat = subst (λ (s : Shape). s.nest ≡ 0) (sym opens.shape) opens.flat;

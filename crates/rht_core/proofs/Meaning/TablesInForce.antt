@@ -1,5 +1,5 @@
 -- The tables in force, as the words have them, are those from the current one on, in the order in which they were attached.
-use Rattle.std.proofs.Common.{◌≡◌, ℕ, zero, suc, ◌+◌, ◌-◌, ◌<◌, ◌≤◌, List, ◌∷◌, length, Option, Some, None, true, cond, refl, sym, ◌∙◌, ap, subst, inl, inr, arith, map}
+use Rattle.std.proofs.Common.{◌≡◌, ℕ, zero, suc, ◌+◌, ◌-◌, ◌<◌, ◌≤◌, List, [], ◌∷◌, ◌++◌, length, Option, Some, None, true, cond, refl, sym, ◌∙◌, ap, subst, inl, inr, arith, map}
 use Rattle.std.proofs.lemmas.Bool.{lt-ltb, le-ltb, cases_eq}
 use Rattle.std.specs.List.{AllByRecursion, range_with_len}
 use Rattle.rht_words.specs.declared.env.Env.{Env}
@@ -107,6 +107,42 @@ module _ (env : Env) (mix : ℕ → ℕ → ℕ → ℕ) (words : List ℕ) (G :
   tables_in_force : in_force g words ≡ slots_from G.current in_use
   tables_in_force =
       ap (λ s. tables_from g words 8 (Some s)) current_slot ∙ tables_behind G.current whole.tables.current_in
+
+  -- none of them is met twice
+  pub in_force_distinct : IsDistinct (in_force g words)
+  in_force_distinct =
+      subst IsDistinct (sym tables_in_force) (slots_distinct G.current in_use (let l = whole.tables.current_in in omega (arith, l)))
+
+  -- the last one is the one that was attached last, and it has no future
+  slots_last : (τ count : ℕ) → slots_from τ (suc count) ≡ slots_from τ count ++ (G.table (τ + count)).slot ∷ []
+  slots_last τ zero = ap (λ σ. (G.table σ).slot ∷ []) (let same : τ ≡ τ + zero = omega arith in same)
+  slots_last τ (suc count) =
+      ap (λ rest. (G.table τ).slot ∷ rest)
+      (slots_last (τ + 1) count
+      ∙ ap (λ σ. slots_from (τ + 1) count ++ (G.table σ).slot ∷ [])
+      (let same : τ + 1 + count ≡ τ + suc count = omega arith in same))
+
+  pub record IsLastTable (last : ℕ) : Type 0 where
+    pub front : List ℕ
+    pub split : in_force g words ≡ front ++ (G.table last).slot ∷ []
+    pub none : M (Slot (G.table last).slot FutureWord) ≡ 0
+
+  pub last_in_force : IsLastTable (G.attached - 1)
+  last_in_force = go in_use refl
+    where
+      go : (count : ℕ) → in_use ≡ count → IsLastTable (G.attached - 1)
+      go zero is = let l = whole.tables.current_in in absurd (omega (arith, l, is))
+      go (suc count) is =
+          let l = whole.tables.current_in in
+          let at : G.current + count ≡ G.attached - 1 = omega (arith, l, is) in
+          record {
+            front = slots_from G.current count;
+            split = tables_in_force ∙ ap (slots_from G.current) is ∙ slots_last G.current count
+                ∙ ap (λ σ. slots_from G.current count ++ (G.table σ).slot ∷ []) at;
+            none = (whole.tables.each (G.attached - 1) (omega (arith, l))).future_is
+                ∙ ap (λ t. cond t (future_of (G.table (G.attached - 1 + 1)).slot) 0)
+                (le-ltb (G.attached - 1 + 1) G.attached (omega (arith, l)));
+          }
 
   -- a table in force is one of those from the current one on
   pub record IsTableInForce (slot : ℕ) : Type 0 where

@@ -228,7 +228,7 @@ module _ (env : Env) (mix : ℕ → ℕ → ℕ → ℕ) where
               let both : future_of slot ≡ 0 = sym leads_on ∙ none in
               absurd (omega (arith, both))
           | inr attach ↦
-              let ready : IsAttaching env mix does.caller attach.slot attach.shape attach.seed M G =
+              let ready : IsAttaching env mix does.caller attach.slot attach.shape attach.seed attach.serial M G =
               subst (ReadyFor env mix does.caller M G) attach.is step.ready in
               let attaches : DoesAttach env.geometry attach.slot did.op (old_of does.words did.op)
               (held_of (works (at.Attaching root last slot shape)))

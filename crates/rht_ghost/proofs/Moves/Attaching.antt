@@ -10,9 +10,9 @@ use Rattle.std.proofs.lemmas.Bool.Decides.{nat_tests}
 use Rattle.rht_words.specs.declared.env.Env.{Env}
 use Rattle.rht_words.specs.Links.{future_of}
 use Rattle.rht_words.specs.Shapes.{unpacked}
-use Rattle.rht_words.specs.Places.{CurrentTable, WorkLock, Slot, SlotWord, ShapeWord, SeedWord, FutureWord, StateWord, PageMap, IsSlotWord, PageWord}
+use Rattle.rht_words.specs.Places.{CurrentTable, WorkLock, Slot, SlotWord, ShapeWord, SeedWord, FutureWord, SerialWord, StateWord, PageMap, IsSlotWord, PageWord}
 use Rattle.rht_words.proofs.Memory.{Memory, IsWrite}
-use Rattle.rht_nest.specs.Tables.{table_pages, is_nested}
+use Rattle.rht_nest.specs.Tables.{table_pages, is_nested, table_seed}
 use Rattle.rht_nest.proofs.MakesMade.{size_of-fits}
 use Rattle.rht_ghost.proofs.Theory.Ghosts.{has_entries, Table, blank_bucket, put, put-same, put-other, put-all, put_in, put_in-there, put_in-all, PageOwner, PageFree, PageHeld, PageOf, SlotOwner, SlotHeld, Live, Ghost, state_word, table_of_slot, has_table, index_at, made_table, is_page_for, with_table, Row, Top, lock_bit, is_entry, is_entry_of, entry_word, table_at, table_of_page}
 use Rattle.rht_ghost.proofs.Theory.Wholes.{retired_stay, IsNoBucket, EntriesRight, SlotIsOf, TableRight, TablesRight, SlotsRight, PagesRight, PlacedRight, future_in, Whole, IsFlat, IsNested}
@@ -50,7 +50,7 @@ module _ (env : Env) (mix : ℕ → ℕ → ℕ → ℕ) where
   ]
 
   module _ (d slot shape seed serial τ : ℕ) (M M' : Memory) (G : Ghost) (whole : Whole env mix M G)
-      (ready : IsAttaching env mix d slot shape seed M G) (l : τ < G.attached)
+      (ready : IsAttaching env mix d slot shape seed serial M G) (l : τ < G.attached)
       (none : M (Slot (G.table τ).slot FutureWord) ≡ 0)
       (write : IsWrite env.geometry M M' (Slot (G.table τ).slot FutureWord) (future_of slot)) where
     abbrev new : Table
@@ -135,6 +135,7 @@ module _ (env : Env) (mix : ℕ → ℕ → ℕ → ℕ) where
         (Slot last FutureWord) (future_of slot) write (slot_word-apart G last FutureWord) σ k
         (other_word (G.table σ).slot ShapeWord here.slot_in tt (λ e. cc))
         (other_word (G.table σ).slot SeedWord here.slot_in tt (λ e. cc))
+        (other_word (G.table σ).slot SerialWord here.slot_in tt (λ e. cc))
         (old_future σ k)
         (placed_kept env mix M M' G tables (G.attached + 1) slots page whole attached_kept (Slot last FutureWord)
         (future_of slot) write (slot_word-apart G last FutureWord) σ k (table_same σ k) (λ p. page_before p σ k))
@@ -209,6 +210,10 @@ module _ (env : Env) (mix : ℕ → ℕ → ℕ → ℕ) where
           ∙ ready.made.shape_is ∙ sym (ap (λ (t : Table). t.shape) same_new);
       seed_is = ap (λ (t : Table). M' (Slot t.slot SeedWord)) same_new ∙ own_word SeedWord tt
           ∙ ready.seed_is ∙ sym (ap (λ (t : Table). t.seed) same_new);
+      serial_is = ap (λ (t : Table). M' (Slot t.slot SerialWord)) same_new ∙ own_word SerialWord tt
+          ∙ ready.serial_is ∙ sym (ap (λ (t : Table). t.serial) same_new);
+      seeded = ap (λ (t : Table). t.seed) same_new ∙ sym ready.seed_is ∙ ready.made.seeded
+          ∙ ap (table_seed env.config.seed) (ready.serial_is ∙ sym (ap (λ (t : Table). t.serial) same_new));
       future_is = ap (λ (t : Table). M' (Slot t.slot FutureWord)) same_new ∙ own_word FutureWord tt
           ∙ ready.made.future_is
           ∙ sym (ap (λ t. cond t (future_of (tables (G.attached + 1)).slot) 0)

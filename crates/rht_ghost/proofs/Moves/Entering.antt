@@ -5,7 +5,7 @@ use Rattle.std.specs.Int.{bit_at}
 use Rattle.std.proofs.lemmas.Bool.{cases_eq, both_ways}
 use Rattle.rht_words.specs.declared.env.Env.{Env}
 use Rattle.rht_words.specs.Links.{entry_of, future_of}
-use Rattle.rht_words.specs.Places.{CurrentTable, WorkLock, Slot, SlotWord, ShapeWord, SeedWord, FutureWord, StateWord, PageMap, PageWord, IsSlotWord}
+use Rattle.rht_words.specs.Places.{CurrentTable, WorkLock, Slot, SlotWord, ShapeWord, SeedWord, FutureWord, SerialWord, StateWord, PageMap, PageWord, IsSlotWord}
 use Rattle.rht_words.proofs.Memory.{Memory, IsWrite}
 use Rattle.rht_ghost.proofs.Theory.Ghosts.{Table, blank_bucket, put, put-same, put-other, put-all, PageOwner, PageFree, PageHeld, PageOf, Ghost, has_entries, lock_bit, index_at, is_entry, is_entry_of, entry_word, table_at, table_of_page}
 use Rattle.rht_ghost.proofs.Theory.Ways.{followed, IsSpareIn, StandsAs, entered_table}
@@ -218,6 +218,7 @@ module _ (env : Env) (mix : ℕ → ℕ → ℕ → ℕ) where
           let s = (G.table σ).slot in
           TableRight-kept env mix M M' G tables G.attached G.slot page whole entered_kept (PageWord j) (entry_of p)
           write words_apart σ l (slot_word s ShapeWord here.slot_in tt) (slot_word s SeedWord here.slot_in tt)
+          (slot_word s SerialWord here.slot_in tt)
           (slot_word s FutureWord here.slot_in tt ∙ here.future_is ∙ sym (future_same σ)) (placed_now σ l);
       slots = λ s has.
           let is = whole.tables.slots s has in

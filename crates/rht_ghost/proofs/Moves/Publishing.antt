@@ -48,6 +48,7 @@ module _ (env : Env) (mix : ℕ → ℕ → ℕ → ℕ) where
     no_count = λ e. cc;
     no_shape = λ s e. cc;
     no_seed = λ s e. cc;
+    no_serial = λ s e. cc;
     no_future = λ s e. cc;
     no_held = λ s c w held e. cc;
   }
@@ -132,6 +133,7 @@ module _ (env : Env) (mix : ℕ → ℕ → ℕ → ℕ) where
       no_count = λ e. cc;
       no_shape = λ i e. cc;
       no_seed = λ i e. cc;
+      no_serial = λ i e. cc;
       no_future = λ i e. cc;
       no_held = λ i c w held e. let same : i ≡ s = cc in not_mine c (ap G.slot (sym same) ∙ held);
     }

@@ -2,7 +2,7 @@
 -- the work. What each such store leaves is shown here once.
 use Rattle.std.proofs.Common.{◌≡◌, ◌≢◌, ◌⊎◌, ℕ, ◌/◌, ◌<◌, ◌≤◌, Option, Some, None, true, refl, sym, ◌∙◌, ap, inl, inr, arith}
 use Rattle.rht_words.specs.declared.env.Env.{Env}
-use Rattle.rht_words.specs.Places.{Address, CurrentTable, WorkLock, PortCount, Slot, SlotWord, ShapeWord, SeedWord, FutureWord, StateWord, NodeMap, PageMap, Node, NodeWord, ChainLink, KeyWord, ListLink, PageWord}
+use Rattle.rht_words.specs.Places.{Address, CurrentTable, WorkLock, PortCount, Slot, SlotWord, ShapeWord, SeedWord, FutureWord, SerialWord, StateWord, NodeMap, PageMap, Node, NodeWord, ChainLink, KeyWord, ListLink, PageWord}
 use Rattle.rht_words.proofs.Memory.{Memory, IsWrite}
 use Rattle.rht_words.proofs.ChainLemmas.{IsSegment-members}
 use Rattle.rht_ghost.proofs.Theory.Ghosts.{Ghost, First, Leaving, SlotOwner, SlotHeld, Live, Retired, lock_bit, state_word, has_table, index_at, table_of_slot, table_at, is_used, seat_of}
@@ -32,6 +32,7 @@ pub record IsStandingWord (G : Ghost) (a : Address) : Type 0 where
   pub no_count : PortCount ≢ a
   pub no_shape : (s : ℕ) → Slot s ShapeWord ≢ a
   pub no_seed : (s : ℕ) → Slot s SeedWord ≢ a
+  pub no_serial : (s : ℕ) → Slot s SerialWord ≢ a
   pub no_future : (s : ℕ) → Slot s FutureWord ≢ a
   pub no_held : (s c : ℕ) (w : SlotWord) → G.slot s ≡ SlotHeld c → Slot s w ≢ a
 
@@ -90,6 +91,8 @@ module _ (env : Env) (mix : ℕ → ℕ → ℕ → ℕ) where
               live = is.slots.live τ l;
               shape_is = is.write.others (Slot s ShapeWord) (r.slot_in, tt) (is.word.no_shape s) ∙ r.shape_is;
               seed_is = is.write.others (Slot s SeedWord) (r.slot_in, tt) (is.word.no_seed s) ∙ r.seed_is;
+              serial_is = is.write.others (Slot s SerialWord) (r.slot_in, tt) (is.word.no_serial s) ∙ r.serial_is;
+              seeded = r.seeded;
               future_is = is.write.others (Slot s FutureWord) (r.slot_in, tt) (is.word.no_future s) ∙ r.future_is;
               placed = r.placed;
             };

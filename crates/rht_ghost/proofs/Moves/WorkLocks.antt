@@ -19,6 +19,7 @@ module _ (env : Env) (mix : ℕ → ℕ → ℕ → ℕ) where
     no_count = λ e. cc;
     no_shape = λ s e. cc;
     no_seed = λ s e. cc;
+    no_serial = λ s e. cc;
     no_future = λ s e. cc;
     no_held = λ s c w held e. cc;
   }

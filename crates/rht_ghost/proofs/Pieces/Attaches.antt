@@ -87,7 +87,7 @@ module _ (env : Env) (mix : ℕ → ℕ → ℕ → ℕ) (c : ℕ) where
         ap (λ s. M (Slot s FutureWord)) is.slot ∙ found in
         let seed = M (Slot slot SeedWord) in
         let serial = M (Slot slot SerialWord) in
-        let ready : IsAttaching env mix c slot shape seed M G = record { made = made; seed_is = refl } in
+        let ready : IsAttaching env mix c slot shape seed serial M G = record { made = made; seed_is = refl; serial_is = refl } in
         silent env mix c words G op (holds_made slot shape) (holding env mix c h known None [])
         (knowing env mix c h known None [] MakesNothing) (Attaches slot shape seed serial) whole ready tt
         (attach env mix c slot shape seed serial τ M M' G whole ready is.attached none write)

@@ -94,7 +94,8 @@ module _ (env : Env) (mix : ℕ → ℕ → ℕ → ℕ) (c : ℕ) (h : Holding)
   abbrev pub knows_that : Option ℕ → List ℕ → KnownMaking → Memory → Ghost → Type 0
   knows_that slot pages making = knowing env mix c h known slot pages making
 
-  module _ (exponent seed : ℕ) (allowed : Bool) (least : 2 ≤ exponent) (greatest : exponent ≤ 17) where
+  module _ (exponent seed : ℕ) (allowed : Bool) (least : 2 ≤ exponent) (greatest : exponent ≤ 17)
+      (seeds : seed ≡ env.config.seed) where
     abbrev n : ℕ
     n = made_pages exponent
 
@@ -181,6 +182,8 @@ module _ (env : Env) (mix : ℕ → ℕ → ℕ → ℕ) (c : ℕ) (h : Holding)
           has = means.slot.has;
           shape_is = means.slot.shape;
           future_is = means.slot.future;
+          seeded = means.slot.seed ∙ ap (λ s. table_seed s serial) seeds
+              ∙ ap (table_seed env.config.seed) (sym means.slot.serial);
           kind = kind_made nested page (page-few page n run) kind;
           fits =
               subst (λ m. (unpacked (made_shape exponent nested page)).page + m ≤ env.geometry.pages) (sym many)
@@ -296,20 +299,20 @@ module _ (env : Env) (mix : ℕ → ℕ → ℕ → ℕ) (c : ℕ) (h : Holding)
         }) step)
 
   -- an operation of the making of a table: what the caller knows at its state leads to what it knows behind it
-  pub make_step : (m : MakeModel) → IsMakeIn env.geometry m
+  pub make_step : (m : MakeModel) → IsMakeIn env.geometry m → m.seed ≡ env.config.seed
       → knows_that (slot_of_make m.at) (pages_of_make m.exponent m.at) (known_of_make m.exponent m.seed m.at) M G
       → let r = make_after_at env.geometry m.exponent m.nested m.at (old_of words (make_plan m)) in
       SilentStep env mix c words G (make_plan m) (holds (slot_of_make m.at) (pages_of_make m.exponent m.at))
       (holds (slot_made r) (made_with m.exponent r))
       (knows_that (slot_made r) (made_with m.exponent r) (known_made m.exponent m.seed r))
-  make_step m is knows =
+  make_step m is seeds knows =
       subst (λ g.
       let op = make_plan_at g m.exponent m.seed m.at in
       let r = make_after_at env.geometry m.exponent m.nested m.at (old_of words op) in
       SilentStep env mix c words G op (holds (slot_of_make m.at) (pages_of_make m.exponent m.at))
       (holds (slot_made r) (made_with m.exponent r))
       (knows_that (slot_made r) (made_with m.exponent r) (known_made m.exponent m.seed r))) (sym is.geometry_same)
-      (make_step_at m.exponent m.seed m.nested is.least is.greatest m.at is.at_in knows)
+      (make_step_at m.exponent m.seed m.nested is.least is.greatest seeds m.at is.at_in knows)
 
   -- ---- the giving back of a table
 

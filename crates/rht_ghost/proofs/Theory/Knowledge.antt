@@ -11,7 +11,7 @@ use Rattle.rht_words.specs.Held as held
 use Rattle.rht_words.proofs.Memory.{Memory}
 use Rattle.rht_words.specs.Members.{In}
 use Rattle.rht_words.specs.declared.machine.Start.TheVariants as starts
-use Rattle.rht_nest.specs.Tables.{is_nested, table_pages}
+use Rattle.rht_nest.specs.Tables.{is_nested, table_pages, table_seed}
 use Rattle.rht_nest.specs.Place.{PlaceModel, nested_place, entered}
 use Rattle.rht_ghost.proofs.Theory.Ghosts.{Bucket, NodeHeld, Leaving, Middle, PageHeld, PageOf, SlotHeld, Ghost, is_taken_by, has_table, index_at}
 use Rattle.rht_ghost.proofs.Theory.Wholes.{AreRetired, chain_of, key_of, place_at, word_index, hash_in, home, pages_of, MovesNone, moves_none, IsFurther, Whole}
@@ -282,11 +282,12 @@ module _ (env : Env) (mix : ℕ → ℕ → ℕ → ℕ) where
     pub shaped : IsNestedShape shape
     pub one : table_pages (unpacked shape) ≡ 1
 
-  -- the slot's words are those of such a table that nothing follows, and the caller has all these pages
+  -- the slot's words are those of such a table that nothing follows, with its seed, and the caller has all these pages
   pub record IsMade (c : ℕ) (M : Memory) (G : Ghost) (slot shape : ℕ) : Type 0 where
     pub has : HasSlot c G slot
     pub shape_is : M (Slot slot ShapeWord) ≡ shape
     pub future_is : M (Slot slot FutureWord) ≡ 0
+    pub seeded : M (Slot slot SeedWord) ≡ table_seed env.config.seed (M (Slot slot SerialWord))
     pub kind : IsFlatMade shape ⊎ IsNestedMade shape
     pub fits : first_page shape + table_pages (unpacked shape) ≤ env.geometry.pages
     pub run : (p : ℕ) → first_page shape ≤ p → p < first_page shape + table_pages (unpacked shape)

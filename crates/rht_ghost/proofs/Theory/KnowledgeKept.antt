@@ -2,6 +2,7 @@
 use Rattle.std.proofs.Common.{◌≡◌, ℕ, ◌+◌, ◌<◌, ◌≤◌, List, Option, Some, None, Bool, true, sym, ◌∙◌, ap, subst, inl, inr, arith}
 use Rattle.std.specs.Prelude.{IfSome}
 use Rattle.rht_words.specs.declared.env.Env.{Env}
+use Rattle.rht_nest.specs.Tables.{table_seed}
 use Rattle.rht_words.specs.Places.{Slot, SlotWord, ShapeWord, SeedWord, FutureWord, SerialWord, IsSlotWord, ChainLink, KeyWord}
 use Rattle.rht_words.specs.Shapes.{unpacked, size_of}
 use Rattle.rht_words.specs.Held as held
@@ -49,6 +50,8 @@ module _ (env : Env) (mix : ℕ → ℕ → ℕ → ℕ) where
       has = HasSlot-stay slot means.has;
       shape_is = stay.slot_words slot ShapeWord means.has tt ∙ means.shape_is;
       future_is = stay.slot_words slot FutureWord means.has tt ∙ means.future_is;
+      seeded = stay.slot_words slot SeedWord means.has tt ∙ means.seeded
+          ∙ ap (table_seed env.config.seed) (sym (stay.slot_words slot SerialWord means.has tt));
       kind = means.kind;
       fits = means.fits;
       run = λ p from below. stay.pages p (means.run p from below);

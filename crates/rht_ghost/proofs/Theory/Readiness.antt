@@ -2,7 +2,7 @@
 use Rattle.std.proofs.Common.{◌≡◌, ◌≢◌, ◌⊎◌, ℕ, ◌^◌, ◌+◌, ◌<◌, ◌≤◌, List, [], ◌∷◌, ◌++◌, Some, None, Bool, true, false, ◌*◌, ◌/◌, ◌%◌}
 use Rattle.rht_words.specs.declared.env.Env.{Env}
 use Rattle.rht_words.specs.Links.{link_of, head_of}
-use Rattle.rht_words.specs.Places.{Slot, SeedWord, Node, ListLink}
+use Rattle.rht_words.specs.Places.{Slot, SeedWord, SerialWord, Node, ListLink}
 use Rattle.rht_words.specs.Members.{In}
 use Rattle.rht_words.proofs.Memory.{Memory}
 use Rattle.rht_ghost.proofs.Theory.Ghosts.{put, Bucket, Owner, First, seat_of, is_used, PageOwner, Ghost, table_at, has_bit, PageHeld, PageOf, is_entry, lock_bit}
@@ -129,10 +129,11 @@ module _ (env : Env) (mix : ℕ → ℕ → ℕ → ℕ) where
     pub among : (p : ℕ) → has_bit index bits p ≡ true → p < env.geometry.pages
     pub owned : (p : ℕ) → has_bit index bits p ≡ true → G.page p ≡ owner
 
-  -- What is known when a table is attached: the caller has made it, with this seed.
-  pub record IsAttaching (d slot shape seed : ℕ) (M : Memory) (G : Ghost) : Type 0 where
+  -- What is known when a table is attached: the caller has made it, with this seed and this serial.
+  pub record IsAttaching (d slot shape seed serial : ℕ) (M : Memory) (G : Ghost) : Type 0 where
     pub made : IsMade env mix d M G slot shape
     pub seed_is : M (Slot slot SeedWord) ≡ seed
+    pub serial_is : M (Slot slot SerialWord) ≡ serial
 
   -- What is known when a page is entered: the caller has it, and the word is an entry in use of a table.
   pub record IsEntering (d j p : ℕ) (G : Ghost) : Type 0 where

@@ -382,7 +382,7 @@ module _ (env : Env) (mix : ℕ → ℕ → ℕ → ℕ) where
   ReadyFor c M G (GivesSlot s) = G.slot s ≡ SlotHeld c
   ReadyFor c M G (TakesPages index bits) = ArePagesOf env mix G index bits PageFree
   ReadyFor c M G (GivesPages index bits) = ArePagesOf env mix G index bits (PageHeld c)
-  ReadyFor c M G (Attaches slot shape seed serial) = IsAttaching env mix c slot shape seed M G
+  ReadyFor c M G (Attaches slot shape seed serial) = IsAttaching env mix c slot shape seed serial M G
   ReadyFor c M G (Enters j p) = IsEntering env mix c j p G
   ReadyFor c M G TakesWork = G.worker ≡ None
   ReadyFor c M G GivesWork = G.worker ≡ Some c

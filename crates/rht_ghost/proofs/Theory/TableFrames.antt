@@ -4,12 +4,13 @@ use Rattle.std.proofs.Common.{◌≡◌, ◌≢◌, ℕ, ◌*◌, ◌/◌, ◌<�
 use Rattle.std.proofs.lemmas.Bool.{false_from_ne_true, both_ways}
 use Rattle.rht_words.specs.declared.env.Env.{Env}
 use Rattle.rht_words.specs.Held as held
-use Rattle.rht_words.specs.Places.{Address, CurrentTable, PortCount, Slot, SlotWord, IsSlotWord, ShapeWord, SeedWord, FutureWord, NodeMap, PageMap, Node, NodeWord, ChainLink, KeyWord, OwnerWord, ListLink, PageWord}
+use Rattle.rht_words.specs.Places.{Address, CurrentTable, PortCount, Slot, SlotWord, IsSlotWord, ShapeWord, SeedWord, FutureWord, SerialWord, NodeMap, PageMap, Node, NodeWord, ChainLink, KeyWord, OwnerWord, ListLink, PageWord}
 use Rattle.rht_words.specs.Members.{In}
 use Rattle.rht_words.proofs.Memory.{Memory, IsWrite}
 use Rattle.rht_words.proofs.ChainLemmas.{IsSegment-members}
 use Rattle.rht_ghost.proofs.Theory.Ghosts.{has_entries, Table, blank_bucket, PageOwner, PageFree, PageHeld, PageOf, SlotOwner, SlotHeld, Ghost, table_of_page, table_of_slot, table_at, has_table, index_at, is_entry, is_entry_of, entry_word}
 use Rattle.rht_ghost.proofs.Theory.Wholes.{key_of, list_of, home, future_in, IsNoBucket, PlacedRight, EntriesRight, TableRight, TablesRight, SlotsRight, PagesRight, MovingRight, OutRight, IsHomeOf, IsFirstAt, IsLeavingAt, Owned, Whole, seated_at}
+use Rattle.rht_nest.specs.Tables.{table_seed}
 use Rattle.rht_ghost.proofs.Theory.Entries.{PlacedRight-pages}
 use Rattle.rht_ghost.proofs.Theory.Passed.{held-bucket, member-bucket, home-stays, TableStays, same-TableStays, TablesGrow, PassesStay, Passed-stays}
 use Rattle.rht_ghost.proofs.Theory.Knowns.{Known, KnownMaking}
@@ -369,9 +370,10 @@ module _ (env : Env) (mix : ℕ → ℕ → ℕ → ℕ) where
     pub TableRight-kept : (τ : ℕ) → τ < G.attached
         → M' (Slot (G.table τ).slot ShapeWord) ≡ M (Slot (G.table τ).slot ShapeWord)
         → M' (Slot (G.table τ).slot SeedWord) ≡ M (Slot (G.table τ).slot SeedWord)
+        → M' (Slot (G.table τ).slot SerialWord) ≡ M (Slot (G.table τ).slot SerialWord)
         → M' (Slot (G.table τ).slot FutureWord) ≡ future_in env mix G' τ → PlacedRight env mix (table τ) page τ
         → TableRight env mix M' G' τ
-    TableRight-kept τ l shape seed future placed =
+    TableRight-kept τ l shape seed serial future placed =
         let right = whole.tables.each τ l in
         let stays = kept.tables τ l in
         let owner = kept.slots (G.table τ).slot right.has_slot in
@@ -382,6 +384,8 @@ module _ (env : Env) (mix : ℕ → ℕ → ℕ → ℕ) where
           live = λ k. ap slot stays.slot ∙ owner ∙ right.live k;
           shape_is = ap (λ s. M' (Slot s ShapeWord)) stays.slot ∙ shape ∙ right.shape_is ∙ sym stays.shape;
           seed_is = ap (λ s. M' (Slot s SeedWord)) stays.slot ∙ seed ∙ right.seed_is ∙ sym stays.seed;
+          serial_is = ap (λ s. M' (Slot s SerialWord)) stays.slot ∙ serial ∙ right.serial_is ∙ sym stays.serial;
+          seeded = stays.seed ∙ right.seeded ∙ ap (table_seed env.config.seed) (sym stays.serial);
           future_is = ap (λ s. M' (Slot s FutureWord)) stays.slot ∙ future;
           placed = placed;
         }
@@ -412,7 +416,7 @@ module _ (env : Env) (mix : ℕ → ℕ → ℕ → ℕ) where
             let same : (w : SlotWord) → IsSlotWord w → M' (Slot s w) ≡ M (Slot s w) =
             λ w is. write.others (Slot s w) (here.slot_in, is) (apart.slots s w here.has_slot) in
             TableRight-kept M M' G G.table G.attached slot page whole kept a v write words τ l (same ShapeWord tt)
-            (same SeedWord tt) (same FutureWord tt ∙ here.future_is)
+            (same SeedWord tt) (same SerialWord tt) (same FutureWord tt ∙ here.future_is)
             (placed_kept M M' G G.table G.attached slot page whole kept a v write words τ l refl (λ p. pages_back p τ));
         slots = λ s has.
             let owner = back s has in

@@ -3,7 +3,7 @@ use Rattle.std.proofs.Common.{◌≡◌, ◌≢◌, ◌⊎◌, ◌↔◌, ℕ, �
 use Rattle.std.specs.Int.{bit_at}
 use Rattle.std.proofs.lemmas.Bool.{both_ways}
 use Rattle.rht_words.specs.declared.env.Env.{Env}
-use Rattle.rht_words.specs.Places.{Address, CurrentTable, WorkLock, PortCount, Slot, SlotWord, ShapeWord, SeedWord, FutureWord, StateWord, NodeMap, PageMap, ChainLink, KeyWord, ListLink, PageWord}
+use Rattle.rht_words.specs.Places.{Address, CurrentTable, WorkLock, PortCount, Slot, SlotWord, ShapeWord, SeedWord, FutureWord, SerialWord, StateWord, NodeMap, PageMap, ChainLink, KeyWord, ListLink, PageWord}
 use Rattle.rht_words.proofs.Memory.{Memory, IsWrite}
 use Rattle.rht_words.specs.Members.{In}
 use Rattle.rht_words.proofs.ChainLemmas.{IsSegment-members}
@@ -38,6 +38,9 @@ module _ (env : Env) (mix : ℕ → ℕ → ℕ → ℕ) where
             (apart.slots s ShapeWord right.has_slot) ∙ right.shape_is;
         seed_is = write.others (Slot s SeedWord) (right.slot_in, tt)
             (apart.slots s SeedWord right.has_slot) ∙ right.seed_is;
+        serial_is = write.others (Slot s SerialWord) (right.slot_in, tt)
+            (apart.slots s SerialWord right.has_slot) ∙ right.serial_is;
+        seeded = right.seeded;
         future_is = write.others (Slot s FutureWord) (right.slot_in, tt)
             (apart.slots s FutureWord right.has_slot) ∙ right.future_is;
         placed = right.placed;
@@ -61,6 +64,8 @@ module _ (env : Env) (mix : ℕ → ℕ → ℕ → ℕ) where
           live = r.live;
           shape_is = r.shape_is;
           seed_is = r.seed_is;
+          serial_is = r.serial_is;
+          seeded = r.seeded;
           future_is = r.future_is;
           placed = r.placed;
         };

@@ -6,12 +6,13 @@ use Rattle.rht_words.specs.declared.env.Env.{Env}
 use Rattle.rht_words.specs.declared.config.Kind.TheVariants.{Single}
 use Rattle.rht_words.specs.Links.{link_of, head_of, marker_of, future_of}
 use Rattle.rht_words.specs.Shapes.{unpacked, size_of}
-use Rattle.rht_words.specs.Places.{CurrentTable, WorkLock, PortCount, Slot, ShapeWord, SeedWord, FutureWord, StateWord, NodeMap, PageMap, Node, ChainLink, KeyWord, ListLink, PageWord, IsBucketPlace, place_of, pages_at}
+use Rattle.rht_words.specs.Places.{CurrentTable, WorkLock, PortCount, Slot, ShapeWord, SeedWord, FutureWord, SerialWord, StateWord, NodeMap, PageMap, Node, ChainLink, KeyWord, ListLink, PageWord, IsBucketPlace, place_of, pages_at}
 use Rattle.rht_words.specs.Chains.{IsSegment}
 use Rattle.rht_words.proofs.Memory.{Memory}
 use Rattle.rht_words.specs.Members.{In, IsDistinct}
 use Rattle.rht_words.proofs.Members.{count_below}
 use Rattle.rht_policy.specs.Mix.{bucket_of}
+use Rattle.rht_nest.specs.Tables.{table_seed}
 use Rattle.rht_ghost.proofs.Theory.Ghosts.{Part, Row, Top, has_entries, Table, Bucket, blank_bucket, Owner, Free, NodeHeld, First, Leaving, Behind, Taken, Ghost, Live, Retired, lock_bit, state_word, is_first, is_taken_by, seat_of, seated, table_at, has_table, index_at, PageOwner, PageFree, PageHeld, PageOf, is_entry, entry_word}
 use Rattle.rht_ghost.proofs.Theory.Ways.{first_page, child, followed, IsSpareIn, StandsAs, IsNestedShape}
 
@@ -115,7 +116,7 @@ module _ (env : Env) (mix : ℕ → ℕ → ℕ → ℕ) where
   abbrev pub PlacedRight : Table → (ℕ → PageOwner) → ℕ → Type 0
   PlacedRight table page τ = IsFlat table page τ ⊎ IsNested table page τ
 
-  -- a table that has been attached has its slot, whose words say what the ghost does
+  -- a table that has been attached has its slot, whose words say what the ghost does; its seed is that of the config with its serial
   pub record TableRight (M : Memory) (G : Ghost) (τ : ℕ) : Type 0 where
     pub slot_in : (G.table τ).slot < 8
     pub has_slot : has_table (G.slot (G.table τ).slot) ≡ true
@@ -123,6 +124,8 @@ module _ (env : Env) (mix : ℕ → ℕ → ℕ → ℕ) where
     pub live : G.current ≤ τ → G.slot (G.table τ).slot ≡ Live τ
     pub shape_is : M (Slot (G.table τ).slot ShapeWord) ≡ (G.table τ).shape
     pub seed_is : M (Slot (G.table τ).slot SeedWord) ≡ (G.table τ).seed
+    pub serial_is : M (Slot (G.table τ).slot SerialWord) ≡ (G.table τ).serial
+    pub seeded : (G.table τ).seed ≡ table_seed env.config.seed (G.table τ).serial
     pub future_is : M (Slot (G.table τ).slot FutureWord) ≡ future_in G τ
     pub placed : PlacedRight (G.table τ) G.page τ
 

@@ -1,0 +1,9 @@
+use Rattle.rht_core.proofs.Counting.NumberedTables.{never_again}
+use Rattle.rht_core.proofs.Counting.TablesInRuns.{tables}
+use Rattle.rht_core.proofs.laws.tables.Goals as goal
+
+pub returns-clause-each : goal.returns-clause-each
+returns-clause-each g c = tables g.row.M.Denot g.M.Mix.mix_of
+
+pub returns-clause-never_again : goal.returns-clause-never_again
+returns-clause-never_again g c = never_again g.row.M.Denot g.M.Mix.mix_of
