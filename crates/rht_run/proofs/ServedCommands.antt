@@ -190,6 +190,5 @@ module _ {M : Type 0} (mix : ℕ → ℕ → ℕ → ℕ) (t : Table M) where
     -- its own call has its cause
     pub served_caused : (now : Pass M) → HasServed mix t auto call reply before now → IsCaused mix t call reply before now
     served_caused now has =
-        let own : Finished = ended_with call (replied reply now.local.owners.items now.local.pairs.items) in
-        caused mix t call reply before now own has.made.behind has.pass
-        (has.finished ∙ ap (λ l. (book_of before).finished ++ l) has.made.whole) refl refl
+        caused mix t call reply before now has.made.behind has.pass
+        (has.finished ∙ ap (λ l. (book_of before).finished ++ l) has.made.whole)

@@ -6,7 +6,7 @@ pub mod Spent
 pub mod Rule
 -- what clauses say of a table and its passes
 pub mod Passes
--- why calls were answered as they were
+-- what the operations of a call have to show
 pub mod Caused
 -- what the calls of a command leave
 pub mod Served
