@@ -13,7 +13,6 @@ ghost use Rattle.rht_script.specs.declared.script.ScriptFault.{ScriptFault};
 ghost use Rattle.rht_script.specs.Grammar.{Said};
 ghost use Rattle.rht_script.specs.Sound.{IsSoundScript, IsCommandCall};
 ghost use Rattle.rht_script.specs.Text.{fault_line};
-ghost use Rattle.rht_registry.specs.Outcomes.{IsBuiltCommand};
 ghost use Rattle.rht_cli.specs.declared.form.Form.{Form};
 ghost use Rattle.rht_cli.specs.declared.form.Form.TheVariants.{Run, Replay, Gen};
 ghost use Rattle.rht_cli.specs.Forms.{form_of, HasForm, ReadsScript, IsInputOf, IsFaultOf};
@@ -219,7 +218,7 @@ fn run_by<M: Mix + Send, R: Threads + Wait + Sync, G: Gate + Sync>(
 ) -> Result<(Vec<Replies>, Closed), AllocError>
     requires sound { IsSoundScript script.now }
     requires mix { M.mix_of ≡ mix_named script.now.config }
-    requires built { AllByRecursion (IsBuiltCommand M script.now.config) script.now.commands.items }
+    requires asked { AllByRecursion (λ command. IsCommandCall command.1) script.now.commands.items }
     ensures { IfOk result (λ left. IsServedRun M (mix_named script.now.config) script.now.config script.now.auto
         script.now.commands.items left.0.items left.1) }
 {
