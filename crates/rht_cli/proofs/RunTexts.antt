@@ -1,110 +1,76 @@
--- What a run leaves that serves a script is printed as a text of the form `run` or `gen`. The laws of every run say what that means: the history of
--- the replies, and where no command is refused. No case is taken but that of the hash, which names the run's mix.
-use Rattle.std.proofs.Common.{◌≡◌, ℕ, suc, ◌+◌, ◌<◌, ◌≤◌, Bool, true, false, List, [], ◌∷◌, length, refl, sym, ◌∙◌, ap, subst, arith}
+-- What a run leaves that serves a script is printed as a text of the form `run` or `gen`; and its replies can be counted.
+use Rattle.std.proofs.Common.{◌≡◌, ℕ, suc, ◌+◌, ◌<◌, ◌≤◌, Bool, true, false, List, [], ◌∷◌, length, Option, refl, sym, ap, subst, arith}
 use Rattle.std.specs.Prelude.{◌==◌, if◌then◌else◌, slice_index_or}
 use Rattle.std.specs.List.{AllByRecursion}
 use Rattle.std.proofs.lemmas.List.{get_or_default}
 use Rattle.rht_words.specs.declared.config.Config.{Config}
 use Rattle.rht_words.specs.declared.config.Hash.{Hash}
-use Rattle.rht_words.specs.declared.config.Hash.TheVariants as hashes
-use Rattle.rht_policy.specs.declared.mix.Lookup3.{Lookup3}
-use Rattle.rht_policy.specs.declared.mix.Low.{Low}
-use Rattle.rht_policy.specs.Mix.{mix_of_hash}
+use Rattle.rht_policy.specs.Mix.{mix_named}
 use Rattle.rht_model.specs.declared.bindings.Closed.{Closed}
 use Rattle.rht_model.specs.declared.history.Call.{Call}
 use Rattle.rht_model.specs.declared.finished.Finished.{Finished}
-use Rattle.rht_model.specs.declared.history.Entry.{Entry}
 use Rattle.rht_model.specs.Endings.{Ending}
-use Rattle.rht_core.specs.NeverRefused.{IsRoomyFor, AreAllTaken, IsSmallFor, AreAsModel}
 use Rattle.rht_core.specs.Serving.{Serves, calls_of, IsServedRun}
-use Rattle.rht_core.specs.ToldHistories.{entries_told, endings_by, IsTold}
-use Rattle.rht_core.proofs.Histories.NeverRefused.{roomy_takes_all, one_worker_as_model}
-use Rattle.rht_core.proofs.Histories.ToldHistories.{told}
+use Rattle.rht_run.specs.ServedRuns.{tag_of, HasRun}
+use Rattle.rht_run.proofs.ServingRuns.{HasRun-served}
+use Rattle.rht_registry.proofs.SoundCommands.{IsCommandFor, calls_of-one}
+use Rattle.rht_script.specs.Generated.{generated_said}
 use Rattle.rht_script.specs.Grammar.{Said}
 use Rattle.rht_script.specs.Text.{run_text}
 use Rattle.rht_script.specs.SummaryText.{summary_line, AreCountable}
-use Rattle.rht_registry.proofs.SoundCommands.{IsCommandFor, calls_of-one}
 use Rattle.rht_cli.specs.declared.form.Form.TheVariants.{Run, Gen}
-use Rattle.rht_cli.specs.Forms.{IsTextOf}
-use Rattle.rht_cli.specs.RunText.{IsServedBy, TellsBy, whole_text, summary_text, IsRunText}
+use Rattle.rht_cli.specs.Input.{IsScriptRead}
+use Rattle.rht_cli.specs.Forms.{Prints}
+use Rattle.rht_cli.specs.RunText.{whole_text, summary_text, IsRunText}
 
--- what is so of each run that serves commands is so by any hash
-by_hash : (config : Config) (auto : Bool) (commands : List (ℕ × Call)) (endings : List (List Ending)) (closed : Closed) (Holds : Type 0)
-    → ((M : Type 0) (mix : ℕ → ℕ → ℕ → ℕ) → IsServedRun M mix config auto commands endings closed → Holds)
-    → (hash : Hash) → IsServedBy hash config auto commands endings closed → Holds
-by_hash config auto commands endings closed Holds each hashes.Mix served = each Lookup3 (mix_of_hash hashes.Mix) served
-by_hash config auto commands endings closed Holds each hashes.Low served = each Low (mix_of_hash hashes.Low) served
-
--- there is a history that tells of the commands, and fits the run
-has_told : (hash : Hash) (config : Config) (auto : Bool) (commands : List (ℕ × Call)) (endings : List (List Ending)) (closed : Closed)
-    (served : IsServedBy hash config auto commands endings closed)
-    → (history : List Entry) × IsTold config commands endings closed history × TellsBy hash config auto commands endings closed served history
-has_told hashes.Mix config auto commands endings closed served =
-    let has = told Lookup3 (mix_of_hash hashes.Mix) config auto commands endings closed served in (has.0, has.1.told, has.1)
-has_told hashes.Low config auto commands endings closed served =
-    let has = told Low (mix_of_hash hashes.Low) config auto commands endings closed served in (has.0, has.1.told, has.1)
-
-module _ (config : Config) (auto : Bool) (commands : List (ℕ × Call)) (endings : List (List Ending)) (closed : Closed)
-    (served : IsServedBy config.hash config auto commands endings closed) where
-  -- as many ports are closed as are listed
-  pub closed-keys : closed.keys ≡ length closed.bindings.pairs
-  closed-keys =
-      by_hash config auto commands endings closed (closed.keys ≡ length closed.bindings.pairs) (λ M mix run. run.closed_is.keys)
-      config.hash served
-
-  -- where the table is roomy for the commands none is refused
-  takes_all : IsRoomyFor config commands → AreAllTaken config commands endings closed
-  takes_all =
-      by_hash config auto commands endings closed (IsRoomyFor config commands → AreAllTaken config commands endings closed)
-      (λ M mix run. roomy_takes_all M mix config auto commands endings closed run) config.hash served
-
-  -- and where one worker has few ports its commands are answered as the model answers them
-  as_model : IsSmallFor config (calls_of 1 commands) → AreAsModel config.kind (calls_of 1 commands) (endings_by 0 endings) closed
-  as_model =
-      by_hash config auto commands endings closed
-      (IsSmallFor config (calls_of 1 commands) → AreAsModel config.kind (calls_of 1 commands) (endings_by 0 endings) closed)
-      (λ M mix run. one_worker_as_model M mix config auto commands endings closed run) config.hash served
-
--- so what is printed of what was served is the text of a run
+-- what is printed of what was served is the text of a run
 IsRunText-served : (printed : List (List Ending) → Closed → List ℕ) (said : Said) (endings : List (List Ending)) (closed : Closed)
-    → AllByRecursion (IsCommandFor said.config) said.commands
-    → IsServedBy said.config.hash said.config said.auto said.commands endings closed
+    → AllByRecursion (IsCommandFor said.config) said.commands → HasRun said.config said.auto said.commands endings closed
     → IsRunText printed said (printed endings closed)
-IsRunText-served printed said endings closed all served =
-    let has = has_told said.config.hash said.config said.auto said.commands endings closed served in
-    record {
-      endings = endings;
-      closed = closed;
-      served = served;
-      written = refl;
-      history = has.0;
-      told = has.1;
-      fits = has.2;
-      in_order = λ one.
-          has.1.in_order one
-          ∙ ap (λ calls. entries_told 0 calls (endings_by 0 endings)) (sym (calls_of-one said.config said.commands one all));
-      roomy = takes_all said.config said.auto said.commands endings closed served;
-      small = λ is.
-          let own = calls_of-one said.config said.commands is.one all in
-          subst (λ calls. AreAsModel said.config.kind calls (endings_by 0 endings) closed) (sym own)
-          (as_model said.config said.auto said.commands endings closed served (subst (IsSmallFor said.config) own is));
-    }
+IsRunText-served printed said endings closed all run = record {
+  endings = endings;
+  closed = closed;
+  run = run;
+  in_script_order = λ one. sym (calls_of-one said.config said.commands one all);
+  written = refl;
+}
 
--- which is one of the form's, be it `run`
-pub IsTextOf-run : (said : Said) (endings : List (List Ending)) (closed : Closed)
-    → AllByRecursion (IsCommandFor said.config) said.commands
-    → IsServedBy said.config.hash said.config said.auto said.commands endings closed
-    → IsTextOf Run said (run_text endings closed.bindings.pairs closed.size)
-unfolding IsTextOf
-IsTextOf-run said endings closed all served = IsRunText-served whole_text said endings closed all served
+-- which the form prints, be it `run`
+pub Prints-run : (left left_after : Option (List ℕ)) (said : Said) (endings : List (List Ending)) (closed : Closed)
+    → IsScriptRead left left_after said → AllByRecursion (IsCommandFor said.config) said.commands
+    → HasRun said.config said.auto said.commands endings closed
+    → Prints Run left left_after (run_text endings closed.bindings.pairs closed.size)
+unfolding Prints
+Prints-run left left_after said endings closed read all run =
+    record { said = said; read = read; is_text = IsRunText-served whole_text said endings closed all run }
 
 -- or `gen`
-pub IsTextOf-gen : (number : ℕ) (said : Said) (endings : List (List Ending)) (closed : Closed)
-    → AllByRecursion (IsCommandFor said.config) said.commands
-    → IsServedBy said.config.hash said.config said.auto said.commands endings closed
-    → IsTextOf (Gen number) said (summary_line number endings closed.bindings.pairs)
-unfolding IsTextOf
-IsTextOf-gen number said endings closed all served = IsRunText-served (summary_text number) said endings closed all served
+pub Prints-gen : (number : ℕ) (left : Option (List ℕ)) (said : Said) (endings : List (List Ending)) (closed : Closed)
+    → said ≡ generated_said number → AllByRecursion (IsCommandFor said.config) said.commands
+    → HasRun said.config said.auto said.commands endings closed
+    → Prints (Gen number) left left (summary_line number endings closed.bindings.pairs)
+unfolding Prints
+Prints-gen number left said endings closed says all run = (
+  refl,
+  subst (λ (s : Said). IsRunText (summary_text number) s (summary_line number endings closed.bindings.pairs)) says
+      (IsRunText-served (summary_text number) said endings closed all run),
+)
+
+-- ---- what all of that rests on
+
+-- what was served by the hash that the config names is a run of which that is so
+pub HasRun-hash : (hash : Hash) (config : Config) (auto : Bool) (commands : List (ℕ × Call)) (endings : List (List Ending))
+    (closed : Closed) → config.hash ≡ hash
+    → IsServedRun (tag_of hash) (mix_named config) config auto commands endings closed
+    → HasRun config auto commands endings closed
+HasRun-hash hash config auto commands endings closed is served =
+    HasRun-served config auto commands endings closed
+    (subst (λ (h : Hash). IsServedRun (tag_of h) (mix_named config) config auto commands endings closed) (sym is) served)
+
+-- as many ports are closed as are listed
+pub closed-keys : (config : Config) (auto : Bool) (commands : List (ℕ × Call)) (endings : List (List Ending)) (closed : Closed)
+    → HasRun config auto commands endings closed → closed.keys ≡ length closed.bindings.pairs
+closed-keys config auto commands endings closed run = run.served.closed_is.keys
 
 -- ---- how many replies there are
 
@@ -129,23 +95,14 @@ length-calls_of worker (command ∷ commands) =
     with_or_without (command.0 == worker) command.1 (calls_of worker commands) (length commands) (length-calls_of worker commands)
 
 -- so where there are few commands the replies can be counted
-module _ (M : Type 0) (mix : ℕ → ℕ → ℕ → ℕ) (config : Config) (auto : Bool) (commands : List (ℕ × Call))
-    (endings : List (List Ending)) (closed : Closed) where
-  countable_in : config.callers ≤ 65536 → length commands ≤ 4294967296
-      → IsServedRun M mix config auto commands endings closed → AreCountable endings
-  countable_in callers few run = record {
-    workers = omega (arith, run.workers, callers);
-    replies = λ i default within.
-        let below : i < config.callers = omega (arith, within, run.workers) in
-        let own = length-served auto (calls_of (i + 1) commands) (slice_index_or endings i []) _ (run.each i below).serves in
-        let calls = length-calls_of (i + 1) commands in
-        let same = ap {B = ℕ} length (get_or_default endings i default [] within) in
-        omega (arith, own, calls, same, few);
-  }
-
-module _ (config : Config) (auto : Bool) (commands : List (ℕ × Call)) (endings : List (List Ending)) (closed : Closed) where
-  pub countable : config.callers ≤ 65536 → length commands ≤ 4294967296
-      → IsServedBy config.hash config auto commands endings closed → AreCountable endings
-  countable callers few served =
-      by_hash config auto commands endings closed (AreCountable endings)
-      (λ M mix run. countable_in M mix config auto commands endings closed callers few run) config.hash served
+pub countable : (config : Config) (auto : Bool) (commands : List (ℕ × Call)) (endings : List (List Ending)) (closed : Closed)
+    → config.callers ≤ 65536 → length commands ≤ 4294967296 → HasRun config auto commands endings closed → AreCountable endings
+countable config auto commands endings closed callers few run = record {
+  workers = omega (arith, run.served.workers, callers);
+  replies = λ i default within.
+      let below : i < config.callers = omega (arith, within, run.served.workers) in
+      let own = length-served auto (calls_of (i + 1) commands) (slice_index_or endings i []) _ (run.served.each i below).serves in
+      let calls = length-calls_of (i + 1) commands in
+      let same = ap {B = ℕ} length (get_or_default endings i default [] within) in
+      omega (arith, own, calls, same, few);
+}

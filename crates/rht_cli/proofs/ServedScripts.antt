@@ -3,7 +3,6 @@
 use Rattle.std.proofs.Common.{◌≡◌, ℕ, List, Option, Result, Ok, Err, refl, inl, inr, arith}
 use Rattle.rht_io.specs.declared.source.Failed.{Failed}
 use Rattle.rht_io.specs.Told.{Rose, Puts}
-use Rattle.rht_script.specs.Grammar.{Said}
 use Rattle.rht_registry.specs.declared.replaying.ReplayError.{ReplayError}
 use Rattle.rht_registry.specs.declared.replaying.ReplayError.TheVariants as replays
 use Rattle.rht_registry.specs.Players.{Writes}
@@ -11,7 +10,7 @@ use Rattle.rht_cli.specs.declared.form.Form.{Form}
 use Rattle.rht_cli.specs.declared.ending.Failure.{Failure}
 use Rattle.rht_cli.specs.declared.ending.Failure.TheVariants.{Fault, Read, Write, Memory}
 use Rattle.rht_cli.specs.Input.{IsUnread}
-use Rattle.rht_cli.specs.Forms.{ReadsScript, IsInputOf, IsTextOf}
+use Rattle.rht_cli.specs.Forms.{ReadsScript, Prints}
 use Rattle.rht_cli.specs.Endings.{FailsBy, Serves, ServesUnread, served_by, replayed_by}
 use Rattle.rht_cli.proofs.ToldInput.{IsFaultOf-script}
 
@@ -33,28 +32,22 @@ module _ {S O : Type 0} (left : S → Option (List ℕ)) (sfaults : S → ℕ) (
   FailsBy-unread reads o Memory unread = inl refl
 
   -- the text was put: it was written, or the sink failed and a prefix of it was
-  pub Serves-put : (o o' : O) (said : Said) (text : List ℕ) (put : Result (Unit {0}) Failed)
-      → IsInputOf form (left s) (left s') said → IsTextOf form said text → Puts held ofaults o o' put text
+  pub Serves-put : (o o' : O) (text : List ℕ) (put : Result (Unit {0}) Failed)
+      → Prints form (left s) (left s') text → Puts held ofaults o o' put text
       → Serves left sfaults held ofaults form s s' o o' (served_by put)
-  Serves-put o o' said text (Ok done) read printed puts =
-      record { said = said; text = text; read = read; printed = printed; written = puts.whole }
-  Serves-put o o' said text (Err failed) read printed puts = (
-    puts.failed,
-    record { said = said; text = text; read = read; printed = printed; written = puts.prefix },
-  )
+  Serves-put o o' text (Ok done) printed puts = record { text = text; printed = printed; written = puts.whole }
+  Serves-put o o' text (Err failed) printed puts =
+      (puts.failed, record { text = text; printed = printed; written = puts.prefix })
 
   -- the text is a replay: it was written, or the sink failed or memory ran out and a prefix of it was
-  pub Serves-replayed : (o o' : O) (said : Said) (text : List ℕ) (replayed : Result (Unit {0}) ReplayError)
-      → IsInputOf form (left s) (left s') said → IsTextOf form said text → Writes held ofaults o o' replayed text
+  pub Serves-replayed : (o o' : O) (text : List ℕ) (replayed : Result (Unit {0}) ReplayError)
+      → Prints form (left s) (left s') text → Writes held ofaults o o' replayed text
       → Serves left sfaults held ofaults form s s' o o' (replayed_by replayed)
-  Serves-replayed o o' said text (Ok done) read printed writes =
-      record { said = said; text = text; read = read; printed = printed; written = writes.whole }
-  Serves-replayed o o' said text (Err replays.Write) read printed writes = (
-    writes.write refl,
-    record { said = said; text = text; read = read; printed = printed; written = writes.prefix },
-  )
-  Serves-replayed o o' said text (Err replays.Memory) read printed writes =
-      inr (record { said = said; text = text; read = read; printed = printed; written = writes.prefix })
+  Serves-replayed o o' text (Ok done) printed writes = record { text = text; printed = printed; written = writes.whole }
+  Serves-replayed o o' text (Err replays.Write) printed writes =
+      (writes.write refl, record { text = text; printed = printed; written = writes.prefix })
+  Serves-replayed o o' text (Err replays.Memory) printed writes =
+      inr (record { text = text; printed = printed; written = writes.prefix })
 
   -- a form that reads nothing is served so whatever source there is
   pub Serves-unread : (o o' : O) (served : Result (Unit {0}) Failure) → ServesUnread held ofaults form o o' served

@@ -7,13 +7,12 @@ use Rattle.std.proofs.lemmas.Bool.{cases_lt}
 use Rattle.std.proofs.lemmas.List.{length-take-le}
 use Rattle.rht_script.specs.declared.script.ScriptFault.{ScriptFault}
 use Rattle.rht_script.specs.Grammar.{Said, reading_of}
-use Rattle.rht_script.specs.Generated.{generated_said}
 use Rattle.rht_script.specs.Reading.{FirstFault}
 use Rattle.rht_script.proofs.ReadingLemmas.{reading_of-front, reading_of-long}
 use Rattle.rht_cli.specs.declared.form.Form.{Form}
 use Rattle.rht_cli.specs.declared.form.Form.TheVariants.{Run, Replay, Gen}
 use Rattle.rht_cli.specs.Input.{IsRead, IsScriptRead, IsNoScript}
-use Rattle.rht_cli.specs.Forms.{ReadsScript, IsInputOf, IsFaultOf}
+use Rattle.rht_cli.specs.Forms.{ReadsScript, Prints, HasInput, IsFaultOf}
 
 -- what was read of told bytes, to their end, is all of them
 all_read : (bytes piece : List ℕ) (left_after : Option (List ℕ))
@@ -64,13 +63,20 @@ one_first bytes rest left_after first second one other =
     let is_second = fault_told bytes left_after second other in cc
 
 -- told input isn't both whole and at fault
-pub not_both : (form : Form) (bytes : List ℕ) (rest left_after : Option (List ℕ)) (said : Said)
-    (fault : ScriptFault)
-    → IsInputOf form (Some bytes) rest said → IsFaultOf form (Some bytes) left_after fault → ⊥
-unfolding IsInputOf IsFaultOf
-not_both Run bytes rest left_after said fault input refused = script_or_none bytes rest left_after said fault input refused
-not_both Replay bytes rest left_after said fault input refused = script_or_none bytes rest left_after said fault input refused
-not_both (Gen number) bytes rest left_after said fault input refused = absurd refused
+pub not_both : (form : Form) (bytes : List ℕ) (rest left_after : Option (List ℕ)) (fault : ScriptFault)
+    → HasInput form (Some bytes) rest → IsFaultOf form (Some bytes) left_after fault → ⊥
+unfolding HasInput IsFaultOf
+not_both Run bytes rest left_after fault input refused = script_or_none bytes rest left_after input.said fault input.read refused
+not_both Replay bytes rest left_after fault input refused = script_or_none bytes rest left_after input.said fault input.read refused
+not_both (Gen number) bytes rest left_after fault input refused = absurd refused
+
+-- where a form prints a text its input was read
+pub HasInput-printed : (form : Form) (left left_after : Option (List ℕ)) (text : List ℕ) → Prints form left left_after text
+    → HasInput form left left_after
+unfolding HasInput Prints
+HasInput-printed Run left left_after text printed = record { said = printed.said; read = printed.read }
+HasInput-printed Replay left left_after text printed = record { said = printed.said; read = printed.read }
+HasInput-printed (Gen number) left left_after text printed = printed.0
 
 -- told input has one first fault
 pub one_fault : (form : Form) (bytes : List ℕ) (rest left_after : Option (List ℕ))
@@ -83,12 +89,12 @@ one_fault Replay bytes rest left_after first second one other = one_first bytes 
 one_fault (Gen number) bytes rest left_after first second one other = absurd one
 
 -- a script that was read is the input of a form that reads one
-pub IsInputOf-script : (form : Form) → ReadsScript form → (left left_after : Option (List ℕ)) (said : Said)
-    → IsScriptRead left left_after said → IsInputOf form left left_after said
-unfolding IsInputOf
-IsInputOf-script Run reads left left_after said read = read
-IsInputOf-script Replay reads left left_after said read = read
-IsInputOf-script (Gen number) reads left left_after said read = absurd reads
+pub HasInput-script : (form : Form) → ReadsScript form → (left left_after : Option (List ℕ)) (said : Said)
+    → IsScriptRead left left_after said → HasInput form left left_after
+unfolding HasInput
+HasInput-script Run reads left left_after said read = record { said = said; read = read }
+HasInput-script Replay reads left left_after said read = record { said = said; read = read }
+HasInput-script (Gen number) reads left left_after said read = absurd reads
 
 -- and other bytes that were read are input that is at fault
 pub IsFaultOf-script : (form : Form) → ReadsScript form → (left left_after : Option (List ℕ)) (fault : ScriptFault)
@@ -99,10 +105,9 @@ IsFaultOf-script Replay reads left left_after fault read = read
 IsFaultOf-script (Gen number) reads left left_after fault read = absurd reads
 
 -- input that is left as it is is that of `gen`
-pub IsInputOf-gen : (number : ℕ) (left : Option (List ℕ)) (said : Said) → said ≡ generated_said number
-    → IsInputOf (Gen number) left left said
-unfolding IsInputOf
-IsInputOf-gen number left said says = (refl, says)
+pub HasInput-gen : (number : ℕ) (left : Option (List ℕ)) → HasInput (Gen number) left left
+unfolding HasInput
+HasInput-gen number left = refl
 
 -- told bytes that are a script can be read
 pub IsScriptRead-told : (bytes : List ℕ) (said : Said) → reading_of bytes ≡ Ok said → IsScriptRead (Some bytes) (Some []) said

@@ -5,7 +5,6 @@ use Rattle.rht_io.specs.declared.source.Failed.{Failed}
 use Rattle.rht_io.specs.Told.{Rose, AppendsPrefix}
 use Rattle.rht_script.specs.declared.script.ReadError.{ReadError}
 use Rattle.rht_script.specs.declared.script.ReadError.TheVariants as reads
-use Rattle.rht_script.specs.Grammar.{Said}
 use Rattle.rht_script.specs.Text.{fault_line}
 use Rattle.rht_registry.specs.declared.replaying.ReplayError.{ReplayError}
 use Rattle.rht_registry.specs.declared.replaying.ReplayError.TheVariants as replays
@@ -14,7 +13,7 @@ use Rattle.rht_cli.specs.declared.ending.Failure.{Failure}
 use Rattle.rht_cli.specs.declared.ending.Failure.TheVariants.{Fault, Read, Write, Memory}
 use Rattle.rht_cli.specs.declared.ending.Ending.{Ending}
 use Rattle.rht_cli.specs.declared.ending.Ending.TheVariants.{Done, Usage, Unserved}
-use Rattle.rht_cli.specs.Forms.{ReadsScript, IsInputOf, IsFaultOf, IsTextOf}
+use Rattle.rht_cli.specs.Forms.{ReadsScript, Prints, IsFaultOf}
 
 -- why a script wasn't read
 abbrev pub of_read_error : ReadError → Failure
@@ -72,18 +71,14 @@ status_line status =
 
 -- The form's input was read, and the whole of a text that it prints was written.
 pub record IsDone (form : Form) (left left_after held held_after : Option (List ℕ)) : Type 0 where
-  pub said : Said
   pub text : List ℕ
-  pub read : IsInputOf form left left_after said
-  pub printed : IsTextOf form said text
+  pub printed : Prints form left left_after text
   pub written : Appends held held_after text
 
 -- The form's input was read, and a prefix of a text that it prints was written.
 pub record IsCutShort (form : Form) (left left_after held held_after : Option (List ℕ)) : Type 0 where
-  pub said : Said
   pub text : List ℕ
-  pub read : IsInputOf form left left_after said
-  pub printed : IsTextOf form said text
+  pub printed : Prints form left left_after text
   pub written : AppendsPrefix held held_after text
 
 -- what a failure to serve a form means for the source and the sink

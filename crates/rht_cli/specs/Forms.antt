@@ -1,4 +1,4 @@
--- The command forms: which words they are, what their input is, and what text they print.
+-- The command forms: which words they are, what their input is, and what text they print for it.
 -- What a status means rests on the relations here and on nothing else of a form.
 use Rattle.std.specs.Prelude.{◌≡◌, ℕ, ◌^◌, ◌&&◌, nat_lt, nat_le, if◌then◌else◌, Option, None, Some, List, [], ◌∷◌, length, codes}
 use Rattle.std.specs.Char.{is_ascii_digit}
@@ -53,21 +53,32 @@ ReadsScript Run = Unit {0}
 ReadsScript Replay = Unit {0}
 ReadsScript (Gen number) = ⊥
 
--- what reading this form's input means, and that the input says this; `gen` leaves it as it is, and does what the script of its
--- number says
-unfoldable pub IsInputOf : Form → Option (List ℕ) → Option (List ℕ) → Said → Type 0
-IsInputOf Run left left_after said = IsScriptRead left left_after said
-IsInputOf Replay left left_after said = IsScriptRead left left_after said
-IsInputOf (Gen number) left left_after said = (left_after ≡ left) × (said ≡ generated_said number)
+-- A script was read, and the text is one for what it says.
+pub record IsPrintedOf (IsText : Said → List ℕ → Type 0) (left left_after : Option (List ℕ)) (text : List ℕ) : Type 0 where
+  pub said : Said
+  pub read : IsScriptRead left left_after said
+  pub is_text : IsText said text
+
+-- This form's input was read, which leaves so much of it, and the text is one that the form prints for it. `gen` reads nothing, and
+-- does what the script of its number says.
+unfoldable pub Prints : Form → Option (List ℕ) → Option (List ℕ) → List ℕ → Type 0
+Prints Run left left_after text = IsPrintedOf (IsRunText whole_text) left left_after text
+Prints Replay left left_after text = IsPrintedOf IsReplayText left left_after text
+Prints (Gen number) left left_after text = (left_after ≡ left) × IsRunText (summary_text number) (generated_said number) text
+
+-- Reading the bytes that are left leaves the rest, and they are a script.
+pub record IsScript (left rest : Option (List ℕ)) : Type 0 where
+  pub said : Said
+  pub read : IsScriptRead left rest said
+
+-- what is left is this form's input, of which reading it leaves the rest
+unfoldable pub HasInput : Form → Option (List ℕ) → Option (List ℕ) → Type 0
+HasInput Run left rest = IsScript left rest
+HasInput Replay left rest = IsScript left rest
+HasInput (Gen number) left rest = rest ≡ left
 
 -- what it means that this form's input was read and is at fault
 unfoldable pub IsFaultOf : Form → Option (List ℕ) → Option (List ℕ) → ScriptFault → Type 0
 IsFaultOf Run left left_after fault = IsNoScript left left_after fault
 IsFaultOf Replay left left_after fault = IsNoScript left left_after fault
 IsFaultOf (Gen number) left left_after fault = ⊥
-
--- the text is one that this form prints where its input says this
-unfoldable pub IsTextOf : Form → Said → List ℕ → Type 0
-IsTextOf Run said text = IsRunText whole_text said text
-IsTextOf Replay said text = IsReplayText said text
-IsTextOf (Gen number) said text = IsRunText (summary_text number) said text

@@ -10,15 +10,13 @@ ghost use Rattle.rht_io.specs.Told.{Rose, PutsLine};
 ghost use Rattle.rht_policy.specs.Mix.{mix_named};
 ghost use Rattle.rht_core.specs.Serving.{IsServedRun};
 ghost use Rattle.rht_script.specs.declared.script.ScriptFault.{ScriptFault};
-ghost use Rattle.rht_script.specs.Grammar.{Said};
 ghost use Rattle.rht_script.specs.Sound.{IsSoundScript, IsCommandCall};
 ghost use Rattle.rht_script.specs.Text.{fault_line};
-ghost use Rattle.rht_registry.specs.Outcomes.{IsBuiltCommand};
+ghost use Rattle.rht_run.specs.ServedRuns.{tag_of, HasRun};
+ghost use Rattle.rht_registry.specs.Players.{IsReplayed};
 ghost use Rattle.rht_cli.specs.declared.form.Form.{Form};
 ghost use Rattle.rht_cli.specs.declared.form.Form.TheVariants.{Run, Replay, Gen};
-ghost use Rattle.rht_cli.specs.Forms.{form_of, HasForm, ReadsScript, IsInputOf, IsFaultOf};
-ghost use Rattle.rht_cli.specs.RunText.{IsServedBy};
-ghost use Rattle.rht_cli.specs.ReplayText.{IsReplayedBy};
+ghost use Rattle.rht_cli.specs.Forms.{form_of, HasForm, ReadsScript, HasInput, IsFaultOf};
 ghost use Rattle.rht_cli.specs.Endings.{IsDone, IsCutShort, Serves, ServesUnread, served_by, replayed_by, ending_of, status_line};
 
 use crate::ending::{Ending, Failure};
@@ -88,9 +86,9 @@ pub fn run<R: Threads + Wait + Sync, S: Source, O: Sink, E: Sink, G: Gate + Sync
         → PutsLine (E.held err.old) (E.held err.new) (E.faults err.old) (E.faults err.new) (status_line result) }
 
     // Input that is whole is served, unless memory runs out.
-    ensures served { (form : Form) (bytes : List ℕ) (rest : Option (List ℕ)) (said : Said)
+    ensures served { (form : Form) (bytes : List ℕ) (rest : Option (List ℕ))
         → form_of (map string_bytes words.now.items) ≡ Some form
-        → S.left source.old ≡ Some bytes → IsInputOf form (Some bytes) rest said
+        → S.left source.old ≡ Some bytes → HasInput form (Some bytes) rest
         → ¬ Rose (S.faults source.old) (S.faults source.new) → ¬ Rose (O.faults out.old) (O.faults out.new)
         → (result ≡ 0) ⊎ (result ≡ 5) }
 
@@ -183,7 +181,8 @@ fn serve_gen<R: Threads + Wait + Sync, O: Sink, G: Gate + Sync>(
 /// Replays a script on a table whose ports are hashed as its config says.
 fn replay_hashed<O: Sink>(alloc: Global, script: &Script, out: &mut O) -> Result<(), ReplayError>
     requires { IsSoundScript script.now }
-    ensures { IsReplayedBy script.now.config.hash script.now O.held O.faults out.old out.new result }
+    ensures { IsReplayed (tag_of script.now.config.hash) (mix_named script.now.config) script.now O.held O.faults
+        out.old out.new result }
 {
     match script.config.hash {
         Hash::Mix => replay::<Lookup3, _>(alloc, script, out),
@@ -201,8 +200,7 @@ fn run_hashed<R: Threads + Wait + Sync, G: Gate + Sync>(
 ) -> Result<(Vec<Replies>, Closed), AllocError>
     requires sound { IsSoundScript script.now }
     requires asked { AllByRecursion (λ command. IsCommandCall command.1) script.now.commands.items }
-    ensures { IfOk result (λ left. IsServedBy script.now.config.hash script.now.config script.now.auto
-        script.now.commands.items left.0.items left.1) }
+    ensures { IfOk result (λ left. HasRun script.now.config script.now.auto script.now.commands.items left.0.items left.1) }
 {
     match script.config.hash {
         Hash::Mix => run_by::<Lookup3, _, _>(rt, alloc, script, gate),
@@ -219,7 +217,7 @@ fn run_by<M: Mix + Send, R: Threads + Wait + Sync, G: Gate + Sync>(
 ) -> Result<(Vec<Replies>, Closed), AllocError>
     requires sound { IsSoundScript script.now }
     requires mix { M.mix_of ≡ mix_named script.now.config }
-    requires built { AllByRecursion (IsBuiltCommand M script.now.config) script.now.commands.items }
+    requires asked { AllByRecursion (λ command. IsCommandCall command.1) script.now.commands.items }
     ensures { IfOk result (λ left. IsServedRun M (mix_named script.now.config) script.now.config script.now.auto
         script.now.commands.items left.0.items left.1) }
 {

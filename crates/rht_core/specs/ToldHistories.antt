@@ -9,26 +9,27 @@ use Rattle.rht_model.specs.declared.bindings.Closed.{Closed}
 use Rattle.rht_model.specs.declared.history.Call.{Call}
 use Rattle.rht_model.specs.declared.history.Entry.{Entry}
 use Rattle.rht_model.specs.declared.history.Reply.TheVariants.{NoNode, TooBig}
+use Rattle.rht_model.specs.declared.finished.Finished.{Finished}
 use Rattle.rht_model.specs.Multimap.{unbound}
 use Rattle.rht_model.specs.Answers.{port_of}
-use Rattle.rht_model.specs.Endings.{Ending, ended_with}
+use Rattle.rht_model.specs.Endings.{Ending}
 use Rattle.rht_model.specs.Histories.{IsLegal, bindings_left}
 use Rattle.rht_model.specs.Listing.{Lists}
 use Rattle.rht_core.specs.Alone.{entry_done}
 use Rattle.rht_core.specs.NodesUsed.{needs_node}
 use Rattle.rht_core.specs.Numbered.{Numbered, history_of}
 use Rattle.rht_core.specs.RunHistories.{Fits}
-use Rattle.rht_core.specs.Serving.{calls_of, IsServedRun}
+use Rattle.rht_core.specs.Runs.{run_of}
+use Rattle.rht_core.specs.Serving.{calls_of, Serves, IsServedRun}
 use Rattle.rht_stands.specs.StandsFor.{AreBound}
 
--- the entries of a caller whose calls ended so: one for each call about bindings, in the order of the calls
-abbrev pub entries_told : ℕ → List Call → List Ending → List Entry
-entries_told caller [] endings = []
-entries_told caller (call ∷ calls) [] = []
-entries_told caller (call ∷ calls) (ending ∷ endings) =
-    if is_some (port_of call)
-    then entry_done caller (ended_with call ending) ∷ entries_told caller calls endings
-    else entries_told caller calls endings
+-- the entries of these finished calls of a caller: one for each that is about bindings, in the order of the calls
+abbrev pub entries_of_finished : ℕ → List Finished → List Entry
+entries_of_finished caller [] = []
+entries_of_finished caller (done ∷ dones) =
+    if is_some (port_of done.call)
+    then entry_done caller done ∷ entries_of_finished caller dones
+    else entries_of_finished caller dones
 
 -- the entries of a caller in a history
 abbrev pub entries_by : ℕ → List Entry → List Entry
@@ -53,33 +54,39 @@ pub record WasFull (config : Config) (history : List Entry) (count : ℕ) : Type
   pub are_bound : AreBound (bindings_left config.kind unbound before) bound
   pub enough : count ≤ bound + (config.callers - 1)
 
--- The history tells what the commands of all workers were answered, and what is bound behind them.
-pub record IsTold (config : Config) (commands : List (ℕ × Call)) (endings : List (List Ending)) (closed : Closed)
+-- The history tells what the commands of all workers were answered, and what is bound behind them. The second argument says whether
+-- workers run `work` by themselves.
+pub record IsTold (config : Config) (auto : Bool) (commands : List (ℕ × Call)) (endings : List (List Ending)) (closed : Closed)
     (history : List Entry) : Type 0 where
   -- each reply is the model's answer where it stands, or a refusal that its call may give
   pub legal : IsLegal config.kind history
-  -- each worker, counted from 1, is the caller of the number below, whose entries are its commands about bindings, in their order;
-  -- there are no others
-  pub entries : (caller : ℕ)
-      → entries_by caller history ≡ entries_told caller (calls_of (caller + 1) commands) (endings_by caller endings)
-  -- so where there is one worker they stand in the order of the script
-  pub in_order : config.callers ≡ 1 → history ≡ entries_told 0 (calls_of 1 commands) (endings_by 0 endings)
+  -- the calls that each caller has finished
+  pub dones : ℕ → List Finished
+  -- each worker, counted from 1, is the caller of the number below, whose finished calls serve its commands with these endings
+  pub serves : (caller : ℕ) → caller < config.callers
+      → Serves auto (calls_of (caller + 1) commands) (endings_by caller endings) (dones caller)
+  -- nobody else has any
+  pub no_others : (caller : ℕ) → config.callers ≤ caller → dones caller ≡ []
+  -- the entries of each caller are those of its finished calls about bindings, in their order
+  pub entries : (caller : ℕ) → entries_by caller history ≡ entries_of_finished caller (dones caller)
+  -- so where there is one worker they are the whole history
+  pub in_order : config.callers ≡ 1 → history ≡ entries_of_finished 0 (dones 0)
   -- what is bound at the end is what the history leaves
   pub leaves : Lists closed.bindings.pairs (bindings_left config.kind unbound history)
-  -- a command finds no node only where there are more binds and rebinds than nodes
-  pub no_node : (caller : ℕ)
-      → AllByRecursion (λ ending. ending.answer.reply ≡ NoNode → IsOutnumbered config commands) (endings_by caller endings)
-  -- a command is answered `TooBig` only with a count as high as the most ports or higher, and where some first entries leave so many
-  -- bound, or fewer by at most one for each worker but one
-  pub full : (caller count : ℕ)
-      → AllByRecursion (λ ending. ending.answer.reply ≡ TooBig count → WasFull config history count) (endings_by caller endings)
+  -- a call finds no node only where there are more binds and rebinds than nodes
+  pub no_node : (caller : ℕ) → AllByRecursion (λ done. done.reply ≡ NoNode → IsOutnumbered config commands) (dones caller)
+  -- a call is answered `TooBig` only with a count as high as the most ports or higher, and where some first entries leave so many bound,
+  -- or fewer by at most one for each worker but one
+  pub full : (caller count : ℕ) → AllByRecursion (λ done. done.reply ≡ TooBig count → WasFull config history count) (dones caller)
 
 -- The history tells what the commands of this run were answered, and fits the run: its entries have numbers of events that never
 -- fall, each between its call's beginning and last operation, and after each event the entries so far leave what the words stand for.
 pub record TellsOf {M : Type 0} {mix : ℕ → ℕ → ℕ → ℕ} {config : Config} {auto : Bool} {commands : List (ℕ × Call)}
     {endings : List (List Ending)} {closed : Closed} (served : IsServedRun M mix config auto commands endings closed)
     (history : List Entry) : Type 0 where
-  pub told : IsTold config commands endings closed history
+  pub told : IsTold config auto commands endings closed history
+  -- the calls that serve the commands are those that the callers have finished in the run
+  pub dones_are : (caller : ℕ) → told.dones caller ≡ ((run_of {M = M} mix served.env served.events).books caller).finished
   -- its entries, each with its number
   pub numbered : List Numbered
   pub without_numbers : history ≡ history_of numbered

@@ -1,11 +1,10 @@
 -- How a worker gets on: the calls that a command has added to its pass are served behind the others, and a command of another worker
 -- changes nothing. No pairs come with a reply, since there is no machine for a walk yet.
 use Rattle.std.proofs.Common.{◌≡◌, ◌≢◌, ℕ, ◌+◌, ◌<◌, ◌≤◌, Bool, true, false, List, [], ◌∷◌, ◌++◌, length, take, get_or, inl, refl, sym, ◌∙◌, ap, subst, append_assoc, cond, arith}
-use Rattle.std.specs.Prelude.{Option, Some, None, is_some, ◌==◌}
+use Rattle.std.specs.Prelude.{Option, ◌==◌}
 use Rattle.std.specs.List.{AllByRecursion}
 use Rattle.std.proofs.lemmas.Bool.{eq-eqb, ne_eqb}
 use Rattle.std.proofs.lemmas.List.{append-nil, take_all, take_more}
-use Rattle.rht_words.specs.declared.env.Env.{Env}
 use Rattle.rht_words.proofs.EachElement.{AllByRecursion-cut}
 use Rattle.rht_model.specs.declared.history.Call.{Call}
 use Rattle.rht_model.specs.declared.history.Call.TheVariants.{Bind, Find, All, Release, Rebind, Walk, Work, Tidy, Count}
@@ -15,7 +14,7 @@ use Rattle.rht_model.specs.declared.history.Reply.TheVariants.{Bound, Exists, Fo
 use Rattle.rht_model.specs.declared.finished.Finished.{Finished}
 use Rattle.rht_model.specs.Endings.{Ending, ended_with, replied}
 use Rattle.rht_core.specs.declared.book.Book.{Book}
-use Rattle.rht_core.specs.Locals.{is_idle, machine_of}
+use Rattle.rht_core.specs.Locals.{is_idle}
 use Rattle.rht_core.specs.Replies.{IsReplyTo, ArePairsWith, IsRightlyAnswered}
 use Rattle.rht_core.specs.Serving.{AreForCommand, Serves, calls_of}
 use Rattle.rht_run.specs.declared.table.Table.{Table}
@@ -24,6 +23,7 @@ use Rattle.rht_run.specs.Rule.{In, held_at}
 use Rattle.rht_run.specs.Passes.{IsNew, book_of, seen_by}
 use Rattle.rht_run.specs.Served.{HasServed}
 use Rattle.rht_run.proofs.CallSteps.{answers}
+use Rattle.rht_script.specs.Sound.{IsCommandCall}
 use Rattle.rht_registry.specs.Outcomes.{HasServedWorker}
 
 -- one command more, behind the others, with its calls
@@ -75,48 +75,41 @@ calls_of-other worker commands command other =
 
 -- ---- no pairs
 
--- a call for which there is a machine is no walk
-never-walked : (M : Type 0) (env : Env) (caller : ℕ) (call : Call) (len : ℕ) (next : Option Cursor)
-    → is_some (machine_of {M = M} env caller call) ≡ true → IsReplyTo call (Walked len next) → ⊥
-never-walked M env caller (Bind port owner once) len next built reply = reply
-never-walked M env caller (Find port) len next built reply = reply
-never-walked M env caller (All port) len next built reply = reply
-never-walked M env caller (Release port owner) len next built reply = reply
-never-walked M env caller (Rebind port owner new) len next built reply = reply
-never-walked M env caller (Walk from limit) len next built reply = cc
-never-walked M env caller Work len next built reply = reply
-never-walked M env caller Tidy len next built reply = reply
-never-walked M env caller Count len next built reply = reply
+-- a call that a command can ask for is no walk
+never-walked : (call : Call) (len : ℕ) (next : Option Cursor) → IsCommandCall call → IsReplyTo call (Walked len next) → ⊥
+never-walked (Bind port owner once) len next asked reply = reply
+never-walked (Find port) len next asked reply = reply
+never-walked (All port) len next asked reply = reply
+never-walked (Release port owner) len next asked reply = reply
+never-walked (Rebind port owner new) len next asked reply = reply
+never-walked (Walk from limit) len next asked reply = asked
+never-walked Work len next asked reply = reply
+never-walked Tidy len next asked reply = reply
+never-walked Count len next asked reply = reply
 
 -- so none of its replies has pairs, by cases of the reply
-no-pairs : (M : Type 0) (env : Env) (caller : ℕ) (call : Call) (reply : Reply) (pairs : List (ℕ × ℕ))
-    → is_some (machine_of {M = M} env caller call) ≡ true → IsReplyTo call reply → ArePairsWith reply pairs → pairs ≡ []
-no-pairs M env caller call (Walked len next) pairs built reply with_it =
-    absurd (never-walked M env caller call len next built reply)
-no-pairs M env caller call (Bound kick) pairs built reply none = none
-no-pairs M env caller call (Exists owner) pairs built reply none = none
-no-pairs M env caller call (Found owner) pairs built reply none = none
-no-pairs M env caller call Missing pairs built reply none = none
-no-pairs M env caller call (Listed len) pairs built reply none = none
-no-pairs M env caller call (Released kick) pairs built reply none = none
-no-pairs M env caller call Absent pairs built reply none = none
-no-pairs M env caller call Rebound pairs built reply none = none
-no-pairs M env caller call (TooBig count) pairs built reply none = none
-no-pairs M env caller call (Again table) pairs built reply none = none
-no-pairs M env caller call (Busy root last) pairs built reply none = none
-no-pairs M env caller call (NoTable size) pairs built reply none = none
-no-pairs M env caller call NoNode pairs built reply none = none
-no-pairs M env caller call (Pending other section) pairs built reply none = none
-no-pairs M env caller call Elsewhere pairs built reply none = none
-no-pairs M env caller call (Moved again) pairs built reply none = none
-no-pairs M env caller call Idle pairs built reply none = none
-no-pairs M env caller call (Clear returned) pairs built reply none = none
-no-pairs M env caller call (Counted count) pairs built reply none = none
-
--- where there is something it is some thing
-pub some-thing : {A : Type 0} (o : Option A) → is_some o ≡ true → (a : A) × (o ≡ Some a)
-some-thing None none = absurd (cc)
-some-thing (Some a) some = (a, refl)
+no-pairs : (call : Call) (reply : Reply) (pairs : List (ℕ × ℕ)) → IsCommandCall call → IsReplyTo call reply → ArePairsWith reply pairs → pairs ≡ []
+no-pairs call (Walked len next) pairs asked reply with_it =
+    absurd (never-walked call len next asked reply)
+no-pairs call (Bound kick) pairs asked reply none = none
+no-pairs call (Exists owner) pairs asked reply none = none
+no-pairs call (Found owner) pairs asked reply none = none
+no-pairs call Missing pairs asked reply none = none
+no-pairs call (Listed len) pairs asked reply none = none
+no-pairs call (Released kick) pairs asked reply none = none
+no-pairs call Absent pairs asked reply none = none
+no-pairs call Rebound pairs asked reply none = none
+no-pairs call (TooBig count) pairs asked reply none = none
+no-pairs call (Again table) pairs asked reply none = none
+no-pairs call (Busy root last) pairs asked reply none = none
+no-pairs call (NoTable size) pairs asked reply none = none
+no-pairs call NoNode pairs asked reply none = none
+no-pairs call (Pending other section) pairs asked reply none = none
+no-pairs call Elsewhere pairs asked reply none = none
+no-pairs call (Moved again) pairs asked reply none = none
+no-pairs call Idle pairs asked reply none = none
+no-pairs call (Clear returned) pairs asked reply none = none
+no-pairs call (Counted count) pairs asked reply none = none
 
 -- a new pass has the number of a caller
 pub new-below : {M : Type 0} (mix : ℕ → ℕ → ℕ → ℕ) (t : Table M) (number : ℕ) (pass : Pass M) → IsNew mix t number pass → number ≤ 16
@@ -142,12 +135,11 @@ module _ {M : Type 0} (mix : ℕ → ℕ → ℕ → ℕ) (t : Table M) (auto : 
       whole.0
 
   -- and no pairs came with its reply
-  pub served-pairs : (caller : ℕ) (call : Call) (reply : Reply) (before now : Pass M)
-      → is_some (machine_of {M = M} t.env caller call) ≡ true → HasServed mix t auto call reply before now
-      → now.local.pairs.items ≡ []
-  served-pairs caller call reply before now built has =
+  pub served-pairs : (call : Call) (reply : Reply) (before now : Pass M) → IsCommandCall call
+      → HasServed mix t auto call reply before now → now.local.pairs.items ≡ []
+  served-pairs call reply before now asked has =
       let right = own-answered call reply before now has in
-      no-pairs M t.env caller call reply now.local.pairs.items built right.reply right.pairs
+      no-pairs call reply now.local.pairs.items asked right.reply right.pairs
 
   -- ---- one command more
 

@@ -1,7 +1,7 @@
 -- Each command of a sound script is one of its workers', and its call is one that a table of the script's config may be given. Where
 -- commands can ask for it there is a machine for it; and where there is one worker all calls are its own.
 use Rattle.std.proofs.Common.{◌≡◌, ◌≢◌, ℕ, ◌<◌, ◌≤◌, Bool, true, false, List, [], ◌∷◌, length, map, get_or, refl, sym, ap, subst, arith}
-use Rattle.std.specs.Prelude.{IsTrue, ◌&&◌, is_some}
+use Rattle.std.specs.Prelude.{IsTrue, ◌&&◌}
 use Rattle.std.specs.List.{AllByRecursion, list_all}
 use Rattle.std.proofs.lemmas.Bool.{leb-true, eq-eqb}
 use Rattle.std.proofs.lemmas.List.Elements.{All-from_recursion}
@@ -10,12 +10,10 @@ use Rattle.rht_words.specs.declared.config.Kind.{Kind}
 use Rattle.rht_words.specs.declared.config.Kind.TheVariants.{Single, Listed}
 use Rattle.rht_model.specs.declared.history.Call.{Call}
 use Rattle.rht_model.specs.declared.history.Call.TheVariants.{Bind, Find, All, Release, Rebind, Walk, Work, Tidy, Count}
-use Rattle.rht_words.specs.declared.env.Env.{Env}
-use Rattle.rht_core.specs.Locals.{machine_of, rebinding_of}
 use Rattle.rht_core.specs.Runs.{IsBuiltFor}
 use Rattle.rht_core.specs.Serving.{calls_of}
+use Rattle.rht_run.specs.Served.{IsMadeCall}
 use Rattle.rht_script.specs.Sound.{is_single, is_sound_call, is_sound_command, IsCommandCall}
-use Rattle.rht_registry.specs.Outcomes.{IsBuiltCommand}
 
 -- the command is one of so many workers', and its call is one for a table of this kind
 pub record IsCommandFor (config : Config) (command : ℕ × Call) : Type 0 where
@@ -64,38 +62,11 @@ next-command P items commands i default same all within =
 
 -- ---- machines
 
--- in a table of one owner for each port there is one for a rebind
-rebinding-single : (M : Type 0) (env : Env) (caller port owner new : ℕ) (kind : Kind) → is_single kind ≡ true
-    → is_some (rebinding_of {M = M} env caller port owner new kind) ≡ true
-rebinding-single M env caller port owner new Single single = refl
-rebinding-single M env caller port owner new Listed single = absurd (cc)
-
--- by cases of the call
-machine-asked : (M : Type 0) (config : Config) (call : Call) → is_sound_call config call ≡ true → IsCommandCall call
-    → (env : Env) (caller : ℕ) → env.config ≡ config → is_some (machine_of {M = M} env caller call) ≡ true
-machine-asked M config (Bind port owner once) sound asked env caller same = refl
-machine-asked M config (Find port) sound asked env caller same = refl
-machine-asked M config (All port) sound asked env caller same = refl
-machine-asked M config (Release port owner) sound asked env caller same = refl
-machine-asked M config (Rebind port owner new) sound asked env caller same =
-    rebinding-single M env caller port owner new env.config.kind
-    (subst (λ (c : Config). is_single c.kind ≡ true) (sym same) sound)
-machine-asked M config (Walk from limit) sound asked env caller same = absurd asked
-machine-asked M config Work sound asked env caller same = refl
-machine-asked M config Tidy sound asked env caller same = absurd asked
-machine-asked M config Count sound asked env caller same = refl
-
--- so there is one for each command that can be asked for
-pub built-commands : (M : Type 0) (config : Config) (commands : List (ℕ × Call))
-    → IsTrue (list_all (is_sound_command config) commands)
-    → AllByRecursion (λ command. IsCommandCall command.1) commands → AllByRecursion (IsBuiltCommand M config) commands
-built-commands M config [] sound asked = tt
-built-commands M config (command ∷ commands) sound asked =
-    let first_and_others = both_true (is_sound_command config command) (list_all (is_sound_command config) commands) sound in
-    let within_and_call = both_true _ (is_sound_call config command.1) first_and_others.0 in (
-      machine-asked M config command.1 within_and_call.1 asked.0,
-      built-commands M config commands first_and_others.1 asked.1,
-    )
+-- there is a machine for each call that a command can ask for
+pub IsMadeCall-asked : (call : Call) → IsCommandCall call → IsMadeCall call
+IsMadeCall-asked (Walk from limit) asked = absurd asked
+IsMadeCall-asked Tidy asked = absurd asked
+IsMadeCall-asked _ asked = tt
 
 -- ---- one worker
 

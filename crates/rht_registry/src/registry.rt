@@ -1,15 +1,15 @@
 //! A worker for each caller of the table. It does its own commands in their order, each to its end,
 //! while the others do theirs.
 
-ghost use Rattle.std.specs.Prelude.{◌≡◌, ◌+◌, ℕ, true, is_some, vec_len, IfOk, OnOk, List, [], ◌∷◌, ◌++◌};
+ghost use Rattle.std.specs.Prelude.{◌≡◌, ◌+◌, ℕ, true, vec_len, IfOk, OnOk, List, [], ◌∷◌, ◌++◌};
 ghost use Rattle.std.specs.List.{AllByRecursion, enumerate_from};
 ghost use Rattle.rht_policy.specs.Mix.{mix_named};
 ghost use Rattle.rht_model.specs.declared.history.Call.{Call as CallOf};
-ghost use Rattle.rht_core.specs.Locals.{is_idle, machine_of};
+ghost use Rattle.rht_core.specs.Locals.{is_idle};
 ghost use Rattle.rht_core.specs.Runs.{IsBuiltFor};
 ghost use Rattle.rht_run.specs.Passes.{IsPassOf, IsNew, AreNew};
-ghost use Rattle.rht_script.specs.Sound.{IsSoundScript};
-ghost use Rattle.rht_registry.specs.Outcomes.{IsBuiltCommand, CanServe, HasServedWorker, HaveServed, IsOutcome, side_by_side};
+ghost use Rattle.rht_script.specs.Sound.{IsSoundScript, IsCommandCall};
+ghost use Rattle.rht_registry.specs.Outcomes.{CanServe, HasServedWorker, HaveServed, IsOutcome, side_by_side};
 
 use rht_io::Gate;
 use rht_model::{Call, Replies};
@@ -44,7 +44,7 @@ pub fn run_workers<M: Mix + Send, R: Threads + Wait + Sync, G: Gate + Sync>(
 ) -> Result<Outcome<M>, AllocError>
     requires sound { IsSoundScript script.now }
     requires mix { M.mix_of ≡ mix_named script.now.config }
-    requires built { AllByRecursion (IsBuiltCommand M script.now.config) script.now.commands.items }
+    requires asked { AllByRecursion (λ command. IsCommandCall command.1) script.now.commands.items }
     ensures { IfOk result (IsOutcome M script.now) }
 {
     let (table, passes) = Table::<M>::open(alloc, script.config)?;
@@ -135,7 +135,7 @@ fn serve<M: Mix, R: Wait>(
     requires pass { IsPassOf M.mix_of table.now pass.old }
     requires idle { is_idle pass.old.local ≡ true }
     requires kind { IsBuiltFor table.now.env.config.kind call }
-    requires built { is_some (machine_of {M = M} table.now.env pass.old.number call) ≡ true }
+    requires asked { IsCommandCall call }
     ensures { OnOk result ((commands : List (ℕ × CallOf)) (number : ℕ)
         → HasServedWorker M.mix_of table.now auto commands number pass.old replies.old
         → HasServedWorker M.mix_of table.now auto (commands ++ (number + 1, call) ∷ []) number pass.new replies.new) }

@@ -1,23 +1,25 @@
 -- Why a pass's call was answered as it was.
 -- In the run that the pass is in, the traces remember the finished calls of the pass, in order, and each of these has its cause by
 -- the law of causes. So the one behind the calls that the pass had before stands in the trace at their number, and has its cause.
-use Rattle.std.proofs.Common.{◌≡◌, ℕ, List, [], ◌∷◌, ◌++◌, length, map, refl, ap, ◌∙◌, subst}
+use Rattle.std.proofs.Common.{◌≡◌, ℕ, List, [], ◌∷◌, ◌++◌, length, map, refl, ap, ◌∙◌, subst, arith}
 use Rattle.std.specs.Prelude.{Some}
 use Rattle.std.specs.List.{AllByRecursion, slice_get}
 use Rattle.rht_words.specs.declared.env.Env.{Env}
 use Rattle.rht_model.specs.declared.history.Call.{Call}
 use Rattle.rht_model.specs.declared.history.Reply.{Reply}
 use Rattle.rht_model.specs.declared.finished.Finished.{Finished}
+use Rattle.rht_model.specs.Endings.{replied, ended_with}
+use Rattle.rht_core.specs.declared.event.Event.{Event}
 use Rattle.rht_core.specs.Runs.{World, View, run_of, IsAdmitted}
 use Rattle.rht_core.specs.Traces.{Past, traced_of}
-use Rattle.rht_core.specs.Causes.{CauseOf, HasCause}
+use Rattle.rht_core.specs.Causes.{HasCause}
 use Rattle.rht_core.proofs.Tracing.TracesInRuns.{remembers}
 use Rattle.rht_core.proofs.Reasons.CausesInRuns.{causes}
 use Rattle.rht_run.specs.declared.table.Table.{Table}
 use Rattle.rht_run.specs.declared.pass.Pass.{Pass}
 use Rattle.rht_run.specs.Rule.{Shows, held_at}
 use Rattle.rht_run.specs.Passes.{IsPassOf, HasCalled, book_of, seen_by}
-use Rattle.rht_run.specs.Caused.{IsCaused}
+use Rattle.rht_run.specs.Caused.{IsTracedCall, IsCaused}
 use Rattle.rht_run.proofs.ViewLists.{in_one}
 
 -- of some calls in a trace the one at this place is this finished call, and has what all of them have
@@ -41,11 +43,17 @@ stands Has (past ∷ pasts) (other ∷ before) done rest same all =
     record { past = there.past; place = there.place; done_is = there.done_is; has = there.has }
 
 module _ {M : Type 0} (mix : ℕ → ℕ → ℕ → ℕ) (t : Table M) (call : Call) (reply : Reply) (before now : Pass M) where
-  -- a finished call of the pass, at its place
-  pub caused : (done : Finished) (rest : List Finished) → IsPassOf mix t now
-      → (book_of now).finished ≡ (book_of before).finished ++ done ∷ rest → done.call ≡ call → done.reply ≡ reply
-      → IsCaused mix t call reply before now
-  caused done rest is finished call_same reply_same =
+  -- the call, with the lists in the rooms of the pass
+  abbrev pub done_now : Finished
+  done_now = ended_with call (replied reply now.local.owners.items now.local.pairs.items)
+
+  -- What is so of each call that has ended in a run is so of a finished call of the pass, at its place.
+  pub traced_call : (Fact : Env → List Event → ℕ → Past → Type 0)
+      → ((events : List Event) → IsAdmitted t.env.config.kind events
+      → AllByRecursion (Fact t.env events now.number) ((traced_of {M = M} mix t.env events).traces now.number).past)
+      → (rest : List Finished) → IsPassOf mix t now → (book_of now).finished ≡ (book_of before).finished ++ done_now ∷ rest
+      → IsTracedCall mix t call reply before now Fact
+  traced_call Fact each rest is finished =
       let events = is.in_run.events in
       let c = now.number in
       let admitted : IsAdmitted t.env.config.kind events =
@@ -55,29 +63,28 @@ module _ {M : Type 0} (mix : ℕ → ℕ → ℕ → ℕ) (t : Table M) (call : 
       (is.in_run.shows (held_at c (seen_by now)) (in_one (held_at c (seen_by now)) now.seat.me.0.held is.held)) in
       let traced = remembers M mix t.env events admitted in
       let pasts : List Past = ((traced_of {M = M} mix t.env events).traces c).past in
-      let remembered : map (λ (past : Past). past.done) pasts ≡ (book_of before).finished ++ done ∷ rest =
+      let remembered : map (λ (past : Past). past.done) pasts ≡ (book_of before).finished ++ done_now ∷ rest =
       (traced.traces c).past ∙ ap (λ (w : World M). (w.books c).finished) traced.world
       ∙ ap (λ (v : View M). v.book.finished) shows.shown ∙ finished in
       let there =
-      stands (HasCause M mix t.env events c) pasts (book_of before).finished done rest remembered
-      (causes M mix t.env events c admitted) in
-      let call_is : there.past.done.call ≡ call = ap (λ (d : Finished). d.call) there.done_is ∙ call_same in
-      let reply_is : there.past.done.reply ≡ reply = ap (λ (d : Finished). d.reply) there.done_is ∙ reply_same in
+      stands (Fact t.env events c) pasts (book_of before).finished done_now rest remembered (each events admitted) in
       record {
         events = events;
         admitted = admitted;
         shows = shows;
+        at = length (book_of before).finished;
+        behind = omega arith;
         past = there.past;
         place = there.place;
-        call_is = call_is;
-        reply_is = reply_is;
-        cause =
-            subst (λ (r : Reply). CauseOf M mix t.env events c there.past call r) reply_is
-            (subst (λ (k : Call). CauseOf M mix t.env events c there.past k there.past.done.reply) call_is there.has);
+        done = there.done_is;
+        fact = there.has;
       }
 
-  -- the last one
+  -- so it has its cause
+  pub caused : (rest : List Finished) → IsPassOf mix t now
+      → (book_of now).finished ≡ (book_of before).finished ++ done_now ∷ rest → IsCaused mix t call reply before now
+  caused = traced_call (HasCause M mix) (λ events admitted. causes M mix t.env events now.number admitted)
+
+  -- and the last one has
   pub called_caused : HasCalled mix t call reply before now → IsCaused mix t call reply before now
-  called_caused has =
-      caused record { call = call; reply = reply; owners = now.local.owners.items; pairs = now.local.pairs.items } []
-      has.pass has.finished refl refl
+  called_caused has = caused [] has.pass has.finished

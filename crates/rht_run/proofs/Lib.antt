@@ -14,6 +14,8 @@ pub mod CallSteps
 pub mod CallCauses
 -- the calls of a command
 pub mod ServedCommands
+-- what is so of a run that serves commands
+pub mod ServingRuns
 -- how a table is opened
 pub mod OpenedTables
 -- how a table is closed

@@ -2,25 +2,31 @@
 -- reply asks for it and the pass makes it by itself. A reply that asks for it comes without lists, and so does one of `work`: so
 -- what is in the rooms at the end are the lists of the command's own call.
 use Rattle.std.proofs.Common.{◌≡◌, ◌≢◌, ◌⊎◌, inl, inr, ℕ, Bool, true, false, List, [], ◌∷◌, ◌++◌, refl, sym, ◌∙◌, ap, subst, append_assoc}
-use Rattle.std.specs.Prelude.{Option, ◌&&◌}
+use Rattle.std.specs.Prelude.{Option, Some, None, is_some, ◌&&◌}
 use Rattle.std.specs.List.{AllByRecursion}
 use Rattle.std.proofs.lemmas.List.{append-nil}
+use Rattle.rht_words.specs.declared.env.Env.{Env}
+use Rattle.rht_words.specs.declared.config.Kind.{Kind}
+use Rattle.rht_words.specs.declared.config.Kind.TheVariants.{Single, Listed}
 use Rattle.rht_words.proofs.EachElement.{AllByRecursion-append}
 use Rattle.rht_model.specs.declared.history.Call.{Call}
-use Rattle.rht_model.specs.declared.history.Call.TheVariants.{Work}
+use Rattle.rht_model.specs.declared.history.Call.TheVariants.{Bind, Find, All, Release, Rebind, Walk, Work, Tidy, Count}
 use Rattle.rht_model.specs.declared.history.Reply.{Reply}
 use Rattle.rht_model.specs.declared.history.Reply.TheVariants.{Bound, Exists, Found, Missing, Listed, Released, Absent, Rebound, TooBig, Again, Busy, NoTable, NoNode, Pending, Elsewhere, Walked, Moved, Idle, Clear, Counted}
 use Rattle.rht_model.specs.declared.history.Cursor.{Cursor}
 use Rattle.rht_model.specs.declared.finished.Finished.{Finished}
 use Rattle.rht_model.specs.Endings.{ended_with, replied}
-use Rattle.rht_core.specs.Locals.{is_idle}
+use Rattle.rht_callers.specs.declared.local.Local.{Local}
+use Rattle.rht_core.specs.Locals.{is_idle, machine_of, rebinding_of}
+use Rattle.rht_core.specs.Runs.{IsAdmittedCall, IsBuiltFor}
 use Rattle.rht_core.specs.Replies.{IsWorkReply, AreOwnersWith, ArePairsWith}
 use Rattle.rht_core.specs.Serving.{asks_for_work, AreWorks, AreBehind}
 use Rattle.rht_run.specs.declared.table.Table.{Table}
 use Rattle.rht_run.specs.declared.pass.Pass.{Pass}
 use Rattle.rht_run.specs.Passes.{IsPassOf, IsSamePass, HasCalled, book_of}
 use Rattle.rht_run.specs.Caused.{IsCaused}
-use Rattle.rht_run.specs.Served.{HasServed, HasWorked}
+use Rattle.rht_run.specs.Rule.{MayBegin}
+use Rattle.rht_run.specs.Served.{IsMadeCall, HasServed, HasWorked}
 use Rattle.rht_run.proofs.CallSteps.{answered}
 use Rattle.rht_run.proofs.CallCauses.{caused}
 
@@ -64,6 +70,39 @@ work_no_lists : (reply : Reply) (owners : List ℕ) (pairs : List (ℕ × ℕ)) 
     → AreOwnersWith reply owners → ArePairsWith reply pairs → (owners ≡ []) × (pairs ≡ [])
 work_no_lists reply owners pairs right =
     no_lists reply owners pairs (λ len is. subst IsWorkReply is right) (λ len next is. subst IsWorkReply is right)
+
+-- ---- a machine for the command's own call
+
+-- there is one for a rebind in a table of one owner each
+rebind-machine : (M : Type 0) (env : Env) (c port owner new : ℕ) (kind : Kind) → kind ≢ Listed
+    → is_some (rebinding_of {M = M} env c port owner new kind) ≡ true
+rebind-machine M env c port owner new Single single = refl
+rebind-machine M env c port owner new Listed single = absurd (single refl)
+
+-- by cases of the call
+made-machine : (M : Type 0) (env : Env) (c : ℕ) (call : Call) → IsBuiltFor env.config.kind call → IsMadeCall call
+    → is_some (machine_of {M = M} env c call) ≡ true
+made-machine M env c (Bind port owner once) kind made = refl
+made-machine M env c (Find port) kind made = refl
+made-machine M env c (All port) kind made = refl
+made-machine M env c (Release port owner) kind made = refl
+made-machine M env c (Rebind port owner new) kind made = rebind-machine M env c port owner new env.config.kind kind
+made-machine M env c (Walk from limit) kind made = absurd made
+made-machine M env c Work kind made = refl
+made-machine M env c Tidy kind made = absurd made
+made-machine M env c Count kind made = refl
+
+-- where there is something it is some thing
+some-thing : {A : Type 0} (o : Option A) → is_some o ≡ true → (a : A) × (o ≡ Some a)
+some-thing None none = absurd (cc)
+some-thing (Some a) some = (a, refl)
+
+-- so a pass in no call can be given it
+pub MayBegin-made : {M : Type 0} (env : Env) (c : ℕ) (call : Call) (local : Local M) → is_idle local ≡ true → IsAdmittedCall call
+    → IsBuiltFor env.config.kind call → IsMadeCall call → MayBegin env c call local
+MayBegin-made {M} env c call local idle admitted kind made =
+    let machine = some-thing (machine_of {M = M} env c call) (made-machine M env c call kind made) in
+    record { idle = idle; admitted = admitted; built = kind; machine = machine.0; machine_is = machine.1 }
 
 -- ---- the work behind a call
 
@@ -190,6 +229,5 @@ module _ {M : Type 0} (mix : ℕ → ℕ → ℕ → ℕ) (t : Table M) where
     -- its own call has its cause
     pub served_caused : (now : Pass M) → HasServed mix t auto call reply before now → IsCaused mix t call reply before now
     served_caused now has =
-        let own : Finished = ended_with call (replied reply now.local.owners.items now.local.pairs.items) in
-        caused mix t call reply before now own has.made.behind has.pass
-        (has.finished ∙ ap (λ l. (book_of before).finished ++ l) has.made.whole) refl refl
+        caused mix t call reply before now has.made.behind has.pass
+        (has.finished ∙ ap (λ l. (book_of before).finished ++ l) has.made.whole)

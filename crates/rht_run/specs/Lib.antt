@@ -6,10 +6,12 @@ pub mod Spent
 pub mod Rule
 -- what clauses say of a table and its passes
 pub mod Passes
--- why calls were answered as they were
+-- what the operations of a call have to show
 pub mod Caused
 -- what the calls of a command leave
 pub mod Served
+-- a run that serves the commands of workers
+pub mod ServedRuns
 -- a call that is driven from outside its pass
 pub mod Rides
 -- the states of the machines that hold a piece

@@ -4,11 +4,12 @@ ghost use Rattle.std.specs.Prelude.{◌≡◌, ◌↔◌, true, IsTrue};
 ghost use Rattle.rht_model.specs.declared.history.Reply.TheVariants.{Moved};
 ghost use Rattle.rht_core.specs.Locals.{is_idle};
 ghost use Rattle.rht_core.specs.Replies.{IsReplyTo};
+ghost use Rattle.rht_core.specs.Runs.{IsBuiltFor};
 ghost use Rattle.rht_core.specs.Serving.{asks_for_work};
 ghost use Rattle.rht_run.specs.Rule.{MayBegin};
 ghost use Rattle.rht_run.specs.Passes.{IsPassOf, HasCalled};
 ghost use Rattle.rht_run.specs.Caused.{IsCaused};
-ghost use Rattle.rht_run.specs.Served.{HasServed, HasWorked};
+ghost use Rattle.rht_run.specs.Served.{IsMadeCall, HasServed, HasWorked};
 
 use crate::pass::Pass;
 use crate::table::Table;
@@ -22,10 +23,12 @@ impl<M: Mix> Table<M> {
     /// it doesn't answer `Moved` with more to do. The answer is the reply to the call; what `work` was
     /// answered stands among the pass's finished calls alone. Each reply comes when it does of the call
     /// itself, which may wait; so may `work`. The owners of a `Listed` stand in `Pass::owners`. It takes
-    /// no memory.
+    /// no memory. A rebind is for a table of one owner each, and a walk or a tidying can't be asked for yet.
     pub fn serve<R: Wait>(&self, rt: &R, pass: &mut Pass<M>, call: Call, auto: bool) -> Reply
         requires pass { IsPassOf M.mix_of self.now pass.old }
-        requires may { MayBegin self.now.env pass.old.number call pass.old.local }
+        requires idle { is_idle pass.old.local ≡ true }
+        requires kind { IsBuiltFor self.now.env.config.kind call }
+        requires made { IsMadeCall call }
         ensures served { HasServed M.mix_of self.now auto call result pass.old pass.new }
         ensures reply { IsReplyTo call result }
         ensures cause { IsCaused M.mix_of self.now call result pass.old pass.new }

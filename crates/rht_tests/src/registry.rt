@@ -4,8 +4,8 @@ ghost use Rattle.std.specs.Prelude.{◌≡◌, false, IfOk};
 ghost use Rattle.std.specs.List.{AllByRecursion};
 ghost use Rattle.rht_model.specs.declared.history.Call.TheVariants.{Bind, Rebind};
 ghost use Rattle.rht_policy.specs.Mix.{mix_named, low_mix};
-ghost use Rattle.rht_script.specs.Sound.{IsSoundScript};
-ghost use Rattle.rht_registry.specs.Outcomes.{IsBuiltCommand, IsOutcome};
+ghost use Rattle.rht_script.specs.Sound.{IsSoundScript, IsCommandCall};
+ghost use Rattle.rht_registry.specs.Outcomes.{IsOutcome};
 
 use crate::asserts::{assert_bound, assert_same};
 use rht_io::{Gate, NoGate};
@@ -54,7 +54,7 @@ fn rebind(port: Port, owner: u32, new: u32) -> Call
 /// Binds ports of one bucket and of another, takes one out, gives one another owner, and looks ports up.
 fn small_script<M: Mix>(alloc: Global) -> Result<Script, AllocError>
     ensures mix { IfOk result (λ script. low_mix ≡ mix_named script.config) }
-    ensures built { IfOk result (λ script. AllByRecursion (IsBuiltCommand M script.config) script.commands.items) }
+    ensures asked { IfOk result (λ script. AllByRecursion (λ command. IsCommandCall command.1) script.commands.items) }
 {
     let commands = [
         (1, bind(69, 7)),
@@ -173,7 +173,7 @@ fn the_gate_hears_of_each_command(rt: HostRuntime) -> Result<(), Fail> {
 /// Two workers, each with one bind, of the port that has its number.
 fn pair_script<M: Mix>(alloc: Global, order: [u32; 2]) -> Result<Script, AllocError>
     ensures mix { IfOk result (λ script. low_mix ≡ mix_named script.config) }
-    ensures built { IfOk result (λ script. AllByRecursion (IsBuiltCommand M script.config) script.commands.items) }
+    ensures asked { IfOk result (λ script. AllByRecursion (λ command. IsCommandCall command.1) script.commands.items) }
 {
     let [first, second] = order;
     let commands = [(first, bind(first, first)), (second, bind(second, second))];

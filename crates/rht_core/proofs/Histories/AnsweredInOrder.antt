@@ -24,11 +24,11 @@ use Rattle.rht_core.specs.NeverRefused.{NoneRefused, bindings_after_all, EndsAsA
 use Rattle.rht_core.specs.Replies.{IsReplyTo, IsFindReply, IsAllReply, IsReleaseReply, IsRebindReply}
 use Rattle.rht_core.specs.Numbered.{Numbered, history_of, entries_of}
 use Rattle.rht_core.specs.RunHistories.{about_bindings}
-use Rattle.rht_core.specs.ToldHistories.{entries_told}
 use Rattle.rht_core.specs.Traces.{Past, AreInOrder, behind_call}
 use Rattle.rht_core.proofs.Tracing.StepsInTraces.{from-behind}
 use Rattle.rht_core.proofs.Histories.NumberedEntries.{AllBelow}
 use Rattle.rht_core.proofs.Histories.CallEnds.{AreEnded}
+use Rattle.rht_core.proofs.Histories.ToldEntries.{entries_told}
 
 -- ---- calls that aren't refused
 

@@ -48,7 +48,7 @@ use Rattle.rht_core.specs.Replies.{IsRightlyAnswered}
 use Rattle.rht_core.specs.RunHistories.{bindings_behind, about_bindings, Fits}
 use Rattle.rht_core.specs.Serving.{asks_for_work, calls_of, AreBehind, Serves, IsServing, IsServedRun}
 use Rattle.rht_stands.specs.StandsFor.{AreBound}
-use Rattle.rht_core.specs.ToldHistories.{entries_told, endings_by, IsOutnumbered, IsTold}
+use Rattle.rht_core.specs.ToldHistories.{endings_by, IsOutnumbered, IsTold}
 use Rattle.rht_core.specs.Traces.{Past, Traced, traced_of, behind_call}
 use Rattle.rht_core.proofs.Counting.FewPorts.{few_ports}
 use Rattle.rht_core.proofs.Counting.FullTables.{taken}
@@ -60,7 +60,7 @@ use Rattle.rht_core.proofs.Tracing.CallsOfFronts.{calls-later}
 use Rattle.rht_core.proofs.Tracing.RepliesInRuns.{replies}
 use Rattle.rht_core.proofs.Histories.CallEnds.{AreEnded}
 use Rattle.rht_core.proofs.Histories.AloneLaw.{left-behind}
-use Rattle.rht_core.proofs.Histories.ToldEntries.{command_first, AllByRecursion-in_map, split_at}
+use Rattle.rht_core.proofs.Histories.ToldEntries.{command_first, entries_told, entries_of_finished-serves, replies-serves, AllByRecursion-in_map, split_at}
 use Rattle.rht_core.proofs.Histories.ToldHistories.{AreBound-Agree, IsServed, serving, ended, order_is, no_call_there, told}
 use Rattle.rht_core.proofs.Histories.AnsweredInOrder.{IsRefusedForNode, IsRefusedForNode-reply, entries_told-replies, entries_told-caller, calls_in, bindings_left-first, after-told, answered_in_order, entries_of-all, not_refused, IsTakenBefore, answers-below}
 
@@ -180,7 +180,7 @@ module _ (M : Type 0) (mix : ℕ → ℕ → ℕ → ℕ) (env : Env) (auto : Bo
       ended_among c (inr none) = subst (AllByRecursion (λ (d : Finished). BindsAmong roomy.ports d.call)) (sym none.0) tt
 
   all_taken : (closed : Closed) → IsClosedOf env.geometry w.core.words closed → IsRoomyFor env.config commands
-      → ((c : ℕ) → AllByRecursion (λ (e : Ending). e.answer.reply ≢ NoNode) (endings_by c endings))
+      → ((c : ℕ) → c < env.config.callers → AllByRecursion (λ (e : Ending). e.answer.reply ≢ NoNode) (endings_by c endings))
       → AreAllTaken env.config commands endings closed
   all_taken closed is_closed roomy some =
       let stays = few_ports M mix env events admitted (has_few_ports roomy) in
@@ -191,7 +191,7 @@ module _ (M : Type 0) (mix : ℕ → ℕ → ℕ → ℕ) (env : Env) (auto : Bo
             (for_node M mix env events c admitted
             (AllByRecursion-weaker (λ (d : Finished). IsCallTaken d.call d.reply) (λ (d : Finished). IsBindTaken d.call d.reply)
             (λ d. IsBindTaken-call d.call d.reply) done (stays.taken c)))
-            (some c);
+            (some c low);
         size = is_closed.size ∙ same_size M mix env w.core.words stays.none_made;
       }
 
@@ -324,15 +324,16 @@ module _ (M : Type 0) (mix : ℕ → ℕ → ℕ → ℕ) (env : Env) (auto : Bo
 
 -- ---- both laws
 
--- no ending says that there was no node, where there are as many as are needed
-found-nodes : (config : Config) (commands : List (ℕ × Call)) (endings : List (List Ending)) (closed : Closed) (history : List Entry)
+-- no worker's ending says that there was no node, where there are as many as are needed
+found-nodes : (config : Config) (auto : Bool) (commands : List (ℕ × Call)) (endings : List (List Ending)) (closed : Closed) (history : List Entry)
     → count_by (λ (command : ℕ × Call). needs_node command.1) commands ≤ config.nodes
-    → IsTold config commands endings closed history → (c : ℕ)
+    → IsTold config auto commands endings closed history → (c : ℕ) → c < config.callers
     → AllByRecursion (λ (e : Ending). e.answer.reply ≢ NoNode) (endings_by c endings)
-found-nodes config commands endings closed history enough told c =
-    AllByRecursion-weaker (λ (e : Ending). e.answer.reply ≡ NoNode → IsOutnumbered config commands)
-    (λ (e : Ending). e.answer.reply ≢ NoNode) (λ e only none. let more = only none in omega (arith, more, enough)) (endings_by c endings)
-    (told.no_node c)
+found-nodes config auto commands endings closed history enough told c low =
+    replies-serves auto (λ reply. reply ≢ NoNode) (calls_of (c + 1) commands) (endings_by c endings) (told.dones c) (told.serves c low)
+    (AllByRecursion-weaker (λ (d : Finished). d.reply ≡ NoNode → IsOutnumbered config commands)
+    (λ (d : Finished). d.reply ≢ NoNode) (λ d only none. let more = only none in omega (arith, more, enough)) (told.dones c)
+    (told.no_node c))
 
 pub roomy_takes_all : (M : Type 0) (mix : ℕ → ℕ → ℕ → ℕ) → RoomyTakesAll M mix
 roomy_takes_all M mix config auto commands endings closed served roomy =
@@ -346,7 +347,8 @@ roomy_takes_all M mix config auto commands endings closed served roomy =
     (λ c low. served.each c (subst (λ (k : Config). c < k.callers) same low))
     closed served.closed_is
     (subst (λ (k : Config). IsRoomyFor k commands) (sym same) roomy)
-    (found-nodes config commands endings closed history roomy.nodes tells.told))
+    (λ c low. found-nodes config auto commands endings closed history roomy.nodes tells.told c
+    (subst (λ (k : Config). c < k.callers) same low)))
 
 -- the commands of the one worker alone
 abbrev only_first : List Call → List (ℕ × Call)
@@ -380,11 +382,15 @@ one_worker_only M mix config auto commands endings closed served small enough =
     (served.workers ∙ ap (λ (k : Config). k.callers) (sym same))
     (λ c low. served.each c (subst (λ (k : Config). c < k.callers) same low))
     (subst (λ (k : Config). IsSmallFor k (calls_of 1 commands)) (sym same) small)
-    (found-nodes config commands endings closed history enough tells.told 0)
+    (found-nodes config auto commands endings closed history enough tells.told 0 (let one = small.one in omega (arith, one)))
     tells.numbered tells.fits closed
     (subst (λ (k : Config). Lists closed.bindings.pairs (bindings_left k.kind unbound (entries_told 0 (calls_of 1 commands) (endings_by 0 endings))))
     (sym same)
-    (subst (λ es. Lists closed.bindings.pairs (bindings_left config.kind unbound es)) (tells.told.in_order small.one) tells.told.leaves)))
+    (subst (λ es. Lists closed.bindings.pairs (bindings_left config.kind unbound es))
+    (tells.told.in_order small.one
+    ∙ entries_of_finished-serves auto 0 (calls_of 1 commands) (endings_by 0 endings) (tells.told.dones 0)
+    (tells.told.serves 0 (let one = small.one in omega (arith, one))))
+    tells.told.leaves)))
 
 pub one_worker_as_model : (M : Type 0) (mix : ℕ → ℕ → ℕ → ℕ) → OneWorkerAsModel M mix
 one_worker_as_model M mix config auto commands endings closed served small =

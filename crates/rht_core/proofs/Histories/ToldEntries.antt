@@ -18,7 +18,7 @@ use Rattle.rht_core.specs.NodesUsed.{needs_node}
 use Rattle.rht_core.specs.Serving.{asks_for_work, AreBehind, AreForCommand, IsCut, Serves}
 use Rattle.rht_core.specs.Traces.{Past}
 use Rattle.rht_core.specs.RunHistories.{about_bindings}
-use Rattle.rht_core.specs.ToldHistories.{entries_told, entries_by}
+use Rattle.rht_core.specs.ToldHistories.{entries_of_finished, entries_by}
 use Rattle.rht_core.proofs.Histories.NumberedEntries.{AllBelow}
 use Rattle.rht_core.proofs.Histories.CallEnds.{AreEnded}
 use Rattle.rht_core.proofs.Counting.OutnumberedNodes.{calls_made, needs-cons}
@@ -51,24 +51,18 @@ AreOf-entries_of c (x ∷ history) = go (x.entry.caller == c) refl (AreOf-entrie
 
 -- ---- the entries of calls that have ended
 
--- those about bindings, each with its entry
-abbrev pub entries_done : ℕ → List Finished → List Entry
-entries_done c [] = []
-entries_done c (done ∷ rest) =
-    cond (is_some (port_of done.call)) (entry_done c done ∷ entries_done c rest) (entries_done c rest)
-
 -- the entries of a caller's calls say how these ended
 ended-entries : (c : ℕ) (calls : List Past) (xs : List Numbered) → AreOf c xs → AreEnded (about_bindings calls) xs
-    → history_of xs ≡ entries_done c (map (λ (p : Past). p.done) calls)
+    → history_of xs ≡ entries_of_finished c (map (λ (p : Past). p.done) calls)
 ended-entries c [] [] are ended = refl
 ended-entries c [] (x ∷ xs) are ended = absurd ended
 ended-entries c (past ∷ calls) xs are ended = go (is_some (port_of past.done.call)) xs are ended (ended-entries c calls)
   where
     go : (t : Bool) (ys : List Numbered) → AreOf c ys → AreEnded (cond t (past ∷ about_bindings calls) (about_bindings calls)) ys
         → ((zs : List Numbered) → AreOf c zs → AreEnded (about_bindings calls) zs
-        → history_of zs ≡ entries_done c (map (λ (p : Past). p.done) calls))
-        → history_of ys ≡ cond t (entry_done c past.done ∷ entries_done c (map (λ (p : Past). p.done) calls))
-        (entries_done c (map (λ (p : Past). p.done) calls))
+        → history_of zs ≡ entries_of_finished c (map (λ (p : Past). p.done) calls))
+        → history_of ys ≡ cond t (entry_done c past.done ∷ entries_of_finished c (map (λ (p : Past). p.done) calls))
+        (entries_of_finished c (map (λ (p : Past). p.done) calls))
     go true [] are ended others = absurd ended
     go true (y ∷ ys) are ended others =
         let of = ended.0 in
@@ -80,11 +74,19 @@ ended-entries c (past ∷ calls) xs are ended = go (is_some (port_of past.done.c
 -- so the entries of a caller in a history are those of its calls that have ended
 pub entries_by-ended : (c : ℕ) (calls : List Past) (history : List Numbered)
     → AreEnded (about_bindings calls) (entries_of c history)
-    → entries_by c (history_of history) ≡ entries_done c (map (λ (p : Past). p.done) calls)
+    → entries_by c (history_of history) ≡ entries_of_finished c (map (λ (p : Past). p.done) calls)
 entries_by-ended c calls history ended =
     entries_by-history_of c history ∙ ended-entries c calls (entries_of c history) (AreOf-entries_of c history) ended
 
 -- ---- calls that serve commands
+
+-- the entries of a caller whose commands ended so: one for each command about bindings, in their order
+abbrev pub entries_told : ℕ → List Call → List Ending → List Entry
+entries_told caller [] endings = []
+entries_told caller (call ∷ calls) [] = []
+entries_told caller (call ∷ calls) (ending ∷ endings) =
+    cond (is_some (port_of call)) (entry_done caller (ended_with call ending) ∷ entries_told caller calls endings)
+    (entries_told caller calls endings)
 
 -- a command's calls come first: its own, those behind it, and then those of the other commands
 pub command_first : (auto : Bool) (call : Call) (ending : Ending) (Others : List Finished → Type 0) (done : List Finished)
@@ -117,9 +119,9 @@ needs-work d rest is =
     omega (arith, none, needed)
 
 -- and none has an entry
-entries_done-work : (c : ℕ) (d : Finished) (rest : List Finished) → d.call ≡ Work → entries_done c (d ∷ rest) ≡ entries_done c rest
-entries_done-work c d rest is =
-    ap (λ call. cond (is_some (port_of call)) (entry_done c d ∷ entries_done c rest) (entries_done c rest)) is
+entries_of_finished-work : (c : ℕ) (d : Finished) (rest : List Finished) → d.call ≡ Work → entries_of_finished c (d ∷ rest) ≡ entries_of_finished c rest
+entries_of_finished-work c d rest is =
+    ap (λ call. cond (is_some (port_of call)) (entry_done c d ∷ entries_of_finished c rest) (entries_of_finished c rest)) is
 
 module _ (auto : Bool) where
   -- so as many need a node as commands do
@@ -140,17 +142,17 @@ module _ (auto : Bool) where
       omega (arith, first, here, skips, others, commands)
 
   -- their entries are those that the commands tell
-  pub entries_done-serves : (c : ℕ) (calls : List Call) (endings : List Ending) (done : List Finished)
-      → Serves auto calls endings done → entries_done c done ≡ entries_told c calls endings
-  entries_done-serves c [] [] done serves = ap (entries_done c) serves
-  entries_done-serves c [] (ending ∷ endings) done serves = absurd serves
-  entries_done-serves c (call ∷ calls) [] done serves = absurd serves
-  entries_done-serves c (call ∷ calls) (ending ∷ endings) done serves =
-      let skips = behind_skipped (entries_done c) (entries_done-work c) (auto && asks_for_work call ending.answer.reply)
+  pub entries_of_finished-serves : (c : ℕ) (calls : List Call) (endings : List Ending) (done : List Finished)
+      → Serves auto calls endings done → entries_of_finished c done ≡ entries_told c calls endings
+  entries_of_finished-serves c [] [] done serves = ap (entries_of_finished c) serves
+  entries_of_finished-serves c [] (ending ∷ endings) done serves = absurd serves
+  entries_of_finished-serves c (call ∷ calls) [] done serves = absurd serves
+  entries_of_finished-serves c (call ∷ calls) (ending ∷ endings) done serves =
+      let skips = behind_skipped (entries_of_finished c) (entries_of_finished-work c) (auto && asks_for_work call ending.answer.reply)
       serves.first_is.behind serves.rest serves.first_is.works in
-      ap (entries_done c) (command_first auto call ending (Serves auto calls endings) done serves)
+      ap (entries_of_finished c) (command_first auto call ending (Serves auto calls endings) done serves)
       ∙ ap (λ rest. cond (is_some (port_of call)) (entry_done c (ended_with call ending) ∷ rest) rest)
-      (skips ∙ entries_done-serves c calls endings serves.rest serves.rest_is)
+      (skips ∙ entries_of_finished-serves c calls endings serves.rest serves.rest_is)
 
   -- and what is so of all their replies is so of the replies to the commands
   pub replies-serves : (P : Reply → Type 0) (calls : List Call) (endings : List Ending) (done : List Finished)

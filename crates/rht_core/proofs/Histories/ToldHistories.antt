@@ -22,7 +22,8 @@ use Rattle.rht_model.specs.declared.history.Reply.TheVariants.{NoNode, TooBig}
 use Rattle.rht_model.specs.declared.finished.Finished.{Finished}
 use Rattle.rht_model.specs.Multimap.{Multimap, Agree, unbound}
 use Rattle.rht_model.specs.Endings.{Ending}
-use Rattle.rht_model.specs.Histories.{bindings_left}
+use Rattle.rht_model.specs.Histories.{IsLegal, bindings_left}
+use Rattle.rht_model.specs.Listing.{Lists}
 use Rattle.rht_core.specs.declared.event.Event.{Event}
 use Rattle.rht_callers.specs.Locals.{is_idle}
 use Rattle.rht_core.specs.Runs.{Core, World, View, run_of, local_of, IsAdmitted}
@@ -36,7 +37,7 @@ use Rattle.rht_core.specs.Numbered.{Numbered, history_of, entries_of}
 use Rattle.rht_core.specs.RunHistories.{bindings_behind, ChangesBindings, about_bindings, Fits}
 use Rattle.rht_core.specs.Serving.{Serves, calls_of, IsServing}
 use Rattle.rht_stands.specs.StandsFor.{stands_for, AreBound}
-use Rattle.rht_core.specs.ToldHistories.{entries_told, entries_by, endings_by, IsOutnumbered, WasFull, IsTold, HasToldHistory}
+use Rattle.rht_core.specs.ToldHistories.{entries_of_finished, entries_by, endings_by, IsOutnumbered, WasFull, IsTold, HasToldHistory}
 use Rattle.rht_core.proofs.Events.CallersNotEnrolled.{not_enrolled}
 use Rattle.rht_core.proofs.Events.SoundRuns.{runs-in, StaysIn}
 use Rattle.rht_core.proofs.Tracing.TracedRuns.{world-traced_of}
@@ -51,7 +52,7 @@ use Rattle.rht_core.proofs.Histories.CallEnds.{AreEnded}
 use Rattle.rht_core.proofs.Histories.AloneCalls.{none-progress, about-ended, ended-below}
 use Rattle.rht_core.proofs.Histories.AloneLaw.{left-behind}
 use Rattle.rht_core.proofs.Histories.FittingRuns.{fits}
-use Rattle.rht_core.proofs.Histories.ToldEntries.{entries_by-ended, entries_done, entries_done-serves, needs-serves, replies-serves, entries_told-none, AllByRecursion-of_map, all_first, AllBelow-callers, split_at}
+use Rattle.rht_core.proofs.Histories.ToldEntries.{entries_by-ended, entries_told, entries_of_finished-serves, needs-serves, AllByRecursion-of_map, all_first, AllBelow-callers, split_at}
 
 -- ---- calls that were refused
 
@@ -177,26 +178,29 @@ module _ (M : Type 0) (mix : ℕ → ℕ → ℕ → ℕ) (env : Env) (auto : Bo
   past_done c =
       ((remembers M mix env events admitted).traces c).past ∙ ap (λ (v : World M). (v.books c).finished) same_world
 
-  entries_are : (history : List Numbered) → Fits M mix env events history → (c : ℕ)
-      → entries_by c (history_of history) ≡ entries_told c (calls_of (c + 1) commands) (endings_by c endings)
-  entries_are history fitting c =
-      entries_by-ended c (r.traces c).past history (ended history fitting c) ∙ ap (entries_done c) (past_done c)
-      ∙ told_by (serving c)
-    where
-      told_by : IsServed c → entries_done c (w.books c).finished ≡ entries_told c (calls_of (c + 1) commands) (endings_by c endings)
-      told_by (inl serves) = entries_done-serves auto c (calls_of (c + 1) commands) (endings_by c endings) (w.books c).finished serves
-      told_by (inr none) =
-          ap (entries_done c) none.0 ∙ sym (entries_told-none c (calls_of (c + 1) commands))
-          ∙ ap (entries_told c (calls_of (c + 1) commands)) (sym none.1)
+  -- who is no worker has finished none
+  no_others : (c : ℕ) → env.config.callers ≤ c → (w.books c).finished ≡ []
+  no_others c past = ap (λ (v : View M). v.book.finished) (not_enrolled M mix env events admitted c (unknown c past))
 
+  entries_are : (history : List Numbered) → Fits M mix env events history → (c : ℕ)
+      → entries_by c (history_of history) ≡ entries_of_finished c (w.books c).finished
+  entries_are history fitting c =
+      entries_by-ended c (r.traces c).past history (ended history fitting c) ∙ ap (entries_of_finished c) (past_done c)
+
+  finished_are : (history : List Numbered) → Fits M mix env events history → env.config.callers ≡ 1
+      → history_of history ≡ entries_of_finished 0 (w.books 0).finished
+  finished_are history fitting one =
+      sym (all_first (history_of history) (λ c more.
+      entries_are history fitting c ∙ ap (entries_of_finished c) (no_others c (omega (arith, one, more)))))
+      ∙ entries_are history fitting 0
+
+  -- the entries of one worker are those that its commands tell
   pub order_is : (history : List Numbered) → Fits M mix env events history → env.config.callers ≡ 1
       → history_of history ≡ entries_told 0 (calls_of 1 commands) (endings_by 0 endings)
   order_is history fitting one =
-      sym (all_first (history_of history) (λ c more.
-      entries_are history fitting c
-      ∙ ap (entries_told c (calls_of (c + 1) commands)) (no_endings c (omega (arith, one, more)))
-      ∙ entries_told-none c (calls_of (c + 1) commands)))
-      ∙ entries_are history fitting 0
+      finished_are history fitting one
+      ∙ entries_of_finished-serves auto 0 (calls_of 1 commands) (endings_by 0 endings) (w.books 0).finished
+      (each 0 (omega (arith, one))).serves
 
   -- ---- what is bound at the end
 
@@ -272,24 +276,22 @@ module _ (M : Type 0) (mix : ℕ → ℕ → ℕ → ℕ) (env : Env) (auto : Bo
       omega (arith, sums, all, want, nodes_same)
 
   no_node_told : (c : ℕ)
-      → AllByRecursion (λ (ending : Ending). ending.answer.reply ≡ NoNode → IsOutnumbered env.config commands) (endings_by c endings)
+      → AllByRecursion (λ (d : Finished). d.reply ≡ NoNode → IsOutnumbered env.config commands) (w.books c).finished
   no_node_told c = elim (cases_lt c env.config.callers) [
     | inl low ↦
         let calls = calls_of (c + 1) commands in
         let done = (w.books c).finished in
-        let serves = (each c low).serves in
-        replies-serves auto (λ reply. reply ≡ NoNode → IsOutnumbered env.config commands) calls (endings_by c endings) done serves
-        (elim (fewer-took done (need_nodes c)) [
+        elim (fewer-took done (need_nodes c)) [
           | inl less ↦
-              let made = needs-serves auto calls (endings_by c endings) done serves in
+              let made = needs-serves auto calls (endings_by c endings) done (each c low).serves in
               let none = took-none c (no_call_there c) in
               AllByRecursion-weaker (IsForWant env w) (λ (d : Finished). d.reply ≡ NoNode → IsOutnumbered env.config commands)
               (λ d want is. outnumbered c low (omega (arith, less, made, none)) (want is)) done (nodes M mix env events c admitted)
           | inr found ↦
               AllByRecursion-weaker FoundNode (λ (d : Finished). d.reply ≡ NoNode → IsOutnumbered env.config commands)
               (λ d other is. absurd (let both = sym other ∙ ap is_no_node is in cc)) done found
-        ])
-    | inr past ↦ rw (no_endings c past) tt
+        ]
+    | inr past ↦ rw (no_others c past) tt
   ]
 
   -- ---- a full table
@@ -364,20 +366,17 @@ module _ (M : Type 0) (mix : ℕ → ℕ → ℕ → ℕ) (env : Env) (auto : Bo
         }
 
     full_told : (c count : ℕ)
-        → AllByRecursion (λ (ending : Ending). ending.answer.reply ≡ TooBig count → WasFull env.config (history_of history) count)
-        (endings_by c endings)
+        → AllByRecursion (λ (d : Finished). d.reply ≡ TooBig count → WasFull env.config (history_of history) count) (w.books c).finished
     full_told c count = elim (cases_lt c env.config.callers) [
       | inl low ↦
-          replies-serves auto (λ reply. reply ≡ TooBig count → WasFull env.config (history_of history) count) (calls_of (c + 1) commands)
-          (endings_by c endings) (w.books c).finished (each c low).serves
-          (subst (AllByRecursion (λ (d : Finished). d.reply ≡ TooBig count → WasFull env.config (history_of history) count)) (past_done c)
+          subst (AllByRecursion (λ (d : Finished). d.reply ≡ TooBig count → WasFull env.config (history_of history) count)) (past_done c)
           (AllByRecursion-of_map (λ (d : Finished). d.reply ≡ TooBig count → WasFull env.config (history_of history) count)
           (λ (p : Past). p.done) (r.traces c).past
           (AllByRecursion-weaker (HasCause M mix env events c)
           (λ (p : Past). p.done.reply ≡ TooBig count → WasFull env.config (history_of history) count)
           (λ p cause is. was_full c count low (saw-full M mix env events c p p.done.call p.done.reply count cause is))
-          (r.traces c).past (causes M mix env events c admitted))))
-      | inr past ↦ rw (no_endings c past) tt
+          (r.traces c).past (causes M mix env events c admitted)))
+      | inr past ↦ rw (no_others c past) tt
     ]
 
   -- ---- all of it
@@ -385,11 +384,14 @@ module _ (M : Type 0) (mix : ℕ → ℕ → ℕ → ℕ) (env : Env) (auto : Bo
   -- a history that fits the run tells what the commands were answered
   told_of : (history : List Numbered) → Fits M mix env events history
       → (closed : Closed) → IsClosedOf env.geometry w.core.words closed
-      → IsTold env.config commands endings closed (history_of history)
+      → IsTold env.config auto commands endings closed (history_of history)
   told_of history fitting closed is_closed = record {
     legal = fitting.legal;
+    dones = λ c. (w.books c).finished;
+    serves = λ c low. (each c low).serves;
+    no_others = no_others;
     entries = entries_are history fitting;
-    in_order = order_is history fitting;
+    in_order = finished_are history fitting;
     leaves = record {
       rising = is_closed.bound.rising;
       bound = is_closed.bound.bound;
@@ -399,7 +401,28 @@ module _ (M : Type 0) (mix : ℕ → ℕ → ℕ → ℕ) (env : Env) (auto : Bo
     full = full_told history fitting;
   }
 
+-- what it tells is so of the same config under another name, with the same finished calls
+told_as : (here config : Config) (auto : Bool) (commands : List (ℕ × Call)) (endings : List (List Ending)) (closed : Closed)
+    (history : List Entry) → here ≡ config → IsTold here auto commands endings closed history
+    → IsTold config auto commands endings closed history
+told_as here config auto commands endings closed history same is = record {
+  legal = subst (λ (k : Config). IsLegal k.kind history) same is.legal;
+  dones = is.dones;
+  serves = λ c low. is.serves c (subst (λ (k : Config). c < k.callers) (sym same) low);
+  no_others = λ c past. is.no_others c (subst (λ (k : Config). k.callers ≤ c) (sym same) past);
+  entries = is.entries;
+  in_order = λ one. is.in_order (ap (λ (k : Config). k.callers) same ∙ one);
+  leaves = subst (λ (k : Config). Lists closed.bindings.pairs (bindings_left k.kind unbound history)) same is.leaves;
+  no_node = λ c.
+      subst (λ (k : Config). AllByRecursion (λ (d : Finished). d.reply ≡ NoNode → IsOutnumbered k commands) (is.dones c)) same
+      (is.no_node c);
+  full = λ c count.
+      subst (λ (k : Config). AllByRecursion (λ (d : Finished). d.reply ≡ TooBig count → WasFull k history count) (is.dones c)) same
+      (is.full c count);
+}
+
 pub told : (M : Type 0) (mix : ℕ → ℕ → ℕ → ℕ) → HasToldHistory M mix
+unfolding told_as told_of
 told M mix config auto commands endings closed served =
     let env = served.env in
     let same = served.config_same in
@@ -408,11 +431,12 @@ told M mix config auto commands endings closed served =
       history_of history,
       record {
         told =
-            subst (λ (k : Config). IsTold k commands endings closed (history_of history)) same
+            told_as env.config config auto commands endings closed (history_of history) same
             (told_of M mix env auto commands endings served.events admitted
             (served.workers ∙ ap (λ (k : Config). k.callers) (sym same))
             (λ c low. served.each c (subst (λ (k : Config). c < k.callers) same low))
             history fitting closed served.closed_is);
+        dones_are = λ c. refl;
         numbered = history;
         without_numbers = refl;
         fits = fitting;

@@ -1,14 +1,13 @@
-use Rattle.std.proofs.Common.{[], Some, ap, refl, inl, inr}
-use Rattle.rht_script.specs.Generated.{generated_said}
+use Rattle.std.proofs.Common.{[], Some, ap, inl, inr}
 use Rattle.rht_cli.specs.declared.form.Form.TheVariants.{Gen}
 use Rattle.rht_cli.proofs.ServedScripts.{never_rises}
-use Rattle.rht_cli.proofs.ToldInput.{IsInputOf-script, IsFaultOf-script, IsInputOf-gen, IsScriptRead-told, IsNoScript-told}
+use Rattle.rht_cli.proofs.ToldInput.{HasInput-script, IsFaultOf-script, HasInput-gen, IsScriptRead-told, IsNoScript-told}
 use Rattle.rht_cli.proofs.laws.complete.Goals as goal
 
 pub returns-clause-served : goal.returns-clause-served
 returns-clause-served g c form said named reads script =
-    c.run.ensures.served form c.args.bytes.items (Some []) said named (ap Some c.new-source.ensures)
-    (IsInputOf-script form reads (Some c.args.bytes.items) (Some []) said (IsScriptRead-told c.args.bytes.items said script))
+    c.run.ensures.served form c.args.bytes.items (Some []) named (ap Some c.new-source.ensures)
+    (HasInput-script form reads (Some c.args.bytes.items) (Some []) said (IsScriptRead-told c.args.bytes.items said script))
     never_rises never_rises
 
 pub returns-clause-refused : goal.returns-clause-refused
@@ -23,5 +22,5 @@ returns-clause-refused g c form fault named reads first =
 pub returns-clause-generated : goal.returns-clause-generated
 returns-clause-generated g c number named =
     let bytes = Some c.args.bytes.items in
-    c.run.ensures.served (Gen number) c.args.bytes.items bytes (generated_said number) named (ap Some c.new-source.ensures)
-    (IsInputOf-gen number bytes (generated_said number) refl) never_rises never_rises
+    c.run.ensures.served (Gen number) c.args.bytes.items bytes named (ap Some c.new-source.ensures)
+    (HasInput-gen number bytes) never_rises never_rises

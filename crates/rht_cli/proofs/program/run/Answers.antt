@@ -4,7 +4,7 @@ use Rattle.std.specs.declared.alloc.Global.{Global}
 use Rattle.rht_io.specs.Told.{PutsLine}
 use Rattle.rht_cli.specs.declared.form.Form.{Form}
 use Rattle.rht_cli.specs.declared.form.Form.TheVariants.{Gen}
-use Rattle.rht_cli.specs.Forms.{form_of, IsInputOf, IsFaultOf}
+use Rattle.rht_cli.specs.Forms.{form_of, HasInput, IsFaultOf}
 use Rattle.rht_cli.specs.Endings.{status_of, ending_of, ending_line}
 use Rattle.rht_cli.proofs.Completeness.{served_whole, refused_fault}
 use Rattle.rht_cli.proofs.program.run.Goals as goal
@@ -17,15 +17,15 @@ one_form words items form first same found named =
     let both = sym named ∙ sym (ap (λ ws. form_of (map string_bytes ws)) same) ∙ sym found in cc
 
 pub returns-in-Some-clause-served : goal.returns-in-Some-clause-served
-returns-in-Some-clause-served g c form bytes rest said named told input reads writes =
+returns-in-Some-clause-served g c form bytes rest named told input reads writes =
     let same = one_form c.args.words.now.items c.deref.result.now form c.in-Some.form
     c.deref.ensures.value (sym c.in-Some.is ∙ c.of.ensures) named in
     let is : c.end.result ≡ status_of (ending_of c.serve.result) = c.end.ensures.status
     ∙ ap status_of c.ending_of.ensures in
     elim (served_whole g.S.Source.left g.S.Source.faults g.O.Sink.held g.O.Sink.faults c.in-Some.form
     c.args.source.now c.serve.new.source c.args.out.now c.serve.new.out
-    bytes rest told c.serve.result c.serve.ensures.served said
-    (subst (λ (f : Form). IsInputOf f (Some bytes) rest said) same input) reads writes) [
+    bytes rest told c.serve.result c.serve.ensures.served
+    (subst (λ (f : Form). HasInput f (Some bytes) rest) same input) reads writes) [
       | inl whole ↦ inl (is ∙ whole)
       | inr memory ↦ inr (is ∙ memory)
     ]

@@ -1,14 +1,21 @@
-use Rattle.rht_policy.specs.declared.mix.Lookup3.{Lookup3}
-use Rattle.rht_policy.specs.declared.mix.Low.{Low}
-use Rattle.rht_registry.proofs.SoundCommands.{built-commands}
+use Rattle.std.proofs.lemmas.Result.{IfOk-weaker}
+use Rattle.rht_words.specs.declared.config.Hash.TheVariants as hashes
+use Rattle.rht_run.specs.ServedRuns.{HasRun}
+use Rattle.rht_cli.proofs.RunTexts.{HasRun-hash}
 use Rattle.rht_cli.proofs.program.run_hashed.Goals as goal
 
-pub run_by-requires-clause-built : goal.run_by-requires-clause-built
-run_by-requires-clause-built g c _ _ =
+pub returns-in-Mix : goal.returns-in-Mix
+returns-in-Mix g c =
     let script = c.args.script.now in
-    built-commands Lookup3 script.config script.commands.items c.requires.sound.commands c.requires.asked
+    IfOk-weaker c.run_by.result _
+    (λ left. HasRun script.config script.auto script.commands.items left.0.items left.1)
+    (λ left served. HasRun-hash hashes.Mix script.config script.auto script.commands.items left.0.items left.1 c.in-Mix.is served)
+    c.run_by.ensures
 
-pub run_by-requires-in-Low-clause-built : goal.run_by-requires-in-Low-clause-built
-run_by-requires-in-Low-clause-built g c _ _ =
+pub returns-in-Low : goal.returns-in-Low
+returns-in-Low g c =
     let script = c.args.script.now in
-    built-commands Low script.config script.commands.items c.requires.sound.commands c.requires.asked
+    IfOk-weaker c.run_by-in-Low.result _
+    (λ left. HasRun script.config script.auto script.commands.items left.0.items left.1)
+    (λ left served. HasRun-hash hashes.Low script.config script.auto script.commands.items left.0.items left.1 c.in-Low.is served)
+    c.run_by-in-Low.ensures

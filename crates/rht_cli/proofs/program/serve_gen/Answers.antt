@@ -1,13 +1,12 @@
-use Rattle.std.proofs.Common.{◌≡◌, ◌≤◌, ℕ, List, length, refl, inl, sym, subst, arith}
+use Rattle.std.proofs.Common.{◌≡◌, ◌≤◌, ℕ, List, Option, length, refl, inl, sym, subst, arith}
 use Rattle.std.proofs.lemmas.Result.{err_from_is_err_and}
 use Rattle.rht_script.specs.Reading.{said_by}
 use Rattle.rht_script.specs.SummaryText.{summary_line, AreCountable}
 use Rattle.rht_model.specs.Endings.{Ending}
 use Rattle.rht_registry.proofs.SoundCommands.{sound-commands}
 use Rattle.rht_cli.specs.declared.form.Form.TheVariants.{Gen}
-use Rattle.rht_cli.specs.Forms.{IsTextOf}
-use Rattle.rht_cli.proofs.ToldInput.{IsInputOf-gen}
-use Rattle.rht_cli.proofs.RunTexts.{closed-keys, countable, IsTextOf-gen}
+use Rattle.rht_cli.specs.Forms.{Prints}
+use Rattle.rht_cli.proofs.RunTexts.{closed-keys, countable, Prints-gen}
 use Rattle.rht_cli.proofs.ServedScripts.{Serves-put}
 use Rattle.rht_cli.proofs.program.serve_gen.Goals as goal
 
@@ -40,18 +39,16 @@ write_summary-requires-clause-keys g c =
 pub returns : goal.returns
 returns g c =
     let number = c.args.number in
+    let script = c.in_ok-script.script in
     let replies = c.in_ok-replies.replies in
     let closed = c.in_ok-replies.closed in
     let pairs = closed.bindings.pairs in
     let text = summary_line number c.deref.result.now pairs in
-    let script = c.in_ok-script.script in
-    let said = said_by script in
-    let commands = sound-commands script.config script.commands.items c.in_ok-script.ensures.sound.commands in
-    let printed : IsTextOf (Gen number) said text =
-    subst (λ (workers : List (List Ending)). IsTextOf (Gen number) said (summary_line number workers pairs))
+    let printed : (left : Option (List ℕ)) → Prints (Gen number) left left text =
+    subst (λ (workers : List (List Ending)). (left : Option (List ℕ)) → Prints (Gen number) left left (summary_line number workers pairs))
     (sym c.deref.ensures.value)
-    (IsTextOf-gen number said replies.items closed commands c.in_ok-replies.ensures) in
+    (λ left. Prints-gen number left (said_by script) replies.items closed c.in_ok-script.ensures.script
+    (sound-commands script.config script.commands.items c.in_ok-script.ensures.sound.commands) c.in_ok-replies.ensures) in
     rw c.served_by.ensures
     (λ left. Serves-put (λ input. input) (λ input. 0) g.O.Sink.held g.O.Sink.faults (Gen number) left left
-    c.args.out.now c.write_summary.new.out said text c.write_summary.result
-    (IsInputOf-gen number left said c.in_ok-script.ensures.script) printed c.write_summary.ensures)
+    c.args.out.now c.write_summary.new.out text c.write_summary.result (printed left) c.write_summary.ensures)

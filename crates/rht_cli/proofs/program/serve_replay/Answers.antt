@@ -1,8 +1,6 @@
 use Rattle.std.proofs.lemmas.Result.{err_from_is_err_and}
-use Rattle.rht_script.specs.Reading.{said_by}
 use Rattle.rht_cli.specs.declared.form.Form.TheVariants.{Replay}
-use Rattle.rht_cli.proofs.ToldInput.{IsInputOf-script}
-use Rattle.rht_cli.proofs.ReplayTexts.{IsTextOf-replayed}
+use Rattle.rht_cli.proofs.ReplayTexts.{Prints-replayed}
 use Rattle.rht_cli.proofs.ServedScripts.{FailsBy-unread, Serves-replayed}
 use Rattle.rht_cli.proofs.program.serve_replay.Goals as goal
 
@@ -18,11 +16,8 @@ returns g c =
     let script = c.in_ok-script.script in
     let replayed = c.replay_hashed.result in
     let left = g.S.Source.left in
-    let text = IsTextOf-replayed g.O.Sink.held g.O.Sink.faults c.args.out.now c.replay_hashed.new.out replayed script
-    c.replay_hashed.ensures in
-    let read = IsInputOf-script Replay tt (left c.args.source.now) (left c.read_script.new.source) (said_by script)
-    c.in_ok-script.ensures.read in
+    let text = Prints-replayed g.O.Sink.held g.O.Sink.faults c.args.out.now c.replay_hashed.new.out replayed script
+    (left c.args.source.now) (left c.read_script.new.source) c.in_ok-script.ensures.read c.replay_hashed.ensures in
     rw c.replayed_by.ensures
     (Serves-replayed left g.S.Source.faults g.O.Sink.held g.O.Sink.faults Replay c.args.source.now
-    c.read_script.new.source c.args.out.now c.replay_hashed.new.out
-    (said_by script) text.0 replayed read text.1 text.2)
+    c.read_script.new.source c.args.out.now c.replay_hashed.new.out text.0 replayed text.1 text.2)

@@ -2,7 +2,7 @@ use Rattle.std.proofs.Common.{◌≡◌, ◌+◌, ◌<◌, false, length, take, 
 use Rattle.rht_words.specs.declared.config.Config.{Config}
 use Rattle.rht_model.specs.declared.history.Call.TheVariants.{Bind}
 use Rattle.rht_core.specs.Runs.{IsBuiltFor}
-use Rattle.rht_registry.specs.Outcomes.{IsBuiltCommand}
+use Rattle.rht_script.specs.Sound.{IsCommandCall}
 use Rattle.rht_registry.proofs.ServedCalls.{new-below, served-own, served-other, served-same}
 use Rattle.rht_registry.proofs.SoundCommands.{IsCommandFor, sound-commands, next-command}
 use Rattle.rht_registry.proofs.registry.work_of.Goals.{then-command-worker+in_ok-serve, else-command-worker}
@@ -25,14 +25,13 @@ serve-requires-clause-kind g c =
     (sound-commands config commands c.requires.can.sound.commands) within in
     subst (λ (k : Config). IsBuiltFor k.kind (get_or items i (0, Bind 0 0 false)).1) (sym c.requires.can.config) command.kind
 
-pub serve-requires-clause-built : goal.serve-requires-clause-built
-serve-requires-clause-built g c =
-    let config = c.args.script.now.config in
+pub serve-requires-clause-asked : goal.serve-requires-clause-asked
+serve-requires-clause-asked g c =
     let items = c.deref-command-items.result.now in
     let i = c.loop-command.command-index in
     let within : i < length items = omega arith in
-    next-command (IsBuiltCommand g.row.M.Denot config) items c.args.script.now.commands.items i (0, Bind 0 0 false)
-    c.loop-command.invariant.items c.requires.can.built within c.args.table.now.env c.loop-command.pass.number c.requires.can.config
+    next-command (λ command. IsCommandCall command.1) items c.args.script.now.commands.items i (0, Bind 0 0 false)
+    c.loop-command.invariant.items c.requires.can.asked within
 
 pub loop-command-preserved : goal.loop-command-preserved
 loop-command-preserved g c =
