@@ -11,6 +11,8 @@ use Rattle.rht_nest.specs.declared.locate.LocatedBucket.TheVariants as buckets
 use Rattle.rht_chain.specs.Probe.{ProbeModel, probe_new}
 use Rattle.rht_chain.specs.declared.probe.Probed.{Probed}
 use Rattle.rht_arena.specs.NewNode.{NewNodeModel}
+use Rattle.rht_bind.specs.declared.bind.growth.Full.{Full}
+use Rattle.rht_bind.specs.Growing.{unlocking_full}
 use Rattle.rht_bind.specs.Bind.{first_attempt, filled, at_bucket, located as bind_located_at, found_or_future, moved, probed as bind_probed_at}
 use Rattle.rht_bind.specs.declared.bind.Attempt.{Attempt}
 use Rattle.rht_bind.specs.declared.bind.Claimed.{Claimed}
@@ -28,6 +30,12 @@ use Rattle.rht_run.specs.declared.pieces.PortLocate.{PortLocate}
 use Rattle.rht_run.specs.declared.pieces.PortLocated.{PortLocated}
 use Rattle.rht_run.specs.Rides.{piece_next}
 use Rattle.rht_run.specs.Pieces.{locate_told}
+
+-- it holds a bucket into which its node doesn't go, for this reason, and unlocks it next
+abbrev pub full_at : ℕ → ℕ → ℕ → ℕ → ℕ → Full → BindAt
+full_at node table shape place word why =
+    let claimed : Claimed = record { attempt = first_attempt node; table = table; shape = shape; bucket = record { place = place; word = word } } in
+    unlocking_full claimed why
 
 module _ {M : Type 0} where
   -- a machine whose reply ends its call is a piece of it, behind which nothing is done

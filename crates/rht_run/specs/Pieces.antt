@@ -8,7 +8,13 @@ use Rattle.rht_arena.specs.declared.new_node.NewNodeAt.TheVariants as news
 use Rattle.rht_chain.specs.Probe.{ProbeModel}
 use Rattle.rht_chain.specs.declared.probe.Probed.{Probed}
 use Rattle.rht_chain.specs.declared.probe.ProbeAt.{ProbeAt}
-use Rattle.rht_nest.specs.Locate.{LocateModel, locate_after}
+use Rattle.rht_words.specs.declared.geometry.Geometry.{Geometry}
+use Rattle.rht_nest.specs.Locate.{LocateModel, locate_new, locate_after}
+use Rattle.rht_nest.specs.Place.{nested_place}
+use Rattle.rht_nest.specs.declared.locate.LocateAt.TheVariants as locates
+use Rattle.rht_nest.specs.declared.locate.LocatedBucket.TheVariants as buckets
+use Rattle.rht_run.specs.declared.locating.Way.{Way}
+use Rattle.rht_run.specs.declared.locating.Way.TheVariants as ways
 use Rattle.rht_nest.specs.declared.locate.Located.{Located}
 use Rattle.rht_model.specs.declared.history.Reply.{Reply}
 use Rattle.rht_callers.specs.declared.local.Doing.{Doing}
@@ -43,3 +49,16 @@ locate_told port next = (port_locate port next.0, located_of port next.0.table n
 
 abbrev pub port_locate_after : (ℕ → ℕ → ℕ → ℕ) → PortLocate → ℕ → PortLocate × Next PortLocated
 port_locate_after mix p word = locate_told p.port (locate_after mix p.port p.locate word)
+
+-- it has loaded the shape and the seed of a nested table, and goes over the entries next
+abbrev pub nested_locate : Geometry → ℕ → ℕ → ℕ → LocateModel
+nested_locate g table shape bucket =
+    record (locate_new g table) { at = locates.Early shape (nested_place g shape bucket) }
+
+-- in a flat table the bucket is found by then
+abbrev pub way_then : {M : Type 0} → (PortLocate → Doing M) → (PortLocated → Doing M × Option Reply) → Geometry → ℕ → ℕ
+    → Way → Doing M × Option Reply
+way_then holding behind g port table (ways.Flat shape place) =
+    behind (record { port = port; table = table; found = record { shape = shape; bucket = buckets.At place } })
+way_then holding behind g port table (ways.Nested shape bucket) =
+    (holding (port_locate port (nested_locate g table shape bucket)), None)

@@ -31,11 +31,25 @@ use Rattle.rht_run.specs.declared.pieces.PortLocate.{PortLocate}
 use Rattle.rht_run.specs.declared.pieces.PortLocated.{PortLocated}
 use Rattle.rht_run.specs.declared.seeks.PortSeek.{PortSeek}
 use Rattle.rht_run.specs.Rides.{piece_next}
-use Rattle.rht_run.specs.Pieces.{locate_told}
+use Rattle.rht_run.specs.declared.seeking.Sought.{Sought}
+use Rattle.rht_run.specs.declared.seeking.Sought.TheVariants as sought
+use Rattle.rht_run.specs.Pieces.{locate_told, nested_locate}
 
 -- the way to this port stands here
 abbrev pub port_seek : Geometry → ℕ → SeekAt → PortSeek
 port_seek g port at = record { port = port; seek = record { geometry = g; at = at } }
+
+-- it has loaded the shape and the seed of a nested table, and goes over the entries next
+abbrev pub nested_seek : Geometry → ℕ → ℕ → ℕ → SeekModel
+nested_seek g table shape bucket = record { geometry = g; at = seeks.Locating (nested_locate g table shape bucket) }
+
+-- the way has come to this
+abbrev pub sought_then : {M : Type 0} → (PortSeek → Doing M) → (ℕ × Option FoundPort → Doing M × Option Reply) → Geometry → ℕ
+    → Sought → Doing M × Option Reply
+sought_then holding behind g port (sought.Found found) = behind (port, Some found)
+sought_then holding behind g port sought.Nowhere = behind (port, None)
+sought_then holding behind g port (sought.Nested table shape bucket) =
+    (holding (record { port = port; seek = nested_seek g table shape bucket }), None)
 
 -- and says this, of the port
 abbrev pub sought_of : ℕ → Next (Option FoundPort) → Next (ℕ × Option FoundPort)

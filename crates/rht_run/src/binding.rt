@@ -4,29 +4,32 @@
 ghost use Rattle.std.specs.Prelude.{◌≡◌};
 ghost use Rattle.rht_model.specs.declared.history.Call.TheVariants.{Bind as BindCall};
 ghost use Rattle.rht_model.specs.declared.history.Reply.TheVariants.{Bound};
-ghost use Rattle.rht_bind.specs.Bind.{replacing};
-ghost use Rattle.rht_bind.specs.declared.bind.BindAt.TheVariants.{Entering, ListLink, UnlockingFull};
-ghost use Rattle.rht_nest.specs.Grow.{grow_new};
-ghost use Rattle.rht_nest.specs.Place.{entry_place};
+ghost use Rattle.rht_bind.specs.Bind.{first_attempt, replacing};
+ghost use Rattle.rht_bind.specs.declared.bind.BindAt.TheVariants.{Locating, ListLink};
+ghost use Rattle.rht_run.specs.Pieces.{nested_locate};
 ghost use Rattle.rht_core.specs.Locals.{doing_after};
 ghost use Rattle.rht_run.specs.Rides.{IsBefore, IsRiding, HasEnded, Stepped};
-ghost use Rattle.rht_run.specs.PieceFrames.{bind_at};
+ghost use Rattle.rht_run.specs.PieceFrames.{bind_at, full_at};
 
+use crate::locating::{Way, nested_locate};
 use crate::pieces::{BindFilling, BindLocating, BindProbing, Whole};
 use crate::ride::{Ride, never};
 use crate::seats::SeatView;
 use crate::table::Table;
 use atomic_table::Seat;
 use rht_bind::{
-    Attempt, Bind, BindAt, Claimed, FoundList, Growing, bound_already, checked_count,
-    future_or_count, giving, kicks, publishing, unlocking,
+    Attempt, Bind, BindAt, Claimed, FoundList, Full, giving, kicks, publishing, unlocking,
+    unlocking_full,
 };
-use rht_chain::{Locked, Relink, Then, Unlock};
+use rht_chain::{Locked, Relink, Then};
 use rht_model::Reply;
-use rht_nest::{Grow, LocatedBucket, Place};
-use rht_policy::Mix;
-use rht_words::{Env, Port, link_of, owner_of, slot_of, table_of, word_of};
+use rht_policy::{Mix, above_100, above_max};
+use rht_words::{Env, Kind, Port, Shape, link_of, owner_of, slot_of, table_of, word_of};
 use std::sync::Wait;
+
+/// A chain of so many nodes takes no further one. It is the number of `rht_bind`: by another one the
+/// clause of the bind below isn't proved.
+const FULL_CHAIN: u32 = 16;
 
 impl<M: Mix> Table<M> {
     /// Binds the port, from the first operation to the reply.
@@ -71,25 +74,14 @@ impl<M: Mix> Table<M> {
                 once,
                 attempt,
             };
-            let there = self.locate::<R, K, BindLocating>(
-                rt,
-                seat,
-                &frame,
-                env.geometry,
-                port,
-                table,
-            );
-            let shape = there.shape;
-            let place = match &there.bucket {
-                LocatedBucket::At(place) => *place,
-                LocatedBucket::Missing { place, early } => {
-                    let Some(next) = *early else {
-                        return self.enter_page::<R, K>(
-                            rt, seat, number, port, owner, once, attempt, table, shape, *place,
-                        );
-                    };
-                    table = next;
-                    continue;
+            let geometry = env.geometry;
+            let way = self.find_way::<K, BindLocating>(seat, &frame, geometry, port, table);
+            let (shape, place) = match way {
+                Way::Flat { shape, place } => (shape, place),
+                Way::Nested { shape, bucket } => {
+                    return self.bind_nested::<R, K>(
+                        rt, seat, number, port, owner, once, node, table, shape, bucket,
+                    );
                 }
             };
             let frame = BindProbing {
@@ -103,14 +95,11 @@ impl<M: Mix> Table<M> {
                 shape,
             };
             let key = word_of(port);
-            let probed = self.probe::<R, K, BindProbing>(
-                rt,
-                seat,
-                &frame,
-                env.geometry,
-                place,
-                key,
-            );
+            let Some(probed) = self.probe::<K, BindProbing>(seat, &frame, env.geometry, place, key)
+            else {
+                never(rt);
+                unreachable!()
+            };
             let bucket = probed.bucket;
             let claimed = Claimed {
                 attempt,
@@ -119,13 +108,16 @@ impl<M: Mix> Table<M> {
                 bucket,
             };
             if let Some(first) = probed.seen.found {
-                let at = bound_already(env.config.kind, claimed, first, probed.seen.before);
-                if let BindAt::ListLink { list } = at {
+                if env.config.kind == Kind::Listed {
+                    let before = probed.seen.before;
+                    let list = FoundList {
+                        claimed,
+                        first,
+                        before,
+                    };
                     return self.bind_in_front::<K>(seat, env, number, port, owner, once, list);
                 }
-                let BindAt::FoundOwner { claimed, found } = at else {
-                    return self.rest_of_bind::<R, K>(rt, seat, number, port, owner, once, at);
-                };
+                let found = first;
                 let at = BindAt::FoundOwner { claimed, found };
                 let other = owner_of(self.binding::<K>(seat, env, number, port, owner, once, at));
                 let reply = Reply::Exists { owner: other };
@@ -144,33 +136,50 @@ impl<M: Mix> Table<M> {
                 table = next;
                 continue;
             }
-            let at = future_or_count(claimed, length, None);
-            if let BindAt::UnlockingFull { growing, unlock } = at {
-                return self.grow::<R, K>(rt, seat, number, port, owner, once, growing, unlock);
+            let Locked { place, word } = bucket;
+            if length >= FULL_CHAIN {
+                return self.grow::<R, K>(
+                    rt,
+                    seat,
+                    number,
+                    port,
+                    owner,
+                    once,
+                    node,
+                    table,
+                    shape,
+                    place,
+                    word,
+                    Full::Chain,
+                );
             }
-            let BindAt::Count { claimed } = at else {
-                return self.rest_of_bind::<R, K>(rt, seat, number, port, owner, once, at);
-            };
             let at = BindAt::Count { claimed };
             let count = self.binding::<K>(seat, env, number, port, owner, once, at);
-            let at = checked_count(env, claimed, count);
-            if let BindAt::UnlockingFull { growing, unlock } = at {
-                return self.grow::<R, K>(rt, seat, number, port, owner, once, growing, unlock);
-            }
-            if let BindAt::Unlocking {
-                attempt,
-                then: Then::Answer(reply),
-                ..
-            } = at
-            {
+            let ports = count.min(65_536);
+            if above_max(ports, env.config.max) {
+                let reply = Reply::TooBig { count };
+                let at = unlocking(claimed, Then::Answer(reply));
                 self.binding::<K>(seat, env, number, port, owner, once, at);
-                let at = giving(env, attempt.node, reply);
+                let at = giving(env, node, reply);
                 self.binding::<K>(seat, env, number, port, owner, once, at);
                 return reply;
             }
-            let BindAt::Link { claimed } = at else {
-                return self.rest_of_bind::<R, K>(rt, seat, number, port, owner, once, at);
-            };
+            if above_100(ports, Shape::from(shape).size(), env.config.max) {
+                return self.grow::<R, K>(
+                    rt,
+                    seat,
+                    number,
+                    port,
+                    owner,
+                    once,
+                    node,
+                    table,
+                    shape,
+                    place,
+                    word,
+                    Full::Table,
+                );
+            }
             let at = BindAt::Link { claimed };
             self.binding::<K>(seat, env, number, port, owner, once, at);
             let at = BindAt::Raise { claimed };
@@ -239,10 +248,10 @@ impl<M: Mix> Table<M> {
         self.binding::<K>(seat, env, number, port, owner, once, at);
     }
 
-    /// Enters a page of a nested table for the port's bucket, which is missing, and binds the port there.
+    /// Binds the port from a nested table on.
     #[cold]
     #[inline(never)]
-    fn enter_page<R: Wait, K: Ride>(
+    fn bind_nested<R: Wait, K: Ride>(
         &self,
         rt: &R,
         seat: &mut Seat<(), SeatView<M>>,
@@ -250,22 +259,20 @@ impl<M: Mix> Table<M> {
         port: Port,
         owner: u32,
         once: bool,
-        attempt: Attempt,
+        node: u32,
         table: u32,
         shape: u64,
-        place: Place,
+        bucket: u32,
     ) -> Reply
-        requires { IsRiding M.mix_of self.now K.riding (bind_at self.now.env number port owner once (Entering attempt table shape place (grow_new self.now.env.geometry (entry_place place)))) seat.old }
+        requires { IsRiding M.mix_of self.now K.riding (bind_at self.now.env number port owner once (Locating (first_attempt node) (nested_locate self.now.env.geometry table shape bucket))) seat.old }
         ensures { HasEnded M.mix_of self.now K.riding result seat.new }
     {
-        let grow = Grow::new(self.env.geometry, place.entry());
-        let at = BindAt::Entering {
-            attempt,
-            table,
-            shape,
-            place,
-            grow,
+        let locate = nested_locate(self.env.geometry, table, shape, bucket);
+        let attempt = Attempt {
+            node,
+            attached: false,
         };
+        let at = BindAt::Locating { attempt, locate };
         self.rest_of_bind::<R, K>(rt, seat, number, port, owner, once, at)
     }
 
@@ -280,13 +287,28 @@ impl<M: Mix> Table<M> {
         port: Port,
         owner: u32,
         once: bool,
-        growing: Growing,
-        unlock: Unlock,
+        node: u32,
+        table: u32,
+        shape: u64,
+        place: usize,
+        word: u64,
+        why: Full,
     ) -> Reply
-        requires { IsRiding M.mix_of self.now K.riding (bind_at self.now.env number port owner once (UnlockingFull growing unlock)) seat.old }
+        requires { IsRiding M.mix_of self.now K.riding (bind_at self.now.env number port owner once (full_at node table shape place word why)) seat.old }
         ensures { HasEnded M.mix_of self.now K.riding result seat.new }
     {
-        let at = BindAt::UnlockingFull { growing, unlock };
+        let attempt = Attempt {
+            node,
+            attached: false,
+        };
+        let bucket = Locked { place, word };
+        let claimed = Claimed {
+            attempt,
+            table,
+            shape,
+            bucket,
+        };
+        let at = unlocking_full(claimed, why);
         self.rest_of_bind::<R, K>(rt, seat, number, port, owner, once, at)
     }
 

@@ -1,6 +1,6 @@
 //! Locking the bucket of a port and walking its chain, in whatever machine does so.
 
-ghost use Rattle.std.specs.Prelude.{◌≡◌, ℕ};
+ghost use Rattle.std.specs.Prelude.{◌≡◌, ℕ, IfSome};
 ghost use Rattle.rht_words.specs.declared.machine.Next.TheVariants.{Done};
 ghost use Rattle.rht_chain.specs.Lock.{lock_new};
 ghost use Rattle.rht_chain.specs.Probe.{probe_new, probe_after, lock_taken};
@@ -9,60 +9,61 @@ ghost use Rattle.rht_run.specs.Rides.{IsRiding, Stepped, piece_next};
 ghost use Rattle.rht_run.specs.Pieces.{probe_told};
 
 use crate::pieces::Frame;
-use crate::ride::{Ride, never};
+use crate::ride::Ride;
 use crate::seats::SeatView;
 use crate::table::Table;
 use atomic_table::Seat;
 use rht_chain::{Lock, Locked, LockedWalk, Probe, ProbeAt, Probed};
 use rht_policy::Mix;
 use rht_words::{Geometry, Next, Start, is_locked};
-use std::sync::Wait;
 
 impl<M: Mix> Table<M> {
-    /// Locks the bucket at this place, and walks its chain to the first node with the key.
+    /// Locks the bucket at this place, and walks its chain to the first node with the key. `None` comes
+    /// behind 2^64 - 1 rounds, which no run uses up: so the caller waits for ever there, and this function
+    /// needs no leave to wait.
     #[inline(always)]
-    pub(crate) fn probe<R: Wait, K: Ride, F: Frame<M, Probe, Probed>>(
+    pub(crate) fn probe<K: Ride, F: Frame<M, Probe, Probed>>(
         &self,
-        rt: &R,
         seat: &mut Seat<(), SeatView<M>>,
         frame: &F,
         geometry: Geometry,
         place: usize,
         key: u64,
-    ) -> Probed
+    ) -> Option<Probed>
         requires { IsRiding M.mix_of self.now K.riding (F.holding frame.now (probe_new geometry place key)) seat.old }
-        ensures { Stepped M.mix_of self.now K.riding (F.behind frame.now result) seat.new }
+        ensures { IfSome result (λ end. Stepped M.mix_of self.now K.riding (F.behind frame.now end) seat.new) }
     {
         let probe = Probe::new(geometry, place, key);
-        let (lock, word) = self.lock::<R, K, F>(rt, seat, frame, &probe, Lock::new(place));
+        let Some((lock, word)) = self.lock::<K, F>(seat, frame, &probe, Lock::new(place)) else {
+            return None;
+        };
         let place = lock.place();
         let bucket = Locked { place, word };
         match LockedWalk::new(geometry, place, word, key) {
-            Start::Running(walk) => self.walk::<R, K, F>(rt, seat, frame, &probe, bucket, walk),
-            Start::Done(seen) => Probed { bucket, seen },
+            Start::Running(walk) => self.walk::<K, F>(seat, frame, &probe, bucket, walk),
+            Start::Done(seen) => Some(Probed { bucket, seen }),
         }
     }
 
     /// Takes the lock of a bucket. A round ends without it where the word was found locked, or was
     /// another one at the exchange.
     #[inline(always)]
-    fn lock<R: Wait, K: Ride, F: Frame<M, Probe, Probed>>(
+    fn lock<K: Ride, F: Frame<M, Probe, Probed>>(
         &self,
-        rt: &R,
         seat: &mut Seat<(), SeatView<M>>,
         frame: &F,
         probe: &Probe,
         lock: Lock,
-    ) -> (Lock, u64)
+    ) -> Option<(Lock, u64)>
         requires { IsRiding M.mix_of self.now K.riding (F.holding frame.now (record probe.now { at = at.Locking lock })) seat.old }
-        ensures { Stepped M.mix_of self.now K.riding (piece_next (λ p. F.holding frame.now p) (λ a. F.behind frame.now a) (probe_told probe.now (lock_taken probe.now.geometry probe.now.key result.0 (Done result.1)))) seat.new }
+        ensures { IfSome result (λ end. Stepped M.mix_of self.now K.riding (piece_next (λ p. F.holding frame.now p) (λ a. F.behind frame.now a) (probe_told probe.now (lock_taken probe.now.geometry probe.now.key end.0 (Done end.1)))) seat.new) }
     {
         let mut lock = lock;
         for _ in 0..u64::MAX {
             let word = self.probing::<K, F>(seat, frame, probe, ProbeAt::Locking { lock });
             let (next, answer) = lock.after(word);
             if let Next::Done(word) = answer {
-                return (next, word);
+                return Some((next, word));
             }
             lock = next;
             if is_locked(word) {
@@ -71,45 +72,42 @@ impl<M: Mix> Table<M> {
             let word = self.probing::<K, F>(seat, frame, probe, ProbeAt::Locking { lock });
             let (next, answer) = lock.after(word);
             if let Next::Done(word) = answer {
-                return (next, word);
+                return Some((next, word));
             }
             lock = next;
         }
-        never(rt);
-        unreachable!()
+        None
     }
 
     /// Walks the chain of a bucket that is locked. A round loads a node's key and the link behind it.
     #[inline(always)]
-    fn walk<R: Wait, K: Ride, F: Frame<M, Probe, Probed>>(
+    fn walk<K: Ride, F: Frame<M, Probe, Probed>>(
         &self,
-        rt: &R,
         seat: &mut Seat<(), SeatView<M>>,
         frame: &F,
         probe: &Probe,
         bucket: Locked,
         walk: LockedWalk,
-    ) -> Probed
+    ) -> Option<Probed>
         requires { IsRiding M.mix_of self.now K.riding (F.holding frame.now (record probe.now { at = at.Walking bucket walk })) seat.old }
-        ensures { Stepped M.mix_of self.now K.riding (F.behind frame.now result) seat.new }
+        ensures { IfSome result (λ end. Stepped M.mix_of self.now K.riding (F.behind frame.now end) seat.new) }
     {
         let mut walk = walk;
         for _ in 0..u64::MAX {
             let key = self.probing::<K, F>(seat, frame, probe, ProbeAt::Walking { bucket, walk });
             let (next, answer) = walk.after(key);
             if let Next::Done(seen) = answer {
-                return Probed { bucket, seen };
+                return Some(Probed { bucket, seen });
             }
             walk = next;
             let link = self.probing::<K, F>(seat, frame, probe, ProbeAt::Walking { bucket, walk });
             let (next, answer) = walk.after(link);
             if let Next::Done(seen) = answer {
-                return Probed { bucket, seen };
+                return Some(Probed { bucket, seen });
             }
             walk = next;
         }
-        never(rt);
-        unreachable!()
+        None
     }
 
     /// The operation of a probe in this state.

@@ -62,6 +62,7 @@ impl<M: Mix> Table<M> {
     /// Looks a port up: `Found` with its first owner, or `Missing`, for which it has nothing further to
     /// show. It takes a bucket's lock, for which it may wait. The kernel's counterpart is
     /// `rhashtable_lookup`.
+    #[inline(always)]
     pub fn find<R: Wait>(&self, rt: &R, pass: &mut Pass<M>, port: Port) -> Reply
         requires pass { IsPassOf M.mix_of self.now pass.old }
         requires idle { is_idle pass.old.local ≡ true }

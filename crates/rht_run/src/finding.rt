@@ -4,8 +4,11 @@ ghost use Rattle.std.specs.Prelude.{◌≡◌};
 ghost use Rattle.rht_model.specs.declared.history.Call.TheVariants.{Find as FindCall};
 ghost use Rattle.rht_core.specs.Locals.{doing_after};
 ghost use Rattle.rht_run.specs.Rides.{IsBefore, IsRiding, HasEnded, Stepped};
+ghost use Rattle.rht_find.specs.declared.find.FindAt.TheVariants.{Locating};
+ghost use Rattle.rht_run.specs.Pieces.{nested_locate};
 ghost use Rattle.rht_run.specs.PieceFrames.{find_at};
 
+use crate::locating::{Way, nested_locate};
 use crate::pieces::{FindLocating, FindProbing, Whole};
 use crate::ride::{Ride, never};
 use crate::seats::SeatView;
@@ -14,7 +17,6 @@ use atomic_table::Seat;
 use rht_chain::{Then, Unlock};
 use rht_find::{Find, FindAt};
 use rht_model::Reply;
-use rht_nest::LocatedBucket;
 use rht_policy::Mix;
 use rht_words::{Env, Port, node_of, owner_of, slot_of, table_of, word_of};
 use std::sync::Wait;
@@ -42,22 +44,12 @@ impl<M: Mix> Table<M> {
                 env,
                 caller: number,
             };
-            let there = self.locate::<R, K, FindLocating>(
-                rt,
-                seat,
-                &frame,
-                env.geometry,
-                port,
-                table,
-            );
-            let place = match there.bucket {
-                LocatedBucket::At(place) => place,
-                LocatedBucket::Missing { early, .. } => {
-                    let Some(next) = early else {
-                        return Reply::Missing;
-                    };
-                    table = next;
-                    continue;
+            let geometry = env.geometry;
+            let way = self.find_way::<K, FindLocating>(seat, &frame, geometry, port, table);
+            let place = match way {
+                Way::Flat { place, .. } => place,
+                Way::Nested { shape, bucket } => {
+                    return self.find_nested::<R, K>(rt, seat, number, port, table, shape, bucket);
                 }
             };
             let frame = FindProbing {
@@ -67,14 +59,11 @@ impl<M: Mix> Table<M> {
                 table,
             };
             let key = word_of(port);
-            let probed = self.probe::<R, K, FindProbing>(
-                rt,
-                seat,
-                &frame,
-                env.geometry,
-                place,
-                key,
-            );
+            let Some(probed) = self.probe::<K, FindProbing>(seat, &frame, env.geometry, place, key)
+            else {
+                never(rt);
+                unreachable!()
+            };
             let bucket = probed.bucket;
             let unlock = Unlock::new(bucket.place, bucket.word);
             let Some(node) = probed.seen.found else {
@@ -141,6 +130,27 @@ impl<M: Mix> Table<M> {
         }
         never(rt);
         unreachable!()
+    }
+
+    /// Looks the port up from a nested table on.
+    #[cold]
+    #[inline(never)]
+    fn find_nested<R: Wait, K: Ride>(
+        &self,
+        rt: &R,
+        seat: &mut Seat<(), SeatView<M>>,
+        number: u32,
+        port: Port,
+        table: u32,
+        shape: u64,
+        bucket: u32,
+    ) -> Reply
+        requires { IsRiding M.mix_of self.now K.riding (find_at self.now.env number port (Locating (nested_locate self.now.env.geometry table shape bucket))) seat.old }
+        ensures { HasEnded M.mix_of self.now K.riding result seat.new }
+    {
+        let locate = nested_locate(self.env.geometry, table, shape, bucket);
+        let find = Find::<M>::new(self.env, number, port).with(FindAt::Locating { locate });
+        self.run_whole::<R, K, Find<M>, Whole>(rt, seat, &Whole, find)
     }
 
     /// The operation of the look-up in this state.

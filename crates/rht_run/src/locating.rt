@@ -1,34 +1,41 @@
 //! Finding the bucket of a port, in whatever machine does so.
 
-ghost use Rattle.std.specs.Prelude.{◌≡◌};
+ghost use Rattle.std.specs.Prelude.{◌≡◌, ◌<◌};
 ghost use Rattle.rht_nest.specs.Locate.{locate_new};
 ghost use Rattle.rht_run.specs.Rides.{IsRiding, Stepped, piece_next};
-ghost use Rattle.rht_run.specs.Pieces.{port_locate, port_locate_after};
+ghost use Rattle.rht_run.specs.Pieces.{port_locate, port_locate_after, nested_locate, way_then};
 
 use crate::pieces::{Frame, PortLocate, PortLocated};
 use crate::ride::Ride;
 use crate::seats::SeatView;
 use crate::table::Table;
 use atomic_table::Seat;
-use rht_nest::{Locate, LocateAt, Located, LocatedBucket, Place, flat_place, is_nested};
+use rht_nest::{Locate, LocateAt, Place, flat_place, is_nested};
 use rht_policy::{Mix, bucket_of};
-use rht_words::{Geometry, Next, Port};
-use std::sync::Wait;
+use rht_words::{Geometry, Port};
+
+/// Where the way to a port's bucket goes, once the table's shape and seed are known.
+#[derive(Clone, Copy)]
+pub enum Way {
+    /// To the bucket's word at this place, in a flat table of this shape.
+    Flat { shape: u64, place: usize },
+    /// Over the entries of a nested table of this shape, to the bucket of this number.
+    Nested { shape: u64, bucket: u32 },
+}
 
 impl<M: Mix> Table<M> {
-    /// Finds the port's bucket in the table of this slot. In a flat one that takes two loads.
+    /// Loads the shape and the seed of the table of this slot, and works out the port's bucket.
     #[inline(always)]
-    pub(crate) fn locate<R: Wait, K: Ride, F: Frame<M, PortLocate, PortLocated>>(
+    pub(crate) fn find_way<K: Ride, F: Frame<M, PortLocate, PortLocated>>(
         &self,
-        rt: &R,
         seat: &mut Seat<(), SeatView<M>>,
         frame: &F,
         geometry: Geometry,
         port: Port,
         table: u32,
-    ) -> Located
+    ) -> Way
         requires { IsRiding M.mix_of self.now K.riding (F.holding frame.now (port_locate port (locate_new geometry table))) seat.old }
-        ensures { Stepped M.mix_of self.now K.riding (F.behind frame.now (record { port = port; table = table; found = result })) seat.new }
+        ensures { Stepped M.mix_of self.now K.riding (way_then (λ p. F.holding frame.now p) (λ there. F.behind frame.now there) geometry port table result) seat.new }
     {
         let locate = Locate::new(geometry, table);
         let shape = self.locating::<K, F>(seat, frame, port, locate);
@@ -36,39 +43,10 @@ impl<M: Mix> Table<M> {
         let seed = self.locating::<K, F>(seat, frame, port, locate);
         let bucket = bucket_of::<M>(port, shape, seed);
         if is_nested(shape) {
-            let place = Place::nested(geometry, shape, bucket);
-            let locate = locate.with(LocateAt::Early { shape, place });
-            return self.descend::<R, K, F>(rt, seat, frame, port, locate);
+            return Way::Nested { shape, bucket };
         }
-        let bucket = LocatedBucket::At(flat_place(geometry, shape, bucket));
-        Located { shape, bucket }
-    }
-
-    /// Goes on over the entries of a nested table, to the port's bucket or to the entry behind which it
-    /// is missing.
-    #[cold]
-    #[inline(never)]
-    fn descend<R: Wait, K: Ride, F: Frame<M, PortLocate, PortLocated>>(
-        &self,
-        rt: &R,
-        seat: &mut Seat<(), SeatView<M>>,
-        frame: &F,
-        port: Port,
-        locate: Locate,
-    ) -> Located
-        requires { IsRiding M.mix_of self.now K.riding (F.holding frame.now (port_locate port locate)) seat.old }
-        ensures { Stepped M.mix_of self.now K.riding (F.behind frame.now (record { port = port; table = locate.table; found = result })) seat.new }
-    {
-        let mut locate = locate;
-        for _ in rt.forever() {
-            let word = self.locating::<K, F>(seat, frame, port, locate);
-            let (next, answer) = locate.after::<M>(port, word);
-            if let Next::Done(found) = answer {
-                return found;
-            }
-            locate = next;
-        }
-        unreachable!()
+        let place = flat_place(geometry, shape, bucket);
+        Way::Flat { shape, place }
     }
 
     /// The operation of the finding in this state.
@@ -85,4 +63,14 @@ impl<M: Mix> Table<M> {
     {
         self.operate::<K, PortLocated, PortLocate, F>(seat, frame, &PortLocate { port, locate })
     }
+}
+
+/// The finding of a port's bucket, once the shape and the seed of a nested table were loaded.
+#[inline(always)]
+pub(crate) fn nested_locate(geometry: Geometry, table: u32, shape: u64, bucket: u32) -> Locate
+    requires { table < 8 }
+    ensures { result ≡ nested_locate geometry table shape bucket }
+{
+    let place = Place::nested(geometry, shape, bucket);
+    Locate::new(geometry, table).with(LocateAt::Early { shape, place })
 }

@@ -1,8 +1,9 @@
 //! Taking a free node and filling it, in whatever machine does so.
 
-ghost use Rattle.std.specs.Prelude.{◌≡◌, Some};
+ghost use Rattle.std.specs.Prelude.{◌≡◌, Some, IfSome};
 ghost use Rattle.rht_words.specs.Ports.{word_of};
-ghost use Rattle.rht_arena.specs.NewNode.{new_node_new, new_node_after, node_taken};
+ghost use Rattle.rht_arena.specs.NewNode.{new_node_new, new_node_after, new_node_after_at, node_taken};
+ghost use Rattle.rht_arena.specs.declared.new_node.NewNodeAt.TheVariants.{Taking};
 ghost use Rattle.rht_core.specs.Locals.{machine_of};
 ghost use Rattle.rht_core.specs.Runs.{IsAdmittedCall, IsBuiltFor};
 ghost use Rattle.rht_run.specs.Rides.{IsBefore, IsRiding, Stepped, piece_next};
@@ -37,7 +38,11 @@ impl<M: Mix> Table<M> {
     {
         let new = NewNode::new(self.env.geometry, word_of(port), owner);
         let word = self.begin::<K, Option<u32>, NewNode, F>(seat, frame, &new);
-        let (take, answer) = TakeNode::new(self.env.geometry).after(word);
+        let take = TakeNode::new(self.env.geometry);
+        let Some((take, answer)) = self.pass_over::<K, F>(seat, frame, &new, take, word) else {
+            never(rt);
+            unreachable!()
+        };
         let Some(node) = self.take_node::<R, K, F>(rt, seat, frame, &new, take, answer) else {
             return None;
         };
@@ -47,7 +52,38 @@ impl<M: Mix> Table<M> {
         Some(node)
     }
 
-    /// Takes a free node, once the first word of the node map was looked at.
+    /// Goes over the words of the node map in which no bit is set, once the first word was looked at.
+    /// By the test for 0 the compiler sees that no node is claimed in this loop, and keeps no state of
+    /// the taking but the word's number. `None` comes behind 2^64 - 1 rounds, which no run uses up.
+    #[inline(always)]
+    fn pass_over<K: Ride, F: Frame<M, NewNode, Option<u32>>>(
+        &self,
+        seat: &mut Seat<(), SeatView<M>>,
+        frame: &F,
+        new: &NewNode,
+        take: TakeNode,
+        word: u64,
+    ) -> Option<(TakeNode, Next<Option<u32>>)>
+        requires { Stepped M.mix_of self.now K.riding (piece_next (λ p. F.holding frame.now p) (λ a. F.behind frame.now a) (new_node_told new.now (new_node_after_at (Taking take) word))) seat.old }
+        ensures { IfSome result (λ end. Stepped M.mix_of self.now K.riding (piece_next (λ p. F.holding frame.now p) (λ a. F.behind frame.now a) (new_node_told new.now (node_taken end.0 end.1))) seat.new) }
+    {
+        let mut take = take;
+        let mut word = word;
+        for _ in 0..u64::MAX {
+            if word != 0 {
+                return Some(take.after(word));
+            }
+            let (next, answer) = take.after(word);
+            if let Next::Done(node) = answer {
+                return Some((next, Next::Done(node)));
+            }
+            take = next;
+            word = self.filling::<K, F>(seat, frame, new, NewNodeAt::Taking { take });
+        }
+        None
+    }
+
+    /// Takes a free node, once a word of the node map was looked at.
     #[inline(always)]
     fn take_node<R: Wait, K: Ride, F: Frame<M, NewNode, Option<u32>>>(
         &self,

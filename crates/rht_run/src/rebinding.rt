@@ -7,11 +7,13 @@ ghost use Rattle.rht_core.specs.Locals.{doing_after};
 ghost use Rattle.rht_release.specs.Rebind.{replacing};
 ghost use Rattle.rht_model.specs.declared.history.Reply.TheVariants.{Rebound};
 ghost use Rattle.rht_run.specs.Rides.{IsBefore, IsRiding, HasEnded, Stepped};
-ghost use Rattle.rht_run.specs.Seeks.{rebind_at};
+ghost use Rattle.rht_run.specs.Seeks.{rebind_at, nested_seek};
+ghost use Rattle.rht_release.specs.declared.rebind.RebindAt.TheVariants.{Seeking};
 
 use crate::pieces::Whole;
-use crate::ride::Ride;
+use crate::ride::{Ride, never};
 use crate::seats::SeatView;
+use crate::seeking::{Sought, nested_seek};
 use crate::seeks::{RebindFilling, RebindSeeking};
 use crate::table::Table;
 use atomic_table::Seat;
@@ -67,10 +69,26 @@ impl<M: Mix> Table<M> {
             port,
             at,
         ));
-        let Some(found) = self.seek::<R, K, RebindSeeking>(rt, seat, &frame, port, table) else {
-            let at = giving(env.geometry, node);
-            self.rebinding::<K>(seat, env, number, port, owner, new, at);
-            return Reply::Absent;
+        let Some(sought) = self.seek::<K, RebindSeeking>(seat, &frame, port, table) else {
+            never(rt);
+            unreachable!()
+        };
+        let found = match sought {
+            Sought::Found { found } => found,
+            Sought::Nowhere => {
+                let at = giving(env.geometry, node);
+                self.rebinding::<K>(seat, env, number, port, owner, new, at);
+                return Reply::Absent;
+            }
+            Sought::Nested {
+                table,
+                shape,
+                bucket,
+            } => {
+                return self.rebind_nested::<R, K>(
+                    rt, seat, number, port, owner, new, node, table, shape, bucket,
+                );
+            }
         };
         let at = RebindAt::Owner { node, found };
         let first = owner_of(self.rebinding::<K>(seat, env, number, port, owner, new, at));
@@ -121,6 +139,31 @@ impl<M: Mix> Table<M> {
             relink,
         };
         self.rebinding::<K>(seat, env, number, port, owner, new, at);
+    }
+
+    /// Puts the new owner in the old one's place from a nested table on.
+    #[cold]
+    #[inline(never)]
+    fn rebind_nested<R: Wait, K: Ride>(
+        &self,
+        rt: &R,
+        seat: &mut Seat<(), SeatView<M>>,
+        number: u32,
+        port: Port,
+        owner: u32,
+        new: u32,
+        node: u32,
+        table: u32,
+        shape: u64,
+        bucket: u32,
+    ) -> Reply
+        requires { IsRiding M.mix_of self.now K.riding (rebind_at self.now.env number port owner new (Seeking node (nested_seek self.now.env.geometry table shape bucket))) seat.old }
+        ensures { HasEnded M.mix_of self.now K.riding result seat.new }
+    {
+        let seek = nested_seek(self.env.geometry, table, shape, bucket);
+        let at = RebindAt::Seeking { node, seek };
+        let rebind = Rebind::<M>::new(self.env, number, port, owner, new).with(at);
+        self.run_whole::<R, K, Rebind<M>, Whole>(rt, seat, &Whole, rebind)
     }
 
     /// The operation of the rebind in this state.

@@ -5,14 +5,15 @@ ghost use Rattle.rht_model.specs.declared.history.Call.TheVariants.{Release as R
 ghost use Rattle.rht_model.specs.declared.history.Reply.TheVariants.{Released};
 ghost use Rattle.rht_core.specs.Locals.{doing_after};
 ghost use Rattle.rht_release.specs.FoundPort.{relink_of};
-ghost use Rattle.rht_release.specs.declared.release.ReleaseAt.TheVariants.{LinkBehind, Unlinking, Lowering};
+ghost use Rattle.rht_release.specs.declared.release.ReleaseAt.TheVariants.{Seeking, LinkBehind, Unlinking, Lowering};
 ghost use Rattle.rht_release.specs.Release.{promoting};
 ghost use Rattle.rht_run.specs.Rides.{IsBefore, IsRiding, HasEnded, Stepped};
-ghost use Rattle.rht_run.specs.Seeks.{release_at};
+ghost use Rattle.rht_run.specs.Seeks.{release_at, nested_seek};
 
 use crate::pieces::Whole;
 use crate::ride::{Ride, never};
 use crate::seats::SeatView;
+use crate::seeking::{Sought, nested_seek};
 use crate::seeks::ReleaseSeeking;
 use crate::table::Table;
 use atomic_table::Seat;
@@ -47,8 +48,22 @@ impl<M: Mix> Table<M> {
             caller: number,
             owner,
         };
-        let Some(found) = self.seek::<R, K, ReleaseSeeking>(rt, seat, &frame, port, table) else {
-            return Reply::Absent;
+        let Some(sought) = self.seek::<K, ReleaseSeeking>(seat, &frame, port, table) else {
+            never(rt);
+            unreachable!()
+        };
+        let found = match sought {
+            Sought::Found { found } => found,
+            Sought::Nowhere => return Reply::Absent,
+            Sought::Nested {
+                table,
+                shape,
+                bucket,
+            } => {
+                return self.release_nested::<R, K>(
+                    rt, seat, number, port, owner, table, shape, bucket,
+                );
+            }
         };
         let mut node = found.node;
         let mut before = None;
@@ -185,6 +200,29 @@ impl<M: Mix> Table<M> {
         let (relink, _) = relink.after();
         let at = ReleaseAt::Unlinking { found, relink };
         self.releasing::<K>(seat, env, number, port, owner, at);
+    }
+
+    /// Takes the binding out from a nested table on.
+    #[cold]
+    #[inline(never)]
+    fn release_nested<R: Wait, K: Ride>(
+        &self,
+        rt: &R,
+        seat: &mut Seat<(), SeatView<M>>,
+        number: u32,
+        port: Port,
+        owner: u32,
+        table: u32,
+        shape: u64,
+        bucket: u32,
+    ) -> Reply
+        requires { IsRiding M.mix_of self.now K.riding (release_at self.now.env number port owner (Seeking (nested_seek self.now.env.geometry table shape bucket))) seat.old }
+        ensures { HasEnded M.mix_of self.now K.riding result seat.new }
+    {
+        let seek = nested_seek(self.env.geometry, table, shape, bucket);
+        let at = ReleaseAt::Seeking { seek };
+        let release = Release::<M>::new(self.env, number, port, owner).with(at);
+        self.run_whole::<R, K, Release<M>, Whole>(rt, seat, &Whole, release)
     }
 
     /// The operation of the release in this state.

@@ -1,37 +1,46 @@
 //! The way to a port that is taken out or replaced, in whatever machine goes it.
 
-ghost use Rattle.std.specs.Prelude.{◌≡◌};
+ghost use Rattle.std.specs.Prelude.{◌≡◌, ◌<◌, IfSome};
 ghost use Rattle.rht_release.specs.Seek.{seek_after_at, locating};
 ghost use Rattle.rht_run.specs.Rides.{IsRiding, Stepped, piece_next};
-ghost use Rattle.rht_run.specs.Seeks.{port_seek, seek_told};
+ghost use Rattle.rht_run.specs.Seeks.{port_seek, seek_told, nested_seek, sought_then};
 
+use crate::locating::{Way, nested_locate};
 use crate::pieces::Frame;
-use crate::ride::{Ride, never};
+use crate::ride::Ride;
 use crate::seats::SeatView;
 use crate::seeks::{PortSeek, SeekLocating, SeekProbing};
 use crate::table::Table;
 use atomic_table::Seat;
-use rht_nest::LocatedBucket;
 use rht_policy::Mix;
 use rht_release::seek::leaving;
 use rht_release::{FoundPort, Seek, SeekAt};
 use rht_words::{Geometry, Port, slot_of, word_of};
-use std::sync::Wait;
+
+/// Where the way to a port has come to.
+#[derive(Clone, Copy)]
+pub enum Sought {
+    /// To the port. Its bucket stays locked.
+    Found { found: FoundPort },
+    /// To the end: no table binds the port, and no bucket is locked.
+    Nowhere,
+    /// To the nested table of this slot and this shape, in which it goes to the bucket of this number.
+    Nested { table: u32, shape: u64, bucket: u32 },
+}
 
 impl<M: Mix> Table<M> {
-    /// Goes from the table of this slot through the futures to the bucket in which the port is found,
-    /// which stays locked. Where no table binds it no bucket is locked.
+    /// Goes from the table of this slot through the futures to the bucket in which the port is found, or
+    /// to the first table that is nested. `None` comes behind 2^64 - 1 rounds, which no run uses up.
     #[inline(always)]
-    pub(crate) fn seek<R: Wait, K: Ride, F: Frame<M, PortSeek, (Port, Option<FoundPort>)> + Copy>(
+    pub(crate) fn seek<K: Ride, F: Frame<M, PortSeek, (Port, Option<FoundPort>)> + Copy>(
         &self,
-        rt: &R,
         seat: &mut Seat<(), SeatView<M>>,
         frame: &F,
         port: Port,
         table: u32,
-    ) -> Option<FoundPort>
+    ) -> Option<Sought>
         requires { IsRiding M.mix_of self.now K.riding (F.holding frame.now (port_seek self.now.env.geometry port (locating self.now.env.geometry table))) seat.old }
-        ensures { Stepped M.mix_of self.now K.riding (F.behind frame.now (port, result)) seat.new }
+        ensures { IfSome result (λ sought. Stepped M.mix_of self.now K.riding (sought_then (λ p. F.holding frame.now p) (λ a. F.behind frame.now a) self.now.env.geometry port sought) seat.new) }
     {
         let geometry = self.env.geometry;
         let mut table = table;
@@ -40,18 +49,15 @@ impl<M: Mix> Table<M> {
                 frame: *frame,
                 geometry,
             };
-            let there = self.locate::<R, K, SeekLocating<F>>(
-                rt, seat, &locating, geometry, port, table,
-            );
-            let shape = there.shape;
-            let place = match there.bucket {
-                LocatedBucket::At(place) => place,
-                LocatedBucket::Missing { early, .. } => {
-                    let Some(next) = early else {
-                        return None;
-                    };
-                    table = next;
-                    continue;
+            let way = self.find_way::<K, SeekLocating<F>>(seat, &locating, geometry, port, table);
+            let (shape, place) = match way {
+                Way::Flat { shape, place } => (shape, place),
+                Way::Nested { shape, bucket } => {
+                    return Some(Sought::Nested {
+                        table,
+                        shape,
+                        bucket,
+                    });
                 }
             };
             let probing = SeekProbing {
@@ -62,28 +68,32 @@ impl<M: Mix> Table<M> {
                 shape,
             };
             let key = word_of(port);
-            let end = self.probe::<R, K, SeekProbing<F>>(rt, seat, &probing, geometry, place, key);
+            let Some(end) = self.probe::<K, SeekProbing<F>>(seat, &probing, geometry, place, key)
+            else {
+                return None;
+            };
             let bucket = end.bucket;
             if let Some(node) = end.seen.found {
-                return Some(FoundPort {
+                let before = end.seen.before;
+                let found = FoundPort {
                     table,
                     shape,
                     bucket,
                     node,
-                    before: end.seen.before,
-                });
+                    before,
+                };
+                return Some(Sought::Found { found });
             }
             let at = SeekAt::Future { table, bucket };
             let future = slot_of(self.seeking::<K, F>(seat, frame, geometry, port, at));
             let at = leaving(table, bucket, future);
             self.seeking::<K, F>(seat, frame, geometry, port, at);
             let Some(next) = future else {
-                return None;
+                return Some(Sought::Nowhere);
             };
             table = next;
         }
-        never(rt);
-        unreachable!()
+        None
     }
 
     /// The operation of the way in this state.
@@ -103,4 +113,14 @@ impl<M: Mix> Table<M> {
         let piece = PortSeek { port, seek };
         self.operate::<K, (Port, Option<FoundPort>), PortSeek, F>(seat, frame, &piece)
     }
+}
+
+/// The way to a port, once the shape and the seed of a nested table were loaded.
+#[inline(always)]
+pub(crate) fn nested_seek(geometry: Geometry, table: u32, shape: u64, bucket: u32) -> Seek
+    requires { table < 8 }
+    ensures { result ≡ nested_seek geometry table shape bucket }
+{
+    let locate = nested_locate(geometry, table, shape, bucket);
+    Seek::new(geometry).with(SeekAt::Locating { locate })
 }

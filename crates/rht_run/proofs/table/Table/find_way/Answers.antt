@@ -1,6 +1,6 @@
 use Rattle.rht_nest.specs.Locate.{locate_new}
 use Rattle.rht_run.specs.Pieces.{port_locate}
-use Rattle.rht_run.proofs.table.Table.locate.Goals as goal
+use Rattle.rht_run.proofs.table.Table.find_way.Goals as goal
 
 pub new-locate-requires : goal.new-locate-requires
 new-locate-requires g c =
