@@ -2,7 +2,7 @@
 -- in which nothing is bound: caller 0 port 5, caller 1 port 6, one beside the other, and then caller 0 port 7. All are answered `Missing`.
 -- So each of these histories is legal, whatever its order, and what is refused is refused for what the run says of its calls.
 use Rattle.std.proofs.Common.{◌≡◌, ℕ, zero, suc, ◌+◌, ◌*◌, ◌<◌, ◌≤◌, List, [], ◌∷◌, length, lit≤, refl, sym, ap, ◌∙◌, subst, inl, inr, arith}
-use Rattle.std.specs.Prelude.{Option, Some, None, false, map, unwrap_or}
+use Rattle.std.specs.Prelude.{Option, None, false, map, unwrap_or}
 use Rattle.std.specs.List.{Any}
 use Rattle.std.proofs.lemmas.Bool.{cases_eq, ne_eqb}
 use Rattle.rht_words.specs.declared.config.Config.{Config}
@@ -17,7 +17,6 @@ use Rattle.rht_words.specs.Sizes.{rounded_up, powers}
 use Rattle.rht_model.specs.declared.history.Call.{Call}
 use Rattle.rht_model.specs.declared.history.Call.TheVariants.{Find}
 use Rattle.rht_model.specs.declared.history.Reply.TheVariants.{Missing}
-use Rattle.rht_model.specs.declared.finished.Finished.{Finished}
 use Rattle.rht_model.specs.Answers.{port_of}
 use Rattle.rht_model.specs.Endings.{plain_ending, ended_with}
 use Rattle.rht_model.specs.Histories.{IsLegal, bindings_left}
