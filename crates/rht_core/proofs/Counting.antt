@@ -4,10 +4,18 @@ pub mod CountedPorts
 pub mod RaisedNodes
 -- so the count of ports is at most the nodes
 pub mod CountedNodes
+-- the numbers below a bound that have a property
+pub mod NumbersBelow
 -- the nodes that calls have taken out of ports' lists
 pub mod NodesOut
 -- in every run a bind or a rebind takes one node at most, and no other call takes one
 pub mod NodesTaken
+-- which callers have raised the count, by what their jobs hold
+pub mod RaisingCallers
+-- what each operation does to that and to what is bound
+pub mod StepsAhead
+-- so a call by which the count is ahead shows it by its operations
+pub mod AheadCalls
 -- a count of ports that is loaded is no less than the ports bound, and at most these and the other callers
 -- in mid-call
 pub mod FullTables

@@ -1,5 +1,5 @@
 -- What the count of ports counts, and what a table is like while nobody is in a call.
-use Rattle.std.specs.Prelude.{◌≡◌, ◌≢◌, ℕ, ◌+◌, ◌/◌, ◌%◌, ◌<◌, ◌≤◌, ◌⊎◌, Bool, false, Option, Some, None, List, length, slice_index, sum_by, count_by}
+use Rattle.std.specs.Prelude.{◌≡◌, ◌≢◌, ℕ, ◌+◌, ◌/◌, ◌%◌, ◌<◌, ◌≤◌, ◌⊎◌, Bool, Option, Some, List, [], ◌∷◌, ◌++◌, length, slice_index, sum_by, count_by}
 use Rattle.std.specs.List.{AllByRecursion, range_with_len}
 use Rattle.std.specs.Int.{bit_at}
 use Rattle.rht_words.specs.declared.env.Env.{Env}
@@ -8,38 +8,18 @@ use Rattle.rht_words.specs.declared.config.Kind.TheVariants.{Single}
 use Rattle.rht_words.specs.Members.{In, IsDistinct}
 use Rattle.rht_words.specs.Places.{WorkLock, PortCount, Slot, StateWord, NodeMap, PageMap, word_at}
 use Rattle.rht_words.specs.Shapes.{unpacked, size_of}
+use Rattle.rht_model.specs.declared.history.Call.{Call}
+use Rattle.rht_model.specs.declared.history.Call.TheVariants.{Bind, Release}
 use Rattle.rht_core.specs.declared.event.Event.{Event}
-use Rattle.rht_callers.specs.declared.local.Doing.{Doing}
-use Rattle.rht_core.specs.Jobs.{Job, job_of, held_of}
-use Rattle.rht_core.specs.Runs.{Core, World, local_of, run_of, IsAdmitted}
+use Rattle.rht_core.specs.Runs.{World, run_of, IsAdmitted}
 use Rattle.rht_stands.specs.StandsFor.{in_force, shape_of, bucket_in, nodes_of, stands_for, AreAllBound}
 use Rattle.rht_core.specs.TablePages.{IsPageOfTable}
 use Rattle.rht_core.specs.Sections.{IsInNoSection}
-use Rattle.rht_core.specs.Alone.{IsQuiet}
+use Rattle.rht_core.specs.Alone.{IsQuiet, bindings_at}
+use Rattle.rht_core.specs.Traces.{Did, traced_of}
+use Rattle.rht_core.specs.Causes.{IsRaise, IsLowering}
+use Rattle.rht_core.specs.RunHistories.{bindings_behind}
 pub use Rattle.rht_model.specs.Replies.{takes_out}
-
--- the job has raised the count for a node that it hasn't linked yet, or has still to lower it for one
--- that it has taken out
-abbrev pub raised_by : Option Job → Bool
-raised_by None = false
-raised_by (Some job) = (held_of job).raised
-
--- the caller has
-abbrev pub is_raising : {M : Type 0} → Doing M → Bool
-is_raising doing = raised_by (job_of doing)
-
--- how many callers have
-abbrev pub raising : {M : Type 0} → Core M → ℕ
-raising core = count_by (λ c. is_raising (local_of core c).doing) (range_with_len 0 core.env.geometry.callers)
-
--- the count of ports is the number of ports bound, and of the callers that have raised it for a node that
--- they haven't linked yet or have still to lower it for one that they have taken out; and it is at most
--- the nodes
-pub record IsCounted {M : Type 0} (env : Env) (core : Core M) : Type 0 where
-  pub bound : ℕ
-  pub all_bound : AreAllBound (stands_for env.geometry core.words) bound
-  pub counted : word_at env.geometry core.words PortCount ≡ bound + raising core
-  pub few : word_at env.geometry core.words PortCount ≤ env.geometry.nodes
 
 -- the node's bit is set
 abbrev pub IsFree : Geometry → List ℕ → ℕ → Type 0
@@ -122,10 +102,63 @@ pub record IsAtRest (env : Env) (words : List ℕ) (out : ℕ) : Type 0 where
   pub sections : (c : ℕ) → c < env.geometry.callers → IsInNoSection env.geometry words c
 
 module _ (M : Type 0) (mix : ℕ → ℕ → ℕ → ℕ) where
+  -- the operation gave a port its first owner
+  abbrev pub GivesFirst : Env → List Event → Did → Type 0
+  GivesFirst env events did =
+      (port : ℕ) × (bindings_behind M mix env events did.index port ≡ []) × (bindings_behind M mix env events (did.index + 1) port ≢ [])
+
+  -- or took a port's last one
+  abbrev pub TakesLast : Env → List Event → Did → Type 0
+  TakesLast env events did =
+      (port : ℕ) × (bindings_behind M mix env events did.index port ≢ []) × (bindings_behind M mix env events (did.index + 1) port ≡ [])
+
+  -- By these operations of a call the count is ahead: by one of them, of which this is so, and behind which none lowered the count or gave
+  -- a port its first owner.
+  pub record IsAhead (env : Env) (events : List Event) (Leads : Did → Type 0) (steps : List Did) : Type 0 where
+    pub before : List Did
+    pub at : Did
+    pub behind : List Did
+    pub split : steps ≡ before ++ at ∷ behind
+    pub leads : Leads at
+    pub still : AllByRecursion (λ did. ¬ (IsLowering env.geometry did ⊎ GivesFirst env events did)) behind
+
+  -- so it is by those of a bind that has raised the count, and of a release that has taken a port's last owner
+  abbrev pub IsBindAhead : Env → List Event → Option Call → List Did → Type 0
+  IsBindAhead env events call steps =
+      (port : ℕ) × (owner : ℕ) × (once : Bool) × (call ≡ Some (Bind port owner once)) × IsAhead env events (IsRaise env.geometry) steps
+
+  abbrev pub IsReleaseAhead : Env → List Event → Option Call → List Did → Type 0
+  IsReleaseAhead env events call steps =
+      (port : ℕ) × (owner : ℕ) × (call ≡ Some (Release port owner)) × IsAhead env events (TakesLast env events) steps
+
+  -- and by those of the call that this caller is in
+  abbrev pub IsAheadBy : Env → List Event → ℕ → Type 0
+  IsAheadBy env events c =
+      let call = ((run_of {M = M} mix env events).books c).call in
+      let steps = ((traced_of {M = M} mix env events).traces c).steps in
+      IsBindAhead env events call steps ⊎ IsReleaseAhead env events call steps
+
+  -- so it is by so many callers, and by no others
+  pub record AreAhead (env : Env) (events : List Event) (count : ℕ) : Type 0 where
+    pub callers : List ℕ
+    pub distinct : IsDistinct callers
+    pub among : AllByRecursion (λ c. c < env.geometry.callers) callers
+    pub each : AllByRecursion (IsAheadBy env events) callers
+    pub only : (c : ℕ) → c < env.geometry.callers → IsAheadBy env events c → In c callers
+    pub many : length callers ≡ count
+
+  -- the count of ports is the number of ports bound, and of the callers by which it is ahead; and it is at most the nodes
+  pub record IsCounted (env : Env) (events : List Event) : Type 0 where
+    pub bound : ℕ
+    pub all_bound : AreAllBound (bindings_at M mix env events) bound
+    pub ahead : ℕ
+    pub are_ahead : AreAhead env events ahead
+    pub counted : word_at env.geometry (run_of {M = M} mix env events).core.words PortCount ≡ bound + ahead
+    pub few : word_at env.geometry (run_of {M = M} mix env events).core.words PortCount ≤ env.geometry.nodes
+
   -- in every run the count of ports counts
   abbrev pub Counted : Type 0
-  Counted =
-      (env : Env) (events : List Event) → IsAdmitted env.config.kind events → IsCounted env (run_of {M = M} mix env events).core
+  Counted = (env : Env) (events : List Event) → IsAdmitted env.config.kind events → IsCounted env events
 
   -- in every run the table is at rest while nobody is in a call
   abbrev pub AtRest : Type 0

@@ -194,10 +194,11 @@ pub fn fits<M: Mix>()
     ensures { HasFittingHistory M M.mix_of }
 {}
 
-/// In every run the count of ports is the number of ports that are bound, and of the callers that have
-/// raised it for a node which they link next, or have still to lower it for one that they have taken
-/// out. So it is never too low. And it is at most the number of nodes, since each such caller has a node
-/// of its own, which is in no port's list. It doesn't say which ports they are.
+/// In every run the count of ports is the number of ports that are bound, and of the calls in progress by
+/// which it is ahead. These are just the binds that have raised it, and the releases that have taken a
+/// port's last owner. By their operations so far: none behind that raise, or behind the one that took the
+/// owner, has lowered the count or given a port its first owner. So it is never too low. And it is at most
+/// the number of nodes. It doesn't say which ports they are.
 pub fn counted<M: Mix>()
     ensures { Counted M M.mix_of }
 {}

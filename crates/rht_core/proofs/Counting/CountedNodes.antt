@@ -24,11 +24,11 @@ use Rattle.rht_release.specs.declared.release.ReleaseAt.{ReleaseAt}
 use Rattle.rht_release.specs.declared.release.ReleaseAt.TheVariants as release_at
 use Rattle.rht_core.specs.declared.event.Event.{Event}
 use Rattle.rht_core.specs.declared.event.Event.TheVariants.{Step}
-use Rattle.rht_core.specs.Runs.{Core, World, local_of, planned_in, core_step, run_of, IsAdmitted, IsAdmittedEvent}
+use Rattle.rht_core.specs.Runs.{Core, World, local_of, planned_in, run_of, IsAdmitted, IsAdmittedEvent}
 use Rattle.rht_core.specs.Traces.{Did}
 use Rattle.rht_core.specs.Laws.{IsRecorded}
 use Rattle.rht_core.proofs.Counting.FullTables.{find-unraised, front-unraised, relinking-unraised, rebind-unraised, all-unraised, work-unraised, taken}
-use Rattle.rht_core.proofs.Events.Worlds.{run_of-push}
+use Rattle.rht_core.proofs.Events.Worlds.{run_of-push, stepped_words}
 use Rattle.rht_ghost.proofs.Theory.Ghosts.{Ghost, taken_is}
 use Rattle.rht_ghost.proofs.Theory.Knowns.{KnownList, LeadsTo}
 use Rattle.rht_ghost.proofs.Theory.Knowledge.{HasTakenOut, BucketMeans}
@@ -108,12 +108,6 @@ module _ (env : Env) (mix : ℕ → ℕ → ℕ → ℕ) (M : Type 0) where
       let counted = inv.whole.counted in
       omega (arith, few, counted)
 
-  -- the words after an operation that a caller plans
-  stepped_words : (core : Core M) (c : ℕ) (op : Op) (plan : Option Op) → planned_in core c ≡ plan
-      → plan ≡ Some op
-      → (core_step mix core (Step c)).0.words ≡ applied core.words op
-  stepped_words core c op plan is some = rw (is ∙ some) refl
-
   -- whoever makes an operation on the count finds it at most the nodes
   found_few : (events : List Event) (c : ℕ) (did : Did) (op : Op) → IsAdmitted env.config.kind events → did.op ≡ op
       → ((words : List ℕ) → old_of words op ≡ word_at env.geometry words PortCount)
@@ -155,7 +149,7 @@ module _ (env : Env) (mix : ℕ → ℕ → ℕ → ℕ) (M : Type 0) where
       (Step c) admitted_before admitted_event) in
       let words : (run_of {M = M} mix env more).core.words ≡ applied core.words did.op =
       ap (λ (w : World M). w.core.words) (run_of-push M mix env before (Step c))
-      ∙ stepped_words core c did.op (planned_in core c) refl is.plan in
+      ∙ stepped_words M mix core c did.op (planned_in core c) refl is.plan in
       let op = Add (place_of env.geometry PortCount) 1 in
       let write = is_write env.geometry core.words PortCount op has.all.stays.all_words tt refl in
       let found : word_at env.geometry core.words PortCount ≡ did.old = sym (ap (old_of core.words) adds)

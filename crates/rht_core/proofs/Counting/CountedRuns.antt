@@ -1,7 +1,7 @@
 -- The count of ports, and a table that nobody uses.
 -- As many different ports are bound as there are nodes in chains, and no more. A caller has raised the count exactly where its
 -- job has. While nobody is in a call nobody has a lock or a node.
-use Rattle.std.proofs.Common.{◌≡◌, ◌≢◌, ◌⊎◌, ℕ, ◌+◌, ◌<◌, ◌≤◌, true, length, subst, false, List, [], ◌∷◌, Option, Some, None, refl, sym, ◌∙◌, ap, inl, inr, arith}
+use Rattle.std.proofs.Common.{◌≡◌, ◌≢◌, ◌⊎◌, ℕ, ◌+◌, ◌<◌, ◌≤◌, true, length, subst, false, List, [], ◌∷◌, Option, Some, None, refl, sym, ◌∙◌, ap, inl, inr, arith, Bool}
 use Rattle.std.specs.Prelude.{count_by, sum_by}
 use Rattle.std.specs.List.{range_with_len}
 use Rattle.std.proofs.lemmas.Bool.{cases_lt}
@@ -9,11 +9,14 @@ use Rattle.rht_words.specs.declared.env.Env.{Env}
 use Rattle.rht_words.specs.declared.config.Kind.TheVariants.{Single}
 use Rattle.rht_words.specs.Places.{PortCount, Slot, ShapeWord, StateWord, word_at}
 use Rattle.rht_words.specs.Members.{In}
-use Rattle.rht_words.proofs.Members.{count_by-range, count_below-same, count_below-none}
+use Rattle.rht_words.proofs.Members.{count_below, count_by-range, count_below-same, count_below-none}
 use Rattle.rht_core.specs.Jobs.{job_of}
-use Rattle.rht_core.specs.Runs.{Core, World, local_of, view_of, run_of}
+use Rattle.rht_core.specs.Runs.{IsAdmitted, Core, World, local_of, view_of, run_of}
 use Rattle.rht_stands.specs.StandsFor.{in_force, nodes_of}
-use Rattle.rht_core.specs.Counts.{is_raising, raising, IsListed, IsPlaced, IsPageFree, IsPageOfSlot, IsPageInSlot, AreNoneHeld, taken_out, Counted, AtRest}
+use Rattle.rht_core.proofs.Counting.RaisingCallers.{is_raising, raising, IsCountedBy}
+use Rattle.rht_core.proofs.Counting.AheadCalls.{are_ahead}
+use Rattle.rht_core.specs.Counts.{IsListed, IsPlaced, IsPageFree, IsPageOfSlot, IsPageInSlot, AreNoneHeld, taken_out, Counted, AtRest}
+use Rattle.rht_core.specs.declared.event.Event.{Event}
 use Rattle.rht_core.specs.TablePages.{IsPageOfTable}
 use Rattle.rht_ghost.proofs.Theory.Ghosts.{Owner, Free, NodeHeld, First, Leaving, Behind, Taken, PageOwner, PageFree, PageHeld, PageOf, SlotOwner, SlotFree, SlotHeld, Live, Retired, Ghost, has_table, index_at, state_word, is_used, IsUsed, lock_bit, seat-used}
 use Rattle.rht_ghost.proofs.Theory.Wholes.{AreRetired, key_of, firsts, raisers, outs, IsBuilt, Whole}
@@ -206,8 +209,10 @@ module _ (M : Type 0) (mix : ℕ → ℕ → ℕ → ℕ) where
       count_by_raising e = count_by (λ c. is_raising (local_of core c).doing)
           (range_with_len 0 e.geometry.callers)
 
-  pub counted : Counted M mix
-  counted env events admitted =
+  -- by what their jobs hold
+  pub counted_by : (env : Env) (events : List Event) → IsAdmitted env.config.kind events
+      → IsCountedBy env (run_of {M = M} mix env events).core
+  counted_by env events admitted =
       let core : Core M = (run_of mix env events).core in
       let has = has_inv env mix M events admitted in
       record {
@@ -217,6 +222,24 @@ module _ (M : Type 0) (mix : ℕ → ℕ → ℕ → ℕ) where
             has.inv.whole.counted ∙ ap (λ r. firsts env mix has.ghost + r)
             (sym (raising-raisers env core has.ghost has.inv));
         few = count_few env mix M core has.ghost has.inv;
+      }
+
+  -- and so by their operations
+  pub counted : Counted M mix
+  counted env events admitted =
+      let core : Core M = (run_of mix env events).core in
+      let by = counted_by env events admitted in
+      let has : ℕ → Bool = λ c. is_raising (local_of core c).doing in
+      let same = (has_inv env mix M events admitted).inv.same_env in
+      let many : raising core ≡ count_below has env.geometry.callers =
+      count_by-range has core.env.geometry.callers ∙ ap (λ (e : Env). count_below has e.geometry.callers) same in
+      record {
+        bound = by.bound;
+        all_bound = by.all_bound;
+        ahead = count_below has env.geometry.callers;
+        are_ahead = are_ahead M mix env events admitted;
+        counted = by.counted ∙ ap (λ n. by.bound + n) many;
+        few = by.few;
       }
 
   pub at_rest : AtRest M mix

@@ -43,7 +43,7 @@ use Rattle.rht_release.specs.declared.rebind.RebindAt.TheVariants as rebind_at
 use Rattle.rht_core.specs.Traces.{Did}
 use Rattle.rht_core.specs.Laws.{IsRecorded}
 use Rattle.rht_core.specs.Seen.{others_in_call, CountedAt}
-use Rattle.rht_core.specs.Counts.{raised_by}
+use Rattle.rht_core.proofs.Counting.RaisingCallers.{raised_by}
 use Rattle.rht_core.proofs.Events.JobsOfCallers.{is_no_job, nothing-job}
 use Rattle.rht_ghost.proofs.Theory.Ghosts.{Ghost}
 use Rattle.rht_ghost.proofs.Theory.Wholes.{firsts, raisers}

@@ -1,16 +1,16 @@
 -- The nodes that are out: those that calls have taken out of ports' lists. There are as many of them as calls that have ended say,
 -- while nobody is in a call.
-use Rattle.std.proofs.Common.{◌≡◌, ℕ, zero, suc, ◌+◌, ◌<◌, ◌==◌, Bool, true, false, cond, List, [], ◌∷◌, length, refl, sym, ap, ◌∙◌, inl, inr, arith, Some}
+use Rattle.std.proofs.Common.{◌≡◌, ℕ, zero, suc, ◌+◌, ◌<◌, ◌==◌, Bool, true, false, List, [], ◌∷◌, length, refl, sym, ◌∙◌, arith, Some}
 use Rattle.std.specs.Prelude.{sum_by}
 use Rattle.std.specs.List.{AllByRecursion, range_with_len}
-use Rattle.std.proofs.lemmas.Bool.{cases_eq, eq-eqb, ne_eqb}
+use Rattle.std.proofs.lemmas.Bool.{eq-eqb, ne_eqb}
 use Rattle.std.proofs.lemmas.List.Sums.{sum_by-cons}
 use Rattle.rht_words.specs.declared.env.Env.{Env}
-use Rattle.rht_words.specs.Members.{In, NotIn, IsDistinct}
+use Rattle.rht_words.specs.Members.{In, IsDistinct}
 use Rattle.rht_words.proofs.Members.{one_if, count_below, count_below-more, count_below-none, count_by-range}
-use Rattle.rht_words.proofs.EachElement.{AllByRecursion-weaker}
 use Rattle.rht_ghost.proofs.Theory.Ghosts.{Owner, Free, NodeHeld, First, Leaving, Behind, Taken, Ghost, is_taken_by, seat_of}
 use Rattle.rht_ghost.proofs.Theory.Wholes.{IsBuilt, outs}
+use Rattle.rht_core.proofs.Counting.NumbersBelow.{having, having-length, having-among, having-distinct, having-in, having-out}
 
 -- somebody has taken the node out
 abbrev pub is_out : Owner → Bool
@@ -87,94 +87,21 @@ module _ (env : Env) (mix : ℕ → ℕ → ℕ → ℕ) (G : Ghost) (built : (n
 
   -- ---- which they are
 
-  abbrev with_one : Bool → ℕ → List ℕ → List ℕ
-  with_one t n nodes = cond t (n ∷ nodes) nodes
-
-  abbrev out_below : ℕ → List ℕ
-  out_below zero = []
-  out_below (suc n) = with_one (is_out (G.node n)) n (out_below n)
-
-  with_one-length : (t : Bool) (n : ℕ) (nodes : List ℕ)
-      → length (with_one t n nodes) ≡ length nodes + one_if t
-  with_one-length true n nodes = omega arith
-  with_one-length false n nodes = omega arith
-
-  out_below-length : (bound : ℕ) → length (out_below bound) ≡ count_below (λ n. is_out (G.node n)) bound
-  out_below-length zero = refl
-  out_below-length (suc n) =
-      let rest = out_below-length n in let more = with_one-length (is_out (G.node n)) n (out_below n) in
-      omega (arith, rest, more)
-
-  with_one-among : (t : Bool) (n : ℕ) (nodes : List ℕ) → AllByRecursion (λ m. m < n) nodes
-      → AllByRecursion (λ m. m < suc n) (with_one t n nodes)
-  with_one-among true n nodes all = (
-    omega arith,
-    AllByRecursion-weaker (λ m. m < n) (λ m. m < suc n)
-        (λ m l. omega arith) nodes all,
-  )
-  with_one-among false n nodes all = AllByRecursion-weaker (λ m. m < n) (λ m. m < suc n)
-      (λ m l. omega arith) nodes all
-
-  out_below-among : (bound : ℕ) → AllByRecursion (λ m. m < bound) (out_below bound)
-  out_below-among zero = tt
-  out_below-among (suc n) = with_one-among (is_out (G.node n)) n (out_below n) (out_below-among n)
-
-  not_above : (n : ℕ) (nodes : List ℕ) → AllByRecursion (λ m. m < n) nodes → NotIn n nodes
-  not_above n [] all = tt
-  not_above n (m ∷ nodes) all = ((λ e. let l = all.0 in omega (arith, l, e)), not_above n nodes all.1)
-
-  with_one-distinct : (t : Bool) (n : ℕ) (nodes : List ℕ) → NotIn n nodes → IsDistinct nodes
-      → IsDistinct (with_one t n nodes)
-  with_one-distinct true n nodes out distinct = (out, distinct)
-  with_one-distinct false n nodes out distinct = distinct
-
-  out_below-distinct : (bound : ℕ) → IsDistinct (out_below bound)
-  out_below-distinct zero = tt
-  out_below-distinct (suc n) =
-      with_one-distinct (is_out (G.node n)) n (out_below n)
-      (not_above n (out_below n) (out_below-among n)) (out_below-distinct n)
-
-  with_one-in : (t : Bool) (n m : ℕ) (nodes : List ℕ) → In m nodes → In m (with_one t n nodes)
-  with_one-in true n m nodes i = inr i
-  with_one-in false n m nodes i = i
-
-  -- each node that is out is one of them, and no other
-  out_below-in : (bound m : ℕ) → m < bound → is_out (G.node m) ≡ true → In m (out_below bound)
-  out_below-in zero m l is = absurd (omega arith)
-  out_below-in (suc n) m l is = elim (cases_eq m n) [
-    | inl e ↦ here (is_out (G.node n)) (sym (ap (λ k. is_out (G.node k)) e) ∙ is) e
-    | inr ne ↦ with_one-in (is_out (G.node n)) n m (out_below n) (out_below-in n m (omega arith) is)
-  ]
-    where
-      here : (t : Bool) → t ≡ true → m ≡ n → In m (with_one t n (out_below n))
-      here true yes_ e = inl e
-      here false no_ e = absurd (cc)
-
-  out_below-out : (bound m : ℕ) → In m (out_below bound) → is_out (G.node m) ≡ true
-  out_below-out zero m i = absurd i
-  out_below-out (suc n) m i = go (is_out (G.node n)) refl (out_below-out n m) i
-    where
-      go : (t : Bool) → is_out (G.node n) ≡ t → (In m (out_below n) → is_out (G.node m) ≡ true)
-          → In m (with_one t n (out_below n)) → is_out (G.node m) ≡ true
-      go true is rest (inl e) = ap (λ k. is_out (G.node k)) e ∙ is
-      go true is rest (inr j) = rest j
-      go false is rest j = rest j
-
   -- the nodes that are out
   abbrev pub out_nodes : List ℕ
-  out_nodes = out_below env.geometry.nodes
+  out_nodes = having (λ n. is_out (G.node n)) env.geometry.nodes
 
   pub out_nodes-distinct : IsDistinct out_nodes
-  out_nodes-distinct = out_below-distinct env.geometry.nodes
+  out_nodes-distinct = having-distinct (λ n. is_out (G.node n)) env.geometry.nodes
 
   pub out_nodes-among : AllByRecursion (λ m. m < env.geometry.nodes) out_nodes
-  out_nodes-among = out_below-among env.geometry.nodes
+  out_nodes-among = having-among (λ n. is_out (G.node n)) env.geometry.nodes
 
   pub out_nodes-many : length out_nodes ≡ sum_by (outs env mix G) callers
-  out_nodes-many = out_below-length env.geometry.nodes ∙ outs-all
+  out_nodes-many = having-length (λ n. is_out (G.node n)) env.geometry.nodes ∙ outs-all
 
   pub out_nodes-in : (m : ℕ) → m < env.geometry.nodes → is_out (G.node m) ≡ true → In m out_nodes
-  out_nodes-in m l is = out_below-in env.geometry.nodes m l is
+  out_nodes-in m l is = having-in (λ n. is_out (G.node n)) env.geometry.nodes m l is
 
   pub out_nodes-out : (m : ℕ) → In m out_nodes → is_out (G.node m) ≡ true
-  out_nodes-out m i = out_below-out env.geometry.nodes m i
+  out_nodes-out m i = having-out (λ n. is_out (G.node n)) env.geometry.nodes m i

@@ -284,6 +284,7 @@ module _ (L : Type 0) (mix : ℕ → ℕ → ℕ → ℕ) (env : Env) (keeps : e
         caller = c;
         words = w.core.words;
         ghost = has.ghost;
+        low = of.low;
         all = of.all;
         whole = has.inv.whole;
         within = of.within;

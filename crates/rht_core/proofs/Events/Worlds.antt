@@ -20,7 +20,7 @@ use Rattle.rht_core.specs.declared.book.Book.{Book}
 use Rattle.rht_callers.specs.declared.local.Local.{Local}
 use Rattle.rht_callers.specs.declared.local.Doing.{Doing}
 use Rattle.rht_callers.specs.Locals.{fresh, is_idle, machine_of, begin_with, plan_of, local_after, ending_of}
-use Rattle.rht_core.specs.Runs.{World, View, view_of, local_in, local_of, beginning, beginning_in, with_machine, planned, planned_in, with_step, book_at, book_begun, book_after, books_begun, books_stepped, world_step, run_from, run_of, opening, IsAdmitted, IsAdmittedEvent}
+use Rattle.rht_core.specs.Runs.{Core, World, View, view_of, local_in, local_of, beginning, beginning_in, with_machine, planned, planned_in, with_step, book_at, book_begun, book_after, books_begun, books_stepped, core_step, world_step, run_from, run_of, opening, IsAdmitted, IsAdmittedEvent}
 use Rattle.rht_core.specs.Laws.{view_begun, view_stepped, Extends}
 
 -- ---- lists of events
@@ -191,6 +191,12 @@ module _ (M : Type 0) (mix : ℕ → ℕ → ℕ → ℕ) where
       → run_from mix w (past ++ rest) ≡ run_from mix (run_from mix w past) rest
   run_from-append w [] rest = refl
   run_from-append w (event ∷ past) rest = run_from-append (world_step mix w event) past rest
+
+  -- the words after an operation that a caller plans
+  pub stepped_words : (core : Core M) (c : ℕ) (op : Op) (plan : Option Op) → planned_in core c ≡ plan
+      → plan ≡ Some op
+      → (core_step mix core (Step c)).0.words ≡ applied core.words op
+  stepped_words core c op plan is some = rw (is ∙ some) refl
 
   pub run_of-push : (env : Env) (events : List Event) (event : Event)
       → ◌≡◌ {A = World M} (run_of mix env (events ++ event ∷ []))

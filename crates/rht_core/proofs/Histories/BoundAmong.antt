@@ -20,7 +20,7 @@ use Rattle.rht_model.specs.declared.history.Call.{Call}
 use Rattle.rht_model.specs.declared.history.Call.TheVariants.{Bind, Release, Rebind}
 use Rattle.rht_model.specs.declared.history.Entry.{Entry}
 use Rattle.rht_core.specs.declared.event.Event.{Event}
-use Rattle.rht_core.specs.Counts.{is_raising, raising}
+use Rattle.rht_core.proofs.Counting.RaisingCallers.{is_raising, raising}
 use Rattle.rht_core.specs.FewPorts.{BindsAmong, AreCallsAmong}
 use Rattle.rht_core.specs.Numbered.{Numbered, entries_of, numbered_to}
 use Rattle.rht_core.specs.RunHistories.{AreOfCalls, about_bindings, bindings_behind, Fits}
@@ -31,7 +31,7 @@ use Rattle.rht_core.proofs.Events.InvariantRuns.{has_inv}
 use Rattle.rht_ghost.proofs.Theory.Steps.{by_test}
 use Rattle.rht_core.proofs.Tracing.TracedRuns.{world-traced_of}
 use Rattle.rht_core.proofs.Tracing.TracesInRuns.{remembers}
-use Rattle.rht_core.proofs.Counting.CountedRuns.{counted}
+use Rattle.rht_core.proofs.Counting.CountedRuns.{counted_by}
 use Rattle.rht_core.proofs.Histories.FittingRuns.{opening-agree, fits}
 use Rattle.rht_core.proofs.Histories.ToldEntries.{AllByRecursion-in_map}
 
@@ -228,7 +228,7 @@ pub count-few : (M : Type 0) (mix : ℕ → ℕ → ℕ → ℕ) (env : Env) (ev
     → word_at env.geometry words PortCount ≤ most + env.geometry.callers
 count-few M mix env events most admitted few =
     let core : Core M = (run_of mix env events).core in
-    let is = counted M mix env events admitted in
+    let is = counted_by M mix env events admitted in
     let same = (has_inv env mix M events admitted).inv.same_env in
     let raisers : raising core ≤ core.env.geometry.callers =
     subst (λ n. n ≤ core.env.geometry.callers)

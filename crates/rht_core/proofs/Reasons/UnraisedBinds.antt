@@ -66,7 +66,7 @@ module _ (g : Geometry) where
   new_node-none h key owner (news.Taking take) is = take_node-none take.geometry take.at is
   new_node-none h key owner _ is = cc
 
-  locate-none : (h : Geometry) (slot : ℕ) (state : LocateAt) → IsNoCountAdd (locate_plan_at h slot state)
+  pub locate-none : (h : Geometry) (slot : ℕ) (state : LocateAt) → IsNoCountAdd (locate_plan_at h slot state)
   locate-none h slot locates.Shape is = cc
   locate-none h slot _ is = cc
 
@@ -78,11 +78,11 @@ module _ (g : Geometry) where
   walk-none h (walks.Key node) is = cc
   walk-none h (walks.ChainLink node) is = cc
 
-  probe-none : (state : ProbeAt) → IsNoCountAdd (probe_plan_at state)
+  pub probe-none : (state : ProbeAt) → IsNoCountAdd (probe_plan_at state)
   probe-none (probes.Locking lock) = lock-none lock.place lock.at
   probe-none (probes.Walking bucket walk) = walk-none walk.geometry walk.at
 
-  relink-none : (m : RelinkModel) (state : RelinkAt) → IsNoCountAdd (relink_plan_at m state)
+  pub relink-none : (m : RelinkModel) (state : RelinkAt) → IsNoCountAdd (relink_plan_at m state)
   relink-none m (relinks.ChainLink before) is = cc
   relink-none m (relinks.Word word) is = cc
 

@@ -5,16 +5,16 @@
 -- leads to one more of them, and where it ends the call, to what is kept of an ended one. What callers keep besides is
 -- shown here once for all: that the call of a book is that of the job, and what the rooms have. So is how an operation stands in its run:
 -- the words in which it is performed are those before its event, and the buckets that there are then stay where they are.
-use Rattle.std.proofs.Common.{◌≡◌, ℕ, Bool, true, false, cond, List, [], ◌∷◌, ◌++◌, length, take, refl, sym, ap, ◌∙◌, subst, append_assoc}
+use Rattle.std.proofs.Common.{◌≡◌, ℕ, Bool, true, false, cond, List, [], ◌∷◌, ◌++◌, length, take, refl, sym, ap, ◌∙◌, subst, append_assoc, arith, ◌+◌, ◌<◌}
 use Rattle.std.specs.Prelude.{Option, Some, None}
 use Rattle.std.specs.List.{AllByRecursion, last_or}
 use Rattle.std.proofs.Math.Seq.{take-append_seam}
-use Rattle.std.proofs.lemmas.List.{append-nil}
+use Rattle.std.proofs.lemmas.List.{append-nil, length_push}
 use Rattle.rht_words.specs.declared.env.Env.{Env}
 use Rattle.rht_words.specs.declared.machine.Next.{Next}
 use Rattle.rht_words.specs.declared.machine.Next.TheVariants.{Go, Done}
 use Rattle.rht_words.specs.Machines.{GoesOrEnds}
-use Rattle.rht_words.specs.Operations.{old_of}
+use Rattle.rht_words.specs.Operations.{old_of, applied}
 use Rattle.rht_words.specs.Places.{words_in}
 use Rattle.rht_words.proofs.EachElement.{AllByRecursion-push, last_or-push}
 use Rattle.rht_model.specs.declared.history.Call.{Call}
@@ -28,14 +28,15 @@ use Rattle.rht_callers.specs.declared.local.Local.{Local}
 use Rattle.rht_callers.specs.declared.local.Doing.{Doing}
 use Rattle.rht_callers.specs.Locals.{is_idle, machine_of, local_after, ending_of}
 use Rattle.rht_core.specs.Jobs.{Job, call_of, first_job, job_plan, job_after, job_of, told}
-use Rattle.rht_core.specs.Runs.{Core, View, IsAdmitted, view_of, run_of, book_begun, book_after, finished_with}
+use Rattle.rht_core.specs.Runs.{Core, World, View, planned_in, IsAdmitted, view_of, run_of, book_begun, book_after, finished_with}
 use Rattle.rht_core.specs.Traces.{Did, Past, Trace, Traced, trace_begun, trace_did, traced_of}
 use Rattle.rht_core.specs.Seen.{words_before}
 use Rattle.rht_core.specs.Replies.{IsBookOfIdle, owners_with, pairs_with, HasLists}
-use Rattle.rht_core.specs.Laws.{view_begun, view_stepped}
+use Rattle.rht_core.specs.Laws.{IsRecorded, view_begun, view_stepped}
 use Rattle.rht_core.proofs.Events.JobsOfCallers.{is_no_job, has_ended, HasNoLists, same_call, left-told, nothing-job, first_job-machine, local_after-job}
 use Rattle.rht_callers.proofs.RoomsOfCallers.{owners_beside-none, owners_after-stay}
 use Rattle.rht_core.proofs.Events.Invariants.{Inv}
+use Rattle.rht_core.proofs.Events.Worlds.{run_of-push, stepped_words}
 use Rattle.rht_core.proofs.Events.BucketsThere.{BucketsStay, buckets-stay}
 use Rattle.rht_ghost.proofs.Theory.Ghosts.{Ghost}
 use Rattle.rht_ghost.proofs.Theory.Wholes.{Whole}
@@ -108,6 +109,7 @@ module _ (mix : ℕ → ℕ → ℕ → ℕ) (env : Env) where
     pub caller : ℕ
     pub words : List ℕ
     pub ghost : Ghost
+    pub low : caller < env.geometry.callers
     pub all : length words ≡ words_in env.geometry
     pub whole : Whole env mix (mem env mix words) ghost
     pub within : JobIn env mix caller job
@@ -117,10 +119,11 @@ module _ (mix : ℕ → ℕ → ℕ → ℕ) (env : Env) where
         let r = job_after mix env job did.old in
         JobStepOf env mix caller words ghost did.op job r
 
-  -- where these are the words before the event with each number, the operation was performed in those before its event, and the buckets
-  -- that tables had then stay where they were
+  -- where these are the words before the event with each number, the operation was performed in those before its event, and left those
+  -- behind it; and the buckets that tables had then stay where they were
   pub record StandsIn (words_at : ℕ → List ℕ) (job : Job) (did : Did) (performs : Performs job did) : Type 0 where
     pub now : performs.words ≡ words_at did.index
+    pub next : applied performs.words did.op ≡ words_at (did.index + 1)
     pub stay : BucketsStay env mix words_at performs.ghost did.index
 
   -- the step of a caller is its job's, in the words of this core, of which the invariant holds
@@ -145,6 +148,7 @@ module _ (mix : ℕ → ℕ → ℕ → ℕ) (env : Env) where
           caller = c;
           words = known.core.words;
           ghost = known.ghost;
+          low = of.low;
           all = of.all;
           whole = known.inv.whole;
           within = of.within;
@@ -263,16 +267,34 @@ module _ (M : Type 0) (mix : ℕ → ℕ → ℕ → ℕ) (env : Env) (Now : Job
           ap (λ (first : List Event). (run_of {M = M} mix env first).core.words)
           (sym (ap (λ n. take n events) is ∙ ap (take (length past)) all ∙ take-append_seam past rest))
 
+      -- and behind the next one they are those that its operation leaves
+      words_next : (past rest : List Event) (c : ℕ) (did : Did) → events ≡ past ++ Steps c ∷ rest → did.index ≡ length past
+          → IsRecorded M mix env (past ++ Steps c ∷ []) c did
+          → applied (run_of {M = M} mix env past).core.words did.op ≡ words_before M mix env events (did.index + 1)
+      words_next past rest c did all is recorded =
+          let more = past ++ Steps c ∷ [] in
+          let core : Core M = (run_of mix env past).core in
+          let start : take did.index more ≡ past =
+          ap (λ n. take n more) is ∙ take-append_seam past (Steps c ∷ []) in
+          let plan : planned_in core c ≡ Some did.op =
+          subst (λ (es : List Event). planned_in (run_of {M = M} mix env es).core c ≡ Some did.op) start recorded.plan in
+          let length_is : did.index + 1 ≡ length more = omega (arith, is, length_push past (Steps c)) in
+          sym (stepped_words M mix core c did.op (planned_in core c) refl plan)
+          ∙ sym (ap (λ (w : World M). w.core.words) (run_of-push M mix env past (Steps c)))
+          ∙ words_now more rest (did.index + 1) (all ∙ sym (append_assoc past (Steps c ∷ []) rest)) length_is
+
       -- an operation stands in the run
-      stands_in : (past rest : List Event) (job : Job) (did : Did) (performs : Performs mix env job did)
-          → IsAdmitted env.config.kind events → events ≡ past ++ rest → did.index ≡ length past
+      stands_in : (past rest : List Event) (c : ℕ) (job : Job) (did : Did) (performs : Performs mix env job did)
+          → IsAdmitted env.config.kind events → events ≡ past ++ Steps c ∷ rest → did.index ≡ length past
+          → IsRecorded M mix env (past ++ Steps c ∷ []) c did
           → performs.words ≡ (run_of {M = M} mix env past).core.words
           → Inv env mix M (run_of mix env past).core performs.ghost
           → StandsIn mix env (words_before M mix env events) job did performs
-      stands_in past rest job did performs admitted all is here inv =
-          let stay = buckets-stay env mix M past rest performs.ghost inv (subst (IsAdmitted env.config.kind) all admitted) in
+      stands_in past rest c job did performs admitted all is recorded here inv =
+          let stay = buckets-stay env mix M past (Steps c ∷ rest) performs.ghost inv (subst (IsAdmitted env.config.kind) all admitted) in
           record {
-            now = here ∙ words_now past rest did.index all is;
+            now = here ∙ words_now past (Steps c ∷ rest) did.index all is;
+            next = ap (λ ws. applied ws did.op) here ∙ words_next past rest c did all is recorded;
             stay =
                 subst (BucketsStay env mix (words_before M mix env events) performs.ghost) (sym is)
                 (subst (λ (es : List Event). BucketsStay env mix (words_before M mix env es) performs.ghost (length past)) (sym all)
@@ -280,7 +302,7 @@ module _ (M : Type 0) (mix : ℕ → ℕ → ℕ → ℕ) (env : Env) (Now : Job
           }
 
       steps-keeping : (past rest : List Event) (c : ℕ) (did : Did) (here : View M) (trace : Trace)
-          → IsAdmitted env.config.kind events → events ≡ past ++ rest
+          → IsAdmitted env.config.kind events → events ≡ past ++ Steps c ∷ rest
           → IsMade M mix env past c here.local did → IsKeeping here trace
           → let next = local_after mix here.local did.old in
           IsKeeping (view_stepped mix did.old here) (trace_did here.book.call did
@@ -294,7 +316,7 @@ module _ (M : Type 0) (mix : ℕ → ℕ → ℕ → ℕ) (env : Env) (Now : Job
           let work : IsAtWork job here.book trace.steps =
           subst (λ (j : Option Job). IsAtJob j here.book trace.steps) planning.does keeping.now in
           let performs = planning.performs in
-          let stands = stands_in past rest job did performs admitted all made.index planning.here planning.inv in
+          let stands = stands_in past rest c job did performs admitted all made.index made.recorded planning.here planning.inv in
           let leads = keep.goes job trace.steps did performs stands work.now in
           let after = job_after mix env job did.old in
           let left = local_after-job mix env here.local job did.old none made.table planning.does in
@@ -342,7 +364,7 @@ module _ (M : Type 0) (mix : ℕ → ℕ → ℕ → ℕ) (env : Env) (Now : Job
             index here trace is (keeping (Begin c call ∷ rest) (next_event past (Begin c call) rest all));
         steps = λ past c did here trace made keeping rest all.
             let next = next_event past (Steps c) rest all in
-            steps-keeping past (Steps c ∷ rest) c did here trace admitted next made (keeping (Steps c ∷ rest) next);
+            steps-keeping past rest c did here trace admitted next made (keeping (Steps c ∷ rest) next);
       }
 
       -- so what jobs keep holds of the calls of every caller
