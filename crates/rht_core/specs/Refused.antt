@@ -130,12 +130,10 @@ pub record IsOfAttached (g : Geometry) (steps : List Did) (place bit : ℕ) : Ty
   pub attached : AttachedWith g table slot shape steps
   pub of_it : (place ≡ place_of g (Slot table FutureWord)) ⊎ IsOfSlot g slot place ⊎ IsOfPages g shape place bit
 
--- The operations of a call came to a nested table. By these words the way to one of its buckets ends at this entry, which leads to no page.
--- To have come to it is asked since the words of a slot alone don't tell a table that is there from one that was.
-pub record IsMissingEntry (g : Geometry) (words : List ℕ) (entry : ℕ) (steps : List Did) : Type 0 where
+-- by these words the way to a bucket of the nested table in a slot ends at this entry, which leads to no page
+pub record IsMissingEntry (g : Geometry) (words : List ℕ) (entry : ℕ) : Type 0 where
   pub table : ℕ
   pub table_in : table < 8
-  pub came : CameTo g table steps
   pub nested : is_nested (shape_of g words table) ≡ true
   pub bucket : ℕ
   pub within : bucket < size_of (unpacked (shape_of g words table))
@@ -159,14 +157,15 @@ pub record HasTaken (g : Geometry) (page : ℕ) (steps : List Did) : Type 0 wher
   pub unentered : AllByRecursion (λ did. (entry : ℕ) → ¬ PutsPage g entry page did) behind
 
 -- One of these operations entered the page there. Those before it had taken the page, and neither given it back nor entered it. And they
--- had come to a table in which the page was missing.
+-- had come to the table in which the page was missing: the words of a slot don't tell a table that is there from one that was.
 pub record EnteredWhenTaken (g : Geometry) (words_at : ℕ → List ℕ) (entry page : ℕ) (steps : List Did) : Type 0 where
   pub before : List Did
   pub at : Did
   pub behind : List Did
   pub split : steps ≡ before ++ at ∷ behind
   pub enters : PutsPage g entry page at
-  pub missing : IsMissingEntry g (words_at at.index) entry before
+  pub missing : IsMissingEntry g (words_at at.index) entry
+  pub came : CameTo g missing.table before
   pub took : HasTaken g page before
 
 -- what is left of a page that these operations took and then entered: its entry, and its bit

@@ -29,11 +29,10 @@ module _ (env : Env) (mix : ℕ → ℕ → ℕ → ℕ) where
       whole.entries j (omega (arith, within)) is
       ∙ ap (λ o. entry_word ((G.table (table_of_page o)).entry j)) of
 
-  -- the entry behind which a page is entered, by a call that came to its table
-  pub entering_missing : (d j p : ℕ) (words : List ℕ) (G : Ghost) (steps : List Did) → Whole env mix (mem env mix words) G
-      → IsEntering env mix d j p G → mem env mix words (PageWord j) ≡ 0
-      → CameTo env.geometry (G.table (table_at G j)).slot steps → IsMissingEntry env.geometry words j steps
-  entering_missing d j p words G steps whole ready unset came =
+  -- the entry behind which a page is entered
+  unfoldable pub entering_missing : (d j p : ℕ) (words : List ℕ) (G : Ghost) → Whole env mix (mem env mix words) G
+      → IsEntering env mix d j p G → mem env mix words (PageWord j) ≡ 0 → IsMissingEntry env.geometry words j
+  entering_missing d j p words G whole ready unset =
       let M = mem env mix words in
       let at = entry_in env mix G j ready.entry in
       let τ = table_at G j in
@@ -47,7 +46,6 @@ module _ (env : Env) (mix : ℕ → ℕ → ℕ → ℕ) where
       record {
         table = table.slot;
         table_in = right.slot_in;
-        came = came;
         nested = subst (λ s. is_nested s ≡ true) (sym shape)
             (lt-ltb 0 (unpacked table.shape).nest (let is = nested.shaped.nest_is in omega (arith, is)));
         bucket = missed.bucket;
@@ -57,9 +55,9 @@ module _ (env : Env) (mix : ℕ → ℕ → ℕ → ℕ) where
       }
 
   -- an entry of a table that was attached at which a way ends is none of a bucket's words
-  pub missing_is_entry : (words : List ℕ) (G : Ghost) → Whole env mix (mem env mix words) G → (j : ℕ) (steps : List Did)
-      → (missing : IsMissingEntry env.geometry words j steps) → has_table (G.slot missing.table) ≡ true → is_entry G j ≡ true
-  missing_is_entry words G whole j steps missing has =
+  pub missing_is_entry : (words : List ℕ) (G : Ghost) → Whole env mix (mem env mix words) G → (j : ℕ)
+      → (missing : IsMissingEntry env.geometry words j) → has_table (G.slot missing.table) ≡ true → is_entry G j ≡ true
+  missing_is_entry words G whole j missing has =
       let M = mem env mix words in
       let of = whole.tables.slots missing.table has in
       let τ = index_at G missing.table in
@@ -78,3 +76,16 @@ module _ (env : Env) (mix : ℕ → ℕ → ℕ → ℕ) where
             (subst (λ s. missing_at (λ i. M (PageWord i)) (nested_place env.geometry s missing.bucket) ≡ Some j) shape missing.ends) in
             ap (λ o. is_entry_of G.table o (j / 64)) at.of ∙ at.has
       ]
+
+  -- a call that came to the table of the entry came to that in which the page is missing, also where other words are the same
+  pub record IsMissedBy (words : List ℕ) (j : ℕ) (steps : List Did) : Type 0 where
+    pub missing : IsMissingEntry env.geometry words j
+    pub came : CameTo env.geometry missing.table steps
+
+  pub entering_missed : (d j p : ℕ) (words now : List ℕ) (G : Ghost) (steps : List Did) → Whole env mix (mem env mix words) G
+      → IsEntering env mix d j p G → mem env mix words (PageWord j) ≡ 0
+      → CameTo env.geometry (G.table (table_at G j)).slot steps → words ≡ now → IsMissedBy now j steps
+  unfolding entering_missing
+  entering_missed d j p words now G steps whole ready unset came same =
+      subst (λ ws. IsMissedBy ws j steps) same
+      (record { missing = entering_missing d j p words G whole ready unset; came = came })

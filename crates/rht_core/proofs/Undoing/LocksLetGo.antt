@@ -50,7 +50,7 @@ use Rattle.rht_core.specs.declared.event.Event.{Event}
 use Rattle.rht_core.specs.Jobs.{Job, finds, binds, lists, releases, rebinds, works, counts, call_of, first_rebind, first_job, job_plan, job_after, held_of, held_next}
 use Rattle.rht_core.specs.Traces.{Did, Past, traced_of}
 use Rattle.rht_core.specs.Seen.{words_before}
-use Rattle.rht_core.specs.Refused.{turns, IsMissingEntry}
+use Rattle.rht_core.specs.Refused.{turns}
 use Rattle.rht_core.specs.LetGo.{HasEnteredAt, HasLetGo, LetGo}
 use Rattle.rht_ghost.proofs.Theory.Ghosts.{Ghost}
 use Rattle.rht_ghost.proofs.Theory.Steps.{Holding, mem, Does, Move, TakesNode, GivesNode, Links, Rebinds, SaysChange}
@@ -62,7 +62,7 @@ use Rattle.rht_core.proofs.Reasons.CausesInRuns.{JobSaw, EndsSeen, job-leads, fi
 use Rattle.rht_core.proofs.Undoing.EnteringBinds.{CameToEnter, attaching-none, saw-came, came_to_entry}
 use Rattle.rht_core.proofs.Undoing.TurnedBits.{turns-push}
 use Rattle.rht_core.proofs.Undoing.UndoneSoFar.{one_more}
-use Rattle.rht_core.proofs.Undoing.EnteredWords.{entering_missing}
+use Rattle.rht_core.proofs.Undoing.EnteredWords.{entering_missed}
 use Rattle.rht_core.proofs.Undoing.PastRefusal.{is_past}
 use Rattle.rht_core.proofs.Undoing.RefusableJobs.{enters, unmake-enters}
 use Rattle.rht_core.proofs.Undoing.RefusedCalls as refusals
@@ -211,6 +211,7 @@ module _ (M : Type 0) (mix : ℕ → ℕ → ℕ → ℕ) (env : Env) (events : 
             split = ap (λ before. before ++ did ∷ []) has.split ∙ append_assoc has.before (has.at ∷ has.behind) (did ∷ []);
             enters = has.enters;
             missing = has.missing;
+            came = has.came;
             took = has.took;
           };
         };
@@ -252,6 +253,11 @@ module _ (M : Type 0) (mix : ℕ → ℕ → ℕ → ℕ) (env : Env) (events : 
         performs.planned e.does.had in
         let unset : there (PageWord e.entry) ≡ 0 =
         sym (ap (old_of performs.words) e.does.entering) ∙ sym performs.found ∙ e.does.found in
+        let missed =
+        entering_missed env mix performs.caller e.entry e.page performs.words (words_at did.index) performs.ghost steps performs.whole
+        e.ready unset
+        (came_to_entry env mix performs.caller there performs.ghost did e.entry e.page e.does.entering performs.whole steps job
+        is_early.not_past performs.within performs.knows performs.planned e.does.had came) here in
         elim kept.0 [
           | inl past ↦ absurd (let both = sym is_early.not_past ∙ past in cc)
           | inr going ↦ elim going [
@@ -274,11 +280,8 @@ module _ (M : Type 0) (mix : ℕ → ℕ → ℕ → ℕ) (env : Env) (events : 
                     exchanges = e.does.entering;
                     found = e.does.found;
                   };
-                  missing = subst (λ ws. IsMissingEntry g ws e.entry steps) here
-                      (entering_missing env mix performs.caller e.entry e.page performs.words performs.ghost steps performs.whole e.ready
-                      unset
-                      (came_to_entry env mix performs.caller there performs.ghost did e.entry e.page e.does.entering performs.whole steps
-                      job is_early.not_past performs.within performs.knows performs.planned e.does.had came));
+                  missing = missed.missing;
+                  came = missed.came;
                   took = may.undoes.took e.page e.does.had;
                 };
               };

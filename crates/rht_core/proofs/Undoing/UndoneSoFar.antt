@@ -114,6 +114,7 @@ module _ (g : Geometry) (words_at : ℕ → List ℕ) (call : Call) where
                 ∙ append_assoc has.before (has.at ∷ has.behind) (did ∷ []);
             enters = has.enters;
             missing = has.missing;
+            came = has.came;
             took = has.took;
           };
           of_it = is.of_it;

@@ -9,10 +9,10 @@ use Rattle.rht_words.specs.Operations.{op_place, old_of}
 use Rattle.rht_words.specs.Places.{Slot, FutureWord, StateWord, PageMap, PageWord, place_of}
 use Rattle.rht_words.proofs.Members.{one_if}
 use Rattle.rht_model.specs.declared.history.Call.{Call}
-use Rattle.rht_core.specs.Refused.{AttachedWith, IsOfSlot, IsOfPages, IsMissingEntry, EnteredWhenTaken}
+use Rattle.rht_core.specs.Refused.{AttachedWith, IsOfSlot, IsOfPages, EnteredWhenTaken}
 use Rattle.rht_ghost.proofs.Theory.Steps.{bare, Holding, mem, DoesAttach, DoesEnter}
 use Rattle.rht_ghost.proofs.Theory.Readiness.{IsEntering}
-use Rattle.rht_core.proofs.Undoing.EnteredWords.{entering_missing}
+use Rattle.rht_core.proofs.Undoing.EnteredWords.{IsMissedBy, entering_missed}
 use Rattle.rht_core.proofs.Undoing.TurnedBits.{one_bit-there, turned-far, slot_bit, pages_bit, page_or_none}
 use Rattle.rht_core.proofs.Undoing.GoingBack.{by_none, unturned, GoesBack, every, Kept, MayBeLeft, MayEnter, by_pages, own_node, HadOrTakes, off_map, behind_map, with_same}
 use Rattle.rht_core.proofs.Undoing.UndonePages.{same_pages}
@@ -125,6 +125,11 @@ module _ {env : Env} {mix : ℕ → ℕ → ℕ → ℕ} {words_at : ℕ → Lis
       may : MayEnter g call step.steps step.ghost j
       may = step.may.enters j p does.entering does.had
 
+      missed : IsMissedBy env mix (words_at step.did.index) j step.steps
+      missed =
+          entering_missed env mix step.caller j p step.words (words_at step.did.index) step.ghost step.steps step.whole ready unset
+          may.came (sym step.here)
+
       entered : EnteredWhenTaken g words_at j p (every step)
       entered = record {
         before = step.steps;
@@ -132,9 +137,8 @@ module _ {env : Env} {mix : ℕ → ℕ → ℕ → ℕ} {words_at : ℕ → Lis
         behind = [];
         split = refl;
         enters = record { page_in = ready.among; entry_in = ready.within; exchanges = does.entering; found = does.found };
-        missing =
-            subst (λ ws. IsMissingEntry g ws j step.steps) (sym step.here)
-            (entering_missing env mix step.caller j p step.words step.ghost step.steps step.whole ready unset may.came);
+        missing = missed.missing;
+        came = missed.came;
         took = step.so_far.took p does.had;
       }
 

@@ -78,36 +78,30 @@ module _ (g : Geometry) (words_at : ℕ → List ℕ) where
       let took = has.took in
       no_split took.before took.behind took.at (sym (none_before one has.at has.before has.behind has.split) ∙ took.split)
 
-  -- what such an operation found, behind which the call entered a page
-  record Entered (entry page : ℕ) (last : Did) (before : List Did) : Type 0 where
-    puts : PutsPage g entry page last
-    missing : IsMissingEntry g (words_at last.index) entry before
+  -- what is so of an operation by which a call enters a page, behind these
+  record Entered (entry page : ℕ) (at : Did) (before : List Did) : Type 0 where
+    puts : PutsPage g entry page at
+    missing : IsMissingEntry g (words_at at.index) entry
+    came : CameTo g missing.table before
 
   -- where the first two of three operations put no page behind an entry, only the last one can have entered one
   only_last : (first second third : Did) (entry page : ℕ) → (PutsPage g entry page first → ⊥) → (PutsPage g entry page second → ⊥)
       → EnteredWhenTaken g words_at entry page (first ∷ second ∷ third ∷ [])
       → Entered entry page third (first ∷ second ∷ [])
   only_last first second third entry page not_first not_second has =
-      go has.before has.at has.behind has.split has.enters has.missing
+      go has.before has.at has.behind has.split (record { puts = has.enters; missing = has.missing; came = has.came })
     where
       go : (before : List Did) (at : Did) (behind : List Did) → first ∷ second ∷ third ∷ [] ≡ before ++ at ∷ behind
-          → PutsPage g entry page at → IsMissingEntry g (words_at at.index) entry before
-          → Entered entry page third (first ∷ second ∷ [])
-      go [] at behind is puts missing =
-          let same : at ≡ first = (let e = sym is in cc) in absurd (not_first (subst (PutsPage g entry page) same puts))
-      go (a ∷ []) at behind is puts missing =
-          let same : at ≡ second = (let e = sym is in cc) in absurd (not_second (subst (PutsPage g entry page) same puts))
-      go (a ∷ b ∷ []) at behind is puts missing =
+          → Entered entry page at before → Entered entry page third (first ∷ second ∷ [])
+      go [] at behind is entered =
+          let same : at ≡ first = (let e = sym is in cc) in absurd (not_first (subst (PutsPage g entry page) same entered.puts))
+      go (a ∷ []) at behind is entered =
+          let same : at ≡ second = (let e = sym is in cc) in absurd (not_second (subst (PutsPage g entry page) same entered.puts))
+      go (a ∷ b ∷ []) at behind is entered =
           let same : at ≡ third = (let e = sym is in cc) in
-          let one : a ≡ first = (let e = sym is in cc) in
-          let two : b ≡ second = (let e = sym is in cc) in
-          record {
-            puts = subst (PutsPage g entry page) same puts;
-            missing = subst (λ did. IsMissingEntry g (words_at did.index) entry (first ∷ second ∷ [])) same
-                (subst (λ x. IsMissingEntry g (words_at at.index) entry (x ∷ second ∷ [])) one
-                (subst (λ y. IsMissingEntry g (words_at at.index) entry (a ∷ y ∷ [])) two missing));
-          }
-      go (a ∷ b ∷ c ∷ before) at behind is puts missing =
+          let before : a ∷ b ∷ [] ≡ first ∷ second ∷ [] = (let e = sym is in cc) in
+          subst (λ did. Entered entry page did (first ∷ second ∷ [])) same (subst (Entered entry page at) before entered)
+      go (a ∷ b ∷ c ∷ before) at behind is entered =
           let lengths = ap length is in
           let sum = length-append before (at ∷ behind) in
           absurd (omega (arith, lengths, sum))
@@ -175,7 +169,8 @@ module _ (g : Geometry) (words_at : ℕ → List ℕ) where
       takes_page = done (And (place_of g (PageMap 0)) mask) old
 
       -- whatever it took before from the first word of the map
-      pub none_missing : (IsMissingEntry g (words_at 0) index (looks ∷ takes_page ∷ []) → ⊥) → (port owner : ℕ)
+      pub none_missing : ((missing : IsMissingEntry g (words_at 0) index) → CameTo g missing.table (looks ∷ takes_page ∷ []) → ⊥)
+          → (port owner : ℕ)
           → Breaks g words_at (Bind port owner true) (looks ∷ takes_page ∷ locks_it ∷ []) bucket 0
       none_missing no_entry port owner = record {
         place_in = omega (arith, within);
@@ -191,6 +186,12 @@ module _ (g : Geometry) (words_at : ℕ → List ℕ) where
           apart : place_of g (PageMap 0) ≡ bucket → ⊥
           apart same = let order = parts_in_order g in absurd (omega (arith, within, same, order.nodes, order.pages))
 
+          no_entry_at : (entry : ℕ) → entry ≡ index → (missing : IsMissingEntry g (words_at 0) entry)
+              → CameTo g missing.table (looks ∷ takes_page ∷ []) → ⊥
+          no_entry_at entry same =
+              subst (λ e. (missing : IsMissingEntry g (words_at 0) e) → CameTo g missing.table (looks ∷ takes_page ∷ []) → ⊥) (sym same)
+              no_entry
+
           -- the entry that it would have to be
           entered_here : (entry page : ℕ) → EnteredWhenTaken g words_at entry page (looks ∷ takes_page ∷ locks_it ∷ []) → ⊥
           entered_here entry page has =
@@ -198,7 +199,7 @@ module _ (g : Geometry) (words_at : ℕ → List ℕ) where
               (λ puts. let clears = puts.exchanges in absurd (cc)) has in
               let at : bucket ≡ place_of g (PageWord entry) = (let exchange = is.puts.exchanges in cc) in
               let same : entry ≡ index = omega (arith, at) in
-              no_entry (subst (λ e. IsMissingEntry g (words_at 0) e (looks ∷ takes_page ∷ [])) same is.missing)
+              no_entry_at entry same is.missing is.came
 
           all_three : (P : Did → Type 0) → (P looks → ⊥) → (P takes_page → ⊥) → (P locks_it → ⊥)
               → Any P (looks ∷ takes_page ∷ locks_it ∷ []) → ⊥
@@ -229,7 +230,7 @@ module _ (g : Geometry) (words_at : ℕ → List ℕ) where
       came_to_none elsewhere =
           none_missing (λ missing.
           never_came missing.table (looks ∷ takes_page ∷ [])
-          ((λ is. elsewhere (let same = is in cc)), ((λ is. let same = is in absurd (cc)), tt)) missing.came)
+          ((λ is. elsewhere (let same = is in cc)), ((λ is. let same = is in absurd (cc)), tt)))
 
   -- ---- a bind that leaks a slot
 
