@@ -1,5 +1,5 @@
 -- Which draw of a serial a job has: a making that has drawn one stores it in its slot, so that the table which it attaches has it.
-use Rattle.std.proofs.Common.{◌≡◌, ◌≢◌, ℕ, ◌+◌, ◌%◌, ◌^◌, ◌<◌, ◌≤◌, Bool, true, false, List, length, cond, nat_lt, refl, sym, ap, ◌∙◌, subst}
+use Rattle.std.proofs.Common.{◌≡◌, ◌≢◌, ℕ, ◌+◌, ◌%◌, ◌^◌, Bool, true, false, List, length, cond, nat_lt, refl, sym, ap, ◌∙◌, subst}
 use Rattle.std.specs.Prelude.{Option, Some, None, IfSome, ◌==◌}
 use Rattle.rht_words.specs.declared.env.Env.{Env}
 use Rattle.rht_words.specs.declared.geometry.Geometry.{Geometry}
@@ -8,19 +8,17 @@ use Rattle.rht_words.specs.declared.machine.Next.TheVariants.{Go, Done}
 use Rattle.rht_words.specs.declared.machine.Start.{Start}
 use Rattle.rht_words.specs.declared.machine.Start.TheVariants as starts
 use Rattle.rht_words.specs.Operations.{old_of, applied}
-use Rattle.rht_words.specs.Places.{Slot, SerialWord, NextSerial, place_of, words_in}
+use Rattle.rht_words.specs.Places.{Slot, SerialWord, words_in}
 use Rattle.rht_words.proofs.Memory.{Memory, is_write}
 use Rattle.rht_model.specs.Endings.{Ending, plain_ending}
 use Rattle.rht_arena.specs.TakeRun.{TakeRunModel, take_run_new, take_run_after}
-use Rattle.rht_nest.specs.Make.{MakeModel, IsMakeIn, make_new, make_plan, make_plan_at, IsMakeAtIn, make_after, make_after_at, may_nest, made_pages, no_run, run_taken, run_started, top_taken, slot_seen}
+use Rattle.rht_nest.specs.Make.{MakeModel, IsMakeIn, make_plan, make_plan_at, IsMakeAtIn, make_after, make_after_at, may_nest, made_pages, no_run, run_taken, run_started, top_taken, slot_seen}
 use Rattle.rht_nest.specs.declared.make.MakeAt.{MakeAt}
 use Rattle.rht_nest.specs.declared.make.MakeAt.TheVariants as makes
 use Rattle.rht_bind.specs.Bind as bind
-use Rattle.rht_bind.specs.declared.bind.growth.Growing.{Growing}
 use Rattle.rht_bind.specs.declared.bind.BindAt.{BindAt}
 use Rattle.rht_bind.specs.declared.bind.BindAt.TheVariants as bind_at
 use Rattle.rht_move.specs.Work as work
-use Rattle.rht_move.specs.declared.work.Wanted.{Wanted}
 use Rattle.rht_move.specs.declared.work.WorkAt.{WorkAt}
 use Rattle.rht_move.specs.declared.work.WorkAt.TheVariants as work_at
 use Rattle.rht_find.specs.Find as find

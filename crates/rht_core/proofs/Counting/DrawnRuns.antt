@@ -2,8 +2,8 @@
 --
 -- By induction over the events, with the ghost: an operation draws a serial for its caller, or attaches the caller's table, which has the
 -- caller's draw from then on, or leaves all draws.
-use Rattle.std.proofs.Common.{◌≡◌, ◌≢◌, ℕ, suc, ◌+◌, ◌%◌, ◌^◌, ◌<◌, ◌≤◌, ◌⊎◌, Bool, true, false, cond, List, [], ◌∷◌, refl, sym, ap, ◌∙◌, subst, inl, inr, arith}
-use Rattle.std.specs.Prelude.{Option, Some, None, IfSome, not, ◌==◌}
+use Rattle.std.proofs.Common.{◌≡◌, ◌≢◌, ℕ, suc, ◌+◌, ◌%◌, ◌^◌, ◌<◌, ◌≤◌, ◌⊎◌, cond, List, [], ◌∷◌, refl, sym, ap, ◌∙◌, subst, inl, inr, arith}
+use Rattle.std.specs.Prelude.{Option, Some, None, IfSome, ◌==◌}
 use Rattle.std.proofs.lemmas.Bool.{cases_eq, eq-eqb, ne_eqb}
 use Rattle.rht_words.specs.declared.op.Op.{Op}
 use Rattle.rht_words.specs.declared.op.Op.TheVariants.{Add}
@@ -20,14 +20,13 @@ use Rattle.rht_callers.specs.declared.local.Doing.{Doing}
 use Rattle.rht_core.specs.declared.event.Event.{Event}
 use Rattle.rht_core.specs.declared.event.Event.TheVariants.{Enroll, Begin, Step}
 use Rattle.rht_core.specs.Jobs.{Job, first_job, first_rebind, job_of, job_plan, job_after, told, held_of, held_next}
-use Rattle.rht_core.specs.Laws.{view_stepped}
 use Rattle.rht_core.specs.Runs.{World, View, enrolling, opening, local_of, planned_in, beginning_in, view_of, world_step, run_from, run_of, IsAdmitted, IsAdmittedEvent}
 use Rattle.rht_core.specs.Tables.{next_serial, drawn_from}
 use Rattle.rht_ghost.proofs.Theory.Ghosts.{Ghost, put, put-all, put-same, put-other, table_at, Table, made_table}
 use Rattle.rht_ghost.proofs.Theory.Reliance.{HoldingsStay}
 use Rattle.rht_ghost.proofs.Theory.Ways.{entered_table}
 use Rattle.rht_ghost.proofs.Theory.Steps.{Move, Attaches, Enters, ReadyFor, Does, ghost_after, mem}
-use Rattle.rht_core.proofs.Events.Invariants.{Knows, Inv, StepOf, step_of, kept, enrolled}
+use Rattle.rht_core.proofs.Events.Invariants.{Knows, Inv, StepOf, kept, enrolled}
 use Rattle.rht_core.proofs.Events.InvariantRuns.{opening_ghost, opening_inv, idle_at_opening}
 use Rattle.rht_core.proofs.Events.JobsOfCallers.{first-so, first_job-machine, left-job}
 use Rattle.rht_core.proofs.Events.RangesInRuns.{AllIn, opens-all, event-all}

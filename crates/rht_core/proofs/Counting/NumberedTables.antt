@@ -1,5 +1,5 @@
 -- Each table in force has a draw of a serial for its own, which is that of the ghost's table; and its slot says the serial.
-use Rattle.std.proofs.Common.{◌≡◌, ℕ, ◌+◌, ◌%◌, ◌^◌, ◌<◌, ◌≤◌, cond, List, [], ◌∷◌, ◌++◌, refl, arith, sym, ap, ◌∙◌, subst}
+use Rattle.std.proofs.Common.{◌≡◌, ℕ, ◌+◌, ◌%◌, ◌^◌, ◌<◌, ◌≤◌, cond, List, [], ◌∷◌, ◌++◌, arith, sym, ap, ◌∙◌, subst}
 use Rattle.std.specs.Prelude.{Option, ◌==◌}
 use Rattle.rht_words.specs.declared.env.Env.{Env}
 use Rattle.rht_words.specs.Members.{In}
@@ -13,7 +13,7 @@ use Rattle.rht_ghost.proofs.Theory.Ghosts.{Ghost, index_at}
 use Rattle.rht_ghost.proofs.Theory.Wholes.{Whole}
 use Rattle.rht_ghost.proofs.Theory.Steps.{mem}
 use Rattle.rht_stands.specs.StandsFor.{in_force}
-use Rattle.rht_core.proofs.Meaning.TablesInForce.{IsTableInForce, in_force_is, table_in_force}
+use Rattle.rht_core.proofs.Meaning.TablesInForce.{in_force_is, table_in_force}
 use Rattle.rht_core.proofs.Counting.DrawnRuns.{AreDrawn, HasDrawn, IsLater, runs-drawn, from-drawn}
 
 module _ (env : Env) (mix : ℕ → ℕ → ℕ → ℕ) (words : List ℕ) (G : Ghost) (whole : Whole env mix (mem env mix words) G)
