@@ -1,15 +1,25 @@
 -- What is true of each table in force, in every run: how many buckets it has, what its slot says, and which serial it has.
--- Sizes are those that a call reads: the binary exponent in a shape's word is cut, so that none is below 4 or above 2^18.
-use Rattle.std.specs.Prelude.{◌≡◌, ◌≢◌, ℕ, ◌+◌, ◌%◌, ◌^◌, ◌<◌, ◌≤◌, ◌==◌, List, [], ◌∷◌, ◌++◌, cond}
+use Rattle.std.specs.Prelude.{◌≡◌, ◌≢◌, ◌⊎◌, ℕ, ◌+◌, ◌-◌, ◌%◌, ◌^◌, ◌<◌, ◌≤◌, ◌==◌, List, [], ◌∷◌, ◌++◌, cond}
 use Rattle.rht_words.specs.declared.env.Env.{Env}
 use Rattle.rht_words.specs.Members.{In, IsDistinct}
 use Rattle.rht_words.specs.Places.{CurrentTable, NextSerial, Slot, SlotWord, SeedWord, FutureWord, SerialWord, StateWord, word_at}
+use Rattle.rht_words.specs.declared.shape.Shape.{Shape}
 use Rattle.rht_words.specs.Shapes.{unpacked, size_of}
+use Rattle.rht_nest.specs.Tables.{table_pages}
 use Rattle.rht_core.specs.declared.event.Event.{Event}
 use Rattle.rht_core.specs.Runs.{World, opening, world_step, run_of, IsAdmitted}
 use Rattle.rht_stands.specs.StandsFor.{in_force, shape_of}
 
 -- ---- one table
+
+module _ (env : Env) where
+  -- The exponent is one that is read as it is. The table is flat; or it is nested, has 128 buckets or more, and takes so many bits of a
+  -- bucket's number at its top page that each further level takes six. The pages with which it was made are there.
+  pub record IsShapeRight (shape : Shape) : Type 0 where
+    pub low : 2 ≤ shape.exponent
+    pub high : shape.exponent ≤ 17
+    pub nest : (shape.nest ≡ 0) ⊎ ((7 ≤ shape.exponent) × (shape.nest ≡ (shape.exponent - 1) % 6 + 1))
+    pub within : shape.page + table_pages shape ≤ env.geometry.pages
 
 module _ (env : Env) (words : List ℕ) where
   -- this word of a slot
@@ -23,6 +33,7 @@ module _ (env : Env) (words : List ℕ) where
   -- The table has the config's least number of buckets or more, and 2^17 at most; where the config names a greatest number, no more than
   -- that. Its slot is taken and not retired. Its seed is the config's and its serial together, in 32 bits.
   pub record IsTableRight (slot : ℕ) : Type 0 where
+    pub shape : IsShapeRight env (unpacked (shape_of env.geometry words slot))
     pub least : env.config.min ≤ table_size slot
     pub most : table_size slot ≤ 131072
     pub greatest : env.config.max ≢ 0 → table_size slot ≤ env.config.max

@@ -291,12 +291,16 @@ pub fn nodes<M: Mix>()
 {}
 
 /// In every run each table in force has as many buckets as the config's least size, or more, and at most
-/// 2^17; and no more than its greatest size, where there is one. Its slot is taken and isn't retired, and
+/// 2^17; and no more than its greatest size, where there is one. The word of its shape says a size that is
+/// read as it stands, flat or nested, and pages that are there. Its slot is taken and isn't retired, and
 /// its seed is the config's and its own serial together, in 32 bits. Futures lead from the current table
-/// along all of these, none twice, to one that has none. So many serials were drawn as events changed the
-/// next one, and one more, the first table's; the next serial is that number, in 64 bits. Each table in
-/// force has a draw of its own, and its serial is the number of that. It says nothing of tables that are
-/// being made, or are no longer in force, nor which of these sizes a table has.
+/// along all of these, none twice, to one whose future is 0.
+///
+/// So many serials were drawn as events changed the next one, and one more, the first table's; the next
+/// serial is that number, in 64 bits. Each table in force has a draw of its own, and its serial is the
+/// number of that. While fewer than 2^64 were drawn no serial comes back: a table in force with the serial
+/// of one that was in force before is that one, and was in force in between. It says nothing of tables that
+/// are being made or were never in force, nor which of these sizes a table has.
 pub fn tables<M: Mix>()
     ensures each { Tables M M.mix_of }
     ensures never_again { NeverAgain M M.mix_of }

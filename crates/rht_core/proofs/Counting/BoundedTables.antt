@@ -25,9 +25,11 @@ module _ (env : Env) where
     pub most : size ≤ 131072
     pub greatest : env.config.max ≢ 0 → size ≤ env.config.max
 
-  -- a table of this shape has a size that it may have, and so has one that is made with this exponent
-  abbrev pub IsBounded : ℕ → Type 0
-  IsBounded shape = IsSizeIn (size_of (unpacked shape))
+  -- a table of this shape has a size that it may have, which its exponent says; and so has one that is made with this exponent
+  pub record IsBounded (shape : ℕ) : Type 0 where
+    pub size : IsSizeIn (size_of (unpacked shape))
+    pub low : 2 ≤ (unpacked shape).exponent
+    pub high : (unpacked shape).exponent ≤ 17
 
   abbrev pub Fits : ℕ → Type 0
   Fits exponent = IsSizeIn (2 ^ exponent)
@@ -50,7 +52,7 @@ module _ (env : Env) where
   renewed : (shape : ℕ) → IsBounded shape → Fits (exponent_made (size_of (unpacked shape)))
   renewed shape bounded =
       let e = max 2 (min (unpacked shape).exponent 18) in
-      subst Fits (sym (exponent_made-pow e (omega arith) (few-pow e bounded.most))) bounded
+      subst Fits (sym (exponent_made-pow e (omega arith) (few-pow e bounded.size.most))) bounded.size
 
   doubled : (count shape : ℕ) → IsBounded shape → is_above_75 count (size_of (unpacked shape)) env.config.max ≡ true
       → Fits (exponent_made (2 * size_of (unpacked shape)))
@@ -58,7 +60,7 @@ module _ (env : Env) where
     | inl less ↦
         subst (λ size. Fits (exponent_made size)) (twice e)
         (subst Fits (sym (exponent_made-pow (e + 1) (omega arith) (omega (arith, less)))) (record {
-          least = omega (arith, bounded.least, powers-rise e (e + 1) (omega arith));
+          least = omega (arith, bounded.size.least, powers-rise e (e + 1) (omega arith));
           most = omega (arith, powers-rise (e + 1) 17 (omega (arith, less)));
           greatest = λ some.
               let power = max-power some in
@@ -66,10 +68,10 @@ module _ (env : Env) where
               omega (arith, power.1, powers-rise (e + 1) power.0 (omega (arith, below)));
         }))
     | inr more ↦
-        let same : e ≡ 17 = omega (arith, more, few-pow e bounded.most) in
+        let same : e ≡ 17 = omega (arith, more, few-pow e bounded.size.most) in
         let made : exponent_made (2 * 2 ^ e) ≡ e =
         ap (λ i. exponent_made (2 * 2 ^ i)) same ∙ great ∙ sym same in
-        subst Fits (sym made) bounded
+        subst Fits (sym made) bounded.size
   ]
     where
       e : ℕ
@@ -98,7 +100,7 @@ module _ (env : Env) where
       subst Fits (sym made) (subst IsSizeIn is.power.1 (record {
         least = omega arith;
         most = is.greatest;
-        greatest = λ some. omega (arith, smaller, bounded.greatest some);
+        greatest = λ some. omega (arith, smaller, bounded.size.greatest some);
       }))
     where
       size : ℕ
@@ -129,8 +131,12 @@ module _ (env : Env) where
       → IsBounded (made_shape exponent nested page)
   made-bounded exponent page nested fits low high =
       let inside : max 2 (min exponent 18) ≡ exponent = omega (arith, low, high) in
-      subst IsSizeIn (sym (ap (λ e. 2 ^ max 2 (min e 18)) (exponent_read exponent page nested (omega (arith, high)))
-      ∙ ap (λ e. 2 ^ e) inside)) fits
+      let read : (unpacked (made_shape exponent nested page)).exponent ≡ exponent = exponent_read exponent page nested (omega (arith, high)) in
+      record {
+        size = subst IsSizeIn (sym (ap (λ e. 2 ^ max 2 (min e 18)) read ∙ ap (λ e. 2 ^ e) inside)) fits;
+        low = omega (arith, read, low);
+        high = omega (arith, read, high);
+      }
 
   chosen-fits : (count shape size : ℕ) (alone : Bool) → IsBounded shape
       → choice_of env count shape alone ≡ choices.Attach size → Fits (exponent_made size)
