@@ -9,19 +9,20 @@ use Rattle.rht_registry.specs.declared.replaying.ReplayError.{ReplayError}
 use Rattle.rht_registry.specs.Players.{Writes}
 use Rattle.rht_cli.specs.declared.form.Form.TheVariants.{Replay}
 use Rattle.rht_cli.specs.Forms.{IsTextOf}
-use Rattle.rht_cli.specs.ReplayText.{replay_text_by, IsReplayedBy}
+use Rattle.rht_cli.specs.ReplayText.{replay_text_by, IsReplayedBy, IsInRunBy}
 
 module _ {O : Type 0} (held : O → Option (List ℕ)) (ofaults : O → ℕ) (o o' : O) (r : Result (Unit {0}) ReplayError)
     (script : Script) where
-  -- by any hash: the text was written, and every table of the config gives it
+  -- by any hash: the text was written, the replay is a run, and every table of the config gives the text
   abbrev WritesBy : Hash → Env → Type 0
   WritesBy hash env =
       (env.config ≡ script.config) × Writes held ofaults o o' r (replay_text_by hash env script)
+      × IsInRunBy hash env script
       × ((other : Env) → other.config ≡ script.config → replay_text_by hash other script ≡ replay_text_by hash env script)
 
   written_by : (hash : Hash) → IsReplayedBy hash script held ofaults o o' r → (env : Env) × WritesBy hash env
-  written_by hashes.Mix replayed = (replayed.env, (replayed.config_same, replayed.text, replayed.one_text))
-  written_by hashes.Low replayed = (replayed.env, (replayed.config_same, replayed.text, replayed.one_text))
+  written_by hashes.Mix replayed = (replayed.env, (replayed.config_same, replayed.text, replayed.in_run, replayed.one_text))
+  written_by hashes.Low replayed = (replayed.env, (replayed.config_same, replayed.text, replayed.in_run, replayed.one_text))
 
   -- so a text of the form was
   pub IsTextOf-replayed : IsReplayedBy script.config.hash script held ofaults o o' r
@@ -36,7 +37,8 @@ module _ {O : Type 0} (held : O → Option (List ℕ)) (ofaults : O → ℕ) (o 
           env = by.0;
           config_same = by.1.0;
           written = refl;
-          one_text = by.1.2;
+          in_run = by.1.2;
+          one_text = by.1.3;
         },
         by.1.1,
       )

@@ -10,7 +10,7 @@ use Rattle.rht_script.specs.declared.script.Script.{Script}
 use Rattle.rht_script.specs.Grammar.{Said}
 use Rattle.rht_script.specs.Reading.{said_by}
 use Rattle.rht_registry.specs.declared.replaying.ReplayError.{ReplayError}
-use Rattle.rht_registry.specs.Replays.{replay_text}
+use Rattle.rht_registry.specs.Replays.{replay_text, IsInRun}
 use Rattle.rht_registry.specs.Players.{IsReplayed}
 
 -- the text of a script's replay on a table with this environment, whose ports are hashed so
@@ -23,6 +23,11 @@ abbrev pub IsReplayedBy : {S : Type 0} → Hash → Script → (S → Option (Li
 IsReplayedBy hashes.Mix script held faults old new r = IsReplayed Lookup3 (mix_of_hash hashes.Mix) script held faults old new r
 IsReplayedBy hashes.Low script held faults old new r = IsReplayed Low (mix_of_hash hashes.Low) script held faults old new r
 
+-- that replay is a run
+abbrev pub IsInRunBy : Hash → Env → Script → Type 0
+IsInRunBy hashes.Mix env script = IsInRun Lookup3 (mix_of_hash hashes.Mix) env script
+IsInRunBy hashes.Low env script = IsInRun Low (mix_of_hash hashes.Low) env script
+
 -- The text is that of the replay of a script which says this, by the hash that it names.
 pub record IsReplayText (said : Said) (text : List ℕ) : Type 0 where
   pub script : Script
@@ -31,5 +36,7 @@ pub record IsReplayText (said : Said) (text : List ℕ) : Type 0 where
   pub env : Env
   pub config_same : env.config ≡ said.config
   pub written : text ≡ replay_text_by said.config.hash env script
+  -- it is a run of that table, so whatever is so in every run is so of it
+  pub in_run : IsInRunBy said.config.hash env script
   -- and every such table gives the same text
   pub one_text : (other : Env) → other.config ≡ said.config → replay_text_by said.config.hash other script ≡ text
