@@ -28,6 +28,7 @@ Prints-replayed held ofaults o o' r script left left_after read replayed = (
       env = replayed.env;
       config_same = replayed.config_same;
       written = refl;
+      in_run = replayed.in_run;
       one_text = replayed.one_text;
     };
   },

@@ -6,7 +6,7 @@ use Rattle.rht_run.specs.ServedRuns.{tag_of}
 use Rattle.rht_script.specs.declared.script.Script.{Script}
 use Rattle.rht_script.specs.Grammar.{Said}
 use Rattle.rht_script.specs.Reading.{said_by}
-use Rattle.rht_registry.specs.Replays.{replay_text}
+use Rattle.rht_registry.specs.Replays.{replay_text, IsInRun}
 
 -- The text is that of the replay of a script which says this, by the hash that it names.
 pub record IsReplayText (said : Said) (text : List ℕ) : Type 0 where
@@ -16,6 +16,8 @@ pub record IsReplayText (said : Said) (text : List ℕ) : Type 0 where
   pub env : Env
   pub config_same : env.config ≡ said.config
   pub written : text ≡ replay_text (tag_of said.config.hash) (mix_named said.config) env script
+  -- it is a run of that table, so whatever is so in every run is so of it
+  pub in_run : IsInRun (tag_of said.config.hash) (mix_named said.config) env script
   -- and every such table gives the same text
   pub one_text : (other : Env) → other.config ≡ said.config
       → replay_text (tag_of said.config.hash) (mix_named said.config) other script ≡ text

@@ -14,6 +14,8 @@ pub mod LastBindings
 pub mod Enrolling
 -- what an event makes of what the program keeps
 pub mod PlayedEvents
+-- a replay is a run
+pub mod ReplayRuns
 -- the end of a replay, and the whole of it
 pub mod ReplayEnds
 -- a config has one environment

@@ -13,7 +13,7 @@ use Rattle.rht_core.specs.Runs.{Core, local_of, core_step, IsBuiltFor}
 use Rattle.rht_core.specs.Serving.{calls_of}
 use Rattle.rht_registry.specs.declared.replaying.player.Player.{Player}
 use Rattle.rht_callers.specs.declared.local.Local.{Local}
-use Rattle.rht_registry.specs.Replays.{most_events, Playing, left_at, has_none, is_through, event_text, still_to_end, given, readied, turn_of, event_of, stepping, event_with, finishing}
+use Rattle.rht_registry.specs.Replays.{most_events, Playing, left_at, has_none, is_through, event_text, still_to_end, given, readied, turn_of, event_of, lines_at, stepping, event_with, finishing}
 use Rattle.rht_registry.specs.Players.{playing_of, CanPlay, Takes}
 use Rattle.rht_registry.proofs.NextCommands.{calls_of-own, calls_of-past, has_none-past, has_none-some, left_by, left_by-moved, left_by-taken, playing_of-parts}
 
@@ -171,7 +171,7 @@ module _ {M : Type 0} (mix : ℕ → ℕ → ℕ → ℕ) (commands : List (ℕ 
       λ e. (e.0, event_text shown (c + 1) (local_of e.0.core c) e.1) in
       ap (λ text. let e : Playing M × List ℕ = (playing_of commands after, text) in e) (text-as shown)
       ∙ ap lines is
-      ∙ sym (ap (λ t. cond t (let e : Playing M × List ℕ = (p, []) in e) (event_with mix shown c p)) goes)
+      ∙ sym (ap (λ t. cond t (let e : Playing M × List ℕ = (p, []) in e) (event_with mix (lines_at mix) shown c p)) goes)
 
   -- and one of a line that is to end some calls
   pub finishing-event : (calls : ℕ) → (calls == 0 || p.over || is_through p c) ≡ false
@@ -187,7 +187,7 @@ module _ {M : Type 0} (mix : ℕ → ℕ → ℕ → ℕ) (c : ℕ) (p : Playing
   -- behind the limit there is no event
   pub stepping-over : (shown : Bool) → p.over ≡ true → stepping mix shown c p ≡ (p, [])
   stepping-over shown over =
-      ap (λ t. cond t (let e : Playing M × List ℕ = (p, []) in e) (event_with mix shown c p)) over
+      ap (λ t. cond t (let e : Playing M × List ℕ = (p, []) in e) (event_with mix (lines_at mix) shown c p)) over
 
   -- and none of a line that is finished
   pub finishing-still : (calls : ℕ) → (calls == 0 || p.over || is_through p c) ≡ true → finishing mix c (calls, p) ≡ ((calls, p), [])

@@ -9,19 +9,20 @@ use Rattle.rht_words.specs.Settled.{IsSettled}
 use Rattle.rht_words.proofs.EachElement.{AllByRecursion-weaker}
 use Rattle.rht_model.specs.declared.history.Call.{Call}
 use Rattle.rht_core.specs.Locals.{is_idle}
-use Rattle.rht_core.specs.Runs.{Core, local_of, IsBuiltFor}
+use Rattle.rht_core.specs.Runs.{Core, local_of, IsAdmittedCall, IsBuiltFor}
 use Rattle.rht_core.specs.Closing.{current_size}
 use Rattle.rht_script.specs.declared.script.Script.{Script}
 use Rattle.rht_script.specs.declared.script.Sched.{Sched}
 use Rattle.rht_script.specs.declared.script.Sched.TheVariants.{Step, Skip, Finish}
-use Rattle.rht_script.specs.Sound.{is_sound_command, is_sound_line}
+use Rattle.rht_script.specs.Sound.{IsSoundScript, is_sound_command, is_sound_line}
 use Rattle.rht_script.specs.Text.{bound_text}
 use Rattle.rht_script.specs.OperationText.{size_line}
 use Rattle.rht_registry.specs.declared.replaying.player.Player.{Player}
-use Rattle.rht_registry.specs.Replays.{Playing, schedule_played, playing_from, bound_in, callers_of, open_text, end_text, replay_text}
+use Rattle.rht_registry.specs.Replays.{Playing, schedule_played, playing_from, bound_in, callers_of, open_text, end_text, replay_text, IsInRun}
 use Rattle.rht_registry.specs.Players.{playing_of, IsLineFor}
 use Rattle.rht_registry.proofs.OneEnvironment.{Env-same}
-use Rattle.rht_registry.proofs.SoundCommands.{IsCommandFor, sound-commands}
+use Rattle.rht_registry.proofs.SoundCommands.{IsCommandFor, sound-commands, sound-calls}
+use Rattle.rht_registry.proofs.ReplayRuns.{replay-runs}
 
 -- ---- the lines at the end
 
@@ -99,6 +100,17 @@ commands-for config env commands given same is sound =
     (AllByRecursion-weaker (IsCommandFor config) (λ command. IsBuiltFor env.config.kind command.1)
     (λ command for. subst (λ (k : Config). IsBuiltFor k.kind command.1) (sym same) for.kind) commands
     (sound-commands config commands sound))
+
+-- ---- its run
+
+-- the replay of a sound script is a run
+pub replay-in_run : (M : Type 0) (mix : ℕ → ℕ → ℕ → ℕ) (env : Env) (script : Script) → env.config ≡ script.config
+    → IsSoundScript script → IsInRun M mix env script
+replay-in_run M mix env script same sound =
+    replay-runs M mix env script
+    (subst (λ (k : Config). AllByRecursion (λ command. IsAdmittedCall command.1 × IsBuiltFor k.kind command.1) script.commands.items)
+    (sym same) (sound-calls script.config script.commands.items sound.settled sound.commands))
+    (lines-for script.config env script.schedule.items script.schedule.items same refl sound.schedule)
 
 -- ---- the whole
 

@@ -1,19 +1,23 @@
 -- Each command of a sound script is one of its workers', and its call is one that a table of the script's config may be given. Where
 -- commands can ask for it there is a machine for it; and where there is one worker all calls are its own.
-use Rattle.std.proofs.Common.{◌≡◌, ◌≢◌, ℕ, ◌<◌, ◌≤◌, Bool, true, false, List, [], ◌∷◌, length, map, get_or, refl, sym, ap, subst, arith}
-use Rattle.std.specs.Prelude.{IsTrue, ◌&&◌}
+use Rattle.std.proofs.Common.{◌≡◌, ◌≢◌, ℕ, ◌^◌, ◌<◌, ◌≤◌, Bool, true, false, List, [], ◌∷◌, length, map, get_or, refl, sym, ap, subst, arith}
+use Rattle.std.specs.Prelude.{IsTrue, ◌&&◌, Some, None, is_some, nat_le}
 use Rattle.std.specs.List.{AllByRecursion, list_all}
-use Rattle.std.proofs.lemmas.Bool.{leb-true, eq-eqb}
+use Rattle.std.proofs.lemmas.Bool.{leb-true, eq-eqb, eqb-true}
 use Rattle.std.proofs.lemmas.List.Elements.{All-from_recursion}
 use Rattle.rht_words.specs.declared.config.Config.{Config}
 use Rattle.rht_words.specs.declared.config.Kind.{Kind}
 use Rattle.rht_words.specs.declared.config.Kind.TheVariants.{Single, Listed}
+use Rattle.rht_words.specs.declared.limits.Limits.{Limits}
+use Rattle.rht_words.specs.Settled.{IsSettled}
 use Rattle.rht_model.specs.declared.history.Call.{Call}
 use Rattle.rht_model.specs.declared.history.Call.TheVariants.{Bind, Find, All, Release, Rebind, Walk, Work, Tidy, Count}
-use Rattle.rht_core.specs.Runs.{IsBuiltFor}
+use Rattle.rht_core.specs.Runs.{IsAdmittedCall, IsBuiltFor}
 use Rattle.rht_core.specs.Serving.{calls_of}
 use Rattle.rht_run.specs.Served.{IsMadeCall}
-use Rattle.rht_script.specs.Sound.{is_single, is_sound_call, is_sound_command, IsCommandCall}
+use Rattle.rht_script.specs.CommandLines.{port_limits, owner_limits, worker_limits}
+use Rattle.rht_script.specs.Sound.{is_single, is_sound_call, has_sound_numbers, is_sound_command, IsCommandCall}
+use Rattle.rht_script.specs.Spelling.{is_within}
 
 -- the command is one of so many workers', and its call is one for a table of this kind
 pub record IsCommandFor (config : Config) (command : ℕ × Call) : Type 0 where
@@ -26,6 +30,13 @@ both_true : (first second : Bool) → IsTrue (first && second) → (first ≡ tr
 both_true true true holds = (refl, refl)
 both_true true false holds = absurd (cc)
 both_true false second holds = absurd (cc)
+
+-- the three tests of a command
+sound-parts : (config : Config) (command : ℕ × Call) → IsTrue (is_sound_command config command)
+    → (is_within (worker_limits config) command.0 ≡ true) × (has_sound_numbers command.1 ≡ true) × (is_sound_call config command.1 ≡ true)
+sound-parts config command sound =
+    let first = both_true (is_within (worker_limits config) command.0) (has_sound_numbers command.1 && is_sound_call config command.1) sound in
+    let others = both_true (has_sound_numbers command.1) (is_sound_call config command.1) first.1 in (first.0, others.0, others.1)
 
 single-not_listed : (kind : Kind) → is_single kind ≡ true → kind ≢ Listed
 single-not_listed Single single listed = cc
@@ -42,16 +53,63 @@ sound-built config Work sound = tt
 sound-built config Tidy sound = tt
 sound-built config Count sound = tt
 
+-- a number within limits is below what is above them
+below-limits : (limits : Limits) (number end : ℕ) → limits.greatest < end → is_within limits number ≡ true → number < end
+below-limits limits number end above within =
+    let most = leb-true number limits.greatest (both_true (nat_le limits.least number) (nat_le number limits.greatest) within).1 in
+    omega (arith, most, above)
+
+port-small : (port : ℕ) → is_within port_limits port ≡ true → port < 2 ^ 32
+port-small port within = below-limits port_limits port (2 ^ 32) (omega arith) within
+
+owner-small : (owner : ℕ) → is_within owner_limits owner ≡ true → owner < 2 ^ 32
+owner-small owner within = below-limits owner_limits owner (2 ^ 32) (omega arith) within
+
+-- each number of a command's call lies in the range of its type; a walk has no cursor, and no more than all nodes are asked for
+sound-admitted : (config : Config) (call : Call) → IsSettled config → has_sound_numbers call ≡ true → is_sound_call config call ≡ true
+    → IsAdmittedCall call
+sound-admitted config (Bind port owner once) settled numbers sound =
+    let both = both_true (is_within port_limits port) (is_within owner_limits owner) numbers in
+    (port-small port both.0, owner-small owner both.1)
+sound-admitted config (Find port) settled numbers sound = port-small port numbers
+sound-admitted config (All port) settled numbers sound = port-small port numbers
+sound-admitted config (Release port owner) settled numbers sound =
+    let both = both_true (is_within port_limits port) (is_within owner_limits owner) numbers in
+    (port-small port both.0, owner-small owner both.1)
+sound-admitted config (Rebind port owner new) settled numbers sound =
+    let first = both_true (is_within port_limits port) (is_within owner_limits owner && is_within owner_limits new) numbers in
+    let both = both_true (is_within owner_limits owner) (is_within owner_limits new) first.1 in
+    (port-small port first.0, owner-small owner both.0, owner-small new both.1)
+sound-admitted config (Walk None limit) settled numbers sound =
+    let all = eqb-true limit config.nodes sound in
+    let most = settled.geometry.nodes_within.1 in omega (arith, all, most)
+sound-admitted config (Walk (Some cursor) limit) settled numbers sound = absurd (cc)
+sound-admitted config Work settled numbers sound = tt
+sound-admitted config Tidy settled numbers sound = tt
+sound-admitted config Count settled numbers sound = tt
+
 -- by induction over the commands
 pub sound-commands : (config : Config) (commands : List (ℕ × Call)) → IsTrue (list_all (is_sound_command config) commands)
     → AllByRecursion (IsCommandFor config) commands
 sound-commands config [] sound = tt
 sound-commands config (command ∷ commands) sound =
     let first_and_others = both_true (is_sound_command config command) (list_all (is_sound_command config) commands) sound in
-    let within_and_call = both_true _ (is_sound_call config command.1) first_and_others.0 in
-    let bounds = both_true _ _ within_and_call.0 in (
-      record { first = leb-true _ _ bounds.0; last = leb-true _ _ bounds.1; kind = sound-built config command.1 within_and_call.1 },
+    let parts = sound-parts config command first_and_others.0 in
+    let bounds = both_true _ _ parts.0 in (
+      record { first = leb-true _ _ bounds.0; last = leb-true _ _ bounds.1; kind = sound-built config command.1 parts.2 },
       sound-commands config commands first_and_others.1,
+    )
+
+-- and so each has numbers of its types, and is one for a table of the kind
+pub sound-calls : (config : Config) (commands : List (ℕ × Call)) → IsSettled config
+    → IsTrue (list_all (is_sound_command config) commands)
+    → AllByRecursion (λ command. IsAdmittedCall command.1 × IsBuiltFor config.kind command.1) commands
+sound-calls config [] settled sound = tt
+sound-calls config (command ∷ commands) settled sound =
+    let first_and_others = both_true (is_sound_command config command) (list_all (is_sound_command config) commands) sound in
+    let parts = sound-parts config command first_and_others.0 in (
+      (sound-admitted config command.1 settled parts.1 parts.2, sound-built config command.1 parts.2),
+      sound-calls config commands settled first_and_others.1,
     )
 
 -- what is so of each command is so of the one at a place

@@ -14,7 +14,7 @@ use Rattle.rht_script.specs.declared.script.Sched.TheVariants.{Step, Skip, Finis
 use Rattle.rht_registry.specs.declared.replaying.ReplayError.{ReplayError}
 use Rattle.rht_registry.specs.declared.replaying.ReplayError.TheVariants.{Write}
 use Rattle.rht_registry.specs.declared.replaying.player.Player.{Player}
-use Rattle.rht_registry.specs.Replays.{Playing, left_at, replay_text}
+use Rattle.rht_registry.specs.Replays.{Playing, left_at, replay_text, IsInRun}
 
 module _ {M : Type 0} where
   -- the replay of these commands that it stands for: what is left of a caller's begins where its next command is looked for
@@ -63,11 +63,12 @@ pub record Writes {S : Type 0} (held : S → Option (List ℕ)) (faults : S → 
   pub write : r ≡ Err Write → Rose (faults old) (faults new)
   pub kept : faults old ≤ faults new
 
--- The text of the script's replay was written, on a table of its config. The text is the script's alone: every environment of its
--- config gives the same one.
+-- The text of the script's replay was written, on a table of its config, and the replay is a run. The text is the script's alone: every
+-- environment of its config gives the same one.
 pub record IsReplayed {S : Type 0} (M : Type 0) (mix : ℕ → ℕ → ℕ → ℕ) (script : Script) (held : S → Option (List ℕ)) (faults : S → ℕ)
     (old new : S) (r : Result (Unit {0}) ReplayError) : Type 0 where
   pub env : Env
   pub config_same : env.config ≡ script.config
   pub text : Writes held faults old new r (replay_text M mix env script)
+  pub in_run : IsInRun M mix env script
   pub one_text : (other : Env) → other.config ≡ script.config → replay_text M mix other script ≡ replay_text M mix env script

@@ -1,7 +1,8 @@
 -- The text of a replay: the run that a script's schedule makes of its table, event by event, and what is printed of that.
+-- The same replay with its events in place of its lines says which run that is.
 -- The run is made by `core_step`, as every run is; so nothing is said here of machines, of words or of what they mean.
 -- A worker W, counted from 1, is the caller c = W - 1.
-use Rattle.std.specs.Prelude.{ℕ, zero, suc, ◌+◌, ◌-◌, ◌==◌, ◌&&◌, ◌||◌, nat_lt, if◌then◌else◌, Bool, true, false, Option, Some, None, is_some, List, [], ◌∷◌, ◌++◌, map, replicate, codes}
+use Rattle.std.specs.Prelude.{◌≡◌, ℕ, zero, suc, ◌+◌, ◌-◌, ◌==◌, ◌&&◌, ◌||◌, nat_lt, if◌then◌else◌, Bool, true, false, Option, Some, None, is_some, List, [], ◌∷◌, ◌++◌, map, replicate, codes}
 use Rattle.std.specs.List.{list_all, flat_map, range_with_len}
 use Rattle.rht_words.specs.declared.op.Op.{Op}
 use Rattle.rht_words.specs.declared.env.Env.{Env}
@@ -11,11 +12,12 @@ use Rattle.rht_model.specs.declared.history.Call.{Call}
 use Rattle.rht_model.specs.declared.history.Reply.{Reply}
 use Rattle.rht_model.specs.Multimap.{Port}
 use Rattle.rht_model.specs.Listing.{listing_of}
+use Rattle.rht_core.specs.declared.event.Event.{Event}
 use Rattle.rht_core.specs.declared.event.Event.TheVariants.{Enroll, Begin, Step}
 use Rattle.rht_core.specs.declared.event.Stepped.{Stepped}
 use Rattle.rht_callers.specs.declared.local.Local.{Local}
 use Rattle.rht_core.specs.Locals.{is_idle}
-use Rattle.rht_core.specs.Runs.{Core, local_of, core_step, run_of}
+use Rattle.rht_core.specs.Runs.{Core, local_of, core_step, run_of, IsAdmitted}
 use Rattle.rht_core.specs.StandsFor.{stands_for}
 use Rattle.rht_core.specs.Closing.{current_size, nodes_met}
 use Rattle.rht_core.specs.Serving.{calls_of}
@@ -73,17 +75,22 @@ abbrev pub still_to_end : ℕ → Option Stepped → ℕ
 still_to_end calls None = calls
 still_to_end calls (Some stepped) = if is_some stepped.reply then calls - 1 else calls
 
--- ---- parts of a replay, each with its lines
+-- ---- parts of a replay, each with its lines, or with its events
 
-module _ {A : Type 0} where
+module _ {A B : Type 0} where
   -- one part, and then the next one
-  abbrev pub and_then : A × List ℕ → (A → A × List ℕ) → A × List ℕ
+  abbrev pub and_then : A × List B → (A → A × List B) → A × List B
   and_then first next = let second = next first.0 in (second.0, first.1 ++ second.1)
 
   -- a part so many times
-  abbrev pub times : ℕ → (A → A × List ℕ) → A → A × List ℕ
+  abbrev pub times : ℕ → (A → A × List B) → A → A × List B
   times zero part a = (a, [])
   times (suc n) part a = and_then (part a) (times n part)
+
+-- the beginning of a caller's next command, where one is left
+abbrev pub given_events : ℕ → List Call → List Event
+given_events c [] = []
+given_events c (call ∷ calls) = Begin c call ∷ []
 
 module _ {M : Type 0} (mix : ℕ → ℕ → ℕ → ℕ) where
   -- ---- one event
@@ -106,34 +113,59 @@ module _ {M : Type 0} (mix : ℕ → ℕ → ℕ → ℕ) where
   abbrev pub event_of : Playing M → ℕ → Playing M × Option Stepped
   event_of p c = if nat_lt p.made most_events then turn_of (readied p c) c else (record p { over = true }, None)
 
-  -- the event and its lines
-  abbrev pub event_with : Bool → ℕ → Playing M → Playing M × List ℕ
-  event_with shown c p = let event = event_of p c in (event.0, event_text shown (c + 1) (local_of event.0.core c) event.1)
+  -- the lines of an event
+  abbrev pub lines_at : Bool → ℕ → Playing M → List ℕ
+  lines_at shown c p = let event = event_of p c in event_text shown (c + 1) (local_of event.0.core c) event.1
 
-  -- ---- the lines of a schedule
+  -- the same of a caller that is in no call
+  abbrev pub readied_events : Playing M → ℕ → List Event
+  readied_events p c = if is_idle (local_of p.core c) then given_events c (p.left c) else []
 
-  -- one event of `step` or `skip`; behind the limit there is none
+  -- the events of a run that are made for one event of a replay: the beginning and the operation; behind the limit none
+  abbrev pub events_at : Bool → ℕ → Playing M → List Event
+  events_at shown c p = if nat_lt p.made most_events then readied_events p c ++ Step c ∷ [] else []
+
+  -- ---- the lines of a schedule, with what is kept of each event: the lines that are printed, or the events of the run
+
+  module _ {B : Type 0} (kept : Bool → ℕ → Playing M → List B) where
+    -- an event, with what is kept of it
+    abbrev pub event_with : Bool → ℕ → Playing M → Playing M × List B
+    event_with shown c p = ((event_of p c).0, kept shown c p)
+
+    -- one event of `step` or `skip`; behind the limit there is none
+    abbrev pub stepping_with : Bool → ℕ → Playing M → Playing M × List B
+    stepping_with shown c p = if p.over then (p, []) else event_with shown c p
+
+    -- one event of `finish`, with the number of calls that are still to end; where none is, or the caller is through, there is none
+    abbrev pub finishing_with : ℕ → ℕ × Playing M → (ℕ × Playing M) × List B
+    finishing_with c (calls, p) =
+        if calls == 0 || p.over || is_through p c then ((calls, p), [])
+        else (let event = event_of p c in ((still_to_end calls event.1, event.0), kept false c p))
+
+    -- A line of a schedule. Of the events of `finish` the limit ends the last one, so that there are no more than these.
+    abbrev pub line_with : Sched → Playing M → Playing M × List B
+    line_with (lines.Step worker number) p = times number (stepping_with true (worker - 1)) p
+    line_with (lines.Skip worker number) p = times number (stepping_with false (worker - 1)) p
+    line_with (lines.Finish worker number) p =
+        let last = times (most_events + 1) (finishing_with (worker - 1)) (number, p) in (last.0.1, last.1)
+
+    -- line by line
+    abbrev pub schedule_with : List Sched → Playing M → Playing M × List B
+    schedule_with [] p = (p, [])
+    schedule_with (line ∷ schedule) p = and_then (line_with line p) (schedule_with schedule)
+
+  -- with the lines that are printed
   abbrev pub stepping : Bool → ℕ → Playing M → Playing M × List ℕ
-  stepping shown c p = if p.over then (p, []) else event_with shown c p
+  stepping = stepping_with lines_at
 
-  -- one event of `finish`, with the number of calls that are still to end; where none is, or the caller is through, there is none
   abbrev pub finishing : ℕ → ℕ × Playing M → (ℕ × Playing M) × List ℕ
-  finishing c (calls, p) =
-      if calls == 0 || p.over || is_through p c then ((calls, p), [])
-      else (let event = event_of p c in
-      ((still_to_end calls event.1, event.0), event_text false (c + 1) (local_of event.0.core c) event.1))
+  finishing = finishing_with lines_at
 
-  -- A line of a schedule. Of the events of `finish` the limit ends the last one, so that there are no more than these.
   abbrev pub line_played : Sched → Playing M → Playing M × List ℕ
-  line_played (lines.Step worker number) p = times number (stepping true (worker - 1)) p
-  line_played (lines.Skip worker number) p = times number (stepping false (worker - 1)) p
-  line_played (lines.Finish worker number) p =
-      let last = times (most_events + 1) (finishing (worker - 1)) (number, p) in (last.0.1, last.1)
+  line_played = line_with lines_at
 
-  -- line by line
   abbrev pub schedule_played : List Sched → Playing M → Playing M × List ℕ
-  schedule_played [] p = (p, [])
-  schedule_played (line ∷ schedule) p = and_then (line_played line p) (schedule_played schedule)
+  schedule_played = schedule_with lines_at
 
   -- ---- the whole
 
@@ -170,8 +202,25 @@ module _ {M : Type 0} where
       then bound_text (bound_in core.env.geometry core.words) size
       else flat_map (open_text core) (callers_of core) ++ size_line size
 
--- the text of a replay of this script, on a table with this environment
-abbrev pub replay_text : (M : Type 0) → (ℕ → ℕ → ℕ → ℕ) → Env → Script → List ℕ
-replay_text M mix env script =
-    let played = schedule_played {M = M} mix script.schedule.items (playing_from mix env script.commands.items) in
-    played.1 ++ end_text played.0.core
+-- ---- the replay of a script, on a table with this environment
+
+module _ (M : Type 0) (mix : ℕ → ℕ → ℕ → ℕ) (env : Env) (script : Script) where
+  -- how far it comes, with its lines
+  abbrev pub replayed : Playing M × List ℕ
+  replayed = schedule_played mix script.schedule.items (playing_from mix env script.commands.items)
+
+  -- its text
+  abbrev pub replay_text : List ℕ
+  replay_text = replayed.1 ++ end_text replayed.0.core
+
+  -- its events: all callers enrol, and then come those of the schedule
+  abbrev pub replay_events : List Event
+  replay_events =
+      replicate env.geometry.callers Enroll
+      ++ (schedule_with {M = M} mix (events_at mix) script.schedule.items (playing_from mix env script.commands.items)).1
+
+  -- These are the events of a run, in which each number is of its type and each call one for a table of this kind. That run ends
+  -- where the replay does, so whatever is so in every run is so of it.
+  pub record IsInRun : Type 0 where
+    pub admitted : IsAdmitted env.config.kind replay_events
+    pub end : (run_of {M = M} mix env replay_events).core ≡ replayed.0.core

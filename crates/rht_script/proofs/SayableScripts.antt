@@ -32,7 +32,7 @@ use Rattle.rht_script.specs.Grammar.{most_bytes, at_line, words_at, Said, lines_
 use Rattle.rht_script.specs.Allowed.{IsAllowed, AreAllowed}
 use Rattle.rht_script.specs.Plain.{IsSayableCall, IsSayableCommand, IsSayableSched, IsSayable}
 use Rattle.rht_script.specs.Reading.{said_by}
-use Rattle.rht_script.specs.Sound.{is_single, is_sound_call, is_sound_command, is_sound_line, IsCommandCall, IsSoundScript}
+use Rattle.rht_script.specs.Sound.{is_single, is_sound_call, has_sound_numbers, is_sound_command, is_sound_line, IsCommandCall, IsSoundScript}
 use Rattle.rht_script.specs.Laws.{SaysSayable}
 use Rattle.rht_script.proofs.ConfigLemmas.{IsSettled-configured}
 use Rattle.rht_script.proofs.ReadLines.{IfOk-then, IfOk-after, IfOk-cond, IfOk-at_line, number_within, call_holds, command_holds, AreEvents, HoldsOfSchedule, reading_holds}
@@ -243,7 +243,14 @@ is_within-IsWithinLimits limits number within =
     and_from (nat_le limits.least number) (nat_le number limits.greatest)
     (le-leb limits.least number within.0) (le-leb number limits.greatest within.1)
 
--- so are a worker's number and a number of events or calls together
+-- so are a port and an owner together
+port_and_owner : (port owner : ℕ) → IsWithinLimits port_limits port → IsWithinLimits owner_limits owner
+    → (is_within port_limits port && is_within owner_limits owner) ≡ true
+port_and_owner port owner port_in owner_in =
+    and_from (is_within port_limits port) (is_within owner_limits owner) (is_within-IsWithinLimits port_limits port port_in)
+    (is_within-IsWithinLimits owner_limits owner owner_in)
+
+-- and a worker's number and a number of events or calls
 both_within : (config : Config) (worker number : ℕ)
     → IsWithinLimits (worker_limits config) worker × IsWithinLimits event_limits number
     → (is_within (worker_limits config) worker && is_within event_limits number) ≡ true
@@ -252,13 +259,28 @@ both_within config worker number both =
     (is_within-IsWithinLimits (worker_limits config) worker both.0)
     (is_within-IsWithinLimits event_limits number both.1)
 
+-- the numbers of a call for which there is a verb are within their limits
+has_sound_numbers-sayable : (kind : Kind) (call : Call) → IsSayableCall kind call → has_sound_numbers call ≡ true
+has_sound_numbers-sayable kind (Bind port owner once) sayable = port_and_owner port owner sayable.0 sayable.1
+has_sound_numbers-sayable kind (Find port) sayable = is_within-IsWithinLimits port_limits port sayable
+has_sound_numbers-sayable kind (ListAll port) sayable = is_within-IsWithinLimits port_limits port sayable
+has_sound_numbers-sayable kind (Release port owner) sayable = port_and_owner port owner sayable.0 sayable.1
+has_sound_numbers-sayable kind (Rebind port owner new) sayable =
+    and_from (is_within port_limits port) (is_within owner_limits owner && is_within owner_limits new)
+    (is_within-IsWithinLimits port_limits port sayable.0)
+    (and_from (is_within owner_limits owner) (is_within owner_limits new)
+    (is_within-IsWithinLimits owner_limits owner sayable.1) (is_within-IsWithinLimits owner_limits new sayable.2))
+has_sound_numbers-sayable kind _ sayable = refl
+
 -- so a command that can be said is sound
 is_sound_command-sayable : (config : Config) (command : ℕ × Call) → IsSayableCommand config command
     → is_sound_command config command ≡ true
 is_sound_command-sayable config command sayable =
     let limits = worker_limits config in
-    and_from (is_within limits command.0) (is_sound_call config command.1)
-    (is_within-IsWithinLimits limits command.0 sayable.0) (is_sound_call-sayable config command.1 sayable.1)
+    and_from (is_within limits command.0) (has_sound_numbers command.1 && is_sound_call config command.1)
+    (is_within-IsWithinLimits limits command.0 sayable.0)
+    (and_from (has_sound_numbers command.1) (is_sound_call config command.1) (has_sound_numbers-sayable config.kind command.1 sayable.1)
+    (is_sound_call-sayable config command.1 sayable.1))
 
 -- and so is a line of the schedule
 is_sound_line-sayable : (config : Config) (sched : Sched) → IsSayableSched config sched

@@ -11,7 +11,7 @@ use Rattle.rht_script.specs.declared.script.Script.{Script}
 use Rattle.rht_script.specs.declared.script.Sched.{Sched}
 use Rattle.rht_script.specs.declared.script.Sched.TheVariants.{Step, Skip, Finish}
 use Rattle.rht_script.specs.Grammar.{most_lines}
-use Rattle.rht_script.specs.CommandLines.{worker_limits}
+use Rattle.rht_script.specs.CommandLines.{port_limits, owner_limits, worker_limits}
 use Rattle.rht_script.specs.ScheduleLines.{event_limits}
 use Rattle.rht_script.specs.Spelling.{is_within}
 
@@ -27,9 +27,23 @@ is_sound_call config (Rebind port owner new) = is_single config.kind
 is_sound_call config (Walk from limit) = is_none from && limit == config.nodes
 is_sound_call config _ = true
 
--- the command is a worker's, and its call can be run
+-- the call's port and owners are within their limits
+abbrev pub has_sound_numbers : Call → Bool
+has_sound_numbers (Bind port owner once) = is_within port_limits port && is_within owner_limits owner
+has_sound_numbers (Find port) = is_within port_limits port
+has_sound_numbers (All port) = is_within port_limits port
+has_sound_numbers (Release port owner) = is_within port_limits port && is_within owner_limits owner
+has_sound_numbers (Rebind port owner new) =
+    is_within port_limits port && (is_within owner_limits owner && is_within owner_limits new)
+has_sound_numbers (Walk from limit) = true
+has_sound_numbers Work = true
+has_sound_numbers Tidy = true
+has_sound_numbers Count = true
+
+-- the command is a worker's, its numbers are within their limits, and its call can be run
 abbrev pub is_sound_command : Config → ℕ × Call → Bool
-is_sound_command config command = is_within (worker_limits config) command.0 && is_sound_call config command.1
+is_sound_command config command =
+    is_within (worker_limits config) command.0 && (has_sound_numbers command.1 && is_sound_call config command.1)
 
 -- a command can ask for the call: for any that is about bindings, where a bind is tried until it ends, for the work, and for the
 -- count

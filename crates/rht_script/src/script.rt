@@ -70,7 +70,8 @@ fn are_sound_lines(config: &Config, schedule: &[Sched]) -> bool
     schedule.iter().all(|line| is_sound_line(config, *line))
 }
 
-/// Whether the command is a worker's, and its call can be run.
+/// Whether the command is a worker's, and its call can be run. That its port and owners are within
+/// their limits is so by their types.
 fn is_sound_command(config: &Config, command: (u32, Call)) -> bool
     ensures { result ≡ is_sound_command config.now command }
 {

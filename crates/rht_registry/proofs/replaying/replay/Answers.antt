@@ -4,7 +4,7 @@ use Rattle.rht_policy.specs.Mix.{mix_named}
 use Rattle.rht_registry.specs.Replays.{Playing, schedule_played, end_text, replay_text}
 use Rattle.rht_registry.specs.Players.{playing_of, Writes}
 use Rattle.rht_registry.proofs.PlayedParts.{Puts-longer, Writes-failed, Writes-after, Writes-nothing}
-use Rattle.rht_registry.proofs.ReplayEnds.{env_of, env_of-config, lines-for, commands-for, replay_text-one, replay_text-is}
+use Rattle.rht_registry.proofs.ReplayEnds.{env_of, env_of-config, lines-for, commands-for, replay_text-one, replay_text-is, replay-in_run}
 use Rattle.rht_registry.proofs.replaying.replay.Goals as goal
 
 pub returns-in_err-player : goal.returns-in_err-player
@@ -18,6 +18,9 @@ returns-in_err-player g c =
       text = Writes-nothing g.O.Sink.held g.O.Sink.faults c.args.out.now c.from_residual.result
           (replay_text g.row.M.Denot (mix_named script.config) env script) c.from_residual.ensures.0
           (λ is. let e = p.1 in let m = p.2 in cc);
+      in_run =
+          replay-in_run g.row.M.Denot (mix_named script.config) env script
+          (env_of-config script.config c.requires.sound.settled) c.requires.sound;
       one_text = replay_text-one g.row.M.Denot (mix_named script.config) script env (env_of-config script.config c.requires.sound.settled);
     }
 
@@ -58,6 +61,8 @@ returns-in_err-play_schedule g c =
           c.from_residual-in_err-play_schedule.result (played.1 ++ end_text played.0.core)
           (Puts-longer g.O.Sink.held g.O.Sink.faults c.args.out.now c.play_schedule.new.out e played.1 (end_text played.0.core)
           c.in_err-play_schedule.ensures.put) c.from_residual-in_err-play_schedule.ensures.0);
+      in_run =
+          replay-in_run g.row.M.Denot (mix_named script.config) env script c.in_ok-player.ensures.config c.requires.sound;
       one_text = replay_text-one g.row.M.Denot (mix_named script.config) script env c.in_ok-player.ensures.config;
     }
 
@@ -81,5 +86,7 @@ returns g c =
           played.1 (end_text played.0.core) c.in_ok-play_schedule.ensures.put
           (subst (Writes g.O.Sink.held g.O.Sink.faults c.play_schedule.new.out c.write_end.new.out c.write_end.result) last
           c.write_end.ensures));
+      in_run =
+          replay-in_run g.row.M.Denot (mix_named script.config) env script c.in_ok-player.ensures.config c.requires.sound;
       one_text = replay_text-one g.row.M.Denot (mix_named script.config) script env c.in_ok-player.ensures.config;
     }
