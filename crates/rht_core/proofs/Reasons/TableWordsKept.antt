@@ -16,15 +16,16 @@ use Rattle.rht_words.specs.Places.{SlotWord, ShapeWord, SeedWord, FutureWord, Se
 use Rattle.rht_words.specs.TableWords.{IsTableWord}
 use Rattle.rht_words.proofs.Memory.{Memory, is_write}
 use Rattle.rht_words.proofs.PlacesApart.{parts_in_order}
-use Rattle.rht_core.specs.Traces.{Did}
+use Rattle.rht_core.specs.Traces.{Did, performed_of}
 use Rattle.rht_core.specs.ResizeCauses.{Attaches}
-use Rattle.rht_core.specs.Attached.{ChangesTable, ChangesCurrent, MovesOn}
+use Rattle.rht_core.specs.Attached.{ChangesTable, ChangesCurrent, MovesOn, ChangesState}
 use Rattle.rht_ghost.proofs.Theory.Ghosts.{Ghost}
 use Rattle.rht_ghost.proofs.Theory.Wholes.{Whole}
-use Rattle.rht_ghost.proofs.Theory.Departures.{CanPublish, published}
+use Rattle.rht_ghost.proofs.Theory.Departures.{CanPublish, published, CanRetire}
 use Rattle.rht_ghost.proofs.Theory.Steps as steps
 use Rattle.rht_ghost.proofs.Theory.Steps.{mem, ghost_after, LeavesBits, DoesPublish, Holding, Does, ReadyFor, DoesQuiet, IsAside, Move, Quiet, TakesNode, GivesNode, TakesLock, DropsLock, Raises, Links, Lowers, Rebinds, LinksBehind, Arms, TakesSlot, GivesSlot, TakesPages, GivesPages, Enters, TakesWork, GivesWork, BeginsMoving, TakesSecond, Leaves, Arrives, CutsOff, Publishes, Retires}
 use Rattle.rht_core.proofs.Meaning.TablesInForce.{current_slot, future-leads}
+use Rattle.rht_nest.specs.MakeLaws.{slot_taking, TakesSlot as TakesSlotNow}
 
 -- ---- places that are no such words
 
@@ -177,41 +178,41 @@ module _ (env : Env) (mix : ℕ → ℕ → ℕ → ℕ) (c : ℕ) (M : Memory) 
 module _ (env : Env) (mix : ℕ → ℕ → ℕ → ℕ) (c : ℕ) (words : List ℕ) (G : Ghost) (did : Did) (before after : Holding)
     (whole : Whole env mix (mem env mix words) G) (all : length words ≡ words_in env.geometry) (found : did.old ≡ old_of words did.op)
     (fits : FitBefore did) (changes : ChangesCurrent env.geometry did) where
-  abbrev g' : Geometry
-  g' = env.geometry
+  abbrev g_current : Geometry
+  g_current = env.geometry
 
   pub record Publishing : Type 0 where
     pub moves : before.moving ≡ true
-    pub on : MovesOn g' words did
+    pub on : MovesOn g_current words did
 
   far : (place : ℕ) → op_place did.op ≡ place → 0 < place → Publishing
   far place on is = absurd (let at : place ≡ 0 = sym on ∙ changes.there in omega (arith, at, is))
 
-  nodes_far : (place : ℕ) → op_place did.op ≡ place → nodes_at g' ≤ place → Publishing
+  nodes_far : (place : ℕ) → op_place did.op ≡ place → nodes_at g_current ≤ place → Publishing
   nodes_far place on is =
-      let order = parts_in_order g' in far place on (omega (arith, is, order.nodes, order.page_map))
+      let order = parts_in_order g_current in far place on (omega (arith, is, order.nodes, order.page_map))
 
-  pages_far : (index : ℕ) → op_place did.op ≡ pages_at g' + index → Publishing
+  pages_far : (index : ℕ) → op_place did.op ≡ pages_at g_current + index → Publishing
   pages_far index on =
-      let order = parts_in_order g' in
-      far (pages_at g' + index) on (omega (arith, order.pages, order.nodes, order.page_map))
+      let order = parts_in_order g_current in
+      far (pages_at g_current + index) on (omega (arith, order.pages, order.nodes, order.page_map))
 
-  aside_far : IsAside g' did.op before → Publishing
+  aside_far : IsAside g_current did.op before → Publishing
   aside_far (inl own) = nodes_far _ own.place (omega arith)
   aside_far (inr (inl own)) = far _ own.place (omega arith)
   aside_far (inr (inr serial)) = far 3 (ap op_place serial) (omega arith)
 
-  quiet_far : DoesQuiet g' did.op did.old before (steps.bare after) → Publishing
+  quiet_far : DoesQuiet g_current did.op did.old before (steps.bare after) → Publishing
   quiet_far does = elim does.leaves [
     | inl leaves ↦ absurd (changes.other (same_word did fits leaves))
     | inr is ↦ aside_far is
   ]
 
   publishes : CanPublish env mix c G → Whole env mix (mem env mix (applied words did.op)) (published G)
-      → DoesPublish g' did.op before (steps.bare after) → Publishing
+      → DoesPublish g_current did.op before (steps.bare after) → Publishing
   publishes can then does =
       let followed = can.emptied.followed in
-      let write = is_write g' words CurrentTable did.op all tt does.on in
+      let write = is_write g_current words CurrentTable did.op all tt does.on in
       let old : did.old ≡ mem env mix words CurrentTable = found ∙ ap (λ p. old_of words (Store p 0)) does.on in
       let next = (G.table (G.current + 1)).slot in
       record {
@@ -244,9 +245,9 @@ module _ (env : Env) (mix : ℕ → ℕ → ℕ → ℕ) (c : ℕ) (words : List
   current_by_move (TakesSlot s) ready then does = far _ (ap op_place does.taking) (omega arith)
   current_by_move (GivesSlot s) ready then does = far _ (ap op_place does.giving) (omega arith)
   current_by_move (TakesPages index bits) ready then does =
-      let order = parts_in_order g' in far _ does.clears.on (omega (arith, order.page_map))
+      let order = parts_in_order g_current in far _ does.clears.on (omega (arith, order.page_map))
   current_by_move (GivesPages index bits) ready then does =
-      let order = parts_in_order g' in far _ does.sets.on (omega (arith, order.page_map))
+      let order = parts_in_order g_current in far _ does.sets.on (omega (arith, order.page_map))
   current_by_move (steps.Attaches made shape seed serial) ready then does = far _ (ap op_place does.attaching) (omega arith)
   current_by_move (Enters j p) ready then does = pages_far j (ap op_place does.entering)
   current_by_move TakesWork ready then does = far 1 (ap op_place does.taking) (omega arith)
@@ -259,3 +260,110 @@ module _ (env : Env) (mix : ℕ → ℕ → ℕ → ℕ) (c : ℕ) (words : List
   current_by_move (CutsOff j entry (Some b)) ready then does = nodes_far _ does.on (omega arith)
   current_by_move Publishes ready then does = publishes ready then does
   current_by_move (Retires s) ready then does = far _ (ap op_place does.retiring) (omega arith)
+
+-- ---- the words that say whether slots are free
+
+module _ (env : Env) (mix : ℕ → ℕ → ℕ → ℕ) (c : ℕ) (G : Ghost) (did : Did) (before after : Holding) (slot : ℕ) where
+  -- the operation takes the slot, which the call has then; or gives back one that it has; or retires the slot's table
+  pub record TakesHere : Type 0 where
+    pub takes : TakesSlotNow env.geometry slot (performed_of did)
+    pub has : after.slot ≡ Some slot
+
+  pub record GivesHere : Type 0 where
+    pub gives : did.op ≡ Store (place_of env.geometry (Slot slot StateWord)) 0
+    pub has : before.slot ≡ Some slot
+
+  pub record RetiresHere : Type 0 where
+    pub stores : did.op ≡ Store (place_of env.geometry (Slot slot StateWord)) 2
+    pub moves : before.moving ≡ true
+    pub can : CanRetire env mix c slot G
+
+  abbrev pub StateHere : Type 0
+  StateHere = TakesHere ⊎ GivesHere ⊎ RetiresHere
+
+module _ (env : Env) (mix : ℕ → ℕ → ℕ → ℕ) (c : ℕ) (M : Memory) (G : Ghost) (did : Did) (before after : Holding) (slot : ℕ)
+    (fits : FitBefore did) (changes : ChangesState env.geometry slot did) where
+  abbrev g_states : Geometry
+  g_states = env.geometry
+
+  abbrev There : Type 0
+  There = StateHere env mix c G did before after slot
+
+  under : (place : ℕ) → op_place did.op ≡ place → place < 24 → There
+  under place on is = absurd (let at = sym on ∙ changes.there in omega (arith, at, is))
+
+  over : (place : ℕ) → op_place did.op ≡ place → 280 ≤ place → There
+  over place on is = absurd (let at = sym on ∙ changes.there in let low = changes.slot_in in omega (arith, at, is, low))
+
+  nodes_over : (place : ℕ) → op_place did.op ≡ place → nodes_at g_states ≤ place → There
+  nodes_over place on is =
+      let order = parts_in_order g_states in over place on (omega (arith, is, order.nodes, order.page_map))
+
+  pages_over : (index : ℕ) → op_place did.op ≡ pages_at g_states + index → There
+  pages_over index on =
+      let order = parts_in_order g_states in
+      over (pages_at g_states + index) on (omega (arith, order.pages, order.nodes, order.page_map))
+
+  aside_state : IsAside g_states did.op before → There
+  aside_state (inl own) = nodes_over _ own.place (omega arith)
+  aside_state (inr (inl own)) =
+      absurd (state_far g_states own.slot own.within slot (own.word, own.of_table, sym changes.there ∙ own.place))
+  aside_state (inr (inr serial)) = under 3 (ap op_place serial) (omega arith)
+
+  quiet_state : DoesQuiet g_states did.op did.old before (steps.bare after) → There
+  quiet_state does = elim does.leaves [
+    | inl leaves ↦ absurd (changes.other (same_word did fits leaves))
+    | inr is ↦ aside_state is
+  ]
+
+  -- the slot of the operation is this one
+  this_slot : (s : ℕ) → op_place did.op ≡ place_of g_states (Slot s StateWord) → s ≡ slot
+  this_slot s on = let at = sym on ∙ changes.there in omega (arith, at)
+
+  pub state_by_move : (move : Move) → ReadyFor env mix c M G move → Does env mix move did.op did.old before after → There
+  state_by_move Quiet ready does = quiet_state does
+  state_by_move (Arms j) ready does = quiet_state does
+  state_by_move (TakesNode n) ready does = over _ does.taking.clears.place (omega arith)
+  state_by_move (GivesNode n) ready does = over _ (ap op_place does.giving) (omega arith)
+  state_by_move (TakesLock j) ready does = pages_over j does.on
+  state_by_move (DropsLock j) ready does = pages_over j does.on
+  state_by_move Raises ready does = under 2 (ap op_place does.adds) (omega arith)
+  state_by_move (Links n port j) ready does = pages_over j does.on
+  state_by_move Lowers ready does = under 2 (ap op_place does.subtracts) (omega arith)
+  state_by_move (Rebinds change) ready does = nodes_over (op_place did.op) refl does.behind_maps
+  state_by_move (LinksBehind n) ready does = nodes_over _ does.on (omega arith)
+  state_by_move (TakesSlot s) ready does =
+      let same = this_slot s (ap op_place does.taking) in
+      inl (record {
+        takes = record { taking = subst (λ x. did.op ≡ slot_taking g_states x) same does.taking; free = does.free };
+        has = ap (λ (x : Holding). x.slot) does.holds ∙ ap Some same;
+      })
+  state_by_move (GivesSlot s) ready does =
+      let same = this_slot s (ap op_place does.giving) in
+      inr (inl (record {
+        gives = subst (λ x. did.op ≡ Store (place_of g_states (Slot x StateWord)) 0) same does.giving;
+        has = does.has ∙ ap Some same;
+      }))
+  state_by_move (TakesPages index bits) ready does =
+      let order = parts_in_order g_states in over _ does.clears.on (omega (arith, order.page_map))
+  state_by_move (GivesPages index bits) ready does =
+      let order = parts_in_order g_states in over _ does.sets.on (omega (arith, order.page_map))
+  state_by_move (steps.Attaches made shape seed serial) ready does =
+      absurd (state_far g_states does.last does.within slot (FutureWord, tt, sym changes.there ∙ ap op_place does.attaching))
+  state_by_move (Enters j p) ready does = pages_over j (ap op_place does.entering)
+  state_by_move TakesWork ready does = under 1 (ap op_place does.taking) (omega arith)
+  state_by_move GivesWork ready does = under 1 (ap op_place does.giving) (omega arith)
+  state_by_move BeginsMoving ready does = absurd (changes.other does.leaves)
+  state_by_move (TakesSecond j) ready does = pages_over j does.on
+  state_by_move (Leaves j i entry nodes_there) ready does = nodes_over _ does.on (omega arith)
+  state_by_move (Arrives j i entry) ready does = pages_over i does.on
+  state_by_move (CutsOff j entry None) ready does = pages_over j does.on
+  state_by_move (CutsOff j entry (Some b)) ready does = nodes_over _ does.on (omega arith)
+  state_by_move Publishes ready does = under 0 does.on (omega arith)
+  state_by_move (Retires s) ready does =
+      let same = this_slot s (ap op_place does.retiring) in
+      inr (inr (record {
+        stores = subst (λ x. did.op ≡ Store (place_of g_states (Slot x StateWord)) 2) same does.retiring;
+        moves = does.moves;
+        can = subst (λ x. CanRetire env mix c x G) same ready;
+      }))
