@@ -290,7 +290,7 @@ module _ (M : Type 0) (mix : ℕ → ℕ → ℕ → ℕ) (env : Env) (events : 
 
     stated : (job : Job) (slot : ℕ) (performs : Performs mix env job did) → performs.words ≡ words_at did.index
         → JobSaw env words_at mix job steps
-        → StateHere env mix performs.caller performs.ghost did (held_of job) (held_next (job_after mix env job did.old)) slot
+        → StateHere env mix performs.caller (mem env mix performs.words) performs.ghost did (held_of job) (held_next (job_after mix env job did.old)) slot
         → StateCause M mix env events c (call_of job) slot steps did
     stated job slot performs now saw (inl takes) =
         inl (makes_then job slot (job_after mix env job did.old) (same_call mix env job did.old) takes.has, takes.takes)
