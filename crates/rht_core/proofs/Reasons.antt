@@ -78,6 +78,8 @@ pub mod WorkedPages
 pub mod TableWordsKept
 -- which the call took, and from which a bind or a resizing attaches the table that it has made
 pub mod OwnTables
+-- what is kept of each operation that changes one of these words, or enters a page
+pub mod ChangesSeen
 -- so in every run tables are attached when, by whom and of which size they are to be
 pub mod AttachedInRuns
 -- and what attaches one wrongly

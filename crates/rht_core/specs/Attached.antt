@@ -2,7 +2,8 @@
 -- What the words of a slot say of its table is changed by the caller alone that has taken the slot for a new table. Of a table in force it
 -- stays as it is, but for its future. That becomes another one only by the exchange that attaches the next table. A bind does that which
 -- saw the table full, or a resizing that chose one. The current table becomes another one only by a resizing, which goes on to the next. And
--- where an entry of a nested table leads to no page, a bind alone enters one, on the way to its own port's bucket.
+-- where an entry of a nested table leads to no page, a bind alone enters one, on the way to its own port's bucket. And a slot is taken by
+-- whoever makes a table, given back by who took it, and retired by a resizing.
 use Rattle.std.specs.Prelude.{◌≡◌, ◌≢◌, ℕ, ◌^◌, ◌*◌, ◌<◌, ◌⊎◌, ◌≤◌, min, true, false, Some, List, [], ◌∷◌, ◌++◌, IfSome}
 use Rattle.std.specs.List.{AllByRecursion, Any}
 use Rattle.rht_words.specs.declared.op.Op.TheVariants.{Load, Store}
@@ -19,7 +20,7 @@ use Rattle.rht_policy.specs.Thresholds.{is_above_75}
 use Rattle.rht_nest.specs.MakeLaws.{TakesSlot, TakesSerial}
 use Rattle.rht_nest.specs.Place.{nested_place, missing_at}
 use Rattle.rht_nest.specs.Tables.{is_nested}
-use Rattle.rht_stands.specs.StandsFor.{in_force, page_word}
+use Rattle.rht_stands.specs.StandsFor.{tables_from, in_force, page_word}
 use Rattle.rht_model.specs.declared.history.Call.{Call}
 use Rattle.rht_model.specs.declared.history.Call.TheVariants.{Bind, Work}
 use Rattle.rht_move.specs.declared.work.choice.Choice.TheVariants as choices
@@ -38,6 +39,24 @@ pub record ChangesTable (g : Geometry) (slot : ℕ) (did : Did) : Type 0 where
   pub of_table : IsTableWord word
   pub there : op_place did.op ≡ place_of g (Slot slot word)
   pub other : word_after did.old did.op ≢ did.old
+
+-- the operation changes the word that says whether this slot is free
+pub record ChangesState (g : Geometry) (slot : ℕ) (did : Did) : Type 0 where
+  pub slot_in : slot < 8
+  pub there : op_place did.op ≡ place_of g (Slot slot StateWord)
+  pub other : word_after did.old did.op ≢ did.old
+
+-- the operation retires the table of this slot, which by the words before isn't in force, and from which futures lead to the current one
+pub record RetiresTable (g : Geometry) (words : List ℕ) (slot : ℕ) (did : Did) : Type 0 where
+  pub stores : did.op ≡ Store (place_of g (Slot slot StateWord)) 2
+  pub apart : ¬ In slot (in_force g words)
+  pub left : In (table_of (word_at g words CurrentTable)) (tables_from g words 8 (Some slot))
+
+-- only binds and resizings make tables
+abbrev pub MakesTables : Call → Type 0
+MakesTables (Bind port owner once) = Unit {0}
+MakesTables Work = Unit {0}
+MakesTables _ = ⊥
 
 -- the operation changes which table is the current one
 pub record ChangesCurrent (g : Geometry) (did : Did) : Type 0 where
@@ -176,14 +195,22 @@ module _ (M : Type 0) (mix : ℕ → ℕ → ℕ → ℕ) (env : Env) (events : 
     pub none_behind : word_at env.geometry (words_before M mix env events did.index) (Slot slot FutureWord) ≡ 0
     pub cause : AttachCause call table slot shape before did
 
+  -- A bind or a resizing takes the slot, which was free; or the call gives back its own; or a resizing retires the slot's table.
+  abbrev pub StateCause : Call → ℕ → List Did → Did → Type 0
+  StateCause call slot before did =
+      (MakesTables call × TakesSlot env.geometry slot (performed_of did))
+      ⊎ (IsOwnTable slot before did × (did.op ≡ Store (place_of env.geometry (Slot slot StateWord)) 0))
+      ⊎ ((call ≡ Work) × RetiresTable env.geometry (words_before M mix env events did.index) slot did)
+
   -- Where the operation changes what a slot's words say of a table, that is the call's own, or it attaches another one behind it. And where it
   -- changes which table is the current one, the call is a resizing, and goes on to the next table. Where it changes an entry that leads to no
-  -- page, the call is a bind, and enters a page there.
+  -- page, the call is a bind, and enters a page there. And where it changes whether a slot is free there is a cause for that.
   pub record ChangesRightly (call : Call) (before : List Did) (did : Did) : Type 0 where
     pub tables : (slot : ℕ) → ChangesTable env.geometry slot did → IsOwnTable slot before did ⊎ AttachesRightly call slot before did
     pub current :
         ChangesCurrent env.geometry did
         → (call ≡ Work) × MovesOn env.geometry (words_before M mix env events did.index) did
+    pub states : (slot : ℕ) → ChangesState env.geometry slot did → StateCause call slot before did
     pub entries :
         (entry : ℕ) → ChangesMissing env.geometry (words_before M mix env events did.index) entry did
         → EnterCause env.geometry (words_before M mix env events) mix call entry before did

@@ -275,9 +275,13 @@ pub fn sections<M: Mix>()
 /// operation changes such an entry, but for one of a bind that enters a page there. The bind had taken the
 /// page, and by the words before, the way to its own port's bucket ends there, in the table that it walked last.
 ///
-/// It says nothing of who changes the words that say whether slots are free. So a call might free a slot before
-/// it takes it. Nor does it say what a nested table asks for besides its size, or that a table is ever attached,
-/// or a page entered.
+/// Nor does it change the word that says whether a slot is free, but in three cases. A bind or a `Work` takes a
+/// slot that was free. A call gives back a slot of its own, in which by the words before no table is in force.
+/// Or a `Work` retires a slot, whose table isn't in force by the words before, and from which futures lead to
+/// the current one.
+///
+/// It doesn't say what a nested table asks for besides its size, that a slot which was taken is given back, or
+/// that a table is ever attached, or a page entered.
 pub fn attached<M: Mix>()
     ensures { Attached M M.mix_of }
 {}

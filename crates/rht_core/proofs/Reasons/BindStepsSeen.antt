@@ -62,6 +62,7 @@ use Rattle.rht_core.proofs.Reasons.RaisesSeen.{relink-no_load, relink-no_add, un
 use Rattle.rht_core.proofs.Reasons.BindsSeen.{SawThen, SawAt, SawNext, SawFor, SawFor-push, SawForReply-push, SawThen-push}
 use Rattle.rht_core.proofs.Reasons.WaysSeen.{locating-saw, grown-saw}
 use Rattle.rht_core.proofs.Reasons.GrowthsSeen.{unmade-saw, want-saw, made-saw, again-saw, attach-saw, attaching_few, again_few}
+use Rattle.rht_core.proofs.Reasons.SlotsTaken.{unmake-own}
 
 module _ (env : Env) (words_at : ℕ → List ℕ) (mix : ℕ → ℕ → ℕ → ℕ) (port : ℕ) where
   abbrev Sees : BindAt → List Did → Type 0
@@ -371,7 +372,8 @@ module _ (env : Env) (words_at : ℕ → List ℕ) (mix : ℕ → ℕ → ℕ �
         (SawForReply-push env words_at mix port answer steps did
         (still env did _ does.planned (unmake-no_load unmake.geometry unmake.slot unmake.at)
         (unmake-no_add unmake.geometry unmake.slot unmake.at)
-        (unmake-none env.geometry unmake.geometry unmake.slot unmake.at)) saw)
+        (unmake-none env.geometry unmake.geometry unmake.slot unmake.at)) saw.0)
+        (unmake-own env.geometry unmake.geometry unmake.slot unmake.at steps did does.planned saw.1)
     bind-saw (at.Giving give reply) steps did does now saw so unraised =
         SawFor-push env words_at mix port reply steps did
         (still env did _ does.planned (λ place load. cc) (λ place value adds. cc) (λ table old new l e. cc))

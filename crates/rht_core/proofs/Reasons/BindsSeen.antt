@@ -36,6 +36,7 @@ use Rattle.rht_core.proofs.Reasons.ChainsCounted.{HasCounted, WalkCounted}
 use Rattle.rht_core.proofs.Reasons.RefusedBinds.{Behind, SawWhy, SawRoot, SawRefusal, SawToMake, SawToAttach, FollowedSeen, FollowedSeen-push, BusySeen, BusySeen-push, NoTableSeen, NoTableSeen-push}
 use Rattle.rht_core.proofs.Reasons.NewNodesSeen.{SawNew}
 use Rattle.rht_core.proofs.Reasons.RaisesSeen.{Raised, IsStill, Raised-push}
+use Rattle.rht_core.specs.Attached.{HasTakenSlot}
 
 -- the operation loaded this count of ports, which is as many as the table may hold or more
 pub record LoadedFull (env : Env) (count : ℕ) (did : Did) : Type 0 where
@@ -134,7 +135,7 @@ module _ (env : Env) (words_at : ℕ → List ℕ) (mix : ℕ → ℕ → ℕ �
       Behind env.geometry growing.table growing.shape (SawRefusal env words_at mix port growing refusal) steps
   SawAt (at.Attaching growing slot shape) steps =
       Behind env.geometry growing.table growing.shape (SawToAttach env words_at mix port growing slot shape) steps
-  SawAt (at.Unmaking attempt unmake answer) steps = SawForReply answer steps
+  SawAt (at.Unmaking attempt unmake answer) steps = SawForReply answer steps × HasTakenSlot env.geometry unmake.slot steps
   SawAt (at.Giving give reply) steps = SawFor reply steps
 
   -- what it has seen once it goes on, and once it has answered

@@ -31,11 +31,12 @@ use Rattle.rht_bind.specs.declared.bind.BindAt.{BindAt}
 use Rattle.rht_core.specs.Traces.{Did}
 use Rattle.rht_core.specs.Seen.{IsNoShapeLoad}
 use Rattle.rht_core.proofs.Tracing.TracedJobs.{Performs}
-use Rattle.rht_core.proofs.Reasons.TablesWalked.{no_load, other_load}
-use Rattle.rht_core.proofs.Reasons.RefusedBinds.{Behind, Behind-push, SawWhy, SawRoot, SawOther, SawRefusal, SawToMake, refusal-why, FollowedSeen, begins-making, other-saw, no_room-saw, busy-saw, no_table-saw, followed-saw, to_attach-saw, SawToAttach}
+use Rattle.rht_core.proofs.Reasons.TablesWalked.{no_load, other_load, elsewhere}
+use Rattle.rht_core.proofs.Reasons.RefusedBinds.{Behind, Behind-push, SawWhy, SawRoot, SawOther, SawRefusal, SawToMake, refusal-why, FollowedSeen, begins-making, other-saw, no_room-saw, busy-saw, no_table-saw, followed-saw, to_attach-saw, SawToAttach, attach-taken}
 use Rattle.rht_ghost.proofs.Theory.Steps.{mem, by_test}
 use Rattle.rht_core.proofs.Reasons.BindsSeen.{SawAt, SawForReply}
 use Rattle.rht_core.proofs.Reasons.NamedFutures.{no_slot, slot_named, nonzero_named, future_few}
+use Rattle.rht_core.proofs.Reasons.SlotsTaken.{slot_taken-push, lost-keeps, OwnUnmade}
 
 -- a future that the operation loads or exchanges is none, or one of the slots
 module _ (env : Env) (mix : ℕ → ℕ → ℕ → ℕ) (port owner : ℕ) (once : Bool) where
@@ -77,9 +78,9 @@ module _ (env : Env) (words_at : ℕ → List ℕ) (mix : ℕ → ℕ → ℕ �
 
   pub unmade-saw : (attempt : Attempt) (answer : Option Reply) (unmake : UnmakeModel) (next : Next (Unit {0}))
       (all : List Did)
-      → SeesFor answer all → Sees (unmade env attempt answer unmake next) all
-  unmade-saw attempt answer unmake Go all saw = saw
-  unmade-saw attempt answer unmake (Done done) all saw = behind-saw attempt answer all saw
+      → SeesFor answer all → OwnUnmade env.geometry unmake.slot next all → Sees (unmade env attempt answer unmake next) all
+  unmade-saw attempt answer unmake Go all saw own = (saw, own)
+  unmade-saw attempt answer unmake (Done done) all saw own = behind-saw attempt answer all saw
 
   -- the load of the count leads to a table of the size that it wants, or to a refusal
   pub want-saw : (growing : Growing) (root : ℕ) (steps : List Did) (did : Did)
@@ -189,12 +190,15 @@ module _ (env : Env) (words_at : ℕ → List ℕ) (mix : ℕ → ℕ → ℕ �
       })) saw)))
       (λ f.
       let some = eqb-false did.old 0 f in
-      let named : did.old ≡ future_of other = nonzero_named did.old few some in
-      ended-saw other all
-      (followed-saw env words_at mix port growing other steps did none
-      (inr (record {
-        table_in = within;
-        slot_in = omega arith;
-        tells = inr (0, future_of slot, is);
-        found = named;
-      })) saw))
+      let named : did.old ≡ future_of other = nonzero_named did.old few some in (
+        ended-saw other all
+            (followed-saw env words_at mix port growing other steps did none
+            (inr (record {
+              table_in = within;
+              slot_in = omega arith;
+              tells = inr (0, future_of slot, is);
+              found = named;
+            })) saw),
+        slot_taken-push env.geometry slot steps did (lost-keeps env.geometry slot did _ _ _ is some)
+            (attach-taken env words_at mix port growing slot shape steps made),
+      ))

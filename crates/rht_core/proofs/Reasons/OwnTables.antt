@@ -1,20 +1,16 @@
 -- A call that has a slot has taken it by an operation of its own, and has not let it go since; and an exchange that attaches a table from
 -- this slot is that of a bind or a resizing which has made the table.
-use Rattle.std.proofs.Common.{◌≡◌, ℕ, ◌<◌, Bool, true, false, List, [], ◌∷◌, Some, refl, sym, ap, ◌∙◌, subst, arith}
+use Rattle.std.proofs.Common.{◌≡◌, ℕ, Bool, true, false, List, [], ◌∷◌, Some, refl, sym, ap, ◌∙◌, subst, arith}
 use Rattle.rht_words.specs.declared.op.Op.TheVariants.{Exchange}
 use Rattle.rht_words.specs.declared.env.Env.{Env}
 use Rattle.rht_words.specs.declared.geometry.Geometry.{Geometry}
 use Rattle.rht_words.specs.Links.{future_of}
 use Rattle.rht_words.specs.Operations.{op_place}
-use Rattle.rht_words.specs.Places.{Slot, FutureWord, PageMap, place_of}
+use Rattle.rht_words.specs.Places.{Slot, FutureWord, place_of}
 use Rattle.rht_words.proofs.Memory.{Memory}
-use Rattle.rht_words.proofs.PlacesApart.{parts_in_order}
-use Rattle.rht_nest.specs.Make.{make_plan_at, slot_of_make}
+use Rattle.rht_nest.specs.Make.{slot_of_make}
 use Rattle.rht_nest.specs.declared.make.MakeAt.{MakeAt}
 use Rattle.rht_nest.specs.declared.make.MakeAt.TheVariants as makes
-use Rattle.rht_nest.specs.Unmake.{unmake_plan_at}
-use Rattle.rht_nest.specs.declared.unmake.UnmakeAt.{UnmakeAt}
-use Rattle.rht_nest.specs.declared.unmake.UnmakeAt.TheVariants as unmakes
 use Rattle.rht_find.specs.FindHeld.{held_of_find}
 use Rattle.rht_find.specs.declared.find.FindAt.{FindAt}
 use Rattle.rht_find.specs.declared.find.FindAt.TheVariants as finding
@@ -42,17 +38,16 @@ use Rattle.rht_model.specs.declared.history.Call.TheVariants.{Work}
 use Rattle.rht_core.specs.Jobs.{Job, finds, binds, lists, releases, rebinds, works, counts, call_of, job_plan, held_of}
 use Rattle.rht_core.specs.Traces.{Did}
 use Rattle.rht_core.specs.ResizeCauses.{Attaches}
-use Rattle.rht_core.specs.Attached.{HasTakenSlot}
+use Rattle.rht_core.specs.Attached.{HasTakenSlot, MakesTables}
 use Rattle.rht_ghost.proofs.Theory.Ghosts.{Ghost, SlotHeld}
 use Rattle.rht_ghost.proofs.Theory.Knowledge.{MakingMeans}
 use Rattle.rht_ghost.proofs.Pieces.Makes.{known_of_make}
 use Rattle.rht_core.proofs.Machines.JobSteps.{JobKnows}
 use Rattle.rht_core.proofs.Reasons.AttachedTables.{make-none, unmake-none}
 use Rattle.rht_core.proofs.Reasons.SlotsTaken.{OwnAt, slot_taken-behind}
-use Rattle.rht_core.proofs.Reasons.TableWordsKept.{IsWordHere, high_far, state_far}
-use Rattle.rht_core.proofs.Reasons.RefusedBinds.{Behind, SawToAttach}
+use Rattle.rht_core.proofs.Reasons.RefusedBinds.{attach-taken}
 use Rattle.rht_core.proofs.Reasons.BindsSeen.{SawAt}
-use Rattle.rht_core.proofs.Reasons.WorksSeen.{IsToAttach, SawAtWork}
+use Rattle.rht_core.proofs.Reasons.WorksSeen.{SawAtWork, to_attach-taken}
 use Rattle.rht_core.proofs.Reasons.CausesInRuns.{JobSaw}
 
 -- ---- jobs without a slot
@@ -92,147 +87,126 @@ module _ (slot : ℕ) where
   rebind-slotless _ has = cc
 
 module _ (env : Env) (words_at : ℕ → List ℕ) (mix : ℕ → ℕ → ℕ → ℕ) (c : ℕ) (M : Memory) (G : Ghost) (steps : List Did)
-    (did : Did) (slot : ℕ) where
+    (slot : ℕ) where
   abbrev g : Geometry
   g = env.geometry
-
-  -- the slot from which a table is attached was taken
-  pub bind-taken : (port : ℕ) (growing : Growing) (shape : ℕ)
-      → Behind g growing.table growing.shape (SawToAttach env words_at mix port growing slot shape) steps → HasTakenSlot g slot steps
-  bind-taken port growing shape saw =
-      let behind = saw.walked in
-      let wanted = saw.saw.wanted in
-      subst (HasTakenSlot g slot) (sym behind.split)
-      (slot_taken-behind g slot behind.before behind.at behind.behind
-      (subst (HasTakenSlot g slot) (sym wanted.parts)
-      (slot_taken-behind g slot wanted.sooner wanted.counting wanted.making saw.saw.taken)))
-
-  pub work-taken : (root last shape : ℕ) → IsToAttach env root last slot shape steps → HasTakenSlot g slot steps
-  work-taken root last shape (size, since) =
-      let chose = since.chose in
-      subst (HasTakenSlot g slot) (sym chose.split)
-      (slot_taken-behind g slot (chose.lock ∷ chose.current ∷ chose.futures) chose.shape (chose.count ∷ chose.behind)
-      (slot_taken-behind g slot [] chose.count chose.behind since.so.taken))
 
   -- the caller has the slot, which its own operations took
   pub record IsOwnSlot : Type 0 where
     pub taken : HasTakenSlot g slot steps
     pub held : G.slot slot ≡ SlotHeld c
 
-  -- ---- an operation on a word of its table
+  -- ---- in each state
 
-  module _ (slot_in : slot < 8) (here : IsWordHere g slot slot_in (op_place did.op)) where
-    -- the giving back of a table is on none
-    unmake-elsewhere : (h : Geometry) (other : ℕ) (state : UnmakeAt) → did.op ≡ unmake_plan_at h other state → ⊥
-    unmake-elsewhere h other (unmakes.Giving give) is =
-        let order = parts_in_order give.geometry in
-        high_far g slot slot_in (place_of give.geometry (PageMap give.index)) (omega (arith, order.page_map))
-        (subst (IsWordHere g slot slot_in) (ap op_place is) here)
-    unmake-elsewhere h other unmakes.SlotBack is =
-        state_far g slot slot_in other (subst (IsWordHere g slot slot_in) (ap op_place is) here)
+  make-own : (exponent : ℕ) (state : MakeAt) (making : List Did) → OwnAt g exponent state making → slot_of_make state ≡ Some slot
+      → HasTakenSlot g slot making
+  make-own exponent (makes.Slot s) making own has = absurd (cc)
+  make-own exponent (makes.SlotBack s) making own has =
+      let same : s ≡ slot = cc in subst (λ x. HasTakenSlot g x making) same own
+  make-own exponent (makes.Taking s take) making own has =
+      let same : s ≡ slot = cc in subst (λ x. HasTakenSlot g x making) same own
+  make-own exponent (makes.TakingTop s take) making own has =
+      let same : s ≡ slot = cc in subst (λ x. HasTakenSlot g x making) same own
+  make-own exponent (makes.NextSerial s nested page) making own has =
+      let same : s ≡ slot = cc in subst (λ x. HasTakenSlot g x making) same own
+  make-own exponent (makes.Shape s nested page serial) making own has =
+      let same : s ≡ slot = cc in subst (λ x. HasTakenSlot g x making) same own.taken
+  make-own exponent (makes.Seed s nested page serial) making own has =
+      let same : s ≡ slot = cc in subst (λ x. HasTakenSlot g x making) same own.has.taken
+  make-own exponent (makes.Future s nested page serial) making own has =
+      let same : s ≡ slot = cc in subst (λ x. HasTakenSlot g x making) same own.has.taken
+  make-own exponent (makes.Serial s nested page serial) making own has =
+      let same : s ≡ slot = cc in subst (λ x. HasTakenSlot g x making) same own.has.taken
 
-    make-own : (exponent seed : ℕ) (h : Geometry) (state : MakeAt) (making : List Did) → OwnAt g exponent state making
-        → slot_of_make state ≡ Some slot → did.op ≡ make_plan_at h exponent seed state → HasTakenSlot g slot making
-    make-own exponent seed h (makes.Slot s) making own has is = absurd (cc)
-    make-own exponent seed h (makes.SlotBack s) making own has is =
-        absurd (state_far g slot slot_in s (subst (IsWordHere g slot slot_in) (ap op_place is) here))
-    make-own exponent seed h (makes.Taking s take) making own has is =
-        let same : s ≡ slot = cc in subst (λ x. HasTakenSlot g x making) same own
-    make-own exponent seed h (makes.TakingTop s take) making own has is =
-        let same : s ≡ slot = cc in subst (λ x. HasTakenSlot g x making) same own
-    make-own exponent seed h (makes.NextSerial s nested page) making own has is =
-        let same : s ≡ slot = cc in subst (λ x. HasTakenSlot g x making) same own
-    make-own exponent seed h (makes.Shape s nested page serial) making own has is =
-        let same : s ≡ slot = cc in subst (λ x. HasTakenSlot g x making) same own.taken
-    make-own exponent seed h (makes.Seed s nested page serial) making own has is =
-        let same : s ≡ slot = cc in subst (λ x. HasTakenSlot g x making) same own.has.taken
-    make-own exponent seed h (makes.Future s nested page serial) making own has is =
-        let same : s ≡ slot = cc in subst (λ x. HasTakenSlot g x making) same own.has.taken
-    make-own exponent seed h (makes.Serial s nested page serial) making own has is =
-        let same : s ≡ slot = cc in subst (λ x. HasTakenSlot g x making) same own.has.taken
+  make-held : (exponent seed : ℕ) (state : MakeAt) → MakingMeans env mix c M G (known_of_make exponent seed state)
+      → slot_of_make state ≡ Some slot → G.slot slot ≡ SlotHeld c
+  make-held exponent seed (makes.Slot s) means has = absurd (cc)
+  make-held exponent seed (makes.Taking s take) means has =
+      let same : s ≡ slot = cc in subst (λ x. G.slot x ≡ SlotHeld c) same means.slot.has.mine
+  make-held exponent seed (makes.TakingTop s take) means has =
+      let same : s ≡ slot = cc in subst (λ x. G.slot x ≡ SlotHeld c) same means.slot.has.mine
+  make-held exponent seed (makes.SlotBack s) means has =
+      let same : s ≡ slot = cc in subst (λ x. G.slot x ≡ SlotHeld c) same means.slot.has.mine
+  make-held exponent seed (makes.NextSerial s nested page) means has =
+      let same : s ≡ slot = cc in subst (λ x. G.slot x ≡ SlotHeld c) same means.slot.has.mine
+  make-held exponent seed (makes.Shape s nested page serial) means has =
+      let same : s ≡ slot = cc in subst (λ x. G.slot x ≡ SlotHeld c) same means.slot.has.mine
+  make-held exponent seed (makes.Seed s nested page serial) means has =
+      let same : s ≡ slot = cc in subst (λ x. G.slot x ≡ SlotHeld c) same means.slot.has.mine
+  make-held exponent seed (makes.Future s nested page serial) means has =
+      let same : s ≡ slot = cc in subst (λ x. G.slot x ≡ SlotHeld c) same means.slot.has.mine
+  make-held exponent seed (makes.Serial s nested page serial) means has =
+      let same : s ≡ slot = cc in subst (λ x. G.slot x ≡ SlotHeld c) same means.slot.has.mine
 
-    make-held : (exponent seed : ℕ) (state : MakeAt) → MakingMeans env mix c M G (known_of_make exponent seed state)
-        → slot_of_make state ≡ Some slot → G.slot slot ≡ SlotHeld c
-    make-held exponent seed (makes.Slot s) means has = absurd (cc)
-    make-held exponent seed (makes.Taking s take) means has =
-        let same : s ≡ slot = cc in subst (λ x. G.slot x ≡ SlotHeld c) same means.slot.has.mine
-    make-held exponent seed (makes.TakingTop s take) means has =
-        let same : s ≡ slot = cc in subst (λ x. G.slot x ≡ SlotHeld c) same means.slot.has.mine
-    make-held exponent seed (makes.SlotBack s) means has =
-        let same : s ≡ slot = cc in subst (λ x. G.slot x ≡ SlotHeld c) same means.slot.has.mine
-    make-held exponent seed (makes.NextSerial s nested page) means has =
-        let same : s ≡ slot = cc in subst (λ x. G.slot x ≡ SlotHeld c) same means.slot.has.mine
-    make-held exponent seed (makes.Shape s nested page serial) means has =
-        let same : s ≡ slot = cc in subst (λ x. G.slot x ≡ SlotHeld c) same means.slot.has.mine
-    make-held exponent seed (makes.Seed s nested page serial) means has =
-        let same : s ≡ slot = cc in subst (λ x. G.slot x ≡ SlotHeld c) same means.slot.has.mine
-    make-held exponent seed (makes.Future s nested page serial) means has =
-        let same : s ≡ slot = cc in subst (λ x. G.slot x ≡ SlotHeld c) same means.slot.has.mine
-    make-held exponent seed (makes.Serial s nested page serial) means has =
-        let same : s ≡ slot = cc in subst (λ x. G.slot x ≡ SlotHeld c) same means.slot.has.mine
+  bind-own : (port owner : ℕ) (once : Bool) (state : BindAt) → JobKnows env mix c (binds port owner once state) M G
+      → SawAt env words_at mix port state steps → (held_of_bind state).slot ≡ Some slot → IsOwnSlot
+  bind-own port owner once (binding.Making growing size make) knows saw has =
+      let behind = saw.walked in
+      let wanted = saw.saw.wanted in
+      let making = make-own make.exponent make.at wanted.making saw.saw.own.slot has in
+      record {
+        taken =
+            subst (HasTakenSlot g slot) (sym behind.split)
+            (slot_taken-behind g slot behind.before behind.at behind.behind
+            (subst (HasTakenSlot g slot) (sym wanted.parts)
+            (slot_taken-behind g slot wanted.sooner wanted.counting wanted.making making)));
+        held = make-held make.exponent make.seed make.at knows.knowing.means.making has;
+      }
+  bind-own port owner once (binding.Attaching growing s shape) knows saw has =
+      let same : s ≡ slot = cc in
+      record {
+        taken =
+            attach-taken env words_at mix port growing slot shape steps
+            (subst (λ x. SawAt env words_at mix port (binding.Attaching growing x shape) steps) same saw);
+        held = subst (λ x. G.slot x ≡ SlotHeld c) same knows.knowing.means.making.has.mine;
+      }
+  bind-own port owner once (binding.Unmaking attempt unmake answer) knows saw has =
+      let same : unmake.slot ≡ slot = cc in
+      record {
+        taken = subst (λ x. HasTakenSlot g x steps) same saw.1;
+        held = subst (λ x. G.slot x ≡ SlotHeld c) same knows.knowing.means.making.slot.has.mine;
+      }
+  bind-own port owner once (binding.Replacing list relink) knows saw has =
+      absurd (front-slotless slot list.claimed (has_relinked list.before relink.at) has)
+  bind-own port owner once _ knows saw has = absurd (cc)
 
-    bind-own : (port owner : ℕ) (once : Bool) (state : BindAt) → JobKnows env mix c (binds port owner once state) M G
-        → SawAt env words_at mix port state steps → did.op ≡ job_plan env (binds port owner once state)
-        → (held_of_bind state).slot ≡ Some slot → IsOwnSlot
-    bind-own port owner once (binding.Making growing size make) knows saw is has =
-        let behind = saw.walked in
-        let wanted = saw.saw.wanted in
-        let making = make-own make.exponent make.seed make.geometry make.at wanted.making saw.saw.own.slot has is in
-        record {
-          taken =
-              subst (HasTakenSlot g slot) (sym behind.split)
-              (slot_taken-behind g slot behind.before behind.at behind.behind
-              (subst (HasTakenSlot g slot) (sym wanted.parts)
-              (slot_taken-behind g slot wanted.sooner wanted.counting wanted.making making)));
-          held = make-held make.exponent make.seed make.at knows.knowing.means.making has;
-        }
-    bind-own port owner once (binding.Attaching growing s shape) knows saw is has =
-        let same : s ≡ slot = cc in
-        record {
-          taken =
-              bind-taken port growing shape
-              (subst (λ x. SawAt env words_at mix port (binding.Attaching growing x shape) steps) same saw);
-          held = subst (λ x. G.slot x ≡ SlotHeld c) same knows.knowing.means.making.has.mine;
-        }
-    bind-own port owner once (binding.Unmaking attempt unmake answer) knows saw is has =
-        absurd (unmake-elsewhere unmake.geometry unmake.slot unmake.at is)
-    bind-own port owner once (binding.Replacing list relink) knows saw is has =
-        absurd (front-slotless slot list.claimed (has_relinked list.before relink.at) has)
-    bind-own port owner once _ knows saw is has = absurd (cc)
+  work-own : (state : WorkAt) → JobKnows env mix c (works state) M G → SawAtWork env words_at state steps
+      → (held_of_work state).slot ≡ Some slot → IsOwnSlot
+  work-own (working.Making wanted make) knows saw has =
+      let chose = saw.chose in
+      let making = make-own make.exponent make.at chose.behind saw.so.own.slot has in
+      record {
+        taken =
+            subst (HasTakenSlot g slot) (sym chose.split)
+            (slot_taken-behind g slot (chose.lock ∷ chose.current ∷ chose.futures) chose.shape (chose.count ∷ chose.behind)
+            (slot_taken-behind g slot [] chose.count chose.behind making));
+        held = make-held make.exponent make.seed make.at knows.knowing.means.making has;
+      }
+  work-own (working.Attaching root last s shape) knows saw has =
+      let same : s ≡ slot = cc in
+      record {
+        taken =
+            to_attach-taken env root last slot shape steps
+            (subst (λ x. SawAtWork env words_at (working.Attaching root last x shape) steps) same saw);
+        held = subst (λ x. G.slot x ≡ SlotHeld c) same knows.knowing.means.making.has.mine;
+      }
+  work-own (working.Unmaking root unmake) knows saw has =
+      let same : unmake.slot ≡ slot = cc in
+      record {
+        taken = subst (λ x. HasTakenSlot g x steps) same saw.1;
+        held = subst (λ x. G.slot x ≡ SlotHeld c) same knows.knowing.means.making.slot.has.mine;
+      }
+  work-own _ knows saw has = absurd (cc)
 
-    work-own : (state : WorkAt) → JobKnows env mix c (works state) M G → SawAtWork env words_at state steps
-        → did.op ≡ job_plan env (works state) → (held_of_work state).slot ≡ Some slot → IsOwnSlot
-    work-own (working.Making wanted make) knows saw is has =
-        let chose = saw.chose in
-        let making = make-own make.exponent make.seed make.geometry make.at chose.behind saw.so.own.slot has is in
-        record {
-          taken =
-              subst (HasTakenSlot g slot) (sym chose.split)
-              (slot_taken-behind g slot (chose.lock ∷ chose.current ∷ chose.futures) chose.shape (chose.count ∷ chose.behind)
-              (slot_taken-behind g slot [] chose.count chose.behind making));
-          held = make-held make.exponent make.seed make.at knows.knowing.means.making has;
-        }
-    work-own (working.Attaching root last s shape) knows saw is has =
-        let same : s ≡ slot = cc in
-        record {
-          taken =
-              work-taken root last shape
-              (subst (λ x. SawAtWork env words_at (working.Attaching root last x shape) steps) same saw);
-          held = subst (λ x. G.slot x ≡ SlotHeld c) same knows.knowing.means.making.has.mine;
-        }
-    work-own (working.Unmaking root unmake) knows saw is has =
-        absurd (unmake-elsewhere unmake.geometry unmake.slot unmake.at is)
-    work-own _ knows saw is has = absurd (cc)
-
-    pub own_slot : (job : Job) → JobKnows env mix c job M G → JobSaw env words_at mix job steps → did.op ≡ job_plan env job
-        → (held_of job).slot ≡ Some slot → IsOwnSlot
-    own_slot (finds port state) knows saw is has = absurd (find-slotless slot state has)
-    own_slot (binds port owner once state) knows saw is has = bind-own port owner once state knows saw.0 is has
-    own_slot (lists port room state) knows saw is has = absurd (all-slotless slot room.items state has)
-    own_slot (releases port owner state) knows saw is has = absurd (release-slotless slot state has)
-    own_slot (rebinds port owner new state) knows saw is has = absurd (rebind-slotless slot state has)
-    own_slot (works state) knows saw is has = work-own state knows saw is has
-    own_slot counts knows saw is has = absurd (cc)
+  pub own_slot : (job : Job) → JobKnows env mix c job M G → JobSaw env words_at mix job steps
+      → (held_of job).slot ≡ Some slot → IsOwnSlot
+  own_slot (finds port state) knows saw has = absurd (find-slotless slot state has)
+  own_slot (binds port owner once state) knows saw has = bind-own port owner once state knows saw.0 has
+  own_slot (lists port room state) knows saw has = absurd (all-slotless slot room.items state has)
+  own_slot (releases port owner state) knows saw has = absurd (release-slotless slot state has)
+  own_slot (rebinds port owner new state) knows saw has = absurd (rebind-slotless slot state has)
+  own_slot (works state) knows saw has = work-own state knows saw has
+  own_slot counts knows saw has = absurd (cc)
 
 -- ---- an exchange that attaches its table
 
@@ -343,3 +317,15 @@ moving_works (releases port owner state) moves = absurd (release-unmoving state 
 moving_works (rebinds port owner new state) moves = absurd (rebind-unmoving state moves)
 moving_works (works state) moves = refl
 moving_works counts moves = absurd (cc)
+
+-- ---- a call that has a slot
+
+-- makes tables
+pub slot_makes : (job : Job) (slot : ℕ) → (held_of job).slot ≡ Some slot → MakesTables (call_of job)
+slot_makes (finds port state) slot has = absurd (find-slotless slot state has)
+slot_makes (binds port owner once state) slot has = tt
+slot_makes (lists port room state) slot has = absurd (all-slotless slot room.items state has)
+slot_makes (releases port owner state) slot has = absurd (release-slotless slot state has)
+slot_makes (rebinds port owner new state) slot has = absurd (rebind-slotless slot state has)
+slot_makes (works state) slot has = tt
+slot_makes counts slot has = absurd (cc)

@@ -42,7 +42,7 @@ use Rattle.rht_core.proofs.Reasons.MadeSizes.{nests-wanted, pages-wanted, size_o
 use Rattle.rht_core.specs.Due.{pages_due}
 use Rattle.rht_core.specs.Refused.{StoresLast}
 use Rattle.rht_core.specs.Attached.{HasTakenSlot, StoresDrawn, size_made}
-use Rattle.rht_core.proofs.Reasons.SlotsTaken.{IsNoCount, Owns, make-own}
+use Rattle.rht_core.proofs.Reasons.SlotsTaken.{IsNoCount, Owns, make-own, slot_taken-behind}
 
 module _ (g : Geometry) where
   -- behind the load of the last table's shape the operations saw this
@@ -151,6 +151,17 @@ module _ (env : Env) (words_at : ℕ → List ℕ) (mix : ℕ → ℕ → ℕ �
     pub stored : StoresLast g slot shape wanted.making
     pub numbered : StoresDrawn g slot wanted.making
     pub sized : size_of (unpacked shape) ≡ size_made size
+
+  -- its slot was taken
+  pub attach-taken : (growing : Growing) (slot shape : ℕ) (steps : List Did)
+      → Behind g growing.table growing.shape (SawToAttach growing slot shape) steps → HasTakenSlot g slot steps
+  attach-taken growing slot shape steps saw =
+      let behind = saw.walked in
+      let wanted = saw.saw.wanted in
+      subst (HasTakenSlot g slot) (sym behind.split)
+      (slot_taken-behind g slot behind.before behind.at behind.behind
+      (subst (HasTakenSlot g slot) (sym wanted.parts)
+      (slot_taken-behind g slot wanted.sooner wanted.counting wanted.making saw.saw.taken)))
 
   -- The operations behind the load of the last table's shape saw this first, and that the table is full; and one comes behind
   -- these of which the rest is so. This settles the reply.

@@ -26,6 +26,9 @@ use Rattle.rht_nest.specs.declared.make.MakeAt.TheVariants as makes
 use Rattle.rht_core.specs.Traces.{Did, performed_of}
 use Rattle.rht_core.specs.Refused.{IsNoShapeStore, StoresLast}
 use Rattle.rht_core.specs.Attached.{LetsSlotGo, HasTakenSlot, StoresDrawn, EachBehind}
+use Rattle.rht_nest.specs.Unmake.{unmake_plan_at, unmake_after_at}
+use Rattle.rht_nest.specs.declared.unmake.UnmakeAt.{UnmakeAt}
+use Rattle.rht_nest.specs.declared.unmake.UnmakeAt.TheVariants as unmakes
 
 -- ---- each operation with those before it
 
@@ -104,6 +107,22 @@ module _ (g : Geometry) where
   run-keeps slot did take (takes.Claim first index) is = keeps_slot slot did _ is (λ e. cc) (λ place old new e. cc)
   run-keeps slot did take (takes.GiveBack first index bits) is = keeps_slot slot did _ is (λ e. cc) (λ place old new e. cc)
 
+  -- an exchange that finds another word than 0 attaches nothing
+  pub lost-keeps : (slot : ℕ) (did : Did) (place old new : ℕ) → did.op ≡ Exchange place old new → did.old ≢ 0 → ¬ LetsSlotGo g slot did
+  lost-keeps slot did place old new is some (inl gives) = let both = sym is ∙ gives in cc
+  lost-keeps slot did place old new is some (inr (table, attaches)) = some attaches.found
+
+  -- while a table is given back its slot is given back last
+  abbrev pub OwnUnmade : ℕ → Next (Unit {0}) → List Did → Type 0
+  OwnUnmade slot Go steps = HasTakenSlot g slot steps
+  OwnUnmade slot (Done done) steps = Unit {0}
+
+  pub unmake-own : (h : Geometry) (slot : ℕ) (state : UnmakeAt) (steps : List Did) (did : Did) → did.op ≡ unmake_plan_at h slot state
+      → HasTakenSlot g slot steps → OwnUnmade slot (unmake_after_at state did.old).1 (steps ++ did ∷ [])
+  unmake-own h slot (unmakes.Giving give) steps did is own =
+      slot_taken-push slot steps did (keeps_slot slot did _ is (λ e. cc) (λ place old new e. cc)) own
+  unmake-own h slot unmakes.SlotBack steps did is own = tt
+
   -- ---- the shape that was stored last
 
   shape_stored-now : (slot shape : ℕ) (steps : List Did) (did : Did) → did.op ≡ Store (place_of g (Slot slot ShapeWord)) shape
@@ -145,7 +164,7 @@ module _ (g : Geometry) (exponent : ℕ) where
   OwnAt (makes.Slot slot) steps = Unit {0}
   OwnAt (makes.Taking slot take) steps = HasTakenSlot g slot steps
   OwnAt (makes.TakingTop slot take) steps = HasTakenSlot g slot steps
-  OwnAt (makes.SlotBack slot) steps = Unit {0}
+  OwnAt (makes.SlotBack slot) steps = HasTakenSlot g slot steps
   OwnAt (makes.NextSerial slot nested page) steps = HasTakenSlot g slot steps
   OwnAt (makes.Shape slot nested page serial) steps = HasDrawn slot serial steps
   OwnAt (makes.Seed slot nested page serial) steps = HasShaped slot (made_shape exponent nested page) serial steps
@@ -174,7 +193,7 @@ module _ (g : Geometry) (exponent : ℕ) where
   no_run-own : (h : Geometry) (nests : Bool) (slot : ℕ) (steps : List Did) → HasTakenSlot g slot steps
       → OwnAt (no_run h nests slot) steps
   no_run-own h true slot steps taken = taken
-  no_run-own h false slot steps taken = tt
+  no_run-own h false slot steps taken = taken
 
   started-own : (h : Geometry) (nests : Bool) (slot : ℕ) (start : Start TakeRunModel (Option ℕ)) (steps : List Did)
       → HasTakenSlot g slot steps → OwnAt (run_started h nests slot start) steps
@@ -191,7 +210,7 @@ module _ (g : Geometry) (exponent : ℕ) where
   top-own : (slot : ℕ) (take : TakeRunModel) (next : Next (Option ℕ)) (steps : List Did) → HasTakenSlot g slot steps
       → OwnAt (top_taken slot take next) steps
   top-own slot take Go steps taken = taken
-  top-own slot take (Done None) steps taken = tt
+  top-own slot take (Done None) steps taken = taken
   top-own slot take (Done (Some page)) steps taken = taken
 
   drawn-push : (slot serial : ℕ) (steps : List Did) (did : Did) (place value : ℕ) → did.op ≡ Store place value

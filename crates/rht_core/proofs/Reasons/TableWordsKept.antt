@@ -1,8 +1,7 @@
--- An operation that changes a word which says something of a table is on a slot that the call has, or attaches a table. And one that changes
--- which table is the current one makes it the next.
+-- An operation that changes a word which says something of a table is on a slot that the call has, or attaches a table. One that changes
+-- which table is the current one makes it the next. And one that changes whether a slot is free takes it, gives it back or retires it.
 --
--- Of all moves the attaching of a table alone is on the words of a slot, beside what nobody else looks at; and that is on words of the node
--- or of the slot that the call has.
+-- Each move is one of a few kinds, by the word on which its operation is (`kind_of_move`). The three facts are told of these.
 use Rattle.std.proofs.Common.{◌≡◌, ◌⊎◌, ℕ, ◌+◌, ◌<◌, ◌≤◌, Some, None, inl, inr, refl, sym, ap, ◌∙◌, subst, arith, true}
 use Rattle.std.specs.Prelude.{suc, ◌-◌, List, length}
 use Rattle.std.proofs.lemmas.Nat.Bits.{same_from_bits_below}
@@ -16,15 +15,18 @@ use Rattle.rht_words.specs.Places.{SlotWord, ShapeWord, SeedWord, FutureWord, Se
 use Rattle.rht_words.specs.TableWords.{IsTableWord}
 use Rattle.rht_words.proofs.Memory.{Memory, is_write}
 use Rattle.rht_words.proofs.PlacesApart.{parts_in_order}
-use Rattle.rht_core.specs.Traces.{Did}
+use Rattle.rht_core.specs.Traces.{Did, performed_of}
 use Rattle.rht_core.specs.ResizeCauses.{Attaches}
-use Rattle.rht_core.specs.Attached.{ChangesTable, ChangesCurrent, MovesOn}
+use Rattle.rht_core.specs.Attached.{ChangesTable, ChangesCurrent, MovesOn, ChangesState}
 use Rattle.rht_ghost.proofs.Theory.Ghosts.{Ghost}
 use Rattle.rht_ghost.proofs.Theory.Wholes.{Whole}
-use Rattle.rht_ghost.proofs.Theory.Departures.{CanPublish, published}
+use Rattle.rht_ghost.proofs.Theory.Departures.{CanPublish, published, CanRetire}
 use Rattle.rht_ghost.proofs.Theory.Steps as steps
-use Rattle.rht_ghost.proofs.Theory.Steps.{mem, ghost_after, LeavesBits, DoesPublish, Holding, Does, ReadyFor, DoesQuiet, IsAside, Move, Quiet, TakesNode, GivesNode, TakesLock, DropsLock, Raises, Links, Lowers, Rebinds, LinksBehind, Arms, TakesSlot, GivesSlot, TakesPages, GivesPages, Enters, TakesWork, GivesWork, BeginsMoving, TakesSecond, Leaves, Arrives, CutsOff, Publishes, Retires}
+use Rattle.rht_ghost.proofs.Theory.Steps.{mem, ghost_after, LeavesBits, DoesPublish, Holding, Does, ReadyFor, DoesQuiet, IsAside, Move, Quiet, TakesNode, GivesNode, TakesLock, DropsLock, Raises, Links, Lowers, Rebinds, LinksBehind, Arms, TakesSlot, GivesSlot, TakesPages, GivesPages, Enters, TakesWork, GivesWork, BeginsMoving, TakesSecond, Leaves, Arrives, CutsOff, Publishes, Retires, IsOnOwnSlot, DoesAttach, DoesTakeSlot, DoesGiveSlot, DoesRetire}
 use Rattle.rht_core.proofs.Meaning.TablesInForce.{current_slot, future-leads}
+use Rattle.rht_nest.specs.MakeLaws.{slot_taking, TakesSlot as TakesSlotNow}
+use Rattle.rht_ghost.proofs.Theory.Readiness.{IsAttaching}
+use Rattle.std.specs.Int.{bit_at}
 
 -- ---- places that are no such words
 
@@ -78,184 +80,236 @@ pub record FitBefore (did : Did) : Type 0 where
 same_word : (did : Did) → FitBefore did → LeavesBits did.op did.old → word_after did.old did.op ≡ did.old
 same_word did fits leaves = same_from_bits_below 64 (word_after did.old did.op) did.old fits.left fits.found leaves
 
--- ---- by each move
+-- ---- of which kind a move is
 
-module _ (env : Env) (mix : ℕ → ℕ → ℕ → ℕ) (c : ℕ) (M : Memory) (G : Ghost) (did : Did) (before after : Holding) (slot : ℕ)
-    (fits : FitBefore did) (changes : ChangesTable env.geometry slot did) where
+-- The operation leaves each bit. Or it is on a word that is neither a slot's nor that of the current table; or on one that says something of
+-- the table in the slot that the call has. Or it attaches a table, takes a slot, gives it back or retires it, or publishes the next table.
+module _ (env : Env) (mix : ℕ → ℕ → ℕ → ℕ) (c : ℕ) (M : Memory) (G : Ghost) (did : Did) (before after : Holding) where
   abbrev g : Geometry
   g = env.geometry
 
-  -- it attaches a table behind that of this slot, from a slot that the call has
-  pub record AttachesHere : Type 0 where
-    pub made_slot : ℕ
-    pub attaches : Attaches g slot made_slot did
-    pub has : before.slot ≡ Some made_slot
+  pub data IsOfKind : Move → Type 0 where
+    leaves : (move : Move) → LeavesBits did.op did.old → IsOfKind move
+    elsewhere : (move : Move) → 0 < op_place did.op → (op_place did.op < 24) ⊎ (280 ≤ op_place did.op) → IsOfKind move
+    on_own : (move : Move) → IsOnOwnSlot env.geometry did.op before → IsOfKind move
+    attaching : (slot shape seed serial : ℕ) → IsAttaching env mix c slot shape seed M G
+        → DoesAttach env.geometry slot did.op did.old before (steps.bare after) → IsOfKind (steps.Attaches slot shape seed serial)
+    taking : (slot : ℕ) → DoesTakeSlot env.geometry slot did.op did.old before (steps.bare after) → IsOfKind (TakesSlot slot)
+    giving : (slot : ℕ) → DoesGiveSlot env.geometry slot did.op before (steps.bare after) → IsOfKind (GivesSlot slot)
+    retiring : (slot : ℕ) → CanRetire env mix c slot G → DoesRetire env.geometry slot did.op before (steps.bare after)
+        → IsOfKind (Retires slot)
+    publishing : CanPublish env mix c G → DoesPublish env.geometry did.op before (steps.bare after) → IsOfKind Publishes
 
-  abbrev Here : Type 0
-  Here = (before.slot ≡ Some slot) ⊎ AttachesHere
+  -- it is on this place, which comes before the slots, or behind them
+  low : (move : Move) (place : ℕ) → op_place did.op ≡ place → 0 < place → place < 24 → IsOfKind move
+  low move place on some is = elsewhere move (omega (arith, on, some)) (inl (omega (arith, on, is)))
 
-  low : (place : ℕ) → op_place did.op ≡ place → place < 24 → Here
-  low place on is = absurd (low_far g slot changes.slot_in place is (changes.word, changes.of_table, sym on ∙ changes.there))
+  high : (move : Move) (place : ℕ) → op_place did.op ≡ place → 280 ≤ place → IsOfKind move
+  high move place on is = elsewhere move (omega (arith, on, is)) (inr (omega (arith, on, is)))
 
-  high : (place : ℕ) → op_place did.op ≡ place → 280 ≤ place → Here
-  high place on is = absurd (high_far g slot changes.slot_in place is (changes.word, changes.of_table, sym on ∙ changes.there))
+  nodes : (move : Move) (place : ℕ) → op_place did.op ≡ place → nodes_at g ≤ place → IsOfKind move
+  nodes move place on is =
+      let order = parts_in_order g in high move place on (omega (arith, is, order.nodes, order.page_map))
 
-  state : (other : ℕ) → op_place did.op ≡ place_of g (Slot other StateWord) → Here
-  state other on = absurd (state_far g slot changes.slot_in other (changes.word, changes.of_table, sym on ∙ changes.there))
-
-  -- all that stands behind the slots
-  nodes : (place : ℕ) → op_place did.op ≡ place → nodes_at g ≤ place → Here
-  nodes place on is =
-      let order = parts_in_order g in high place on (omega (arith, is, order.nodes, order.page_map))
-
-  pages : (index : ℕ) → op_place did.op ≡ pages_at g + index → Here
-  pages index on =
+  pages : (move : Move) (index : ℕ) → op_place did.op ≡ pages_at g + index → IsOfKind move
+  pages move index on =
       let order = parts_in_order g in
-      high (pages_at g + index) on (omega (arith, order.pages, order.nodes, order.page_map))
+      high move (pages_at g + index) on (omega (arith, order.pages, order.nodes, order.page_map))
 
-  aside : IsAside g did.op before → Here
-  aside (inl own) = nodes _ own.place (omega arith)
-  aside (inr (inl own)) =
-      let same : own.slot ≡ slot =
-      one_slot g slot changes.slot_in own.slot own.word changes.word own.of_table changes.of_table (sym own.place ∙ changes.there) in
-      inl (own.has ∙ ap Some same)
-  aside (inr (inr serial)) = low 3 (ap op_place serial) (omega arith)
-
-  quiet : DoesQuiet g did.op did.old before (steps.bare after) → Here
-  quiet does = elim does.leaves [
-    | inl leaves ↦ absurd (changes.other (same_word did fits leaves))
-    | inr is ↦ aside is
+  quiet : (move : Move) → DoesQuiet g did.op did.old before (steps.bare after) → IsOfKind move
+  quiet move does = elim does.leaves [
+    | inl all ↦ leaves move all
+    | inr (inl own) ↦ nodes move _ own.place (omega arith)
+    | inr (inr (inl own)) ↦ on_own move own
+    | inr (inr (inr serial)) ↦ low move 3 (ap op_place serial) (omega arith) (omega arith)
   ]
 
-  pub by_move : (move : Move) → ReadyFor env mix c M G move → Does env mix move did.op did.old before after → Here
-  by_move Quiet ready does = quiet does
-  by_move (Arms j) ready does = quiet does
-  by_move (TakesNode n) ready does = high _ does.taking.clears.place (omega arith)
-  by_move (GivesNode n) ready does = high _ (ap op_place does.giving) (omega arith)
-  by_move (TakesLock j) ready does = pages j does.on
-  by_move (DropsLock j) ready does = pages j does.on
-  by_move Raises ready does = low 2 (ap op_place does.adds) (omega arith)
-  by_move (Links n port j) ready does = pages j does.on
-  by_move Lowers ready does = low 2 (ap op_place does.subtracts) (omega arith)
-  by_move (Rebinds change) ready does = nodes (op_place did.op) refl does.behind_maps
-  by_move (LinksBehind n) ready does = nodes _ does.on (omega arith)
-  by_move (TakesSlot s) ready does = state s (ap op_place does.taking)
-  by_move (GivesSlot s) ready does = state s (ap op_place does.giving)
-  by_move (TakesPages index bits) ready does =
-      let order = parts_in_order g in high _ does.clears.on (omega (arith, order.page_map))
-  by_move (GivesPages index bits) ready does =
-      let order = parts_in_order g in high _ does.sets.on (omega (arith, order.page_map))
-  by_move (steps.Attaches made shape seed serial) ready does =
-      let same : does.last ≡ slot =
-      one_slot g slot changes.slot_in does.last FutureWord changes.word tt changes.of_table
-      (sym (ap op_place does.attaching) ∙ changes.there) in
-      inr (record {
-        made_slot = made;
-        attaches = subst (λ last. Attaches g last made did) same (record {
-          table_in = does.within;
-          slot_in = ready.made.has.within;
-          exchanges = does.attaching;
-          found = does.found;
-        });
-        has = does.has;
-      })
-  by_move (Enters j p) ready does = pages j (ap op_place does.entering)
-  by_move TakesWork ready does = low 1 (ap op_place does.taking) (omega arith)
-  by_move GivesWork ready does = low 1 (ap op_place does.giving) (omega arith)
-  by_move BeginsMoving ready does = absurd (changes.other does.leaves)
-  by_move (TakesSecond j) ready does = pages j does.on
-  by_move (Leaves j i entry nodes_there) ready does = nodes _ does.on (omega arith)
-  by_move (Arrives j i entry) ready does = pages i does.on
-  by_move (CutsOff j entry None) ready does = pages j does.on
-  by_move (CutsOff j entry (Some b)) ready does = nodes _ does.on (omega arith)
-  by_move Publishes ready does = low 0 does.on (omega arith)
-  by_move (Retires s) ready does = state s (ap op_place does.retiring)
+  kind_of_move : (move : Move) → ReadyFor env mix c M G move → Does env mix move did.op did.old before after → IsOfKind move
+  kind_of_move Quiet ready does = quiet Quiet does
+  kind_of_move (Arms j) ready does = quiet (Arms j) does
+  kind_of_move (TakesNode n) ready does = high _ _ does.taking.clears.place (omega arith)
+  kind_of_move (GivesNode n) ready does = high _ _ (ap op_place does.giving) (omega arith)
+  kind_of_move (TakesLock j) ready does = pages _ j does.on
+  kind_of_move (DropsLock j) ready does = pages _ j does.on
+  kind_of_move Raises ready does = low _ 2 (ap op_place does.adds) (omega arith) (omega arith)
+  kind_of_move (Links n port j) ready does = pages _ j does.on
+  kind_of_move Lowers ready does = low _ 2 (ap op_place does.subtracts) (omega arith) (omega arith)
+  kind_of_move (Rebinds change) ready does = nodes _ (op_place did.op) refl does.behind_maps
+  kind_of_move (LinksBehind n) ready does = nodes _ _ does.on (omega arith)
+  kind_of_move (TakesSlot s) ready does = taking s does
+  kind_of_move (GivesSlot s) ready does = giving s does
+  kind_of_move (TakesPages index bits) ready does =
+      let order = parts_in_order g in high _ _ does.clears.on (omega (arith, order.page_map))
+  kind_of_move (GivesPages index bits) ready does =
+      let order = parts_in_order g in high _ _ does.sets.on (omega (arith, order.page_map))
+  kind_of_move (steps.Attaches slot shape seed serial) ready does = attaching slot shape seed serial ready does
+  kind_of_move (Enters j p) ready does = pages _ j (ap op_place does.entering)
+  kind_of_move TakesWork ready does = low _ 1 (ap op_place does.taking) (omega arith) (omega arith)
+  kind_of_move GivesWork ready does = low _ 1 (ap op_place does.giving) (omega arith) (omega arith)
+  kind_of_move BeginsMoving ready does = leaves _ (λ bit low_bit. ap (λ w. bit_at w bit) does.leaves)
+  kind_of_move (TakesSecond j) ready does = pages _ j does.on
+  kind_of_move (Leaves j i entry nodes_there) ready does = nodes _ _ does.on (omega arith)
+  kind_of_move (Arrives j i entry) ready does = pages _ i does.on
+  kind_of_move (CutsOff j entry None) ready does = pages _ j does.on
+  kind_of_move (CutsOff j entry (Some b)) ready does = nodes _ _ does.on (omega arith)
+  kind_of_move Publishes ready does = publishing ready does
+  kind_of_move (Retires s) ready does = retiring s ready does
+
+  -- ---- the words that say something of a table
+
+  -- it attaches a table behind that of this slot, from a slot that the call has
+  pub record AttachesHere (slot : ℕ) : Type 0 where
+    pub made_slot : ℕ
+    pub attaches : Attaches env.geometry slot made_slot did
+    pub has : before.slot ≡ Some made_slot
+
+  module _ (slot : ℕ) (fits : FitBefore did) (changes : ChangesTable g slot did) where
+    abbrev Here : Type 0
+    Here = (before.slot ≡ Some slot) ⊎ AttachesHere slot
+
+    far_state : (other : ℕ) → op_place did.op ≡ place_of g (Slot other StateWord) → Here
+    far_state other on = absurd (state_far g slot changes.slot_in other (changes.word, changes.of_table, sym on ∙ changes.there))
+
+    by_kind : (move : Move) → IsOfKind move → Here
+    by_kind move (leaves _ all) = absurd (changes.other (same_word did fits all))
+    by_kind move (elsewhere _ some (inl under)) =
+        absurd (low_far g slot changes.slot_in (op_place did.op) under (changes.word, changes.of_table, changes.there))
+    by_kind move (elsewhere _ some (inr over)) =
+        absurd (high_far g slot changes.slot_in (op_place did.op) over (changes.word, changes.of_table, changes.there))
+    by_kind move (on_own _ own) =
+        let same : own.slot ≡ slot =
+        one_slot g slot changes.slot_in own.slot own.word changes.word own.of_table changes.of_table (sym own.place ∙ changes.there) in
+        inl (own.has ∙ ap Some same)
+    by_kind move (attaching made shape seed serial ready does) =
+        let same : does.last ≡ slot =
+        one_slot g slot changes.slot_in does.last FutureWord changes.word tt changes.of_table
+        (sym (ap op_place does.attaching) ∙ changes.there) in
+        inr (record {
+          made_slot = made;
+          attaches = subst (λ last. Attaches g last made did) same (record {
+            table_in = does.within;
+            slot_in = ready.made.has.within;
+            exchanges = does.attaching;
+            found = does.found;
+          });
+          has = does.has;
+        })
+    by_kind move (taking s does) = far_state s (ap op_place does.taking)
+    by_kind move (giving s does) = far_state s (ap op_place does.giving)
+    by_kind move (retiring s ready does) = far_state s (ap op_place does.retiring)
+    by_kind move (publishing ready does) =
+        absurd (low_far g slot changes.slot_in 0 (omega arith) (changes.word, changes.of_table, sym does.on ∙ changes.there))
+
+    pub by_move : (move : Move) → ReadyFor env mix c M G move → Does env mix move did.op did.old before after → Here
+    by_move move ready does = by_kind move (kind_of_move move ready does)
+
+  -- ---- the words that say whether slots are free
+
+  -- the operation takes the slot, which the call has then; or gives back one that it has; or retires the slot's table
+  pub record TakesHere (slot : ℕ) : Type 0 where
+    pub takes : TakesSlotNow env.geometry slot (performed_of did)
+    pub has : after.slot ≡ Some slot
+
+  pub record GivesHere (slot : ℕ) : Type 0 where
+    pub gives : did.op ≡ Store (place_of env.geometry (Slot slot StateWord)) 0
+    pub has : before.slot ≡ Some slot
+
+  pub record RetiresHere (slot : ℕ) : Type 0 where
+    pub stores : did.op ≡ Store (place_of env.geometry (Slot slot StateWord)) 2
+    pub moves : before.moving ≡ true
+    pub can : CanRetire env mix c slot G
+
+  abbrev pub StateHere : ℕ → Type 0
+  StateHere slot = TakesHere slot ⊎ GivesHere slot ⊎ RetiresHere slot
+
+  module _ (slot : ℕ) (fits : FitBefore did) (changes : ChangesState g slot did) where
+    -- the slot of the operation is this one
+    this_slot : (s : ℕ) → op_place did.op ≡ place_of g (Slot s StateWord) → s ≡ slot
+    this_slot s on = let at = sym on ∙ changes.there in omega (arith, at)
+
+    state_by_kind : (move : Move) → IsOfKind move → StateHere slot
+    state_by_kind move (leaves _ all) = absurd (changes.other (same_word did fits all))
+    state_by_kind move (elsewhere _ some (inl under)) = absurd (let at = changes.there in omega (arith, at, under))
+    state_by_kind move (elsewhere _ some (inr over)) =
+        absurd (let at = changes.there in let few = changes.slot_in in omega (arith, at, over, few))
+    state_by_kind move (on_own _ own) =
+        absurd (state_far g own.slot own.within slot (own.word, own.of_table, sym changes.there ∙ own.place))
+    state_by_kind move (attaching made shape seed serial ready does) =
+        absurd (state_far g does.last does.within slot (FutureWord, tt, sym changes.there ∙ ap op_place does.attaching))
+    state_by_kind move (taking s does) =
+        let same = this_slot s (ap op_place does.taking) in
+        inl (record {
+          takes = record { taking = subst (λ x. did.op ≡ slot_taking g x) same does.taking; free = does.free };
+          has = ap (λ (x : Holding). x.slot) does.holds ∙ ap Some same;
+        })
+    state_by_kind move (giving s does) =
+        let same = this_slot s (ap op_place does.giving) in
+        inr (inl (record {
+          gives = subst (λ x. did.op ≡ Store (place_of g (Slot x StateWord)) 0) same does.giving;
+          has = does.has ∙ ap Some same;
+        }))
+    state_by_kind move (retiring s ready does) =
+        let same = this_slot s (ap op_place does.retiring) in
+        inr (inr (record {
+          stores = subst (λ x. did.op ≡ Store (place_of g (Slot x StateWord)) 2) same does.retiring;
+          moves = does.moves;
+          can = subst (λ x. CanRetire env mix c x G) same ready;
+        }))
+    state_by_kind move (publishing ready does) = absurd (let at = sym does.on ∙ changes.there in omega (arith, at))
+
+    pub state_by_move : (move : Move) → ReadyFor env mix c M G move → Does env mix move did.op did.old before after → StateHere slot
+    state_by_move move ready does = state_by_kind move (kind_of_move move ready does)
 
 -- ---- the word of the current table
 
--- it changes by the move that publishes the next table
+-- the call moves tables, and goes on to the next
+pub record PublishesHere (env : Env) (words : List ℕ) (did : Did) (before : Holding) : Type 0 where
+  pub moves : before.moving ≡ true
+  pub on : MovesOn env.geometry words did
+
 module _ (env : Env) (mix : ℕ → ℕ → ℕ → ℕ) (c : ℕ) (words : List ℕ) (G : Ghost) (did : Did) (before after : Holding)
     (whole : Whole env mix (mem env mix words) G) (all : length words ≡ words_in env.geometry) (found : did.old ≡ old_of words did.op)
     (fits : FitBefore did) (changes : ChangesCurrent env.geometry did) where
-  abbrev g' : Geometry
-  g' = env.geometry
+  abbrev Kind : Move → Type 0
+  Kind = IsOfKind env mix c (mem env mix words) G did before after
 
-  pub record Publishing : Type 0 where
-    pub moves : before.moving ≡ true
-    pub on : MovesOn g' words did
+  abbrev Publishing : Type 0
+  Publishing = PublishesHere env words did before
 
   far : (place : ℕ) → op_place did.op ≡ place → 0 < place → Publishing
-  far place on is = absurd (let at : place ≡ 0 = sym on ∙ changes.there in omega (arith, at, is))
-
-  nodes_far : (place : ℕ) → op_place did.op ≡ place → nodes_at g' ≤ place → Publishing
-  nodes_far place on is =
-      let order = parts_in_order g' in far place on (omega (arith, is, order.nodes, order.page_map))
-
-  pages_far : (index : ℕ) → op_place did.op ≡ pages_at g' + index → Publishing
-  pages_far index on =
-      let order = parts_in_order g' in
-      far (pages_at g' + index) on (omega (arith, order.pages, order.nodes, order.page_map))
-
-  aside_far : IsAside g' did.op before → Publishing
-  aside_far (inl own) = nodes_far _ own.place (omega arith)
-  aside_far (inr (inl own)) = far _ own.place (omega arith)
-  aside_far (inr (inr serial)) = far 3 (ap op_place serial) (omega arith)
-
-  quiet_far : DoesQuiet g' did.op did.old before (steps.bare after) → Publishing
-  quiet_far does = elim does.leaves [
-    | inl leaves ↦ absurd (changes.other (same_word did fits leaves))
-    | inr is ↦ aside_far is
-  ]
+  far place on some = absurd (let at : place ≡ 0 = sym on ∙ changes.there in omega (arith, at, some))
 
   publishes : CanPublish env mix c G → Whole env mix (mem env mix (applied words did.op)) (published G)
-      → DoesPublish g' did.op before (steps.bare after) → Publishing
+      → DoesPublish env.geometry did.op before (steps.bare after) → Publishing
   publishes can then does =
       let followed = can.emptied.followed in
-      let write = is_write g' words CurrentTable did.op all tt does.on in
+      let write = is_write env.geometry words CurrentTable did.op all tt does.on in
       let old : did.old ≡ mem env mix words CurrentTable = found ∙ ap (λ p. old_of words (Store p 0)) does.on in
-      let next = (G.table (G.current + 1)).slot in
       record {
         moves = does.moves;
         on = record {
-          table = next;
+          table = (G.table (G.current + 1)).slot;
           table_in = (whole.tables.each (G.current + 1) followed.more).slot_in;
           becomes = ap (λ w. word_after w did.op) old ∙ sym write.same ∙ then.tables.current_is;
           followed =
-              ap (λ s. slot_of (mem env mix words (Slot s FutureWord)))
-              (ap table_of old ∙ current_slot env mix words G whole)
+              ap (λ s. slot_of (mem env mix words (Slot s FutureWord))) (ap table_of old ∙ current_slot env mix words G whole)
               ∙ future-leads env mix words G whole G.current (suc (G.attached - G.current - 2)) (let l = followed.more in omega (arith, l));
         };
       }
 
+  current_by_kind : (move : Move) → Kind move → Whole env mix (mem env mix (applied words did.op)) (ghost_after env mix c move G)
+      → Publishing
+  current_by_kind move (leaves _ same) then = absurd (changes.other (same_word did fits same))
+  current_by_kind move (elsewhere _ some is) then = far (op_place did.op) refl some
+  current_by_kind move (on_own _ own) then = far _ own.place (omega arith)
+  current_by_kind move (attaching made shape seed serial ready does) then = far _ (ap op_place does.attaching) (omega arith)
+  current_by_kind move (taking s does) then = far _ (ap op_place does.taking) (omega arith)
+  current_by_kind move (giving s does) then = far _ (ap op_place does.giving) (omega arith)
+  current_by_kind move (retiring s ready does) then = far _ (ap op_place does.retiring) (omega arith)
+  current_by_kind move (publishing ready does) then = publishes ready then does
+
   pub current_by_move : (move : Move) → ReadyFor env mix c (mem env mix words) G move
       → Whole env mix (mem env mix (applied words did.op)) (ghost_after env mix c move G)
       → Does env mix move did.op did.old before after → Publishing
-  current_by_move Quiet ready then does = quiet_far does
-  current_by_move (Arms j) ready then does = quiet_far does
-  current_by_move (TakesNode n) ready then does = far _ does.taking.clears.place (omega arith)
-  current_by_move (GivesNode n) ready then does = far _ (ap op_place does.giving) (omega arith)
-  current_by_move (TakesLock j) ready then does = pages_far j does.on
-  current_by_move (DropsLock j) ready then does = pages_far j does.on
-  current_by_move Raises ready then does = far 2 (ap op_place does.adds) (omega arith)
-  current_by_move (Links n port j) ready then does = pages_far j does.on
-  current_by_move Lowers ready then does = far 2 (ap op_place does.subtracts) (omega arith)
-  current_by_move (Rebinds change) ready then does = nodes_far (op_place did.op) refl does.behind_maps
-  current_by_move (LinksBehind n) ready then does = nodes_far _ does.on (omega arith)
-  current_by_move (TakesSlot s) ready then does = far _ (ap op_place does.taking) (omega arith)
-  current_by_move (GivesSlot s) ready then does = far _ (ap op_place does.giving) (omega arith)
-  current_by_move (TakesPages index bits) ready then does =
-      let order = parts_in_order g' in far _ does.clears.on (omega (arith, order.page_map))
-  current_by_move (GivesPages index bits) ready then does =
-      let order = parts_in_order g' in far _ does.sets.on (omega (arith, order.page_map))
-  current_by_move (steps.Attaches made shape seed serial) ready then does = far _ (ap op_place does.attaching) (omega arith)
-  current_by_move (Enters j p) ready then does = pages_far j (ap op_place does.entering)
-  current_by_move TakesWork ready then does = far 1 (ap op_place does.taking) (omega arith)
-  current_by_move GivesWork ready then does = far 1 (ap op_place does.giving) (omega arith)
-  current_by_move BeginsMoving ready then does = absurd (changes.other does.leaves)
-  current_by_move (TakesSecond j) ready then does = pages_far j does.on
-  current_by_move (Leaves j i entry nodes_there) ready then does = nodes_far _ does.on (omega arith)
-  current_by_move (Arrives j i entry) ready then does = pages_far i does.on
-  current_by_move (CutsOff j entry None) ready then does = pages_far j does.on
-  current_by_move (CutsOff j entry (Some b)) ready then does = nodes_far _ does.on (omega arith)
-  current_by_move Publishes ready then does = publishes ready then does
-  current_by_move (Retires s) ready then does = far _ (ap op_place does.retiring) (omega arith)
+  current_by_move move ready then does =
+      current_by_kind move (kind_of_move env mix c (mem env mix words) G did before after move ready does) then

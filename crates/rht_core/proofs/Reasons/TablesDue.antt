@@ -45,8 +45,8 @@ use Rattle.rht_core.proofs.Reasons.AttachedTables.{IsNoAttach, no_attach, make-n
 use Rattle.rht_core.proofs.Reasons.MakesSeen.{SawMaking, SawMade, IsShaped, saw_nothing, make-saw}
 use Rattle.rht_core.proofs.Reasons.MadeSizes.{due_size, shaped_flat, size_of-made, pages-sized}
 use Rattle.rht_core.proofs.Reasons.ChoicesMade.{Chosen, futures_next, Began-push, HasLock, SeekSaw, Measures, Since, chosen_by, Since-push, SinceSome-push}
-use Rattle.rht_core.proofs.Reasons.WorksSeen.{NoneAttached, Wants, IsMaking, Makes, IsSupplied, DueSaw, IsTried, IsDue, HasDue, IsMade, IsToAttach, SaysMissing, IsIdle, NoneAttached-push, SaysMissing-push, IsTried-push, SawAtWork, SawNextWork}
-use Rattle.rht_core.proofs.Reasons.SlotsTaken.{make-own}
+use Rattle.rht_core.proofs.Reasons.WorksSeen.{NoneAttached, Wants, IsMaking, Makes, IsSupplied, DueSaw, IsTried, IsDue, HasDue, IsMade, IsToAttach, SaysMissing, IsIdle, NoneAttached-push, SaysMissing-push, IsTried-push, SawAtWork, SawNextWork, to_attach-taken}
+use Rattle.rht_core.proofs.Reasons.SlotsTaken.{make-own, slot_taken-push, lost-keeps, OwnUnmade}
 
 -- an operation of the making of a table, which found this word
 abbrev made_step : Geometry → MakeModel → ℕ → Performed
@@ -391,16 +391,20 @@ module _ (env : Env) (words_at : ℕ → List ℕ) where
         tried = tried of behind due;
         at_once = λ e. absurd (cc);
       })))
-      (λ f. some (Since-push env (Attach size) steps did since (λ of behind due. record {
-        root_same = due.root_same;
-        saw = (
-          (λ e. absurd (cc)),
-          NoneAttached-push env of.last behind did
-              (λ some. eqb-false did.old 0 f some.attaches.found) due.none,
-        );
-        tried = tried of behind due;
-        at_once = λ e. absurd (cc);
-      })))
+      (λ f. (
+        some (Since-push env (Attach size) steps did since (λ of behind due. record {
+          root_same = due.root_same;
+          saw = (
+            (λ e. absurd (cc)),
+            NoneAttached-push env of.last behind did
+                (λ some. eqb-false did.old 0 f some.attaches.found) due.none,
+          );
+          tried = tried of behind due;
+          at_once = λ e. absurd (cc);
+        })),
+        slot_taken-push env.geometry slot steps did (lost-keeps env.geometry slot did _ _ _ is (eqb-false did.old 0 f))
+            (to_attach-taken env root last slot shape steps (size, since)),
+      ))
     where
       some : {due : Due} → Since env (Attach size) (IsDue env root due (Attach size)) (steps ++ did ∷ [])
           → HasDue env root due (steps ++ did ∷ [])
@@ -423,9 +427,9 @@ module _ (env : Env) (words_at : ℕ → List ℕ) where
           })
 
   pub unmade-saw : (root : ℕ) (unmake : UnmakeModel) (next : Next (Unit {0})) (all : List Did)
-      → HasDue env root dues.Later all → Sees (unmade root unmake next) all
-  unmade-saw root unmake Go all saw = saw
-  unmade-saw root unmake (Done done) all saw = saw
+      → HasDue env root dues.Later all → OwnUnmade env.geometry unmake.slot next all → Sees (unmade root unmake next) all
+  unmade-saw root unmake Go all saw own = (saw, own)
+  unmade-saw root unmake (Done done) all saw own = saw
 
   -- ---- the future of the current table
 

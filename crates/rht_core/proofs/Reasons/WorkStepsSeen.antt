@@ -51,6 +51,7 @@ use Rattle.rht_core.proofs.Reasons.ChoicesMade.{HasChosen-push, Since-push}
 use Rattle.rht_core.proofs.Reasons.WorksSeen.{SawIdle, AnewSaw, HasDue-push, SawForWork, SawAtWork, SawNextWork}
 use Rattle.rht_core.proofs.Reasons.TablesDue.{reads, lock-saw, current-saw, FindsSmall, last-saw, begun-saw, made-saw, attached-saw, unmade-saw, future-saw}
 use Rattle.rht_core.proofs.Reasons.MovesSeen.{cut-none, publish-saw, stored-saw, goes, root-saw, passed-saw, locked-saw, entry-saw, walked-saw, second_locked-saw, cut-saw, sought-saw, found-saw, SawStopped-push, unlocking-stores, unlocked-saw, retiring-saw}
+use Rattle.rht_core.proofs.Reasons.SlotsTaken.{unmake-own}
 
 -- ---- what the caller knows
 
@@ -237,7 +238,8 @@ module _ (env : Env) (words_at : ℕ → List ℕ) where
       (steps ++ did ∷ [])
       (HasDue-push env root steps did
       (no_attach env.geometry did _ does.planned
-      (unmake-none env.geometry unmake.geometry unmake.slot unmake.at)) saw)
+      (unmake-none env.geometry unmake.geometry unmake.slot unmake.at)) saw.0)
+      (unmake-own env.geometry unmake.geometry unmake.slot unmake.at steps did does.planned saw.1)
   work-saw mix (at.RootFuture root due) steps did does here saw =
       future-saw env words_at root due (slot_of did.old) steps did does.within does.planned refl
       (nothing-found env mix root due did does)

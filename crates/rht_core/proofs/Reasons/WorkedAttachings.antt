@@ -1,6 +1,7 @@
 -- Operations that attach a table or enter a page wrongly, whatever the call did before: a look-up that attaches a table behind one in
 -- force; a bind that attaches one of 4 buckets where each shape that it loaded was that of 64; a bind that makes another table the current
--- one; a look-up that enters a page; and a bind that enters one where no way to its port's bucket ends.
+-- one; a look-up that enters a page; a bind that enters one where no way to its port's bucket ends; a look-up that takes a slot; and a bind
+-- that frees a slot which it never took.
 use Rattle.std.proofs.Common.{◌≡◌, ◌≢◌, ℕ, ◌*◌, ◌<◌, Bool, List, ◌∷◌, refl, sym, ap, ◌∙◌, subst, inl, inr, arith, Some}
 use Rattle.std.specs.List.{AllByRecursion}
 use Rattle.std.proofs.lemmas.Bool.{cond_both}
@@ -9,7 +10,7 @@ use Rattle.rht_words.specs.declared.geometry.Geometry.{Geometry}
 use Rattle.rht_words.specs.declared.op.Op.TheVariants.{Load, Store, Exchange}
 use Rattle.rht_words.specs.Links.{future_of, entry_of}
 use Rattle.rht_words.specs.Members.{In}
-use Rattle.rht_words.specs.Places.{CurrentTable, Slot, ShapeWord, SeedWord, FutureWord, PageWord, place_of, word_at}
+use Rattle.rht_words.specs.Places.{CurrentTable, Slot, ShapeWord, SeedWord, FutureWord, StateWord, PageWord, place_of, word_at}
 use Rattle.rht_words.specs.Shapes.{unpacked, size_of}
 use Rattle.rht_words.proofs.EachElement.{AllByRecursion-cut, AllByRecursion-push}
 use Rattle.rht_policy.specs.Thresholds.{is_above_75}
@@ -20,7 +21,8 @@ use Rattle.rht_core.specs.Refused.{IsWaysEnd}
 use Rattle.rht_model.specs.declared.history.Call.{Call}
 use Rattle.rht_model.specs.declared.history.Call.TheVariants.{Bind, Find}
 use Rattle.rht_core.specs.declared.event.Event.{Event}
-use Rattle.rht_core.specs.Traces.{Did}
+use Rattle.rht_core.specs.Traces.{Did, performed_of}
+use Rattle.rht_nest.specs.MakeLaws.{TakesSlot}
 use Rattle.rht_core.specs.Seen.{words_before}
 use Rattle.rht_core.specs.ResizeCauses.{wanted_size}
 use Rattle.rht_core.specs.Attached.{ChangesTable, size_made, AttachesFull, AttachesRightly, ChangesRightly, IsInForceOrRetired, ChangesMissing}
@@ -132,3 +134,30 @@ module _ (M : Type 0) (mix : ℕ → ℕ → ℕ → ℕ) (env : Env) (events : 
         let way = right.entries entry changes_missing in
         elsewhere way.table way.shape
         (ap (λ bucket. missing_at (page_word g words) (nested_place g way.shape bucket)) (sym way.bucket_is) ∙ way.ends)
+
+  -- ---- slots
+
+  -- a look-up that takes one
+  pub look_up_takes_slot : (port slot : ℕ) → slot < 8
+      → Rightly (Find port) (record { index = index; op = Exchange (place_of g (Slot slot StateWord)) 0 1; old = 0 }) → ⊥
+  look_up_takes_slot port slot low right =
+      elim (right.states slot (record { slot_in = low; there = refl; other = λ same. cc })) [
+        | inl taken ↦ taken.0
+        | inr (inl given) ↦ let same = given.1 in absurd (cc)
+        | inr (inr retired) ↦ let same = retired.0 in absurd (cc)
+      ]
+
+  -- a bind that frees a retired one, of which it took none
+  pub bind_frees_slot : (port owner slot : ℕ) (once : Bool) → slot < 8
+      → AllByRecursion (λ did. ¬ TakesSlot g slot (performed_of did)) before
+      → Rightly (Bind port owner once) (record { index = index; op = Store (place_of g (Slot slot StateWord)) 0; old = 2 }) → ⊥
+  bind_frees_slot port owner slot once low none right =
+      elim (right.states slot (record { slot_in = low; there = refl; other = λ same. cc })) [
+        | inl taken ↦ let same = taken.1.taking in absurd (cc)
+        | inr (inl given) ↦
+            let taken = given.0.taken in
+            let parts = AllByRecursion-cut (λ did. ¬ TakesSlot g slot (performed_of did)) taken.before (taken.at ∷ taken.behind)
+            (subst (AllByRecursion (λ did. ¬ TakesSlot g slot (performed_of did))) taken.split none) in
+            parts.1.0 taken.takes
+        | inr (inr retired) ↦ let same = retired.0 in absurd (cc)
+      ]

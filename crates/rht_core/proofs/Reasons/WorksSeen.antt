@@ -4,7 +4,7 @@
 -- was due there is a future to be found, by what the caller knows then. For each entry the last table is
 -- looked for anew, and where that is nested the move stops. In the end it is kept which table the resizing
 -- made the current one.
-use Rattle.std.proofs.Common.{◌≡◌, ◌≢◌, ◌⊎◌, ℕ, ◌^◌, Bool, true, false, List, [], ◌∷◌, ◌++◌, map, append_assoc, ap, ◌∙◌}
+use Rattle.std.proofs.Common.{◌≡◌, ◌≢◌, ◌⊎◌, ℕ, ◌^◌, Bool, true, false, List, [], ◌∷◌, ◌++◌, map, append_assoc, ap, ◌∙◌, subst, sym}
 use Rattle.std.specs.Prelude.{Option, Some, None}
 use Rattle.std.specs.List.{AllByRecursion, Any}
 use Rattle.rht_words.specs.declared.env.Env.{Env}
@@ -40,7 +40,7 @@ use Rattle.rht_core.proofs.Reasons.MakesSeen.{SawMade}
 use Rattle.rht_core.proofs.Reasons.ChoicesMade.{AreFuturesAt, Chosen, HasLock, SeekSaw, Measures, Since, SinceSome, SinceSome-push}
 use Rattle.rht_core.specs.Refused.{StoresLast}
 use Rattle.rht_core.specs.Attached.{HasTakenSlot, StoresDrawn}
-use Rattle.rht_core.proofs.Reasons.SlotsTaken.{Owns}
+use Rattle.rht_core.proofs.Reasons.SlotsTaken.{Owns, slot_taken-behind}
 use Rattle.rht_words.specs.Shapes.{unpacked, size_of}
 
 module _ (env : Env) where
@@ -110,6 +110,15 @@ module _ (env : Env) where
 
   abbrev pub IsToAttach : ℕ → ℕ → ℕ → ℕ → List Did → Type 0
   IsToAttach root last slot shape steps = (size : ℕ) × Since env (Attach size) (IsMade root last slot shape size) steps
+
+  -- its slot was taken
+  pub to_attach-taken : (root last slot shape : ℕ) (steps : List Did) → IsToAttach root last slot shape steps
+      → HasTakenSlot env.geometry slot steps
+  to_attach-taken root last slot shape steps (size, since) =
+      let chose = since.chose in
+      subst (HasTakenSlot env.geometry slot) (sym chose.split)
+      (slot_taken-behind env.geometry slot (chose.lock ∷ chose.current ∷ chose.futures) chose.shape (chose.count ∷ chose.behind)
+      (slot_taken-behind env.geometry slot [] chose.count chose.behind since.so.taken))
 
   -- whether it is to say that the table that was due isn't attached
   abbrev pub SaysMissing : Bool → ℕ → Choice → List Did → Type 0
@@ -305,7 +314,7 @@ module _ (env : Env) (words_at : ℕ → List ℕ) where
   SawAtWork (at.Count root last) steps = Measures env root last steps
   SawAtWork (at.Making wanted make) steps = Makes env wanted make steps
   SawAtWork (at.Attaching root last slot shape) steps = IsToAttach env root last slot shape steps
-  SawAtWork (at.Unmaking root unmake) steps = HasDue env root dues.Later steps
+  SawAtWork (at.Unmaking root unmake) steps = HasDue env root dues.Later steps × HasTakenSlot env.geometry unmake.slot steps
   SawAtWork (at.RootFuture root due) steps = HasDue env root due steps
   SawAtWork (at.RootShape root future again) steps = Moves env root future again steps
   SawAtWork (at.Entry rehash number place) steps = RehashSaw env rehash steps

@@ -1,0 +1,356 @@
+-- What is kept of each operation of a call, with those before it: where it changes a word of a slot's table the call has the slot, or attaches
+-- the table that it has made. It makes another table the current one only as a resizing, takes, gives back and retires slots as it may, and
+-- enters a missing page only on its way.
+use Rattle.std.proofs.Common.{◌≡◌, ◌⊎◌, ℕ, true, false, List, [], ◌∷◌, ◌++◌, Some, inl, inr, refl, sym, ap, ◌∙◌, subst, arith}
+use Rattle.std.specs.Prelude.{min, max, ◌≤◌, take, drop}
+use Rattle.std.specs.List.{AllByRecursion}
+use Rattle.rht_words.specs.declared.env.Env.{Env}
+use Rattle.rht_words.specs.declared.geometry.Geometry.{Geometry}
+use Rattle.rht_words.specs.declared.machine.Next.{Next}
+use Rattle.rht_words.specs.declared.machine.Next.TheVariants.{Go, Done}
+use Rattle.rht_words.specs.Members.{In}
+use Rattle.rht_words.specs.Places.{Slot, ShapeWord, FutureWord, PageWord, place_of, word_at, CurrentTable, StateWord}
+use Rattle.rht_words.specs.Shapes.{unpacked, size_of}
+use Rattle.rht_words.proofs.EachElement.{AllByRecursion-cut}
+use Rattle.rht_nest.specs.Tables.{is_nested}
+use Rattle.rht_model.specs.declared.history.Call.{Call}
+use Rattle.rht_model.specs.declared.history.Call.TheVariants.{Bind, Work}
+use Rattle.rht_model.specs.Endings.{Ending}
+use Rattle.rht_bind.specs.declared.bind.growth.Growing.{Growing}
+use Rattle.rht_stands.specs.StandsFor.{in_force, tables_from}
+use Rattle.rht_core.specs.declared.event.Event.{Event}
+use Rattle.rht_core.specs.Jobs.{Job, finds, binds, lists, releases, rebinds, works, counts, job_plan, call_of, job_after, held_of, held_next}
+use Rattle.rht_core.specs.Runs.{IsAdmitted, IsAdmittedEvent}
+use Rattle.rht_core.specs.Traces.{Did}
+use Rattle.rht_core.specs.Seen.{words_before}
+use Rattle.rht_core.specs.ResizeCauses.{Attaches}
+use Rattle.rht_core.specs.Attached.{ChangesMissing, EnterCause, ChangesTable, ChangesCurrent, MovesOn, HasTakenSlot, EachBehind, AttachesDue, IsOwnTable, ChangesState, StateCause, MakesTables, RetiresTable}
+use Rattle.rht_ghost.proofs.Theory.Ghosts.{Ghost, has_table, SlotHeld, index_at}
+use Rattle.rht_ghost.proofs.Theory.Wholes.{Whole}
+use Rattle.rht_ghost.proofs.Theory.Steps.{mem, Does}
+use Rattle.rht_words.specs.Operations.{op_value}
+use Rattle.rht_words.specs.Planned.{IsWord, IsPlannedIn}
+use Rattle.rht_words.proofs.PlannedWords.{old_of-fits, word_after-fits}
+use Rattle.rht_words.proofs.Memory.{Memory}
+use Rattle.rht_words.proofs.Rounding.{powers-rise}
+use Rattle.std.proofs.lemmas.Bool.{le-ltb, both_ways}
+use Rattle.std.proofs.lemmas.List.{take-append-drop}
+use Rattle.rht_find.proofs.FindPlanned.{planned_find}
+use Rattle.rht_bind.proofs.BindPlanned.{planned_bind}
+use Rattle.rht_release.proofs.AllPlanned.{planned_all}
+use Rattle.rht_release.proofs.ReleasePlanned.{planned_release}
+use Rattle.rht_release.proofs.RebindPlanned.{planned_rebind}
+use Rattle.rht_move.proofs.WorkPlanned.{planned_work}
+use Rattle.rht_ghost.proofs.Theory.Knowledge.{IsMade}
+use Rattle.rht_core.proofs.Machines.JobSteps.{JobIn}
+use Rattle.rht_core.proofs.Events.RangesInRuns.{planned_count, words_fit}
+use Rattle.rht_core.proofs.Events.JobsOfCallers.{same_call}
+use Rattle.rht_core.proofs.Meaning.TablesInForce.{in_force_is, leads_to_current}
+use Rattle.rht_core.proofs.Tracing.TracedJobs.{Performs, StandsIn, LeadsOn}
+use Rattle.rht_core.proofs.Reasons.MadeSizes.{made_flat}
+use Rattle.rht_core.proofs.Reasons.SlotsTaken.{each-push}
+use Rattle.rht_core.proofs.Reasons.TableWordsKept.{FitBefore, by_move, current_by_move, StateHere, state_by_move}
+use Rattle.rht_core.proofs.Reasons.RefusedBinds.{Behind, SawToAttach, attach-taken}
+use Rattle.rht_core.proofs.Reasons.OwnTables.{own_slot, moving_works, AttachesNow, attaches_now, by_bind, by_work, slot_makes}
+use Rattle.rht_words.specs.declared.op.Op.TheVariants.{Load, Store}
+use Rattle.rht_words.specs.Operations.{old_of}
+use Rattle.rht_words.specs.Links.{page_of, table_of}
+use Rattle.rht_core.specs.Refused.{PutsPage, HasTaken}
+use Rattle.rht_ghost.proofs.Theory.Knowledge.{TableMeans}
+use Rattle.rht_ghost.proofs.Pieces.OpenEntries.{known_growing}
+use Rattle.rht_core.proofs.Reasons.PagesMissed.{misses-page}
+use Rattle.rht_core.proofs.Undoing.LocksLetGo.{early}
+use Rattle.rht_core.proofs.Undoing.EnteringBinds.{saw-came}
+use Rattle.rht_core.proofs.Undoing.MissingKept.{EntersThere, EntersNow, by_entering, entered_by_move, enters_now}
+use Rattle.rht_core.proofs.Undoing.RefusedCalls as refusals
+use Rattle.rht_core.proofs.Reasons.CausesInRuns.{JobSaw, EndsSeen, job-leads}
+use Rattle.rht_core.proofs.Reasons.WorksSeen.{to_attach-taken}
+use Rattle.rht_ghost.proofs.Theory.Departures.{CanRetire}
+
+module _ (M : Type 0) (mix : ℕ → ℕ → ℕ → ℕ) (env : Env) (events : List Event) (c : ℕ) where
+  abbrev g : Geometry
+  g = env.geometry
+
+  abbrev words_at : ℕ → List ℕ
+  words_at = words_before M mix env events
+
+  -- ---- what is kept
+
+  -- a bind of this port attaches the table of this slot, with this shape, behind this one
+  pub record SeenFull (port table slot shape : ℕ) (before : List Did) : Type 0 where
+    pub growing : Growing
+    pub table_is : growing.table ≡ table
+    pub seen : Behind g growing.table growing.shape (SawToAttach env words_at mix port growing slot shape) before
+
+  abbrev pub SeenCause : Call → ℕ → ℕ → ℕ → List Did → Type 0
+  SeenCause (Bind port owner once) table slot shape before = SeenFull port table slot shape before
+  SeenCause Work table slot shape before = AttachesDue env table slot shape before
+  SeenCause _ table slot shape before = ⊥
+
+  pub record AttachesSeen (call : Call) (table : ℕ) (before : List Did) (did : Did) : Type 0 where
+    pub slot : ℕ
+    pub attaches : Attaches g table slot did
+    pub own : IsOwnTable M mix env events c slot before did
+    pub shape : ℕ
+    pub shape_is : word_at g (words_at did.index) (Slot slot ShapeWord) ≡ shape
+    pub none_behind : word_at g (words_at did.index) (Slot slot FutureWord) ≡ 0
+    pub nested : is_nested shape ≡ true → 128 ≤ size_of (unpacked shape)
+    pub cause : SeenCause call table slot shape before
+
+  pub record ChangesSeen (call : Call) (before : List Did) (did : Did) : Type 0 where
+    pub tables : (slot : ℕ) → ChangesTable g slot did
+        → IsOwnTable M mix env events c slot before did ⊎ AttachesSeen call slot before did
+    pub current : ChangesCurrent g did → (call ≡ Work) × MovesOn g (words_at did.index) did
+    pub states : (slot : ℕ) → ChangesState g slot did → StateCause M mix env events c call slot before did
+    pub entries : (entry : ℕ) → ChangesMissing g (words_at did.index) entry did → EnterCause g words_at mix call entry before did
+
+  abbrev pub Now : Job → List Did → Type 0
+  Now job steps = JobSaw env words_at mix job steps × refusals.Going M mix env events job steps × EachBehind (ChangesSeen (call_of job)) [] steps
+
+  abbrev pub Ended : Call → Ending → List Did → Type 0
+  Ended call ending steps = EndsSeen M mix env events call ending steps × EachBehind (ChangesSeen call) [] steps
+
+  -- ---- an operation
+
+  -- no table in force has a slot that a caller has for another one
+  held_apart : (words : List ℕ) (G : Ghost) → Whole env mix (mem env mix words) G → (caller slot : ℕ) → G.slot slot ≡ SlotHeld caller
+      → ¬ In slot (in_force g words)
+  held_apart words G whole caller slot held i =
+      let table = in_force_is env mix words G whole slot i in
+      let has = (whole.tables.each table.table table.attached).has_slot in
+      let both : has_table (SlotHeld caller) ≡ true = sym (ap has_table held) ∙ ap (λ s. has_table (G.slot s)) table.slot_is ∙ has in
+      absurd (cc)
+
+  -- a nested table that was made has 128 buckets or more
+  nested_many : (slot shape caller : ℕ) (T : Memory) (G : Ghost) → IsMade env mix caller T G slot shape → is_nested shape ≡ true
+      → 128 ≤ size_of (unpacked shape)
+  nested_many slot shape caller T G made nested = elim made.kind [
+    | inl flat ↦
+        let none : is_nested shape ≡ false = le-ltb 0 (unpacked shape).nest (let f = flat.flat in omega (arith, f)) in
+        absurd (both_ways (is_nested shape) none nested)
+    | inr is ↦ powers-rise 7 (max 2 (min (unpacked shape).exponent 18)) (let l = is.shaped.least in omega (arith, l))
+  ]
+
+  -- the words that an operation finds and leaves have 64 bits
+  planned_job : (caller : ℕ) (job : Job) → JobIn env mix caller job → IsPlannedIn g (job_plan env job)
+  planned_job caller (finds port state) within = planned_find env state within
+  planned_job caller (binds port owner once state) within = planned_bind env state within.at_in
+  planned_job caller (lists port room state) within = planned_all env state within.at_in
+  planned_job caller (releases port owner state) within = planned_release env state within
+  planned_job caller (rebinds port owner new state) within = planned_rebind env state within.at_in
+  planned_job caller (works state) within = planned_work env state within
+  planned_job caller counts within = planned_count env
+
+  fit_before : (job : Job) (did : Did) (performs : Performs mix env job did) → AllByRecursion IsWord performs.words → FitBefore did
+  fit_before job did performs words =
+      let old : IsWord did.old = subst IsWord (sym performs.found) (old_of-fits performs.words did.op words) in
+      record {
+        found = old;
+        left = word_after-fits did.old did.op old
+            (subst (λ op. IsWord (op_value op)) (sym performs.planned) (planned_job performs.caller job performs.within).fits);
+      }
+
+  -- the words before each event do
+  words_fit_at : IsAdmitted env.config.kind events → (index : ℕ) → AllByRecursion IsWord (words_at index)
+  words_fit_at admitted index =
+      let parts = AllByRecursion-cut (IsAdmittedEvent env.config.kind) (take index events) (drop index events)
+      (subst (IsAdmitted env.config.kind) (sym (take-append-drop index events)) admitted) in
+      words_fit M mix env (take index events) parts.0
+
+  module _ (admitted : IsAdmitted env.config.kind events) (steps : List Did) (did : Did) where
+    own_table : (slot caller : ℕ) (words : List ℕ) (G : Ghost) → Whole env mix (mem env mix words) G → words ≡ words_at did.index
+        → G.slot slot ≡ SlotHeld caller → HasTakenSlot g slot steps → IsOwnTable M mix env events c slot steps did
+    own_table slot caller words G whole now held taken = record {
+      taken = taken;
+      apart = subst (λ ws. ¬ In slot (in_force g ws)) now (held_apart words G whole caller slot held);
+    }
+
+    attaching : (job : Job) (table slot : ℕ) → AttachesNow env did slot table job → Attaches g table slot did
+        → (performs : Performs mix env job did) → performs.words ≡ words_at did.index → JobSaw env words_at mix job steps
+        → AttachesSeen (call_of job) table steps did
+    attaching job table slot (by_bind port owner once growing shape same) attaches performs now saw =
+        let made = performs.knows.knowing.means.making in
+        record {
+          slot = slot;
+          attaches = attaches;
+          own =
+              own_table slot performs.caller performs.words performs.ghost performs.whole now made.has.mine
+              (attach-taken env words_at mix port growing slot shape steps saw.0);
+          shape = shape;
+          shape_is = subst (λ ws. word_at g ws (Slot slot ShapeWord) ≡ shape) now made.shape_is;
+          none_behind = subst (λ ws. word_at g ws (Slot slot FutureWord) ≡ 0) now made.future_is;
+          nested = nested_many slot shape performs.caller (mem env mix performs.words) performs.ghost made;
+          cause = record { growing = growing; table_is = same; seen = saw.0 };
+        }
+    attaching job table slot (by_work root last shape same) attaches performs now saw =
+        let made = performs.knows.knowing.means.making in
+        let within = performs.within.made_in in
+        let since = saw.1 in
+        record {
+          slot = slot;
+          attaches = attaches;
+          own =
+              own_table slot performs.caller performs.words performs.ghost performs.whole now made.has.mine
+              (to_attach-taken env root last slot shape steps saw);
+          shape = shape;
+          shape_is = subst (λ ws. word_at g ws (Slot slot ShapeWord) ≡ shape) now made.shape_is;
+          none_behind = subst (λ ws. word_at g ws (Slot slot FutureWord) ≡ 0) now made.future_is;
+          nested = nested_many slot shape performs.caller (mem env mix performs.words) performs.ghost made;
+          cause = record {
+            size = saw.0;
+            chose = since.chose;
+            last = since.so.last_same ∙ same;
+            stored = since.so.stored;
+            numbered = since.so.numbered;
+            sized = since.so.size_is;
+            flat = ap is_nested within.shape_is
+                ∙ made_flat performs.within.exponent within.page within.nested performs.within.greatest within.kind;
+          };
+        }
+
+    -- a page is entered where the way to the port's bucket ends, by the words as they then are
+    entering : (job : Job) (entry page : ℕ) → EntersNow env entry page job → (performs : Performs mix env job did)
+        → performs.words ≡ words_at did.index → JobSaw env words_at mix job steps → HasTaken g page steps
+        → PutsPage g entry page did → EnterCause g words_at mix (call_of job) entry steps did
+    entering job entry page (by_entering port owner once attempt table shape place grow p at_is on) performs now saw took enters =
+        let same_g = performs.within.at_in.place_in.geometry_same in
+        let here : place_of g (PageWord place.entry) ≡ place_of g (PageWord entry) =
+        ap (λ (h : Geometry). place_of h (PageWord place.entry)) (sym same_g) ∙ sym performs.knows.fits ∙ on in
+        let same : place.entry ≡ entry = omega (arith, here) in
+        let on_way = subst (λ a. TableMeans env mix performs.ghost (known_growing port table shape place a)) at_is
+        performs.knows.knowing.means.table in
+        let unset : mem env mix performs.words (PageWord place.entry) ≡ 0 =
+        ap (λ i. mem env mix performs.words (PageWord i)) same ∙ sym (ap (old_of performs.words) enters.exchanges) ∙ sym performs.found
+        ∙ enters.found in
+        let load : Did = record { index = did.index; op = Load (place_of g (PageWord place.entry)); old = 0 } in
+        let missing = misses-page env words_at mix performs.words performs.ghost performs.whole port table shape place load on_way now
+        same_g refl (ap (page_of g.pages) unset) in
+        record {
+          page = page;
+          enters = enters;
+          took = took;
+          table = table;
+          shape = shape;
+          walked = saw.0.walked.last;
+          bucket = missing.bucket;
+          bucket_is = missing.bucket_is;
+          within = missing.within;
+          ends = missing.ends ∙ ap Some same;
+        }
+
+    entered : (job : Job) (entry : ℕ) (performs : Performs mix env job did) → performs.words ≡ words_at did.index
+        → JobSaw env words_at mix job steps → refusals.Going M mix env events job steps → ChangesMissing g (words_at did.index) entry did
+        → (there : EntersThere env mix performs.caller performs.ghost did (held_of job) (held_next (job_after mix env job did.old)) entry)
+        → EnterCause g words_at mix (call_of job) entry steps did
+    entered job entry performs now saw going changed there =
+        let page = there.page in
+        let is_early = early env mix performs.caller (mem env mix performs.words) performs.ghost did entry page there.does.entering job
+        performs.within performs.planned there.does.had in
+        let took : HasTaken g page steps = elim going [
+          | inl past ↦ absurd (let both = sym is_early.not_past ∙ past in cc)
+          | inr goes_on ↦ elim goes_on [
+            | inl says ↦ absurd (is_early.untold says)
+            | inr may ↦ may.undoes.took page there.does.had
+          ]
+        ] in
+        entering job entry page
+        (enters_now env mix performs.caller (mem env mix performs.words) performs.ghost did entry page there.does.entering job performs.within
+        performs.planned there.does.had) performs now saw took
+        (record {
+          page_in = there.ready.among;
+          entry_in = changed.entry_in;
+          exchanges = there.does.entering;
+          found = there.does.found;
+        })
+
+    -- a call whose job has a slot behind the operation makes tables
+    makes_then : (job : Job) (slot : ℕ) (next : Job × Next Ending) → call_of next.0 ≡ call_of job → (held_next next).slot ≡ Some slot
+        → MakesTables (call_of job)
+    makes_then job slot (after, Go) same has = subst MakesTables same (slot_makes after slot has)
+    makes_then job slot (after, Done ending) same has = absurd (cc)
+
+    retires : (words : List ℕ) (G : Ghost) (caller slot : ℕ) → Whole env mix (mem env mix words) G → words ≡ words_at did.index
+        → CanRetire env mix caller slot G → did.op ≡ Store (place_of g (Slot slot StateWord)) 2
+        → RetiresTable g (words_at did.index) slot did
+    retires words G caller slot whole now can stores =
+        let of = whole.tables.slots slot can.table in
+        let τ = index_at G slot in
+        subst (λ ws. RetiresTable g ws slot did) now (record {
+          stores = stores;
+          apart = λ i.
+              let table = in_force_is env mix words G whole slot i in
+              let index = (whole.tables.each table.table table.attached).index in
+              let same : τ ≡ table.table = ap (index_at G) table.slot_is ∙ index in
+              let left = can.left_behind in
+              let current = table.current in
+              absurd (omega (arith, same, left, current));
+          left = subst (λ s. In (table_of (word_at g words CurrentTable)) (tables_from g words 8 (Some s))) of.slot
+              (leads_to_current env mix words G whole τ (let left = can.left_behind in omega (arith, left)));
+        })
+
+    stated : (job : Job) (slot : ℕ) (performs : Performs mix env job did) → performs.words ≡ words_at did.index
+        → JobSaw env words_at mix job steps
+        → StateHere env mix performs.caller (mem env mix performs.words) performs.ghost did (held_of job) (held_next (job_after mix env job did.old)) slot
+        → StateCause M mix env events c (call_of job) slot steps did
+    stated job slot performs now saw (inl takes) =
+        inl (makes_then job slot (job_after mix env job did.old) (same_call mix env job did.old) takes.has, takes.takes)
+    stated job slot performs now saw (inr (inl gives)) =
+        let is = own_slot env words_at mix performs.caller (mem env mix performs.words) performs.ghost steps slot job performs.knows saw gives.has in
+        inr (inl (own_table slot performs.caller performs.words performs.ghost performs.whole now is.held is.taken, gives.gives))
+    stated job slot performs now saw (inr (inr here)) =
+        inr (inr (
+          moving_works job here.moves,
+          retires performs.words performs.ghost performs.caller slot performs.whole now here.can here.stores,
+        ))
+
+    changes : (job : Job) (performs : Performs mix env job did) → performs.words ≡ words_at did.index
+        → JobSaw env words_at mix job steps → refusals.Going M mix env events job steps → ChangesSeen (call_of job) steps did
+    changes job performs now saw going =
+        let next = job_after mix env job did.old in
+        let step = performs.step in
+        let there = mem env mix performs.words in
+        let fits = fit_before job did performs (subst (AllByRecursion IsWord) (sym now) (words_fit_at admitted did.index)) in
+        let does : Does env mix step.move did.op did.old (held_of job) (held_next next) =
+        subst (λ old. Does env mix step.move did.op old (held_of job) (held_next next)) (sym performs.found) step.does in
+        record {
+          tables = λ slot changed. elim (by_move env mix performs.caller there performs.ghost did (held_of job) (held_next next) slot fits
+              changed step.move step.ready does) [
+                | inl has ↦
+                    let is = own_slot env words_at mix performs.caller there performs.ghost steps slot job performs.knows saw has in
+                    inl (own_table slot performs.caller performs.words performs.ghost performs.whole now is.held is.taken)
+                | inr here ↦
+                    inr (attaching job slot here.made_slot
+                    (attaches_now env did here.made_slot slot here.attaches job performs.planned here.has) here.attaches performs now saw)
+              ];
+          current = λ changed.
+              let publishing = current_by_move env mix performs.caller performs.words performs.ghost did (held_of job) (held_next next)
+              performs.whole performs.all performs.found fits changed step.move step.ready step.made.whole does in
+              (moving_works job publishing.moves, subst (λ ws. MovesOn g ws did) now publishing.on);
+          states = λ slot changed.
+              stated job slot performs now saw
+              (state_by_move env mix performs.caller there performs.ghost did (held_of job) (held_next next) slot fits changed step.move
+              step.ready does);
+          entries = λ entry changed.
+              entered job entry performs now saw going changed
+              (entered_by_move env mix performs.caller performs.words performs.ghost did (held_of job) (held_next next) performs.whole
+              performs.all performs.found entry (subst (λ ws. ChangesMissing g ws entry did) (sym now) changed) step.move step.ready
+              step.made.whole does);
+        }
+
+    -- an operation leads on with this too
+    by_next : (job : Job) (next : Job × Next Ending) → call_of next.0 ≡ call_of job
+        → EachBehind (ChangesSeen (call_of job)) [] (steps ++ did ∷ [])
+        → LeadsOn M mix env (JobSaw env words_at mix) (EndsSeen M mix env events) job (steps ++ did ∷ []) next
+        → LeadsOn M mix env (refusals.Going M mix env events) (refusals.Undone M mix env events) job (steps ++ did ∷ []) next
+        → LeadsOn M mix env Now Ended job (steps ++ did ∷ []) next
+    by_next job (after, Go) same each leads going =
+        (leads, going, subst (λ call. EachBehind (ChangesSeen call) [] (steps ++ did ∷ [])) (sym same) each)
+    by_next job (after, Done ending) same each leads going = (leads, each)
+
+    pub goes : (job : Job) (performs : Performs mix env job did) → StandsIn mix env words_at job did performs → Now job steps
+        → LeadsOn M mix env Now Ended job (steps ++ did ∷ []) (job_after mix env job did.old)
+    goes job performs stands (saw, going, each) =
+        by_next job (job_after mix env job did.old) (same_call mix env job did.old)
+        (each-push (ChangesSeen (call_of job)) [] steps did each (changes job performs stands.now saw going))
+        (job-leads M mix env events job steps did performs stands saw)
+        (refusals.goes M mix env events job steps did performs stands.now (saw-came env words_at mix job steps saw) going)
