@@ -31,7 +31,7 @@ use Rattle.rht_bind.specs.declared.bind.BindAt.{BindAt}
 use Rattle.rht_core.specs.Traces.{Did}
 use Rattle.rht_core.specs.Seen.{IsNoShapeLoad}
 use Rattle.rht_core.proofs.Tracing.TracedJobs.{Performs}
-use Rattle.rht_core.proofs.Reasons.TablesWalked.{no_load, other_load, elsewhere}
+use Rattle.rht_core.proofs.Reasons.TablesWalked.{no_load, other_load}
 use Rattle.rht_core.proofs.Reasons.RefusedBinds.{Behind, Behind-push, SawWhy, SawRoot, SawOther, SawRefusal, SawToMake, refusal-why, FollowedSeen, begins-making, other-saw, no_room-saw, busy-saw, no_table-saw, followed-saw, to_attach-saw, SawToAttach, attach-taken}
 use Rattle.rht_ghost.proofs.Theory.Steps.{mem, by_test}
 use Rattle.rht_core.proofs.Reasons.BindsSeen.{SawAt, SawForReply}

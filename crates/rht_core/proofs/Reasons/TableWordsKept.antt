@@ -92,7 +92,7 @@ module _ (env : Env) (mix : ℕ → ℕ → ℕ → ℕ) (c : ℕ) (M : Memory) 
     leaves : (move : Move) → LeavesBits did.op did.old → IsOfKind move
     elsewhere : (move : Move) → 0 < op_place did.op → (op_place did.op < 24) ⊎ (280 ≤ op_place did.op) → IsOfKind move
     on_own : (move : Move) → IsOnOwnSlot env.geometry did.op before → IsOfKind move
-    attaching : (slot shape seed serial : ℕ) → IsAttaching env mix c slot shape seed M G
+    attaching : (slot shape seed serial : ℕ) → IsAttaching env mix c slot shape seed serial M G
         → DoesAttach env.geometry slot did.op did.old before (steps.bare after) → IsOfKind (steps.Attaches slot shape seed serial)
     taking : (slot : ℕ) → DoesTakeSlot env.geometry slot did.op did.old before (steps.bare after) → IsOfKind (TakesSlot slot)
     giving : (slot : ℕ) → DoesGiveSlot env.geometry slot did.op before (steps.bare after) → IsOfKind (GivesSlot slot)
