@@ -4,12 +4,13 @@
 -- saw the table full, or a resizing that chose one. The current table becomes another one only by a resizing, which goes on to the next. And
 -- where an entry of a nested table leads to no page, a bind alone enters one, on the way to its own port's bucket. And a slot is taken by
 -- whoever makes a table, given back by who took it, and retired by a resizing.
-use Rattle.std.specs.Prelude.{◌≡◌, ◌≢◌, ℕ, ◌^◌, ◌*◌, ◌<◌, ◌⊎◌, ◌≤◌, min, true, false, Some, List, [], ◌∷◌, ◌++◌, IfSome}
+use Rattle.std.specs.Prelude.{◌≡◌, ◌≢◌, ℕ, ◌^◌, ◌*◌, ◌<◌, ◌⊎◌, ◌≤◌, min, true, false, Some, List, [], ◌∷◌, ◌++◌, IfSome, map}
 use Rattle.std.specs.List.{AllByRecursion, Any}
 use Rattle.rht_words.specs.declared.op.Op.TheVariants.{Load, Store}
 use Rattle.rht_words.specs.declared.env.Env.{Env}
 use Rattle.rht_words.specs.declared.geometry.Geometry.{Geometry}
 use Rattle.rht_words.specs.Links.{table_of, slot_of}
+use Rattle.rht_words.specs.Machines.{Performed}
 use Rattle.rht_words.specs.Members.{In}
 use Rattle.rht_words.specs.Operations.{op_place, word_after}
 use Rattle.rht_words.specs.Places.{SlotWord, CurrentTable, PortCount, Slot, ShapeWord, FutureWord, SeedWord, SerialWord, StateWord, PageWord, place_of, word_at}
@@ -17,7 +18,7 @@ use Rattle.rht_words.specs.Shapes.{unpacked, size_of}
 use Rattle.rht_words.specs.TableWords.{IsTableWord}
 use Rattle.rht_policy.specs.Mix.{bucket_of}
 use Rattle.rht_policy.specs.Thresholds.{is_above_75}
-use Rattle.rht_nest.specs.MakeLaws.{TakesSlot, TakesSerial}
+use Rattle.rht_nest.specs.MakeLaws.{TakesSlot, TakesSerial, pages_for}
 use Rattle.rht_nest.specs.Place.{nested_place, missing_at}
 use Rattle.rht_nest.specs.Tables.{is_nested}
 use Rattle.rht_stands.specs.StandsFor.{tables_from, in_force, page_word}
@@ -28,7 +29,7 @@ use Rattle.rht_core.specs.declared.event.Event.{Event}
 use Rattle.rht_core.specs.Runs.{IsAdmitted}
 use Rattle.rht_core.specs.Traces.{Did, Traced, performed_of, traced_of}
 use Rattle.rht_core.specs.Seen.{LoadsCurrent, LastWalked, words_before}
-use Rattle.rht_core.specs.ResizeCauses.{Loaded, Attaches, WalkedFull, wanted_size}
+use Rattle.rht_core.specs.ResizeCauses.{Loaded, Attaches, WalkedFull, wanted_size, AreRunsTaken}
 use Rattle.rht_core.specs.WorkCauses.{HasChosen}
 use Rattle.rht_core.specs.Refused.{StoresLast, IsWaysEnd, PutsPage, HasTaken}
 
@@ -114,6 +115,13 @@ abbrev pub EachBehind : (List Did → Did → Type 0) → List Did → List Did 
 EachBehind So before [] = Unit {0}
 EachBehind So before (did ∷ steps) = So before did × EachBehind So (before ++ did ∷ []) steps
 
+-- the first of these operations saw each run of so many pages taken in its turn
+pub record SawNoRun (g : Geometry) (pages : ℕ) (steps : List Performed) : Type 0 where
+  pub first : List Performed
+  pub behind : List Performed
+  pub are : steps ≡ first ++ behind
+  pub runs : AreRunsTaken g pages 0 [] first
+
 -- a table has at most 2^17 buckets, however many are wanted
 abbrev pub size_made : ℕ → ℕ
 size_made wanted = min wanted (2 ^ 17)
@@ -154,7 +162,7 @@ module _ (M : Type 0) (mix : ℕ → ℕ → ℕ → ℕ) (env : Env) (events : 
   -- A bind of this port attaches a table behind this one. Up to this operation it saw this one full. In between it loaded a count of ports,
   -- and no other one behind that. By this count a table is wanted of twice this one's size, or of the same where this one was loaded as the
   -- current one. Behind the count it stored this shape in the slot last, that of a table of the wanted size, and a serial that it had drawn.
-  -- A table of fewer than 128 buckets is flat.
+  -- A table of fewer than 128 buckets is flat; and one is nested only where no run of pages was to be had for a flat one.
   pub record AttachesFull (port table slot shape : ℕ) (before : List Did) (did : Did) : Type 0 where
     pub full : WalkedFull M mix env events c port table (before ++ did ∷ [])
     pub now : full.rest ≡ []
@@ -172,6 +180,9 @@ module _ (M : Type 0) (mix : ℕ → ℕ → ℕ → ℕ) (env : Env) (events : 
     pub numbered : StoresDrawn env.geometry slot making
     pub sized : size_of (unpacked shape) ≡ size_made (wanted_size env full.shape count)
     pub nested : is_nested shape ≡ true → 128 ≤ size_of (unpacked shape)
+    pub no_run :
+        is_nested shape ≡ true
+        → SawNoRun env.geometry (pages_for (wanted_size env full.shape count)) (map performed_of making)
 
   -- why a call attaches the table of this slot, which has this shape, behind another one: only binds and resizings do
   abbrev pub AttachCause : Call → ℕ → ℕ → ℕ → List Did → Did → Type 0

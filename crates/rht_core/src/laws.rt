@@ -264,9 +264,10 @@ pub fn sections<M: Mix>()
 /// by the count. In between it loaded a count, and no other behind that. By that count a table is wanted of
 /// twice the size, or of the same where the bind had loaded this one as the current one. Behind the count it
 /// stored in the slot, last of all shapes, that of a table of the wanted size, or of 2^17 buckets where more
-/// are wanted. With fewer than 128 buckets that table is flat. A `Work` had chosen, by what it loaded under the
-/// work lock, that a table of this size is due behind this one, which was the last. Behind that it stored, last
-/// of all shapes, that of a flat table of this size. Either had drawn the serial that it stored last.
+/// are wanted. Where that table is nested it has 128 buckets or more, and behind the count the bind saw each run
+/// of pages for a flat one taken, and not by its own operations. A `Work` had chosen, by what it loaded under
+/// the work lock, that a table of this size is due behind this one, which was the last. Behind that it stored,
+/// last of all shapes, that of a flat table of this size. Either had drawn the serial that it stored last.
 ///
 /// No operation changes which table is the current one, but for one of a `Work`, which makes that table
 /// current that was the future of the one before.
@@ -280,8 +281,7 @@ pub fn sections<M: Mix>()
 /// Or a `Work` retires a slot, whose table isn't in force by the words before, and from which futures lead to
 /// the current one.
 ///
-/// It doesn't say what a nested table asks for besides its size, that a slot which was taken is given back, or
-/// that a table is ever attached, or a page entered.
+/// It doesn't say that a slot which was taken is given back, or that a table is ever attached, or a page entered.
 pub fn attached<M: Mix>()
     ensures { Attached M M.mix_of }
 {}

@@ -2,7 +2,7 @@
 -- changes the words of a table but its maker, and a missing page is entered by a bind on its way.
 --
 -- What is kept of each operation says so, since each was recorded at its event; and so it does of calls in progress.
-use Rattle.std.proofs.Common.{◌≡◌, ℕ, true, List, [], ◌∷◌, ◌++◌, Option, Some, None, inl, inr, refl, sym, ap, ◌∙◌, subst}
+use Rattle.std.proofs.Common.{◌≡◌, ℕ, true, List, [], ◌∷◌, ◌++◌, Option, Some, None, inl, inr, refl, sym, ap, ◌∙◌, subst, map}
 use Rattle.std.specs.Prelude.{IfSome, min, ◌≤◌}
 use Rattle.std.specs.List.{AllByRecursion}
 use Rattle.rht_words.specs.declared.env.Env.{Env}
@@ -18,11 +18,11 @@ use Rattle.rht_core.specs.declared.event.Event.{Event}
 use Rattle.rht_core.specs.Jobs.{Job, job_of, call_of}
 use Rattle.rht_core.specs.declared.book.Book.{Book}
 use Rattle.rht_core.specs.Runs.{IsAdmitted, local_of}
-use Rattle.rht_core.specs.Traces.{Did, Past, traced_of}
+use Rattle.rht_core.specs.Traces.{Did, Past, traced_of, performed_of}
 use Rattle.rht_core.specs.Laws.{IsRecorded, IsPastCall}
 use Rattle.rht_core.specs.Seen.{words_before}
 use Rattle.rht_core.specs.ResizeCauses.{Attaches, wanted_size}
-use Rattle.rht_core.specs.Attached.{EachBehind, size_made, AttachesFull, AttachCause, ChangesRightly, Attached}
+use Rattle.rht_core.specs.Attached.{EachBehind, size_made, AttachesFull, AttachCause, ChangesRightly, Attached, SawNoRun}
 use Rattle.rht_core.proofs.Tracing.TracesAtEvents.{at_events}
 use Rattle.rht_core.proofs.Tracing.TracedJobs.{IsEndedSo, IsAtJob, jobs_keep_standing}
 use Rattle.rht_core.proofs.Reasons.SlotsTaken.{each-map}
@@ -32,6 +32,7 @@ use Rattle.rht_core.proofs.Reasons.BindCauses.{walked_full, unclamped}
 use Rattle.rht_core.proofs.Undoing.RefusedCalls as refusals
 use Rattle.rht_core.proofs.Reasons.CausesInRuns.{first_job-saw}
 use Rattle.rht_core.proofs.Reasons.ChangesSeen.{SeenFull, SeenCause, ChangesSeen, Now, Ended, goes}
+use Rattle.rht_nest.specs.MakeLaws.{pages_for}
 
 module _ (M : Type 0) (mix : ℕ → ℕ → ℕ → ℕ) (env : Env) (events : List Event) (c : ℕ) where
   abbrev g : Geometry
@@ -96,6 +97,8 @@ module _ (M : Type 0) (mix : ℕ → ℕ → ℕ → ℕ) (env : Env) (events : 
           stored = saw.stored;
           numbered = saw.numbered;
           nested = nested;
+          no_run = λ is. subst (λ size. SawNoRun g (pages_for size) (map performed_of wanted.making))
+              (wanted.wanted ∙ ap (wanted_size env growing.shape) same) (saw.no_run is);
           sized = saw.sized ∙ ap size_made (wanted.wanted ∙ ap (wanted_size env growing.shape) same);
         }
 

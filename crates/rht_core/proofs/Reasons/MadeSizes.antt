@@ -173,3 +173,8 @@ size_of-wanted env shape count page nested =
     cond_both (is_above_75 count (size_of (unpacked shape)) env.config.max) (2 * size_of (unpacked shape)) (size_of (unpacked shape)) So
     (λ t. subst So (pow-add 2 1 e) (size_of-pow (1 + e) page nested (omega arith) (omega arith)))
     (λ f. size_of-pow e page nested (omega arith) (omega arith))
+
+-- one whose shape is nested was made so
+pub made_nested : (exponent page : ℕ) (nested : Bool) → exponent ≤ 17 → is_nested (made_shape exponent nested page) ≡ true → nested ≡ true
+made_nested exponent page true few is = refl
+made_nested exponent page false few is = sym (made_flat exponent page false few tt) ∙ is

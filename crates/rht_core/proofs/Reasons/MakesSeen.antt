@@ -31,6 +31,7 @@ use Rattle.rht_nest.proofs.MakesStay.{made_pages-some}
 use Rattle.rht_core.specs.ResizeCauses.{FindsSlotsTaken, AreSlotsTaken, SeesRunLost, AreRunsTaken, IsGivenBack, AreNoPages}
 use Rattle.rht_core.proofs.Reasons.PagesTaken.{none_from, TakesNoneFrom, off_map_takes_none, none_later, none_took, StandsFrom, PassesIn, passes_in}
 use Rattle.rht_core.proofs.Reasons.PagesGivenBack.{given_back-none, GaveBackBut, GaveBackThen, gave_back_in}
+use Rattle.rht_core.specs.Attached.{SawNoRun}
 
 module _ (g : Geometry) (pages : ℕ) where
   -- the runs from one up to this one were seen taken in their turn, behind these operations
@@ -190,6 +191,21 @@ module _ (g : Geometry) (exponent : ℕ) where
     pub back : GaveBack before
     pub tops : SawRun g 1 take.at behind
 
+  -- a table is nested where each run of pages was seen taken
+  abbrev pub NestedFor : Bool → List Performed → Type 0
+  NestedFor nested steps = nested ≡ true → SawNoRun g pages_flat steps
+
+  NestedFor-push : (nested : Bool) (steps : List Performed) (step : Performed) → NestedFor nested steps
+      → NestedFor nested (steps ++ step ∷ [])
+  NestedFor-push nested steps step saw is =
+      let none = saw is in
+      record {
+        first = none.first;
+        behind = none.behind ++ step ∷ [];
+        are = ap (λ s. s ++ step ∷ []) none.are ∙ append_assoc none.first none.behind (step ∷ []);
+        runs = none.runs;
+      }
+
   -- what the making has seen in a state
   abbrev pub SawMaking : Bool → MakeAt → List Performed → Type 0
   SawMaking nests (at.Slot slot) steps =
@@ -197,11 +213,11 @@ module _ (g : Geometry) (exponent : ℕ) where
   SawMaking nests (at.Taking slot take) steps = SawRun g pages_flat take.at steps × GaveBackBut g pages_flat take.at steps
   SawMaking nests (at.TakingTop slot take) steps = SawTopTaking take steps
   SawMaking nests (at.SlotBack slot) steps = AreNoPages g pages_flat nests steps
-  SawMaking nests (at.NextSerial slot nested page) steps = Unit {0}
-  SawMaking nests (at.Shape slot nested page serial) steps = Unit {0}
-  SawMaking nests (at.Seed slot nested page serial) steps = IsShaped slot (made_shape exponent nested page) steps
-  SawMaking nests (at.Future slot nested page serial) steps = IsShaped slot (made_shape exponent nested page) steps
-  SawMaking nests (at.Serial slot nested page serial) steps = IsShaped slot (made_shape exponent nested page) steps
+  SawMaking nests (at.NextSerial slot nested page) steps = NestedFor nested steps
+  SawMaking nests (at.Shape slot nested page serial) steps = NestedFor nested steps
+  SawMaking nests (at.Seed slot nested page serial) steps = IsShaped slot (made_shape exponent nested page) steps × NestedFor nested steps
+  SawMaking nests (at.Future slot nested page serial) steps = IsShaped slot (made_shape exponent nested page) steps × NestedFor nested steps
+  SawMaking nests (at.Serial slot nested page serial) steps = IsShaped slot (made_shape exponent nested page) steps × NestedFor nested steps
 
   -- and once it has ended; what it made is nested only where it may be
   abbrev pub SawMade : Bool → MakeAt × Next (Option (ℕ × ℕ)) → List Performed → Type 0
@@ -209,6 +225,7 @@ module _ (g : Geometry) (exponent : ℕ) where
   SawMade nests (state, Done None) steps = AreSlotsTaken g steps ⊎ AreNoPages g pages_flat nests steps
   SawMade nests (state, Done (Some made)) steps =
       (nested : Bool) × (page : ℕ) × IsShaped made.0 (made_shape exponent nested page) steps × (nested ≡ true → nests ≡ true)
+      × (made.1 ≡ made_shape exponent nested page) × NestedFor nested steps
 
   -- it begins with nothing seen
   pub saw_nothing : (nests : Bool) (steps : List Performed) → AllByRecursion (FindsSlotsTaken g) steps
@@ -283,7 +300,7 @@ module _ (g : Geometry) (exponent : ℕ) where
       → SawTaking g pages_flat r steps → GaveBackThen g pages_flat r steps → SawMaking nests (run_taken g nests slot r.0 r.1) steps
   run_taken-saw nests slot (left, Go) steps saw gave = (saw, gave)
   run_taken-saw nests slot (left, Done None) steps saw gave = no_run-saw nests slot steps saw (λ page within. gave page within refl)
-  run_taken-saw nests slot (left, Done (Some page)) steps saw gave = tt
+  run_taken-saw nests slot (left, Done (Some page)) steps saw gave = λ nested. absurd (cc)
 
   -- and so a top page
   top_taken-saw : (nests : Bool) (slot : ℕ) (r : TakeRunModel × Next (Option ℕ)) (before behind steps : List Performed)
@@ -295,7 +312,8 @@ module _ (g : Geometry) (exponent : ℕ) where
   top_taken-saw nests slot (left, Done None) before behind steps may are runs back saw =
       subst (λ n. AreNoPages g pages_flat n steps) (sym may)
       (record { flat = before; nested = behind; are = are; runs = runs; back = back; tops = saw })
-  top_taken-saw nests slot (left, Done (Some page)) before behind steps may are runs back saw = tt
+  top_taken-saw nests slot (left, Done (Some page)) before behind steps may are runs back saw =
+      λ nested. record { first = before; behind = behind; are = are; runs = runs }
 
   -- that no pages were to be had stays so
   pub no_pages-stay : (nests : Bool) (steps : List Performed) (step : Performed) → AreNoPages g pages_flat nests steps
@@ -342,20 +360,27 @@ module _ (g : Geometry) (exponent : ℕ) where
       (goes_on_in g 1 take old taking.take_in.geometry_same taking.pages_same range) passes passes.stands saw.tops)
   make-saw seed allowed (at.SlotBack slot) steps old here saw =
       inr (no_pages-stay (may_nest exponent allowed) steps (record { op = make_plan_at g exponent seed (at.SlotBack slot); old = old }) saw)
-  make-saw seed allowed (at.NextSerial slot nested page) steps old here saw = tt
+  make-saw seed allowed (at.NextSerial slot nested page) steps old here saw =
+      NestedFor-push nested steps (record { op = make_plan_at g exponent seed (at.NextSerial slot nested page); old = old }) saw
   make-saw seed allowed (at.Shape slot nested page serial) steps old here saw =
-      IsShaped-new slot (made_shape exponent nested page) steps
-      (record { op = make_plan_at g exponent seed (at.Shape slot nested page serial); old = old }) refl
+      let step : Performed = record { op = make_plan_at g exponent seed (at.Shape slot nested page serial); old = old } in
+      (IsShaped-new slot (made_shape exponent nested page) steps step refl, NestedFor-push nested steps step saw)
   make-saw seed allowed (at.Seed slot nested page serial) steps old here saw =
-      IsShaped-push slot (made_shape exponent nested page) steps
-      (record { op = make_plan_at g exponent seed (at.Seed slot nested page serial); old = old }) (λ same. absurd (omega (arith, same))) saw
+      let step : Performed = record { op = make_plan_at g exponent seed (at.Seed slot nested page serial); old = old } in (
+        IsShaped-push slot (made_shape exponent nested page) steps step (λ same. absurd (omega (arith, same))) saw.0,
+        NestedFor-push nested steps step saw.1,
+      )
   make-saw seed allowed (at.Future slot nested page serial) steps old here saw =
-      IsShaped-push slot (made_shape exponent nested page) steps
-      (record { op = make_plan_at g exponent seed (at.Future slot nested page serial); old = old }) (λ same. absurd (omega (arith, same))) saw
+      let step : Performed = record { op = make_plan_at g exponent seed (at.Future slot nested page serial); old = old } in (
+        IsShaped-push slot (made_shape exponent nested page) steps step (λ same. absurd (omega (arith, same))) saw.0,
+        NestedFor-push nested steps step saw.1,
+      )
   make-saw seed allowed (at.Serial slot nested page serial) steps old here saw =
       let step : Performed = record { op = make_plan_at g exponent seed (at.Serial slot nested page serial); old = old } in (
         nested,
         page,
-        IsShaped-push slot (made_shape exponent nested page) steps step (λ same. absurd (omega (arith, same))) saw,
+        IsShaped-push slot (made_shape exponent nested page) steps step (λ same. absurd (omega (arith, same))) saw.0,
         kind_nests allowed nested here.taken.kind,
+        refl,
+        NestedFor-push nested steps step saw.1,
       )

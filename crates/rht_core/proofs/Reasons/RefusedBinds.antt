@@ -4,7 +4,7 @@
 -- All of it lies behind the load of that table's shape: that the table is full, the load of the current table, that of the
 -- count of ports, what the making of a table has seen, and the operation that comes last, the load of the future or the exchange
 -- that attaches a table.
-use Rattle.std.proofs.Common.{◌≡◌, ◌≢◌, ◌⊎◌, ℕ, ◌<◌, Bool, true, false, nat_le, List, [], ◌∷◌, ◌++◌, map, min, refl, sym, ap, ◌∙◌, subst, inl, inr, append_assoc, arith}
+use Rattle.std.proofs.Common.{◌≤◌, ◌≡◌, ◌≢◌, ◌⊎◌, ℕ, ◌<◌, Bool, true, false, nat_le, List, [], ◌∷◌, ◌++◌, map, min, refl, sym, ap, ◌∙◌, subst, inl, inr, append_assoc, arith}
 use Rattle.std.specs.Prelude.{Option, None, Some}
 use Rattle.std.specs.List.{Any, AllByRecursion}
 use Rattle.std.proofs.lemmas.List.{map-append}
@@ -23,7 +23,7 @@ use Rattle.rht_words.proofs.EachElement.{Any-append_left}
 use Rattle.rht_policy.specs.Thresholds.{is_above_75, is_above_100}
 use Rattle.rht_nest.specs.Make.{MakeModel, may_nest, made_pages, make_plan_at, make_after_at, IsMakeIn, made_shape}
 use Rattle.rht_nest.specs.MakeLaws.{pages_for}
-use Rattle.rht_nest.specs.Tables.{exponent_made}
+use Rattle.rht_nest.specs.Tables.{exponent_made, is_nested}
 use Rattle.rht_nest.specs.declared.make.MakeAt.{MakeAt}
 use Rattle.rht_nest.specs.declared.make.MakeAt.TheVariants as makes
 use Rattle.rht_bind.specs.declared.bind.growth.Full.{Full}
@@ -38,10 +38,10 @@ use Rattle.rht_core.proofs.Reasons.TablesWalked.{nodes_behind, LastWalked-push}
 use Rattle.rht_core.proofs.Reasons.KeyLoads.{no_key-before, no_key-make}
 use Rattle.rht_core.proofs.Reasons.ChainsCounted.{SawLongChain-push}
 use Rattle.rht_core.proofs.Reasons.MakesSeen.{SawMade, saw_nothing, make-saw}
-use Rattle.rht_core.proofs.Reasons.MadeSizes.{nests-wanted, pages-wanted, size_of-wanted}
+use Rattle.rht_core.proofs.Reasons.MadeSizes.{nests-wanted, pages-wanted, size_of-wanted, made_nested}
 use Rattle.rht_core.specs.Due.{pages_due}
 use Rattle.rht_core.specs.Refused.{StoresLast}
-use Rattle.rht_core.specs.Attached.{HasTakenSlot, StoresDrawn, size_made}
+use Rattle.rht_core.specs.Attached.{HasTakenSlot, StoresDrawn, size_made, SawNoRun}
 use Rattle.rht_core.proofs.Reasons.SlotsTaken.{IsNoCount, Owns, make-own, slot_taken-behind}
 
 module _ (g : Geometry) where
@@ -151,6 +151,7 @@ module _ (env : Env) (words_at : ℕ → List ℕ) (mix : ℕ → ℕ → ℕ �
     pub stored : StoresLast g slot shape wanted.making
     pub numbered : StoresDrawn g slot wanted.making
     pub sized : size_of (unpacked shape) ≡ size_made size
+    pub no_run : is_nested shape ≡ true → SawNoRun g (pages_for size) (map performed_of wanted.making)
 
   -- its slot was taken
   pub attach-taken : (growing : Growing) (slot shape : ℕ) (steps : List Did)
@@ -389,6 +390,11 @@ module _ (env : Env) (words_at : ℕ → List ℕ) (mix : ℕ → ℕ → ℕ �
         taken = made.taken;
         stored = made.stored;
         numbered = made.numbered;
+        no_run = λ nested.
+            let seen = saw.made in
+            let few : exponent ≤ 17 = let is = saw.exponent_is in omega (arith, is) in
+            subst (λ e. SawNoRun g (made_pages e) (map performed_of saw.wanted.making)) saw.exponent_is
+            (seen.5 (made_nested exponent seen.1 seen.0 few (sym (ap is_nested seen.4) ∙ nested)));
         sized =
             ap (λ word. size_of (unpacked word)) made.shape_is
             ∙ ap (λ e. size_of (unpacked (made_shape e made.nested made.page))) saw.exponent_is
