@@ -18,6 +18,3 @@ pub use give_run::GiveRun;
 pub use new_node::{NewNode, NewNodeAt};
 pub use take_node::{TakeNode, TakeNodeAt};
 pub use take_run::{TakeRun, TakeRunAt};
-
-#[cfg(test)]
-mod tests;

@@ -13,6 +13,3 @@ pub use bind::{
     future_or_count, giving, kicks, locating, making, probing, publishing, refused_or_found,
     replacing, unlocked, unlocking, unlocking_full, want_or_busy,
 };
-
-#[cfg(test)]
-mod tests;

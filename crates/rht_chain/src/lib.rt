@@ -23,6 +23,3 @@ pub use locked_walk::{LockedWalk, LockedWalkAt, Seen};
 pub use probe::{Probe, ProbeAt, Probed, walk_began};
 pub use relink::{Relink, RelinkAt};
 pub use unlock::Unlock;
-
-#[cfg(test)]
-mod tests;

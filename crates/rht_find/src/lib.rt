@@ -11,6 +11,3 @@ pub use find::{
     Find, FindAt, bucket_or_early, early_or_missing, found_or_not, list_followed, locating,
     next_table, unlocked, unlocking,
 };
-
-#[cfg(test)]
-mod tests;

@@ -16,6 +16,3 @@ pub use last_entry::{Entry, LastEntry};
 pub use last_table::{Last, LastTable, LastTableAt};
 pub use rehash::{Emptying, Rehash, Second, Target};
 pub use work::{Due, Outcome, Wanted, Work, WorkAt};
-
-#[cfg(test)]
-mod tests;

@@ -21,6 +21,3 @@ pub use make::{Make, MakeAt};
 pub use place::{Bucket, Place, flat_place};
 pub use tables::{is_nested, run_of};
 pub use unmake::{Unmake, UnmakeAt};
-
-#[cfg(test)]
-mod tests;

@@ -17,6 +17,3 @@ pub use found_port::FoundPort;
 pub use rebind::{Rebind, RebindAt};
 pub use release::{Release, ReleaseAt};
 pub use seek::{Seek, SeekAt};
-
-#[cfg(test)]
-mod tests;

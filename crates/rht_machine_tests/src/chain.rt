@@ -1,21 +1,12 @@
-//! Operations and old values, worked out by hand from the layout and the links. With 8 nodes and 4
-//! pages the chain link of node n is at `282 + 4 * n` and its key behind it, the first bucket's
+//! The lock, the walk and the links of a chain, with operations and old values by hand. With 8 nodes and
+//! 4 pages the chain link of node n is at `282 + 4 * n` and its key behind it, the first bucket's
 //! word is at 314, the link to n is `2 * n + 2`, and the marker of 314 is 629.
 
-use super::{Lock, Locked, LockedWalk, Probe, Probed, Relink, Seen, Unlock, seen_in};
+use crate::asserts::{Machine, assert_performs, assert_same};
+use rht_chain::{Lock, Locked, LockedWalk, Probe, Probed, Relink, Seen, Unlock, seen_in};
 use rht_words::{Geometry, Next, Op, Start};
-use std::fmt::Debug;
 use std::process::Abort;
 use std::test::Fail;
-
-/// A machine, as a test drives it. With it one helper asserts for all machines, which is proved once.
-trait Machine {
-    type Answer;
-
-    fn plan(&self) -> Op;
-
-    fn take(&mut self, old: u64) -> Next<Self::Answer>;
-}
 
 impl Machine for Lock {
     type Answer = u64;
@@ -75,28 +66,6 @@ impl Machine for Probe {
     fn take(&mut self, old: u64) -> Next<Probed> {
         self.take(old)
     }
-}
-
-/// Asserts that a machine performs these operations, which find these words, and that it is at its
-/// end, with this answer, behind the last one and not before.
-fn assert_performs<M>(rt: &impl Abort, machine: M, steps: &[(Op, u64)], answer: M::Answer)
-where
-    M: Machine + Drop,
-    M::Answer: Copy + Debug + PartialEq,
-{
-    let mut machine = machine;
-    let mut next = Next::Go;
-    for (op, old) in steps {
-        let as_said = next == Next::Go && machine.plan() == *op;
-        assert!(rt; as_said, "{op:?} is next, to {answer:?}");
-        next = machine.take(*old);
-    }
-    assert!(rt; next == Next::Done(answer), "{answer:?} behind {steps:?}");
-}
-
-/// Asserts that a value is this one.
-fn assert_same<T: Copy + Debug + PartialEq>(rt: &impl Abort, found: T, want: T) {
-    assert_eq!(rt; found, want);
 }
 
 /// Asserts how the first bucket is locked: the operations with what each finds, and the word before.

@@ -1,7 +1,8 @@
 //! Binds into nested tables. The top page of the table of 128 buckets is page 1. Port 5 has bucket 5
 //! there: the entry at 379, which is 314 + 64 * 1 + 5 % 2, and word 5 / 2 of the page behind it.
 
-use super::{assert_ended, begun, node_0_filled, perform, small};
+use super::{begun, node_0_filled, small};
+use crate::asserts::{assert_same, said_behind};
 use rht_model::Reply;
 use rht_words::{Kind, Next, Op};
 use std::process::Abort;
@@ -52,12 +53,12 @@ fn assert_enters(
 ) {
     for kind in [Kind::Single, Kind::Listed] {
         let mut bind = begun(rt, small(kind, 0), 5, false);
-        let mut next = perform(rt, &mut bind, Next::Go, &node_0_filled(), reply);
-        next = perform(rt, &mut bind, next, &page_missing(future), reply);
-        next = perform(rt, &mut bind, next, taken, reply);
-        next = perform(rt, &mut bind, next, entered, reply);
-        next = perform(rt, &mut bind, next, behind, reply);
-        assert_ended(rt, next, reply);
+        let mut next = said_behind(rt, &mut bind, Next::Go, &node_0_filled(), reply);
+        next = said_behind(rt, &mut bind, next, &page_missing(future), reply);
+        next = said_behind(rt, &mut bind, next, taken, reply);
+        next = said_behind(rt, &mut bind, next, entered, reply);
+        next = said_behind(rt, &mut bind, next, behind, reply);
+        assert_same(rt, next, Next::Done(reply));
     }
 }
 
@@ -126,13 +127,13 @@ fn assert_enters_two(
         (Op::load(315), 0), // 314 + 1
     ];
     let mut bind = begun(rt, small(Kind::Single, 0), 903, false);
-    let mut next = perform(rt, &mut bind, Next::Go, &filling, reply);
-    next = perform(rt, &mut bind, next, &missing, reply);
-    next = perform(rt, &mut bind, next, first, reply);
-    next = perform(rt, &mut bind, next, taken, reply);
-    next = perform(rt, &mut bind, next, entered, reply);
-    next = perform(rt, &mut bind, next, behind, reply);
-    assert_ended(rt, next, reply);
+    let mut next = said_behind(rt, &mut bind, Next::Go, &filling, reply);
+    next = said_behind(rt, &mut bind, next, &missing, reply);
+    next = said_behind(rt, &mut bind, next, first, reply);
+    next = said_behind(rt, &mut bind, next, taken, reply);
+    next = said_behind(rt, &mut bind, next, entered, reply);
+    next = said_behind(rt, &mut bind, next, behind, reply);
+    assert_same(rt, next, Next::Done(reply));
 }
 
 #[test]

@@ -1,11 +1,12 @@
-//! The machines alone, on words made by hand. In a table of 8 nodes and 4 pages the node map is at
-//! 280, node n from 282 + 4 * n on (its chain link, key, owner and list link), slot t from
+//! Releases, rebinds and listings, on words made by hand. In a table of 8 nodes and 4 pages the node
+//! map is at 280, node n from 282 + 4 * n on (its chain link, key, owner and list link), slot t from
 //! 24 + 32 * t on, and the pages from 314 on. The ports 5, 69, 133 and 197 have bucket 5 of 64,
 //! which is at 319 and has the marker 639. The link to node n is 2 * n + 2.
 
-use super::{All, Rebind, Release};
+use crate::asserts::assert_same;
 use rht_model::{Reply, Room};
 use rht_policy::Low;
+use rht_release::{All, Rebind, Release};
 use rht_words::{Config, Env, Hash, Kind, Next, Op, Port, apply};
 use std::process::Abort;
 use std::test::Fail;
@@ -465,7 +466,7 @@ fn assert_all(
     let len = owners.len() as u32;
     let machine = assert_steps(rt, machine, changes, parts, (Reply::Listed { len }, None));
     let room = machine.into_parts();
-    assert_eq!(rt; room.as_slice(), owners, "of {port}");
+    assert_same(rt, (port, room.as_slice()), (port, owners));
     room
 }
 

@@ -1,13 +1,14 @@
-//! The machine alone, told old values by hand. In a table of 8 nodes and 4 pages the node map is at
+//! The resizing alone, told old values by hand. In a table of 8 nodes and 4 pages the node map is at
 //! 280, the page map at 281, node n from 282 + 4 * n on (its chain link, key, owner and list link),
 //! slot t from 24 + 32 * t on (shape, seed, future, serial and state), and the pages from 314 on. The
 //! current table is in slot 0, with 4 buckets in page 0 (so its shape is 2), from 314 to 317.
 
 mod nested;
 
-use super::Work;
-use super::work::choice::{Choice, choice_of};
+use crate::asserts::{Machine, assert_parts, assert_same};
 use rht_model::Reply;
+use rht_move::Work;
+use rht_move::work::choice::{Choice, choice_of};
 use rht_policy::Low;
 use rht_words::{Config, Env, Hash, Next, Op};
 use std::process::Abort;
@@ -29,34 +30,25 @@ fn small(shrink: bool) -> Config {
 
 /// A worker in this table, before its first operation.
 fn begun(rt: &impl Abort, config: Config) -> Work<Low> {
-    assert!(rt; config.is_settled(), "at {config:?}");
+    assert!(rt; config.is_settled());
     Work::new(Env::new(config), 0)
 }
 
-/// The worker, which has said this, performs these operations, which find these words. What it says
-/// then is answered.
-fn perform(
-    rt: &impl Abort,
-    work: &mut Work<Low>,
-    said: Next<Reply>,
-    steps: &[(Op, u64)],
-) -> Next<Reply> {
-    let mut next = said;
-    for (op, old) in steps {
-        assert_eq!(rt; (next, work.plan()), (Next::Go, *op));
-        next = work.take(*old);
+impl Machine for Work<Low> {
+    type Answer = Reply;
+
+    fn plan(&self) -> Op {
+        self.plan()
     }
-    next
+
+    fn take(&mut self, old: u64) -> Next<Reply> {
+        self.take(old)
+    }
 }
 
 /// In this table a worker performs these operations, which find these words, and has this reply.
 fn assert_work(rt: &impl Abort, config: Config, steps: &[&[(Op, u64)]], reply: Reply) {
-    let mut work = begun(rt, config);
-    let mut next = Next::Go;
-    for part in steps {
-        next = perform(rt, &mut work, next, part);
-    }
-    assert_eq!(rt; next, Next::Done(reply));
+    assert_parts(rt, begun(rt, config), steps, reply);
 }
 
 /// The current table has this shape and is the only one, and so many ports are bound.
@@ -376,6 +368,10 @@ fn tables_that_are_due(rt: HostRuntime) {
     ];
     for (count, shape, alone, want) in cases {
         let choice = choice_of(env, count, shape, alone);
-        assert_eq!(rt; choice, want, "at {count}, {shape}, {alone}");
+        assert_same(
+            &rt,
+            (count, shape, alone, choice),
+            (count, shape, alone, want),
+        );
     }
 }

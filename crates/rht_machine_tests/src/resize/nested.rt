@@ -3,8 +3,9 @@
 
 use super::{
     ALL, BEGUN, FIRST_ENTRY, LET_GO, alone, assert_work, begun, behind, emptied, empty, locked,
-    made, no_slot, perform, published, small, two,
+    made, no_slot, published, small, two,
 };
+use crate::asserts::{assert_same, said_behind};
 use rht_model::Reply;
 use rht_words::{Config, Next, Op};
 
@@ -42,7 +43,7 @@ fn a_nested_table_gets_no_flat_one(rt: HostRuntime) {
 
 /// Bucket 4 of the nested table is at 380. Its only entry is node 0, with port 4, and goes to bucket 4
 /// of the flat table, at 446.
-fn moved() -> [(Op, u64); 8] {
+fn entry_moved() -> [(Op, u64); 8] {
     [
         (Op::load(380), 3),
         (Op::load(282), 761), // the marker of 380
@@ -57,6 +58,7 @@ fn moved() -> [(Op, u64); 8] {
 
 #[test]
 fn a_nested_table_is_emptied_into_a_flat_one(rt: HostRuntime) {
+    let moved = Reply::Moved { again: false };
     let attached = [
         (Op::exchange(26, 0, 2), 0),
         (Op::load(26), 2),
@@ -68,41 +70,43 @@ fn a_nested_table_is_emptied_into_a_flat_one(rt: HostRuntime) {
     let lasts: [(u64, &[(Op, u64)]); 2] = [(0, &[]), (5, &late)];
     for (entry, last) in lasts {
         let mut work = begun(&rt, large());
-        let mut next = perform(&rt, &mut work, Next::Go, &alone(39, 3));
+        let mut next = said_behind(&rt, &mut work, Next::Go, &alone(39, 3), moved);
         // a flat table of its size in the pages 2 and 3: 7 + 1024 * 2
-        next = perform(&rt, &mut work, next, &made(252, 12, 2_055));
-        next = perform(&rt, &mut work, next, &attached);
+        next = said_behind(&rt, &mut work, next, &made(252, 12, 2_055), moved);
+        next = said_behind(&rt, &mut work, next, &attached, moved);
         for pair in 0..64 {
-            next = perform(&rt, &mut work, next, &[(Op::load(314), 2)]);
+            next = said_behind(&rt, &mut work, next, &[(Op::load(314), 2)], moved);
             let place = 378 + pair;
             if pair == 2 {
-                next = perform(&rt, &mut work, next, &locked(place, 2));
-                next = perform(&rt, &mut work, next, &behind(2_055));
-                next = perform(&rt, &mut work, next, &moved());
-                next = perform(&rt, &mut work, next, &behind(2_055));
-                next = perform(&rt, &mut work, next, &empty(place));
+                next = said_behind(&rt, &mut work, next, &locked(place, 2), moved);
+                next = said_behind(&rt, &mut work, next, &behind(2_055), moved);
+                next = said_behind(&rt, &mut work, next, &entry_moved(), moved);
+                next = said_behind(&rt, &mut work, next, &behind(2_055), moved);
+                next = said_behind(&rt, &mut work, next, &empty(place), moved);
             } else {
-                next = perform(&rt, &mut work, next, &emptied(place, 2_055));
+                next = said_behind(&rt, &mut work, next, &emptied(place, 2_055), moved);
             }
             let odd = if pair == 63 { entry } else { 0 };
-            next = perform(&rt, &mut work, next, &[(Op::load(315), odd)]);
+            next = said_behind(&rt, &mut work, next, &[(Op::load(315), odd)], moved);
         }
-        next = perform(&rt, &mut work, next, last);
-        next = perform(&rt, &mut work, next, &published(0));
-        assert_eq!(rt; next, Next::Done(Reply::Moved { again: false }));
+        next = said_behind(&rt, &mut work, next, last, moved);
+        next = said_behind(&rt, &mut work, next, &published(0), moved);
+        assert_same(&rt, next, Next::Done(moved));
     }
 }
 
 #[test]
 fn the_way_to_a_bucket_leads_over_two_entries(rt: HostRuntime) {
+    let moved = Reply::Moved { again: false };
     // 8,192 buckets, nested: 13 + 32 * 1
     let mut work = begun(&rt, small(false));
-    let mut next = perform(&rt, &mut work, Next::Go, &two(1_027, 4));
-    next = perform(
+    let mut next = said_behind(&rt, &mut work, Next::Go, &two(1_027, 4), moved);
+    next = said_behind(
         &rt,
         &mut work,
         next,
         &[(Op::load(26), 2), (Op::load(24), 45)],
+        moved,
     );
     let entries = [
         (Op::load(314), 3),
@@ -111,9 +115,9 @@ fn the_way_to_a_bucket_leads_over_two_entries(rt: HostRuntime) {
         (Op::load(314), 3),
         (Op::load(443), 4), // bucket 2 is the first one of page 3
     ];
-    next = perform(&rt, &mut work, next, &entries);
-    next = perform(&rt, &mut work, next, &emptied(506, 1_027));
-    assert_eq!(rt; (work.plan(), next), (Op::load(315), Next::Go));
+    next = said_behind(&rt, &mut work, next, &entries, moved);
+    next = said_behind(&rt, &mut work, next, &emptied(506, 1_027), moved);
+    assert_same(&rt, (work.plan(), next), (Op::load(315), Next::Go));
 }
 
 /// The last table is in slot 3: it is flat, has 128 buckets, and is in the pages 4 and 5.
@@ -190,6 +194,7 @@ fn moved_on() -> [(Op, u64); 8] {
 
 #[test]
 fn a_later_call_goes_on_where_that_one_stopped(rt: HostRuntime) {
+    let moved = Reply::Moved { again: true };
     let [lock, current, ..] = alone(2, 4);
     let steps: [&[(Op, u64)]; 10] = [
         &[lock, current],
@@ -206,13 +211,13 @@ fn a_later_call_goes_on_where_that_one_stopped(rt: HostRuntime) {
     let mut work = begun(&rt, large());
     let mut next = Next::Go;
     for part in steps {
-        next = perform(&rt, &mut work, next, part);
+        next = said_behind(&rt, &mut work, next, part, moved);
     }
     for place in 315..318 {
-        next = perform(&rt, &mut work, next, &locked(place, 0));
-        next = perform(&rt, &mut work, next, &behind_two());
-        next = perform(&rt, &mut work, next, &empty(place));
+        next = said_behind(&rt, &mut work, next, &locked(place, 0), moved);
+        next = said_behind(&rt, &mut work, next, &behind_two(), moved);
+        next = said_behind(&rt, &mut work, next, &empty(place), moved);
     }
-    next = perform(&rt, &mut work, next, &published(3));
-    assert_eq!(rt; next, Next::Done(Reply::Moved { again: true }));
+    next = said_behind(&rt, &mut work, next, &published(3), moved);
+    assert_same(&rt, next, Next::Done(moved));
 }

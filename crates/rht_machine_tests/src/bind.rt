@@ -1,10 +1,11 @@
-//! The machine alone, told old values by hand. In a table of 8 nodes and 4 pages the node map is
+//! The bind alone, told old values by hand. In a table of 8 nodes and 4 pages the node map is
 //! at 280, the page map at 281, node n from 282 + 4 * n on, slot t from 24 + 32 * t on, and the pages
 //! from 314 on; with 32 nodes the pages are from 410 on.
 
 mod nested;
 
-use super::Bind;
+use crate::asserts::{Machine, assert_parts};
+use rht_bind::Bind;
 use rht_model::Reply;
 use rht_policy::Low;
 use rht_words::{Config, Env, Hash, Kind, Next, Op, Port};
@@ -37,53 +38,20 @@ fn small(kind: Kind, max: u32) -> Config {
 
 /// A bind of the port to owner 9 in this table, before its first operation.
 fn begun(rt: &impl Abort, config: Config, port: Port, once: bool) -> Bind<Low> {
-    assert!(rt; config.is_settled(), "at {config:?}");
+    assert!(rt; config.is_settled());
     Bind::new(Env::new(config), 0, port, 9, once)
 }
 
-/// A bind has an operation, and it is this one, which finds this word. What the bind says then is
-/// answered. It is on its way to this reply.
-fn perform_one(
-    rt: &impl Abort,
-    bind: &mut Bind<Low>,
-    said: Next<Reply>,
-    (op, old): (Op, u64),
-    reply: Reply,
-) -> Next<Reply> {
-    assert_eq!(rt; (said, bind.plan()), (Next::Go, op), "to {reply:?}");
-    bind.take(old)
-}
+impl Machine for Bind<Low> {
+    type Answer = Reply;
 
-/// A bind, which has said this, performs these operations, which find these words. What it says then
-/// is answered. It is on its way to this reply.
-fn perform(
-    rt: &impl Abort,
-    bind: &mut Bind<Low>,
-    said: Next<Reply>,
-    steps: &[(Op, u64)],
-    reply: Reply,
-) -> Next<Reply> {
-    let mut next = said;
-    for step in steps {
-        next = perform_one(rt, bind, next, *step, reply);
+    fn plan(&self) -> Op {
+        self.plan()
     }
-    next
-}
 
-/// The bind has this reply.
-fn assert_ended(rt: &impl Abort, said: Next<Reply>, reply: Reply) {
-    assert_eq!(rt; said, Next::Done(reply));
-}
-
-/// A bind performs these operations, list by list, which find these words. The last one has this
-/// reply, and none before.
-fn assert_steps(rt: &impl Abort, bind: Bind<Low>, parts: &[&[(Op, u64)]], reply: Reply) {
-    let mut bind = bind;
-    let mut next = Next::Go;
-    for part in parts {
-        next = perform(rt, &mut bind, next, part, reply);
+    fn take(&mut self, old: u64) -> Next<Reply> {
+        self.take(old)
     }
-    assert_ended(rt, next, reply);
 }
 
 /// In this table a bind of port 5 to owner 9 performs these operations and then those, which find
@@ -95,7 +63,7 @@ fn assert_bind(
     steps: &[(Op, u64)],
     reply: Reply,
 ) {
-    assert_steps(rt, begun(rt, config, 5, false), &[filling, steps], reply);
+    assert_parts(rt, begun(rt, config, 5, false), &[filling, steps], reply);
 }
 
 #[test]
@@ -269,7 +237,7 @@ fn assert_grows(
     reply: Reply,
 ) {
     let parts: [&[(Op, u64)]; 4] = [&node_0_filled(), &walk_of_16(), steps, behind];
-    assert_steps(rt, begun(rt, roomy(), 5, once), &parts, reply);
+    assert_parts(rt, begun(rt, roomy(), 5, once), &parts, reply);
 }
 
 /// From the future of the chain's table, which has none, to the making of a table of 64 buckets in

@@ -1,7 +1,8 @@
 //! Tables made and given back.
 
-use super::{ALL, assert_performs, assert_performs_between, assert_same};
-use crate::{Make, MakeAt, Unmake, UnmakeAt, run_of};
+use super::ALL;
+use crate::asserts::{assert_parts, assert_performs, assert_same};
+use rht_nest::{Make, MakeAt, Unmake, UnmakeAt, run_of};
 use rht_words::{Geometry, Next, Op};
 use std::process::Abort;
 use std::test::Fail;
@@ -117,7 +118,7 @@ fn assert_nested_made(rt: &impl Abort, size: u32, pages: &[(Op, u64)], shape: u6
         (Op::store(27, 5), 0),
     ];
     let machine = Make::new(geometry, size, 7, true);
-    assert_performs_between(rt, machine, &taking, pages, &stores, Some((0, shape)));
+    assert_parts(rt, machine, &[&taking, pages, &stores], Some((0, shape)));
 }
 
 /// Asserts that no table is made: the size, whether a nested one is allowed, and what the looks at the
@@ -129,7 +130,7 @@ fn assert_not_made(rt: &impl Abort, size: u32, allowed: bool, pages: &[(Op, u64)
     let taking = [(Op::exchange(28, 0, 1), 0)];
     let back = [(Op::store(28, 0), 1)];
     let machine = Make::new(geometry, size, 7, allowed);
-    assert_performs_between(rt, machine, &taking, pages, &back, None);
+    assert_parts(rt, machine, &[&taking, pages, &back], None);
 }
 
 #[test]

@@ -1,8 +1,9 @@
-//! The machine alone, told old values by hand. In a table of 8 nodes and 4 pages node n is from
+//! The look-up alone, told old values by hand. In a table of 8 nodes and 4 pages node n is from
 //! 282 + 4 * n on, slot t from 24 + 32 * t on, and the pages from 314 on. An entry that leads to a page
 //! is the page + 1.
 
-use super::Find;
+use crate::asserts::{Machine, assert_performs};
+use rht_find::Find;
 use rht_model::Reply;
 use rht_policy::Low;
 use rht_words::{Config, Env, Hash, Kind, Next, Op, Port};
@@ -11,17 +12,16 @@ use std::process::Abort;
 /// What a look-up performs, with what each operation finds, and its reply.
 type Case<'a> = (&'a [(Op, u64)], Reply);
 
-/// A look-up has an operation, and it is this one, which finds this word. What it says then is
-/// answered. It is on its way to this reply.
-fn perform_one(
-    rt: &impl Abort,
-    find: &mut Find<Low>,
-    said: Next<Reply>,
-    (op, old): (Op, u64),
-    reply: Reply,
-) -> Next<Reply> {
-    assert_eq!(rt; (said, find.plan()), (Next::Go, op), "to {reply:?}");
-    find.take(old)
+impl Machine for Find<Low> {
+    type Answer = Reply;
+
+    fn plan(&self) -> Op {
+        self.plan()
+    }
+
+    fn take(&mut self, old: u64) -> Next<Reply> {
+        self.take(old)
+    }
 }
 
 /// Look-ups of the port go so.
@@ -35,12 +35,8 @@ fn assert_finds(rt: &impl Abort, port: Port, cases: &[Case]) {
     };
     assert!(rt; config.is_settled());
     for (steps, reply) in cases {
-        let mut find = Find::<Low>::new(Env::new(config), 0, port);
-        let mut next = Next::Go;
-        for step in *steps {
-            next = perform_one(rt, &mut find, next, *step, *reply);
-        }
-        assert_eq!(rt; next, Next::Done(*reply));
+        let find = Find::<Low>::new(Env::new(config), 0, port);
+        assert_performs(rt, find, steps, *reply);
     }
 }
 

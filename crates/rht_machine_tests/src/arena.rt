@@ -1,24 +1,15 @@
-//! Operations and old values, worked out by hand from the map: bit `n % 64` of the word at
-//! `280 + n / 64` is set where node n is free. With 8 nodes the words of the page map stand from
-//! place 281 on.
+//! Nodes and runs of pages, with operations and old values by hand from the map: bit `n % 64` of the
+//! word at `280 + n / 64` is set where node n is free. With 8 nodes the words of the page map stand
+//! from place 281 on.
 
-use super::{GiveNode, GiveRun, NewNode, TakeNode, TakeRun, TakeRunAt};
+use crate::asserts::{Machine, assert_performs, assert_same};
+use rht_arena::{GiveNode, GiveRun, NewNode, TakeNode, TakeRun, TakeRunAt};
 use rht_words::{Geometry, Next, Op, Start};
-use std::fmt::Debug;
 use std::process::Abort;
 use std::test::Fail;
 
 /// All bits of a word.
 const ALL: u64 = 18_446_744_073_709_551_615;
-
-/// A machine, as a test drives it. With it one helper asserts for all machines, which is proved once.
-trait Machine {
-    type Answer;
-
-    fn plan(&self) -> Op;
-
-    fn take(&mut self, old: u64) -> Next<Self::Answer>;
-}
 
 impl Machine for TakeNode {
     type Answer = Option<u32>;
@@ -78,28 +69,6 @@ impl Machine for GiveRun {
     fn take(&mut self, old: u64) -> Next<()> {
         self.take(old)
     }
-}
-
-/// Asserts that a machine performs these operations, which find these words, and that it is at its
-/// end, with this answer, behind the last one and not before.
-fn assert_performs<M>(rt: &impl Abort, machine: M, steps: &[(Op, u64)], answer: M::Answer)
-where
-    M: Machine + Drop,
-    M::Answer: Copy + Debug + PartialEq,
-{
-    let mut machine = machine;
-    let mut next = Next::Go;
-    for (op, old) in steps {
-        let as_said = next == Next::Go && machine.plan() == *op;
-        assert!(rt; as_said, "{op:?} is next, to {answer:?}");
-        next = machine.take(*old);
-    }
-    assert!(rt; next == Next::Done(answer), "{answer:?} behind {steps:?}");
-}
-
-/// Asserts that a value is this one.
-fn assert_same<T: Copy + Debug + PartialEq>(rt: &impl Abort, found: T, want: T) {
-    assert_eq!(rt; found, want);
 }
 
 /// Asserts how a node of so many is taken: the operations with what each finds, and the answer.

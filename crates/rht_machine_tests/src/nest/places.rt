@@ -1,7 +1,8 @@
 //! Where buckets are, and pages that are entered on the way to them.
 
-use super::{ALL, assert_performs, assert_same};
-use crate::{Bucket, Grow, GrowAt, Locate, LocateAt, Located, LocatedBucket, Place};
+use super::ALL;
+use crate::asserts::{assert_performs, assert_same};
+use rht_nest::{Bucket, Grow, GrowAt, Locate, LocateAt, Located, LocatedBucket, Place};
 use rht_policy::Low;
 use rht_words::{Geometry, Next, Op, Start};
 use std::process::Abort;
