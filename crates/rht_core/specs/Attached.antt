@@ -18,7 +18,7 @@ use Rattle.rht_words.specs.Shapes.{unpacked, size_of}
 use Rattle.rht_words.specs.TableWords.{IsTableWord}
 use Rattle.rht_policy.specs.Mix.{bucket_of}
 use Rattle.rht_policy.specs.Thresholds.{is_above_75}
-use Rattle.rht_nest.specs.MakeLaws.{TakesSlot, TakesSerial, pages_for}
+use Rattle.rht_nest.specs.MakeLaws.{TakesSlot, TakesSerial}
 use Rattle.rht_nest.specs.Place.{nested_place, missing_at}
 use Rattle.rht_nest.specs.Tables.{is_nested}
 use Rattle.rht_stands.specs.StandsFor.{tables_from, in_force, page_word}
@@ -30,6 +30,7 @@ use Rattle.rht_core.specs.Runs.{IsAdmitted}
 use Rattle.rht_core.specs.Traces.{Did, Traced, performed_of, traced_of}
 use Rattle.rht_core.specs.Seen.{LoadsCurrent, LastWalked, words_before}
 use Rattle.rht_core.specs.ResizeCauses.{Loaded, Attaches, WalkedFull, wanted_size, AreRunsTaken}
+use Rattle.rht_core.specs.Due.{pages_due}
 use Rattle.rht_core.specs.WorkCauses.{HasChosen}
 use Rattle.rht_core.specs.Refused.{StoresLast, IsWaysEnd, PutsPage, HasTaken}
 
@@ -182,7 +183,7 @@ module _ (M : Type 0) (mix : ℕ → ℕ → ℕ → ℕ) (env : Env) (events : 
     pub nested : is_nested shape ≡ true → 128 ≤ size_of (unpacked shape)
     pub no_run :
         is_nested shape ≡ true
-        → SawNoRun env.geometry (pages_for (wanted_size env full.shape count)) (map performed_of making)
+        → SawNoRun env.geometry (pages_due (wanted_size env full.shape count)) (map performed_of making)
 
   -- why a call attaches the table of this slot, which has this shape, behind another one: only binds and resizings do
   abbrev pub AttachCause : Call → ℕ → ℕ → ℕ → List Did → Did → Type 0

@@ -2,7 +2,7 @@
 -- in which nothing is bound: caller 0 port 5, caller 1 port 6, one beside the other, and then caller 0 port 7. All are answered `Missing`.
 -- So each of these histories is legal, whatever its order, and what is refused is refused for what the run says of its calls.
 use Rattle.std.proofs.Common.{◌≡◌, ℕ, zero, suc, ◌+◌, ◌*◌, ◌<◌, ◌≤◌, List, [], ◌∷◌, length, lit≤, refl, sym, ap, ◌∙◌, subst, inl, inr, arith}
-use Rattle.std.specs.Prelude.{Option, None, false, map, unwrap_or}
+use Rattle.std.specs.Prelude.{Option, None, map, unwrap_or}
 use Rattle.std.specs.List.{Any}
 use Rattle.std.proofs.lemmas.Bool.{cases_eq, ne_eqb}
 use Rattle.rht_words.specs.declared.config.Config.{Config}
@@ -12,7 +12,7 @@ use Rattle.rht_words.specs.declared.env.Env.{Env}
 use Rattle.rht_words.specs.declared.op.Op.{Op}
 use Rattle.rht_words.specs.declared.op.Op.TheVariants.{Load, Store, Exchange}
 use Rattle.rht_words.specs.Places.{page_map_at, nodes_at, pages_at, first_address, slot_address, node_word, address_at}
-use Rattle.rht_words.specs.Settled.{IsSettled}
+use Rattle.rht_words.specs.Settled.{IsSettled, plain_config}
 use Rattle.rht_words.specs.Sizes.{rounded_up, powers}
 use Rattle.rht_model.specs.declared.history.Call.{Call}
 use Rattle.rht_model.specs.declared.history.Call.TheVariants.{Find}
@@ -35,19 +35,7 @@ use Rattle.rht_core.proofs.Tracing.TracesInRuns.{traces_of_books}
 -- ---- the run
 
 abbrev pub config : Config
-config = record {
-  kind = Single;
-  nodes = 1;
-  pages = 4;
-  callers = 2;
-  hint = 0;
-  min = 4;
-  max = 4;
-  seed = 0;
-  rewalks = 0;
-  hash = Low;
-  shrink = false;
-}
+config = record plain_config { nodes = 1; pages = 4; callers = 2; max = 4; hash = Low }
 
 config_settled : IsSettled config
 unfolding rounded_up powers
@@ -95,7 +83,7 @@ looked_up port begin first later bucket = record {
   done = ended_with (Find port) (plain_ending Missing);
   begin = begin;
   steps =
-      did first (Load 0) 0 ∷ did (first + later) (Load 24) 2 ∷ did (first + 2 * later) (Load 25) 0
+      did first (Load 0) 0 ∷ did (first + later) (Load 24) 2 ∷ did (first + 2 * later) (Load 25) 1
       ∷ did (first + 3 * later) (Load bucket) 0 ∷ did (first + 4 * later) (Exchange bucket 0 1) 0
       ∷ did (first + 5 * later) (Load 26) 0 ∷ did (first + 6 * later) (Store bucket 0) 1 ∷ [];
 }

@@ -26,6 +26,7 @@ use Rattle.rht_core.specs.Attached.{EachBehind, size_made, AttachesFull, AttachC
 use Rattle.rht_core.proofs.Tracing.TracesAtEvents.{at_events}
 use Rattle.rht_core.proofs.Tracing.TracedJobs.{IsEndedSo, IsAtJob, jobs_keep_standing}
 use Rattle.rht_core.proofs.Reasons.SlotsTaken.{each-map}
+use Rattle.rht_core.proofs.Reasons.MadeSizes.{pages-wanted}
 use Rattle.rht_core.proofs.Reasons.TablesWalked.{no_load, LastWalked-push}
 use Rattle.rht_core.proofs.Reasons.RefusedBinds.{Behind, SawWhy, SawToAttach, Settled}
 use Rattle.rht_core.proofs.Reasons.BindCauses.{walked_full, unclamped}
@@ -97,8 +98,9 @@ module _ (M : Type 0) (mix : ℕ → ℕ → ℕ → ℕ) (env : Env) (events : 
           stored = saw.stored;
           numbered = saw.numbered;
           nested = nested;
-          no_run = λ is. subst (λ size. SawNoRun g (pages_for size) (map performed_of wanted.making))
-              (wanted.wanted ∙ ap (wanted_size env growing.shape) same) (saw.no_run is);
+          no_run = λ is. subst (λ pages. SawNoRun g pages (map performed_of wanted.making))
+              (ap pages_for (wanted.wanted ∙ ap (wanted_size env growing.shape) same) ∙ pages-wanted env growing.shape wanted.count)
+              (saw.no_run is);
           sized = saw.sized ∙ ap size_made (wanted.wanted ∙ ap (wanted_size env growing.shape) same);
         }
 
