@@ -46,7 +46,7 @@ pub mod AttachingJobs
 pub mod SizedTables
 -- in a run of one caller with fewer than 16 ports no bind is refused because a table is full
 pub mod OneCaller
--- so it is in runs, where it is so of the first table
+-- in runs each table has a good shape, where the first one has, and good shapes lead to good ones
 pub mod GoodRuns
 -- no table is smaller than the least size or greater than the greatest one
 pub mod BoundedTables
@@ -54,6 +54,7 @@ pub mod BoundedTables
 pub mod SerialDraws
 pub mod DrawnJobs
 -- in every run each table has a draw of its own
+pub mod TableDraws
 pub mod DrawnRuns
 pub mod NumberedTables
 -- what is true of each table in force
