@@ -264,10 +264,10 @@ pub fn sections<M: Mix>()
 /// by the count. In between it loaded a count, and no other behind that. By that count a table is wanted of
 /// twice the size, or of the same where the bind had loaded this one as the current one. Behind the count it
 /// stored in the slot, last of all shapes, that of a table of the wanted size, or of 2^17 buckets where more
-/// are wanted. Where that table is nested it has 128 buckets or more, and behind the count the bind saw each run
-/// of pages for a flat one taken, and not by its own operations. A `Work` had chosen, by what it loaded under
-/// the work lock, that a table of this size is due behind this one, which was the last. Behind that it stored,
-/// last of all shapes, that of a flat table of this size. Either had drawn the serial that it stored last.
+/// are wanted. Where that table is nested it has 128 buckets or more. Then the bind saw, behind the count, each
+/// run of pages for a flat one taken, and not by its own operations. A `Work` had chosen, by what it loaded
+/// under the work lock, that a table of this size is due behind this one, which was the last. Behind that it
+/// stored, last of all shapes, that of a flat table of this size. Either had drawn the serial that it stored last.
 ///
 /// No operation changes which table is the current one, but for one of a `Work`, which makes that table
 /// current that was the future of the one before.
