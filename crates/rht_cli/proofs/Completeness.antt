@@ -5,11 +5,24 @@ use Rattle.rht_io.specs.Told.{Rose}
 use Rattle.rht_script.specs.declared.script.ScriptFault.{ScriptFault}
 use Rattle.rht_script.specs.Text.{fault_line}
 use Rattle.rht_cli.specs.declared.form.Form.{Form}
+use Rattle.rht_cli.specs.declared.form.Form.TheVariants.{Gen}
 use Rattle.rht_cli.specs.declared.ending.Failure.{Failure}
 use Rattle.rht_cli.specs.declared.ending.Failure.TheVariants.{Fault, Read, Write, Memory}
 use Rattle.rht_cli.specs.Forms.{Prints, HasInput, IsFaultOf}
 use Rattle.rht_cli.specs.Endings.{Serves, ending_of, ending_line, status_of}
 use Rattle.rht_cli.proofs.ToldInput.{not_both, HasInput-printed, one_fault}
+
+-- A form that reads nothing is served whatever the source is: it has no fault in its input, and reads no script.
+pub served_unread : {S O : Type 0} (left : S → Option (List ℕ)) (sfaults : S → ℕ) (held : O → Option (List ℕ)) (ofaults : O → ℕ)
+    (number : ℕ) (s s' : S) (o o' : O) (served : Result (Unit {0}) Failure)
+    → Serves left sfaults held ofaults (Gen number) s s' o o' served → (Rose (ofaults o) (ofaults o') → ⊥)
+    → (status_of (ending_of served) ≡ 0) ⊎ (status_of (ending_of served) ≡ 5)
+unfolding IsFaultOf
+served_unread left sfaults held ofaults number s s' o o' (Ok all) serves writes = inl refl
+served_unread left sfaults held ofaults number s s' o o' (Err (Fault fault)) serves writes = absurd serves.0
+served_unread left sfaults held ofaults number s s' o o' (Err Read) serves writes = absurd serves.2
+served_unread left sfaults held ofaults number s s' o o' (Err Write) serves writes = absurd (writes serves.0)
+served_unread left sfaults held ofaults number s s' o o' (Err Memory) serves writes = inr refl
 
 module _ {S O : Type 0} (left : S → Option (List ℕ)) (sfaults : S → ℕ) (held : O → Option (List ℕ))
     (ofaults : O → ℕ) (form : Form) (s s' : S) (o o' : O) (bytes : List ℕ) (rest : Option (List ℕ))

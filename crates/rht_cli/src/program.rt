@@ -92,6 +92,10 @@ pub fn run<R: Threads + Wait + Sync, S: Source, O: Sink, E: Sink, G: Gate + Sync
         → ¬ Rose (S.faults source.old) (S.faults source.new) → ¬ Rose (O.faults out.old) (O.faults out.new)
         → (result ≡ 0) ⊎ (result ≡ 5) }
 
+    // So are `gen` and its number, whatever the source is.
+    ensures generated { (number : ℕ) → form_of (map string_bytes words.now.items) ≡ Some (Gen number)
+        → ¬ Rose (O.faults out.old) (O.faults out.new) → (result ≡ 0) ⊎ (result ≡ 5) }
+
     // And input at fault is refused with the line of its first fault, unless memory runs out.
     ensures refused { (form : Form) (bytes : List ℕ) (rest : Option (List ℕ)) (fault : ScriptFault)
         → form_of (map string_bytes words.now.items) ≡ Some form

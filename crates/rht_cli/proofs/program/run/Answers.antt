@@ -5,8 +5,8 @@ use Rattle.rht_io.specs.Told.{PutsLine}
 use Rattle.rht_cli.specs.declared.form.Form.{Form}
 use Rattle.rht_cli.specs.declared.form.Form.TheVariants.{Gen}
 use Rattle.rht_cli.specs.Forms.{form_of, HasInput, IsFaultOf}
-use Rattle.rht_cli.specs.Endings.{status_of, ending_of, ending_line}
-use Rattle.rht_cli.proofs.Completeness.{served_whole, refused_fault}
+use Rattle.rht_cli.specs.Endings.{Serves, status_of, ending_of, ending_line}
+use Rattle.rht_cli.proofs.Completeness.{served_whole, served_unread, refused_fault}
 use Rattle.rht_cli.proofs.program.run.Goals as goal
 
 -- words are of one form
@@ -26,6 +26,20 @@ returns-in-Some-clause-served g c form bytes rest named told input reads writes 
     c.args.source.now c.serve.new.source c.args.out.now c.serve.new.out
     bytes rest told c.serve.result c.serve.ensures.served
     (subst (λ (f : Form). HasInput f (Some bytes) rest) same input) reads writes) [
+      | inl whole ↦ inl (is ∙ whole)
+      | inr memory ↦ inr (is ∙ memory)
+    ]
+
+pub returns-in-Some-clause-generated : goal.returns-in-Some-clause-generated
+returns-in-Some-clause-generated g c number named writes =
+    let same = one_form c.args.words.now.items c.deref.result.now (Gen number) c.in-Some.form
+    c.deref.ensures.value (sym c.in-Some.is ∙ c.of.ensures) named in
+    let is : c.end.result ≡ status_of (ending_of c.serve.result) = c.end.ensures.status
+    ∙ ap status_of c.ending_of.ensures in
+    elim (served_unread g.S.Source.left g.S.Source.faults g.O.Sink.held g.O.Sink.faults number
+    c.args.source.now c.serve.new.source c.args.out.now c.serve.new.out c.serve.result
+    (subst (λ (f : Form). Serves g.S.Source.left g.S.Source.faults g.O.Sink.held g.O.Sink.faults f
+    c.args.source.now c.serve.new.source c.args.out.now c.serve.new.out c.serve.result) (sym same) c.serve.ensures.served) writes) [
       | inl whole ↦ inl (is ∙ whole)
       | inr memory ↦ inr (is ∙ memory)
     ]
