@@ -16,6 +16,3 @@ pub use event::{Event, Stepped};
 pub use rht_callers::{Doing, Local, PortCount};
 pub use rht_stands::{ClosingRoom, owners_of};
 pub use state::State;
-
-#[cfg(test)]
-mod tests;

@@ -1,10 +1,10 @@
 //! Tables that are attached, and resizings that move entries.
 
 use super::{
-    BOUND, FIND_5, RELEASED, assert_run, begins, bind, ends, enrolls, filled, finishes, for_two,
-    release, replies, reply_to, small, steps,
+    BOUND, FIND_5, RELEASED, assert_run, assert_same, begins, bind, ends, enrolls, filled,
+    finishes, for_two, release, replies, reply_to, small, steps,
 };
-use crate::{Event, State};
+use rht_core::{Event, State};
 use rht_model::{Call, Reply};
 use rht_policy::Low;
 use rht_words::{Config, Op};
@@ -229,7 +229,7 @@ fn a_mover_is_overtaken_by_an_attach(rt: HostRuntime) -> Result<(), Fail> {
 /// The first caller is given the call, which runs to this reply.
 fn assert_told(rt: &impl Abort, state: &mut State<Low>, call: Call, reply: Reply) {
     let found = reply_to(rt, state, 0, call);
-    assert_eq!(rt; found, Some(reply), "at {call:?}");
+    assert_same(rt, (call, found), (call, Some(reply)));
 }
 
 /// Sixteen ports in one bucket of 64: a bind of a further one attaches a table, and a bind that tries

@@ -1,10 +1,10 @@
 //! A table of a list of owners for each port.
 
 use super::{
-    BOUND, FIND_5, RELEASED, assert_run, begin, begins, bind, ends, enrolls, filled, linked,
-    located, release, replies, reply_to, small, steps,
+    BOUND, FIND_5, RELEASED, assert_run, assert_same, begin, begins, bind, ends, enrolls, filled,
+    linked, located, release, replies, reply_to, small, steps,
 };
-use crate::{Event, State};
+use rht_core::{Event, State};
 use rht_model::{Call, Reply};
 use rht_policy::Low;
 use rht_words::{Config, Kind, Op};
@@ -110,16 +110,16 @@ fn a_port_lists_its_owners(rt: HostRuntime) -> Result<(), Fail> {
     reply_to(&rt, &mut state, 0, bind(5, 7));
     // The latest owner comes first.
     let listed = reply_to(&rt, &mut state, 0, Call::All { port: 5 });
-    assert_eq!(rt; listed, Some(Reply::Listed { len: 3 }));
-    assert_eq!(rt; state.local(0).owners(), [7, 3, 9].as_slice());
+    assert_same(&rt, listed, Some(Reply::Listed { len: 3 }));
+    assert_same(&rt, state.local(0).owners(), &[7, 3, 9]);
     // A port that isn't bound has none, and those of the call before have gone.
     let unbound = reply_to(&rt, &mut state, 0, Call::All { port: 6 });
-    assert_eq!(rt; unbound, Some(Reply::Listed { len: 0 }));
+    assert_same(&rt, unbound, Some(Reply::Listed { len: 0 }));
     assert!(rt; state.local(0).owners().is_empty());
     // The room has come back each time, so there is one for a further listing.
     let again = reply_to(&rt, &mut state, 0, Call::All { port: 5 });
-    assert_eq!(rt; again, Some(Reply::Listed { len: 3 }));
-    assert_eq!(rt; state.local(0).owners(), [7, 3, 9].as_slice());
+    assert_same(&rt, again, Some(Reply::Listed { len: 3 }));
+    assert_same(&rt, state.local(0).owners(), &[7, 3, 9]);
     // Once a call begins that has no list, the owners have gone.
     begin(&rt, &mut state, 0, FIND_5);
     assert!(rt; state.local(0).owners().is_empty());

@@ -1,7 +1,7 @@
 use Rattle.std.proofs.Common.{ap, ◌∙◌}
 use Rattle.rht_core.specs.declared.event.Event.TheVariants.{Step}
 use Rattle.rht_core.proofs.Events.ReachedStates.{event-env}
-use Rattle.rht_core.proofs.tests.reply_of_step.Goals as goal
+use Rattle.rht_core_tests.proofs.runs.reply_of_step.Goals as goal
 
 pub returns : goal.returns
 returns g c = ap (λ p. p.0.env) c.step.ensures ∙ event-env g.row.M.Denot g.M.Mix.mix_of c.args.state.now (Step c.args.caller)

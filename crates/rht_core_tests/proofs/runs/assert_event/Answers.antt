@@ -1,6 +1,6 @@
 use Rattle.std.proofs.Common.{ap, ◌∙◌}
 use Rattle.rht_core.proofs.Events.ReachedStates.{event-env}
-use Rattle.rht_core.proofs.tests.assert_event.Goals as goal
+use Rattle.rht_core_tests.proofs.runs.assert_event.Goals as goal
 
 pub returns : goal.returns
 returns g c =

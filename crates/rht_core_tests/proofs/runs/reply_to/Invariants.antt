@@ -1,5 +1,5 @@
 use Rattle.std.proofs.Common.{◌≡◌}
-use Rattle.rht_core.proofs.tests.reply_to.Given as goal
+use Rattle.rht_core_tests.proofs.runs.reply_to.Given as goal
 
 -- the table is the one that it was
 abbrev pub invariant-loop : goal.invariant-loop

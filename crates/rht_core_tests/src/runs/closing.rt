@@ -2,8 +2,8 @@
 
 ghost use Rattle.std.specs.Prelude.{◌≡◌};
 
-use super::{FIND_5, assert_owners, bind, reply_to, small};
-use crate::{Event, State};
+use super::{FIND_5, assert_owners, assert_same, bind, reply_to, small};
+use rht_core::{Event, State};
 use rht_model::{Call, Closed};
 use rht_policy::Low;
 use rht_words::{Geometry, Port};
@@ -16,7 +16,7 @@ fn closed_at(rt: &impl Abort, state: &State<Low>) -> Result<Closed, Fail>
     requires { state.now.env.geometry.callers ≡ 1 }
 {
     assert!(rt; state.local(0).is_idle());
-    assert_eq!(rt; state.size(), 64);
+    assert_same(rt, state.size(), 64);
     Ok(state.closed()?)
 }
 
@@ -35,14 +35,13 @@ fn closed_after(rt: &impl Abort, alloc: Global, calls: &[Call]) -> Result<Closed
 
 /// A table of 64 buckets was closed with these ports and their owners.
 fn assert_closed<'a>(rt: &impl Abort, closed: &Closed, keys: u32, want: &'a [(Port, &'a [u32])]) {
-    assert_eq!(rt;
-        (closed.size, closed.keys, closed.bindings.len()),
-        (64, keys, want.len())
-    );
-    for (i, (port, owners)) in want.iter().enumerate() {
+    assert_same(rt, (closed.size, closed.keys), (64, keys));
+    assert_same(rt, closed.bindings.len(), want.len());
+    for i in 0..want.len() {
+        let (port, owners) = want[i];
         assert!(rt; i < closed.bindings.len());
-        assert_eq!(rt; closed.bindings.port(i), *port, "at {i}");
-        assert_eq!(rt; closed.bindings.owners(i), *owners, "at {i}");
+        assert_same(rt, (i, closed.bindings.port(i)), (i, port));
+        assert_same(rt, (i, closed.bindings.owners(i)), (i, owners));
     }
 }
 

@@ -1,5 +1,5 @@
 use Rattle.std.proofs.Common.{◌≡◌}
-use Rattle.rht_core.proofs.tests.closing.closed_after.Given as goal
+use Rattle.rht_core_tests.proofs.runs.closing.closed_after.Given as goal
 
 -- the table has one caller
 abbrev pub invariant-loop-call : goal.invariant-loop-call

@@ -13,11 +13,12 @@ ghost use Rattle.std.specs.Prelude.{◌≡◌, ◌<◌, true, length, IfSome};
 ghost use Rattle.rht_words.specs.declared.config.Kind.{Kind};
 ghost use Rattle.rht_core.specs.Runs.{IsBuiltEvent};
 
-use super::{Event, State, Stepped, owners_of};
+use rht_core::{Event, State, Stepped, owners_of};
 use rht_model::{Call, Reply};
 use rht_policy::Mix;
 use rht_words::{Config, Geometry, Hash, Kind, Op, Port};
 use std::alloc::{AllocError, Global};
+use std::fmt::Debug;
 use std::process::Abort;
 use std::test::Fail;
 
@@ -159,6 +160,11 @@ fn linked() -> [(Op, u64); 5] {
     ]
 }
 
+/// Asserts that a value is this one.
+fn assert_same<T: Copy + Debug + PartialEq>(rt: &impl Abort, found: T, want: T) {
+    assert_eq!(rt; found, want);
+}
+
 /// A run so far: the table, and the ports that it has bound, with their owners; the one that was
 /// bound last is the first.
 #[derive(Drop)]
@@ -203,7 +209,7 @@ fn assert_owners(
 ) -> Result<(), AllocError> {
     assert_eq!(rt; words.len(), geometry.words());
     let owners = owners_of(alloc, geometry, words, port)?;
-    assert_eq!(rt; owners.as_slice(), want, "at {port}");
+    assert_same(rt, (port, owners.as_slice()), (port, want));
     Ok(())
 }
 
@@ -221,8 +227,8 @@ fn assert_bound<M: Mix>(rt: &impl Abort, alloc: Global, run: &Run<M>) -> Result<
 fn place_in(bound: &[(Port, u32)], gone: (Port, u32)) -> Option<usize>
     ensures { IfSome result (λ at. at < length bound.now) }
 {
-    for (at, binding) in bound.iter().enumerate() {
-        if *binding == gone {
+    for at in 0..bound.len() {
+        if bound[at] == gone {
             return Some(at);
         }
     }
@@ -246,9 +252,9 @@ fn ended<M: Mix>(run: &mut Run<M>, call: Call, reply: Reply) -> Result<(), Alloc
 fn assert_event<M: Mix>(rt: &impl Abort, state: &mut State<M>, event: Event, want: Stepped)
     ensures { state.new.env ≡ state.old.env }
 {
-    assert!(rt; is_built(event), "at {event:?}");
+    assert!(rt; is_built(event));
     let stepped = state.step(event);
-    assert_eq!(rt; stepped, want, "at {event:?}");
+    assert_same(rt, (event, stepped), (event, want));
 }
 
 /// The reply of a line, where the last one ends the call.
@@ -296,7 +302,7 @@ fn assert_reply<M: Mix>(
     for _ in 0..400 {
         let stepped = run.state.step(Event::Step { caller });
         if let Some(found) = stepped.reply {
-            assert_eq!(rt; found, reply, "at {call:?}");
+            assert_same(rt, (call, found), (call, reply));
             ended(run, call, reply)?;
             return assert_bound(rt, alloc, run);
         }
@@ -311,7 +317,7 @@ fn assert_run<M: Mix>(
     config: Config,
     rows: &[Row<'_>],
 ) -> Result<(), Fail> {
-    assert!(rt; config.is_settled(), "at {config:?}");
+    assert!(rt; config.is_settled());
     let state = State::<M>::open(alloc, config)?;
     assert!(rt; state.local(0).is_idle());
     assert!(rt; state.local(0).owners().is_empty());
