@@ -1,5 +1,5 @@
 -- What a run leaves that serves a script is printed as a text of the form `run` or `gen`; and its replies can be counted.
-use Rattle.std.proofs.Common.{◌≡◌, ℕ, suc, ◌+◌, ◌<◌, ◌≤◌, Bool, true, false, List, [], ◌∷◌, length, Option, refl, sym, ap, subst, arith}
+use Rattle.std.proofs.Common.{◌≡◌, ◌≢◌, ℕ, suc, ◌+◌, ◌<◌, ◌≤◌, Bool, true, false, List, [], ◌∷◌, length, Option, refl, sym, ap, subst, arith}
 use Rattle.std.specs.Prelude.{◌==◌, if◌then◌else◌, slice_index_or}
 use Rattle.std.specs.List.{AllByRecursion}
 use Rattle.std.proofs.lemmas.List.{get_or_default}
@@ -8,6 +8,11 @@ use Rattle.rht_words.specs.declared.config.Hash.{Hash}
 use Rattle.rht_policy.specs.Mix.{mix_named}
 use Rattle.rht_model.specs.declared.bindings.Closed.{Closed}
 use Rattle.rht_model.specs.declared.history.Call.{Call}
+use Rattle.rht_model.specs.declared.history.Reply.TheVariants.{NoNode}
+use Rattle.rht_words.proofs.EachElement.{AllByRecursion-weaker}
+use Rattle.rht_core.specs.ToldHistories.{IsOutnumbered}
+use Rattle.rht_cli.specs.GenText.{IsGenText}
+use Rattle.rht_cli.proofs.GenNodes.{not_outnumbered}
 use Rattle.rht_model.specs.declared.finished.Finished.{Finished}
 use Rattle.rht_model.specs.Endings.{Ending}
 use Rattle.rht_core.specs.Serving.{Serves, calls_of, IsServedRun}
@@ -44,7 +49,19 @@ unfolding Prints
 Prints-run left left_after said endings closed read all run =
     record { said = said; read = read; is_text = IsRunText-served whole_text said endings closed all run }
 
--- or `gen`
+-- or `gen`, whose script has nodes enough
+gen_text : (number : ℕ) (text : List ℕ) → IsRunText (summary_text number) (generated_said number) text → IsGenText number text
+gen_text number text done =
+    let told = done.run.tells.told in
+    record {
+      done = done;
+      no_node = λ caller.
+          AllByRecursion-weaker
+          (λ (call : Finished). call.reply ≡ NoNode → IsOutnumbered (generated_said number).config (generated_said number).commands)
+          (λ (call : Finished). call.reply ≢ NoNode) (λ call so is. not_outnumbered number (generated_said number) refl (so is))
+          (told.dones caller) (told.no_node caller);
+    }
+
 pub Prints-gen : (number : ℕ) (left : Option (List ℕ)) (said : Said) (endings : List (List Ending)) (closed : Closed)
     → said ≡ generated_said number → AllByRecursion (IsCommandFor said.config) said.commands
     → HasRun said.config said.auto said.commands endings closed
@@ -52,8 +69,9 @@ pub Prints-gen : (number : ℕ) (left : Option (List ℕ)) (said : Said) (ending
 unfolding Prints
 Prints-gen number left said endings closed says all run = (
   refl,
-  subst (λ (s : Said). IsRunText (summary_text number) s (summary_line number endings closed.bindings.pairs)) says
-      (IsRunText-served (summary_text number) said endings closed all run),
+  gen_text number (summary_line number endings closed.bindings.pairs)
+      (subst (λ (s : Said). IsRunText (summary_text number) s (summary_line number endings closed.bindings.pairs)) says
+      (IsRunText-served (summary_text number) said endings closed all run)),
 )
 
 -- ---- what all of that rests on

@@ -12,6 +12,7 @@ use Rattle.rht_cli.specs.declared.form.Form.{Form}
 use Rattle.rht_cli.specs.declared.form.Form.TheVariants.{Run, Replay, Gen}
 use Rattle.rht_cli.specs.Input.{IsScriptRead, IsNoScript}
 use Rattle.rht_cli.specs.RunText.{whole_text, summary_text, IsRunText}
+use Rattle.rht_cli.specs.GenText.{IsGenText}
 use Rattle.rht_cli.specs.ReplayText.{IsReplayText}
 
 -- the form that a single word is
@@ -64,7 +65,7 @@ pub record IsPrintedOf (IsText : Said → List ℕ → Type 0) (left left_after 
 unfoldable pub Prints : Form → Option (List ℕ) → Option (List ℕ) → List ℕ → Type 0
 Prints Run left left_after text = IsPrintedOf (IsRunText whole_text) left left_after text
 Prints Replay left left_after text = IsPrintedOf IsReplayText left left_after text
-Prints (Gen number) left left_after text = (left_after ≡ left) × IsRunText (summary_text number) (generated_said number) text
+Prints (Gen number) left left_after text = (left_after ≡ left) × IsGenText number text
 
 -- Reading the bytes that are left leaves the rest, and they are a script.
 pub record IsScript (left rest : Option (List ℕ)) : Type 0 where
