@@ -4,6 +4,8 @@ pub mod ToldInput
 pub mod Completeness
 -- what a served run is printed as
 pub mod RunTexts
+-- the script of a number has nodes enough
+pub mod GenNodes
 -- what a replay writes
 pub mod ReplayTexts
 -- how a form that reads a script is served

@@ -1,30 +1,34 @@
 -- What a run leaves that serves a script is printed as a text of the form `run` or `gen`. The laws of every run say what that means: the history of
 -- the replies, and where no command is refused. No case is taken but that of the hash, which names the run's mix.
-use Rattle.std.proofs.Common.{◌≡◌, ℕ, suc, ◌+◌, ◌<◌, ◌≤◌, Bool, true, false, List, [], ◌∷◌, length, refl, sym, ◌∙◌, ap, subst, arith}
+use Rattle.std.proofs.Common.{◌≡◌, ◌≢◌, ℕ, suc, ◌+◌, ◌<◌, ◌≤◌, Bool, true, false, List, [], ◌∷◌, length, refl, sym, ◌∙◌, ap, subst, arith}
 use Rattle.std.specs.Prelude.{◌==◌, if◌then◌else◌, slice_index_or}
 use Rattle.std.specs.List.{AllByRecursion}
 use Rattle.std.proofs.lemmas.List.{get_or_default}
 use Rattle.rht_words.specs.declared.config.Config.{Config}
 use Rattle.rht_words.specs.declared.config.Hash.{Hash}
 use Rattle.rht_words.specs.declared.config.Hash.TheVariants as hashes
+use Rattle.rht_words.proofs.EachElement.{AllByRecursion-weaker}
 use Rattle.rht_policy.specs.declared.mix.Lookup3.{Lookup3}
 use Rattle.rht_policy.specs.declared.mix.Low.{Low}
 use Rattle.rht_policy.specs.Mix.{mix_of_hash}
 use Rattle.rht_model.specs.declared.bindings.Closed.{Closed}
 use Rattle.rht_model.specs.declared.history.Call.{Call}
+use Rattle.rht_model.specs.declared.history.Reply.TheVariants.{NoNode}
 use Rattle.rht_model.specs.declared.finished.Finished.{Finished}
 use Rattle.rht_model.specs.declared.history.Entry.{Entry}
 use Rattle.rht_model.specs.Endings.{Ending}
 use Rattle.rht_core.specs.NeverRefused.{IsRoomyFor, AreAllTaken, IsSmallFor, AreAsModel}
 use Rattle.rht_core.specs.Serving.{Serves, calls_of, IsServedRun}
-use Rattle.rht_core.specs.ToldHistories.{entries_told, endings_by, IsTold}
+use Rattle.rht_core.specs.ToldHistories.{entries_told, endings_by, IsOutnumbered, IsTold}
 use Rattle.rht_core.proofs.Histories.NeverRefused.{roomy_takes_all, one_worker_as_model}
 use Rattle.rht_core.proofs.Histories.ToldHistories.{told}
+use Rattle.rht_script.specs.Generated.{generated_said}
 use Rattle.rht_script.specs.Grammar.{Said}
 use Rattle.rht_script.specs.Text.{run_text}
 use Rattle.rht_script.specs.SummaryText.{summary_line, AreCountable}
 use Rattle.rht_registry.proofs.SoundCommands.{IsCommandFor, calls_of-one}
 use Rattle.rht_cli.specs.declared.form.Form.TheVariants.{Run, Gen}
+use Rattle.rht_cli.proofs.GenNodes.{not_outnumbered}
 use Rattle.rht_cli.specs.Forms.{IsTextOf}
 use Rattle.rht_cli.specs.RunText.{IsServedBy, TellsBy, whole_text, summary_text, IsRunText}
 
@@ -99,12 +103,20 @@ unfolding IsTextOf
 IsTextOf-run said endings closed all served = IsRunText-served whole_text said endings closed all served
 
 -- or `gen`
-pub IsTextOf-gen : (number : ℕ) (said : Said) (endings : List (List Ending)) (closed : Closed)
+pub IsTextOf-gen : (number : ℕ) (said : Said) (endings : List (List Ending)) (closed : Closed) → said ≡ generated_said number
     → AllByRecursion (IsCommandFor said.config) said.commands
     → IsServedBy said.config.hash said.config said.auto said.commands endings closed
     → IsTextOf (Gen number) said (summary_line number endings closed.bindings.pairs)
 unfolding IsTextOf
-IsTextOf-gen number said endings closed all served = IsRunText-served (summary_text number) said endings closed all served
+IsTextOf-gen number said endings closed says all served =
+    let run = IsRunText-served (summary_text number) said endings closed all served in
+    record {
+      run = run;
+      no_node = λ caller.
+          AllByRecursion-weaker (λ (e : Ending). e.answer.reply ≡ NoNode → IsOutnumbered said.config said.commands)
+          (λ (e : Ending). e.answer.reply ≢ NoNode) (λ e so is. not_outnumbered number said says (so is))
+          (endings_by caller run.endings) (run.told.no_node caller);
+    }
 
 -- ---- how many replies there are
 

@@ -11,7 +11,8 @@ use Rattle.rht_script.specs.Generated.{generated_said}
 use Rattle.rht_cli.specs.declared.form.Form.{Form}
 use Rattle.rht_cli.specs.declared.form.Form.TheVariants.{Run, Replay, Gen}
 use Rattle.rht_cli.specs.Input.{IsScriptRead, IsNoScript}
-use Rattle.rht_cli.specs.RunText.{whole_text, summary_text, IsRunText}
+use Rattle.rht_cli.specs.RunText.{whole_text, IsRunText}
+use Rattle.rht_cli.specs.GenText.{IsGenText}
 use Rattle.rht_cli.specs.ReplayText.{IsReplayText}
 
 -- the form that a single word is
@@ -70,4 +71,4 @@ IsFaultOf (Gen number) left left_after fault = ⊥
 unfoldable pub IsTextOf : Form → Said → List ℕ → Type 0
 IsTextOf Run said text = IsRunText whole_text said text
 IsTextOf Replay said text = IsReplayText said text
-IsTextOf (Gen number) said text = IsRunText (summary_text number) said text
+IsTextOf (Gen number) said text = IsGenText number said text

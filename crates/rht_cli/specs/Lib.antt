@@ -2,6 +2,8 @@
 pub mod Input
 -- the text of a script that was run, or what sums it up
 pub mod RunText
+-- the text that sums up the script of a number
+pub mod GenText
 -- the text of a script that was replayed
 pub mod ReplayText
 -- the command forms: their words, their input and their text

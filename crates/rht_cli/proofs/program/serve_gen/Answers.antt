@@ -50,7 +50,7 @@ returns g c =
     let printed : IsTextOf (Gen number) said text =
     subst (λ (workers : List (List Ending)). IsTextOf (Gen number) said (summary_line number workers pairs))
     (sym c.deref.ensures.value)
-    (IsTextOf-gen number said replies.items closed commands c.in_ok-replies.ensures) in
+    (IsTextOf-gen number said replies.items closed c.in_ok-script.ensures.script commands c.in_ok-replies.ensures) in
     rw c.served_by.ensures
     (λ left. Serves-put (λ input. input) (λ input. 0) g.O.Sink.held g.O.Sink.faults (Gen number) left left
     c.args.out.now c.write_summary.new.out said text c.write_summary.result
