@@ -17,7 +17,6 @@ use Rattle.rht_words.specs.Sizes.{rounded_up, powers}
 use Rattle.rht_model.specs.declared.history.Call.{Call}
 use Rattle.rht_model.specs.declared.history.Call.TheVariants.{Find}
 use Rattle.rht_model.specs.declared.history.Reply.TheVariants.{Missing}
-use Rattle.rht_model.specs.declared.finished.Finished.{Finished}
 use Rattle.rht_model.specs.Answers.{port_of}
 use Rattle.rht_model.specs.Endings.{plain_ending, ended_with}
 use Rattle.rht_model.specs.Histories.{IsLegal, bindings_left}
