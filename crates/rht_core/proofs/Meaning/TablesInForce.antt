@@ -138,3 +138,11 @@ module _ (env : Env) (mix : ℕ → ℕ → ℕ → ℕ) (words : List ℕ) (G :
   pub table_in_force : (τ : ℕ) → G.current ≤ τ → τ < G.attached → In (G.table τ).slot (in_force g words)
   table_in_force τ low high =
       subst (In (G.table τ).slot) (sym tables_in_force) (in_slots τ G.current in_use low (omega (arith, low, high)))
+
+  -- from a table that is no more in force they lead to the current one
+  pub leads_to_current : (τ : ℕ) → τ ≤ G.current → In (table_of (M CurrentTable)) (tables_from g words 8 (Some (G.table τ).slot))
+  leads_to_current τ low =
+      let here = whole.tables.current_in in
+      subst (In (table_of (M CurrentTable))) (sym (tables_behind τ (omega (arith, low, here))))
+      (subst (λ s. In s (slots_from τ (G.attached - τ))) (sym current_slot)
+      (in_slots G.current τ (G.attached - τ) low (omega (arith, low, here))))
