@@ -330,14 +330,14 @@ pub fn one_caller<M: Mix>()
 {}
 
 /// Where a run serves the commands of workers, each worker's caller in no call at the end, there is a
-/// legal history of what they were answered: each worker's entries are its commands about bindings, with
-/// their replies and lists, in their order, and nobody else has any; and what was closed is what the
-/// history leaves. It fits the run: it puts the commands of all workers in an order of moments between
-/// each one's beginning and its end, and after each event its entries so far leave what the words stand
-/// for. A command was answered `NoNode` only where more commands need a node than there are nodes, and
-/// `TooBig` only where its count is as many ports as the table may hold, or more, and some first entries
-/// leave so many bound, but for one for each other worker. It doesn't say that there is such a run, and
-/// nothing of commands that aren't about bindings.
+/// legal history of what its calls were answered: each worker's finished calls serve its commands, and
+/// its entries are those of these calls about bindings, with their replies and lists, in their order;
+/// nobody else has any. What was closed is what the history leaves. It fits the run: it puts the calls of
+/// all workers in an order of moments between each one's beginning and its end, and after each event its
+/// entries so far leave what the words stand for. A call was answered `NoNode` only where more commands
+/// need a node than there are nodes, and `TooBig` only where its count is as many ports as the table may
+/// hold, or more, and some first entries leave so many bound, but for one for each other worker. It
+/// doesn't say that there is such a run, and nothing of what calls that aren't about bindings answer.
 pub fn told<M: Mix>()
     ensures { HasToldHistory M M.mix_of }
 {}
