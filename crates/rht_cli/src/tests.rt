@@ -5,8 +5,10 @@ use crate::laws::complete;
 use crate::program::run;
 use rht_io::{Gate, MemSink, MemSource, NoGate};
 use std::alloc::Global;
+use std::fmt::Debug;
 use std::hint::spin_loop;
 use std::process::Abort;
+use std::str::Lines;
 use std::sync::Wait;
 use std::sync::atomic::{AtomicBool, AtomicU64, Ordering};
 use std::test::Fail;
@@ -47,9 +49,9 @@ struct Left {
     err: MemSink,
 }
 
-fn words_of(alloc: Global, words: &str) -> Result<Vec<String>, Fail> {
+fn strings(alloc: Global, words: &[&str]) -> Result<Vec<String>, Fail> {
     let mut list = Vec::new(alloc);
-    for word in words.split_whitespace() {
+    for word in words {
         list.push(String::from_str(alloc, word)?)?;
     }
     Ok(list)
@@ -58,7 +60,7 @@ fn words_of(alloc: Global, words: &str) -> Result<Vec<String>, Fail> {
 fn run_on<R: Threads + Wait + Sync>(
     rt: &R,
     alloc: Global,
-    words: &str,
+    words: &[&str],
     script: &str,
     outside: Outside,
 ) -> Result<Left, Fail> {
@@ -68,12 +70,12 @@ fn run_on<R: Threads + Wait + Sync>(
 fn run_with<R: Threads + Wait + Sync, G: Gate + Sync>(
     rt: &R,
     alloc: Global,
-    words: &str,
+    words: &[&str],
     script: &str,
     outside: Outside,
     gate: &G,
 ) -> Result<Left, Fail> {
-    let list = words_of(alloc, words)?;
+    let list = strings(alloc, words)?;
     let bytes = script.as_bytes().to_vec(alloc)?;
     let mut source = MemSource::new(bytes, outside.piece.max(1), vec![in alloc; outside.take]?);
     let mut out = MemSink::new(alloc, 131_072, vec![in alloc; outside.put]?)?;
@@ -82,13 +84,25 @@ fn run_with<R: Threads + Wait + Sync, G: Gate + Sync>(
     Ok(Left { status, out, err })
 }
 
+/// Asserts that a value is this one.
+fn assert_same<T: Copy + Debug + PartialEq>(rt: &impl Abort, found: T, want: T) {
+    assert_eq!(rt; found, want);
+}
+
 fn assert_left(rt: &impl Abort, left: &Left, status: u8, out: &str, err: &str, case: &str) {
     let found = (left.status, left.out.bytes(), left.err.bytes());
-    assert_eq!(rt; found, (status, out.as_bytes(), err.as_bytes()), "{case}");
+    let want = (status, out.as_bytes(), err.as_bytes());
+    assert_same(rt, (case, found), (case, want));
 }
 
 /// The words and the input, and what is left: the status, the text and the line of the error.
-type Case = (&'static str, &'static str, u8, &'static str, &'static str);
+type Case = (
+    &'static [&'static str],
+    &'static str,
+    u8,
+    &'static str,
+    &'static str,
+);
 
 /// Asserts that each case leaves that, whatever the input's pieces.
 fn assert_cases<R: Threads + Wait + Sync + Abort>(
@@ -108,23 +122,23 @@ fn assert_cases<R: Threads + Wait + Sync + Abort>(
 #[test]
 fn scripts_are_served_and_others_refused(rt: HostRuntime) -> Result<(), Fail> {
     let cases: [Case; 30] = [
-        ("run", "table single\n", 0, "size 64 keys 0\n", ""),
+        (&["run"], "table single\n", 0, "size 64 keys 0\n", ""),
         (
-            "run",
+            &["run"],
             SCRIPT,
             0,
             "1: bound\n1: found 100\n1: released\n1: missing\nsize 64 keys 0\n",
             "",
         ),
         (
-            "run",
+            &["run"],
             "table single\n1 bind 4294967295 8\n1 bind 0 7\n",
             0,
             "1: bound\n1: bound\nport 0: 7\nport 4294967295: 8\nsize 64 keys 2\n",
             "",
         ),
         (
-            "run",
+            &["run"],
             "table single\n1 bind 80 100\n1 bind 80 7\n1 release 80 7\n1 find 080\n",
             0,
             "1: bound\n1: exists 100\n1: absent\n1: found 100\nport 80: 100\nsize 64 keys 1\n",
@@ -133,14 +147,14 @@ fn scripts_are_served_and_others_refused(rt: HostRuntime) -> Result<(), Fail> {
         // Ports 5, 69 and 133 are in one bucket, of which one leaves from between the others and one
         // comes again; 6 is in another. Nothing of that shows, whichever hash is named.
         (
-            "run",
+            &["run"],
             "table single hash low\n1 bind 5 1\n1 bind 69 2\n1 bind 133 3\n1 bind 6 4\n1 release 69 2\n1 find 69\n1 find 5\n1 bind 69 7\n1 find 133\n1 release 5 2\n",
             0,
             "1: bound\n1: bound\n1: bound\n1: bound\n1: released\n1: missing\n1: found 1\n1: bound\n1: found 3\n1: absent\nport 5: 1\nport 6: 4\nport 69: 7\nport 133: 3\nsize 64 keys 4\n",
             "",
         ),
         (
-            "run",
+            &["run"],
             "table single hash mix seed 7 min 4 hint 1\n1 bind 5 1\n1 bind 69 2\n1 find 69\n1 bind 5 3\n",
             0,
             "1: bound\n1: bound\n1: found 2\n1: exists 1\nport 5: 1\nport 69: 2\nsize 4 keys 2\n",
@@ -148,14 +162,14 @@ fn scripts_are_served_and_others_refused(rt: HostRuntime) -> Result<(), Fail> {
         ),
         // The words of owners: who has a port alone gives it away, and a list has its last owner first.
         (
-            "run",
+            &["run"],
             "table single\n1 bind 80 1\n1 rebind 80 2 3\n1 rebind 80 1 3\n1 all 80\n1 all 81\n1 count\n",
             0,
             "1: bound\n1: absent\n1: rebound\n1: list 3\n1: list\n1: count 1\nport 80: 3\nsize 64 keys 1\n",
             "",
         ),
         (
-            "run",
+            &["run"],
             "table listed\n1 bind 80 1\n1 bind 80 2\n1 bind 80 3\n1 all 80\n1 release 80 2\n1 find 80\n1 all 81\n",
             0,
             "1: bound\n1: bound\n1: bound\n1: list 3 2 1\n1: released\n1: found 3\n1: list\nport 80: 3 1\nsize 64 keys 1\n",
@@ -164,14 +178,14 @@ fn scripts_are_served_and_others_refused(rt: HostRuntime) -> Result<(), Fail> {
         // Refusals: a table of at most 4 buckets holds 8 ports, all of them in 4 buckets; and of 1 node
         // none is left once it was taken, also where it was taken out again.
         (
-            "run",
+            &["run"],
             "table single max 4 hash low\n1 bind 0 9\n1 bind 1 9\n1 bind 2 9\n1 bind 3 9\n1 bind 4 9\n1 bind 5 9\n1 bind 6 9\n1 bind 7 9\n1 bind 8 9\n",
             0,
             "1: bound\n1: bound\n1: bound\n1: bound\n1: bound\n1: bound\n1: bound\n1: bound\n1: toobig 8\nport 0: 9\nport 1: 9\nport 2: 9\nport 3: 9\nport 4: 9\nport 5: 9\nport 6: 9\nport 7: 9\nsize 4 keys 8\n",
             "",
         ),
         (
-            "run",
+            &["run"],
             "table single nodes 1\n1 bind 80 1\n1 bind 81 1\n1 release 80 1\n1 bind 81 1\n",
             0,
             "1: bound\n1: nonode\n1: released\n1: nonode\nsize 64 keys 0\n",
@@ -179,70 +193,76 @@ fn scripts_are_served_and_others_refused(rt: HostRuntime) -> Result<(), Fail> {
         ),
         // The options, comments, blank lines, blanks between words, and a last line that the end of
         // the input cuts. 96 * 4 / 3 = 128; 129 is rounded up to 256.
-        ("run", "table single hint 96\n", 0, "size 128 keys 0\n", ""),
-        ("run", "table single min 129", 0, "size 256 keys 0\n", ""),
         (
-            "run",
+            &["run"],
+            "table single hint 96\n",
+            0,
+            "size 128 keys 0\n",
+            "",
+        ),
+        (&["run"], "table single min 129", 0, "size 256 keys 0\n", ""),
+        (
+            &["run"],
             "# caf\u{e9}\n\ntable\tsingle hint 3 min 3\r\n 1 bind 9 7 \r\n# b\n1\t find 9",
             0,
             "1: bound\n1: found 7\nport 9: 7\nsize 4 keys 1\n",
             "",
         ),
         // Each cause, on the line that is at fault.
-        ("run", "", 2, "", NO_TABLE_LINE),
-        ("run", "1 find 80\n", 2, "", NO_TABLE_LINE),
+        (&["run"], "", 2, "", NO_TABLE_LINE),
+        (&["run"], "1 find 80\n", 2, "", NO_TABLE_LINE),
         (
-            "run",
+            &["run"],
             "table single most 4\n",
             2,
             "",
             "rht: line 1: unknown or missing word\n",
         ),
         (
-            "run",
+            &["run"],
             "table single\n1 bind 80",
             2,
             "",
             "rht: line 2: unknown or missing word\n",
         ),
         (
-            "run",
+            &["run"],
             "table single\n\n1 find x\n",
             2,
             "",
             "rht: line 3: bad number\n",
         ),
         (
-            "run",
+            &["run"],
             "table single\n1 bind 0 7\n1 bind 4294967295 8\n1 find 4294967296\n",
             2,
             "",
             "rht: line 4: number out of range\n",
         ),
         (
-            "run",
+            &["run"],
             "table single\n2 find 1\n",
             2,
             "",
             "rht: line 2: number out of range\n",
         ),
         (
-            "run",
+            &["run"],
             "table single pages 4 hint 300\n",
             2,
             "",
             "rht: line 1: options do not agree\n",
         ),
-        ("run x", "table single\n", 1, "", USAGE),
-        ("gen", "table single\n", 1, "", USAGE),
-        ("gen -1", "table single\n", 1, "", USAGE),
-        ("run --", "table single\n", 1, "", USAGE),
-        ("replay x", "table single\n", 1, "", USAGE),
+        (&["run", "x"], "table single\n", 1, "", USAGE),
+        (&["gen"], "table single\n", 1, "", USAGE),
+        (&["gen", "-1"], "table single\n", 1, "", USAGE),
+        (&["run", "--"], "table single\n", 1, "", USAGE),
+        (&["replay", "x"], "table single\n", 1, "", USAGE),
         // The number of `gen` has 1 to 10 digits, and 32 bits.
-        ("gen 4294967296", "table single\n", 1, "", USAGE),
-        ("gen 00000000007", "table single\n", 1, "", USAGE),
-        ("gen 7 7", "table single\n", 1, "", USAGE),
-        ("", "table single\n", 1, "", USAGE),
+        (&["gen", "4294967296"], "table single\n", 1, "", USAGE),
+        (&["gen", "00000000007"], "table single\n", 1, "", USAGE),
+        (&["gen", "7", "7"], "table single\n", 1, "", USAGE),
+        (&[], "table single\n", 1, "", USAGE),
     ];
     assert_cases(&rt, rt.alloc(), &cases)
 }
@@ -282,7 +302,7 @@ fn four_workers_are_served(rt: HostRuntime) -> Result<(), Fail> {
         add_answers(rt.alloc(), &mut text, w)?;
     }
     text.push_str("size 64 keys 0\n")?;
-    let left = run_on(&rt, rt.alloc(), "run", &script, WHOLE)?;
+    let left = run_on(&rt, rt.alloc(), &["run"], &script, WHOLE)?;
     assert_left(&rt, &left, 0, &text, "", "four workers");
     Ok(())
 }
@@ -326,7 +346,7 @@ fn two_workers_meet(rt: HostRuntime) -> Result<(), Fail> {
             raised: [AtomicBool::new(false), AtomicBool::new(false)],
             seen: [AtomicBool::new(false), AtomicBool::new(false)],
         };
-        let left = run_with(&rt, rt.alloc(), "run", script, WHOLE, &gate)?;
+        let left = run_with(&rt, rt.alloc(), &["run"], script, WHOLE, &gate)?;
         let seen = gate.seen[0].load(Ordering::SeqCst);
         assert!(rt; seen && gate.seen[1].load(Ordering::SeqCst));
         let text = "1: bound\n2: bound\nport 1: 1\nport 2: 2\nsize 64 keys 2\n";
@@ -358,11 +378,11 @@ fn a_number_is_run(rt: HostRuntime) -> Result<(), Fail> {
     // Bound stay the ports 10,000 w + o + j of the even j, with o the number's last three digits:
     // 250 * (360,000 + 8 o) + 8 * 62,250 = 90,498,000 + 2,000 o.
     let cases = [
-        ("gen 7", "gen 7", "90512000"),
-        ("gen 0000000007", "gen 7", "90512000"),
-        ("gen 4294967295", "gen 4294967295", "91088000"),
+        ("7", "7", "90512000"),
+        ("0000000007", "7", "90512000"),
+        ("4294967295", "4294967295", "91088000"),
     ];
-    for (words, name, sum) in cases {
+    for (word, number, sum) in cases {
         let heard = Heard {
             before: AtomicU64::new(0),
             after: AtomicU64::new(0),
@@ -374,11 +394,11 @@ fn a_number_is_run(rt: HostRuntime) -> Result<(), Fail> {
             put: 0,
             err: 0,
         };
-        let left = run_with(&rt, rt.alloc(), words, SCRIPT, outside, &heard)?;
+        let left = run_with(&rt, rt.alloc(), &["gen", word], SCRIPT, outside, &heard)?;
         let text = format!(in rt.alloc();
-            "{name}: commands 20000 bound 4000 exists 2000 found 6000 missing 6000 released 2000 keys 2000 sum {sum}\n"
+            "gen {number}: commands 20000 bound 4000 exists 2000 found 6000 missing 6000 released 2000 keys 2000 sum {sum}\n"
         )?;
-        assert_left(&rt, &left, 0, &text, "", words);
+        assert_left(&rt, &left, 0, &text, "", word);
         let before = heard.before.load(Ordering::SeqCst);
         assert!(rt; before == 20_000 && heard.after.load(Ordering::SeqCst) == 20_000);
     }
@@ -394,7 +414,7 @@ fn assert_line(
     reply: &str,
 ) -> Result<(), Fail> {
     let want = format!(in alloc; "{w}: {reply}")?;
-    assert_eq!(rt; line, Some(want.as_str()));
+    assert_same(rt, line, Some(want.as_str()));
     Ok(())
 }
 
@@ -407,28 +427,44 @@ fn assert_found(rt: &impl Abort, alloc: Global, line: Option<&str>, w: u32) -> R
     Ok(())
 }
 
+/// Twenty rounds of the worker, each of which binds the port, looks it up and takes it out.
+fn add_rounds(alloc: Global, script: &mut String, w: u32) -> Result<(), Fail> {
+    let lines = format!(in alloc; "{w} bind 80 {w}\n{w} find 80\n{w} release 80 {w}\n")?;
+    add_lines(script, 20, &lines)
+}
+
+/// Asserts that the next lines answer these rounds.
+fn assert_rounds(
+    rt: &impl Abort,
+    alloc: Global,
+    lines: &mut Lines<'_>,
+    w: u32,
+) -> Result<(), Fail> {
+    for _ in 0..20 {
+        assert_line(rt, alloc, lines.next(), w, "bound")?;
+        assert_found(rt, alloc, lines.next(), w)?;
+        assert_line(rt, alloc, lines.next(), w, "released")?;
+    }
+    Ok(())
+}
+
 #[test]
 fn sixteen_workers_share_a_port(rt: HostRuntime) -> Result<(), Fail> {
     // Each binds the port to itself, looks it up and takes its own binding out. Its look-up finds an owner,
     // since its own is bound then; whose, is for the order of the workers to say.
     let mut script = String::from_str(rt.alloc(), "table listed workers 16\n")?;
     for w in 1..=16u32 {
-        let lines = format!(in rt.alloc(); "{w} bind 80 {w}\n{w} find 80\n{w} release 80 {w}\n")?;
-        add_lines(&mut script, 20, &lines)?;
+        add_rounds(rt.alloc(), &mut script, w)?;
     }
-    let left = run_on(&rt, rt.alloc(), "run", &script, WHOLE)?;
-    assert!(rt; left.status == 0);
+    let left = run_on(&rt, rt.alloc(), &["run"], &script, WHOLE)?;
+    assert_same(&rt, left.status, 0);
     let text = str::from_utf8(left.out.bytes())?;
     let mut lines = text.lines();
     for w in 1..=16u32 {
-        for _ in 0..20 {
-            assert_line(&rt, rt.alloc(), lines.next(), w, "bound")?;
-            assert_found(&rt, rt.alloc(), lines.next(), w)?;
-            assert_line(&rt, rt.alloc(), lines.next(), w, "released")?;
-        }
+        assert_rounds(&rt, rt.alloc(), &mut lines, w)?;
     }
     let last = (lines.next(), lines.next());
-    assert!(rt; last == (Some("size 64 keys 0"), None));
+    assert_same(&rt, last, (Some("size 64 keys 0"), None));
     Ok(())
 }
 
@@ -459,7 +495,7 @@ fn schedules_are_replayed(rt: HostRuntime) -> Result<(), Fail> {
         ),
     ];
     for (script, text) in cases {
-        assert_cases(&rt, rt.alloc(), &[("replay", script, 0, text, "")])?;
+        assert_cases(&rt, rt.alloc(), &[(&["replay"], script, 0, text, "")])?;
     }
     Ok(())
 }
@@ -467,18 +503,18 @@ fn schedules_are_replayed(rt: HostRuntime) -> Result<(), Fail> {
 #[test]
 fn a_failed_take_leaves_nothing_written(rt: HostRuntime) -> Result<(), Fail> {
     // Four takes of 16 bytes and one that finds the end.
-    for words in ["run", "replay"] {
+    for form in ["run", "replay"] {
         for take in 1..=6 {
             let outside = Outside {
                 piece: 16,
                 take,
                 ..WHOLE
             };
-            let left = run_on(&rt, rt.alloc(), words, SCRIPT, outside)?;
+            let left = run_on(&rt, rt.alloc(), &[form], SCRIPT, outside)?;
             if take < 6 {
-                assert_left(&rt, &left, 3, "", "rht: read failed\n", words);
+                assert_left(&rt, &left, 3, "", "rht: read failed\n", form);
             } else {
-                assert!(rt; left.status == 0, "{words}");
+                assert!(rt; left.status == 0, "{form}");
             }
         }
     }
@@ -495,20 +531,20 @@ fn a_failed_put_leaves_the_lines_before_it(rt: HostRuntime) -> Result<(), Fail> 
         "1: bound\n1: found 100\n",
         "1: bound\n1: found 100\nport 80: 100\nsize 64 keys 1\n",
     ];
-    for (i, text) in texts.iter().enumerate() {
+    for i in 0..4 {
         let outside = Outside {
             piece: 4096,
             take: 0,
             put: i as u64 + 1,
             err: 0,
         };
-        let left = run_on(&rt, rt.alloc(), "replay", script, outside)?;
+        let left = run_on(&rt, rt.alloc(), &["replay"], script, outside)?;
         let (status, line) = if i < 3 {
             (4, "rht: write failed\n")
         } else {
             (0, "")
         };
-        assert_left(&rt, &left, status, text, line, script);
+        assert_left(&rt, &left, status, texts[i], line, script);
     }
     Ok(())
 }
@@ -528,7 +564,7 @@ fn a_failed_put_leaves_a_prefix(rt: HostRuntime) -> Result<(), Fail> {
             put,
             err: 0,
         };
-        let left = run_on(&rt, rt.alloc(), "run", script.as_str(), outside)?;
+        let left = run_on(&rt, rt.alloc(), &["run"], script.as_str(), outside)?;
         let (status, line) = if put < 4 {
             (4, "rht: write failed\n")
         } else {
@@ -544,44 +580,44 @@ fn a_failed_put_leaves_a_prefix(rt: HostRuntime) -> Result<(), Fail> {
             out.len() == text.len(),
         );
         let want = (status, line.as_bytes(), true, put == 1, put == 4);
-        assert_eq!(rt; found, want, "put {put}");
+        assert_same(&rt, (put, found), (put, want));
     }
     Ok(())
 }
 
 #[test]
 fn a_failing_err_changes_no_status(rt: HostRuntime) -> Result<(), Fail> {
-    for (words, script, status) in [("x", "", 1), ("run", "", 2)] {
+    for (word, script, status) in [("x", "", 1), ("run", "", 2)] {
         let outside = Outside {
             piece: 1,
             take: 0,
             put: 0,
             err: 1,
         };
-        let left = run_on(&rt, rt.alloc(), words, script, outside)?;
-        assert_left(&rt, &left, status, "", "", words);
+        let left = run_on(&rt, rt.alloc(), &[word], script, outside)?;
+        assert_left(&rt, &left, status, "", "", word);
     }
     Ok(())
 }
 
 #[test]
 fn where_nothing_outside_can_fail(rt: HostRuntime) -> Result<(), Fail> {
-    let cases = [
-        ("run", SCRIPT, 0),
-        ("run", "", 2),
-        ("run", "table single\n1 bind 80", 2),
-        ("replay", SCRIPT, 0),
-        ("replay", "", 2),
-        ("replay x", SCRIPT, 1),
-        ("gen 7", "", 0),
-        ("gen", SCRIPT, 1),
-        ("", SCRIPT, 1),
+    let cases: [(&[&str], &str, u8); 9] = [
+        (&["run"], SCRIPT, 0),
+        (&["run"], "", 2),
+        (&["run"], "table single\n1 bind 80", 2),
+        (&["replay"], SCRIPT, 0),
+        (&["replay"], "", 2),
+        (&["replay", "x"], SCRIPT, 1),
+        (&["gen", "7"], "", 0),
+        (&["gen"], SCRIPT, 1),
+        (&[], SCRIPT, 1),
     ];
     for (words, script, status) in cases {
-        let list = words_of(rt.alloc(), words)?;
+        let list = strings(rt.alloc(), words)?;
         let bytes = script.as_bytes().to_vec(rt.alloc())?;
         let left = complete(&rt, rt.alloc(), &list, bytes, &NoGate);
-        assert_eq!(rt; left, status, "{words}: {script}");
+        assert_same(&rt, (words, script, left), (words, script, status));
     }
     Ok(())
 }

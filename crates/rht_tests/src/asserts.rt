@@ -14,9 +14,10 @@ pub fn assert_same<T: Copy + Debug + PartialEq>(rt: &impl Abort, found: T, want:
 pub fn assert_bound(rt: &impl Abort, closed: &Closed, size: u32, bound: &[(Port, &[u32])]) {
     assert_same(rt, (closed.size, closed.keys as usize), (size, bound.len()));
     assert_same(rt, closed.bindings.len(), bound.len());
-    for (i, (port, owners)) in bound.iter().enumerate() {
+    for i in 0..bound.len() {
+        let (port, owners) = bound[i];
         assert!(rt; i < closed.bindings.len());
-        assert_same(rt, (i, closed.bindings.port(i)), (i, *port));
-        assert_same(rt, (i, closed.bindings.owners(i)), (i, *owners));
+        assert_same(rt, (i, closed.bindings.port(i)), (i, port));
+        assert_same(rt, (i, closed.bindings.owners(i)), (i, owners));
     }
 }

@@ -121,9 +121,9 @@ impl Gate for Counting {
 /// Asserts that these are the replies.
 fn assert_replies(rt: &impl Abort, replies: &Replies, want: &[Reply]) {
     assert_same(rt, replies.len(), want.len());
-    for (i, reply) in want.iter().enumerate() {
+    for i in 0..want.len() {
         assert!(rt; i < replies.len());
-        assert_same(rt, (i, replies.reply(i)), (i, *reply));
+        assert_same(rt, (i, replies.reply(i)), (i, want[i]));
     }
 }
 

@@ -6,6 +6,7 @@
 ghost use Rattle.std.specs.Prelude.{◌≡◌};
 ghost use Rattle.rht_policy.specs.Mix.{mix_named};
 
+use crate::asserts::assert_same;
 use rht_io::MemSink;
 use rht_model::Call;
 use rht_policy::{Lookup3, Low, Mix};
@@ -92,8 +93,8 @@ fn assert_replay<M: Mix>(
     assert!(rt; script.is_sound());
     let mut sink = MemSink::new(alloc, 4096, Vec::from_slice(alloc, fails)?)?;
     let ended = replay::<M, _>(alloc, &script, &mut sink);
-    assert_eq!(rt; sink.bytes(), want.1.as_bytes());
-    assert_eq!(rt; ended, want.0);
+    assert_same(rt, sink.bytes(), want.1.as_bytes());
+    assert_same(rt, ended, want.0);
     Ok(())
 }
 

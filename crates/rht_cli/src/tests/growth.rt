@@ -11,20 +11,12 @@ use std::thread::Threads;
 #[derive(Clone, Copy)]
 enum Part {
     Lines(u32, &'static str),
-    Each(&'static str, Row, &'static str),
+    Each(&'static str, Ports, &'static str),
 }
 
-/// So many ports from the first one on, each so much greater than the one before.
+/// Ports from the first one on, each so much greater than the one before, and how many.
 #[derive(Clone, Copy)]
-struct Row {
-    first: u32,
-    step: u32,
-    count: u32,
-}
-
-const fn ports(first: u32, step: u32, count: u32) -> Row {
-    Row { first, step, count }
-}
+struct Ports(u32, u32, u32);
 
 /// The text of these parts.
 fn written(alloc: Global, parts: &[Part]) -> Result<String, Fail> {
@@ -42,13 +34,14 @@ fn add_each(
     alloc: Global,
     text: &mut String,
     before: &str,
-    ports: Row,
+    ports: Ports,
     after: &str,
 ) -> Result<(), Fail> {
-    let mut port = ports.first;
-    for _ in 0..ports.count {
+    let Ports(first, step, count) = ports;
+    let mut port = first;
+    for _ in 0..count {
         text.push_str(&format!(in alloc; "{before}{port}{after}")?)?;
-        port = port.wrapping_add(ports.step);
+        port = port.wrapping_add(step);
     }
     Ok(())
 }
@@ -62,8 +55,20 @@ fn assert_written<R: Threads + Wait + Sync + Abort>(
 ) -> Result<(), Fail> {
     let script = written(alloc, script)?;
     let text = written(alloc, text)?;
-    let left = run_on(rt, alloc, "run", &script, WHOLE)?;
+    let left = run_on(rt, alloc, &["run"], &script, WHOLE)?;
     assert_left(rt, &left, 0, &text, "", &script);
+    Ok(())
+}
+
+/// Asserts that of each script and text.
+fn assert_cases<R: Threads + Wait + Sync + Abort>(
+    rt: &R,
+    alloc: Global,
+    cases: &[(&[Part], &[Part])],
+) -> Result<(), Fail> {
+    for (script, text) in cases {
+        assert_written(rt, alloc, script, text)?;
+    }
     Ok(())
 }
 
@@ -76,13 +81,13 @@ fn tables_grow_and_shrink(rt: HostRuntime) -> Result<(), Fail> {
         (
             &[
                 Lines(1, "table single hash low work manual\n"),
-                Each("1 bind ", ports(0, 1, 48), " 1\n"),
+                Each("1 bind ", Ports(0, 1, 48), " 1\n"),
                 Lines(1, "1 work\n1 bind 48 1\n1 work\n"),
             ],
             &[
                 Lines(48, "1: bound\n"),
                 Lines(1, "1: idle\n1: bound\n1: moved\n"),
-                Each("port ", ports(0, 1, 49), ": 1\n"),
+                Each("port ", Ports(0, 1, 49), ": 1\n"),
                 Lines(1, "size 128 keys 49\n"),
             ],
         ),
@@ -90,13 +95,13 @@ fn tables_grow_and_shrink(rt: HostRuntime) -> Result<(), Fail> {
         (
             &[
                 Lines(1, "table single hash low\n"),
-                Each("1 bind ", ports(0, 1, 49), " 1\n"),
+                Each("1 bind ", Ports(0, 1, 49), " 1\n"),
                 Lines(1, "1 work\n"),
             ],
             &[
                 Lines(49, "1: bound\n"),
                 Lines(1, "1: idle\n"),
-                Each("port ", ports(0, 1, 49), ": 1\n"),
+                Each("port ", Ports(0, 1, 49), ": 1\n"),
                 Lines(1, "size 128 keys 49\n"),
             ],
         ),
@@ -104,13 +109,13 @@ fn tables_grow_and_shrink(rt: HostRuntime) -> Result<(), Fail> {
         (
             &[
                 Lines(1, "table single hint 96 shrink on hash low work manual\n"),
-                Each("1 bind ", ports(0, 1, 38), " 1\n"),
+                Each("1 bind ", Ports(0, 1, 38), " 1\n"),
                 Lines(1, "1 work\n1 release 37 1\n1 work\n"),
             ],
             &[
                 Lines(38, "1: bound\n"),
                 Lines(1, "1: idle\n1: released\n1: moved\n"),
-                Each("port ", ports(0, 1, 37), ": 1\n"),
+                Each("port ", Ports(0, 1, 37), ": 1\n"),
                 Lines(1, "size 64 keys 37\n"),
             ],
         ),
@@ -118,26 +123,26 @@ fn tables_grow_and_shrink(rt: HostRuntime) -> Result<(), Fail> {
         (
             &[
                 Lines(1, "table listed work auto hint 96 hash low shrink on\n"),
-                Each("1 bind ", ports(0, 1, 38), " 1\n"),
+                Each("1 bind ", Ports(0, 1, 38), " 1\n"),
                 Lines(1, "1 release 37 1\n1 work\n"),
             ],
             &[
                 Lines(38, "1: bound\n"),
                 Lines(1, "1: released\n1: idle\n"),
-                Each("port ", ports(0, 1, 37), ": 1\n"),
+                Each("port ", Ports(0, 1, 37), ": 1\n"),
                 Lines(1, "size 64 keys 37\n"),
             ],
         ),
         (
             &[
                 Lines(1, "table single hint 96 shrink off hash low\n"),
-                Each("1 bind ", ports(0, 1, 38), " 1\n"),
+                Each("1 bind ", Ports(0, 1, 38), " 1\n"),
                 Lines(1, "1 release 37 1\n1 work\n"),
             ],
             &[
                 Lines(38, "1: bound\n"),
                 Lines(1, "1: released\n1: idle\n"),
-                Each("port ", ports(0, 1, 37), ": 1\n"),
+                Each("port ", Ports(0, 1, 37), ": 1\n"),
                 Lines(1, "size 128 keys 37\n"),
             ],
         ),
@@ -146,13 +151,13 @@ fn tables_grow_and_shrink(rt: HostRuntime) -> Result<(), Fail> {
         (
             &[
                 Lines(1, "table single hash low work manual\n"),
-                Each("1 bind ", ports(0, 64, 32), " 1\n"),
+                Each("1 bind ", Ports(0, 64, 32), " 1\n"),
                 Lines(1, "1 bind 2048 1\n1 work\n1 find 2048\n"),
             ],
             &[
                 Lines(32, "1: bound\n"),
                 Lines(1, "1: busy 0 1\n1: moved\n1: missing\n"),
-                Each("port ", ports(0, 64, 32), ": 1\n"),
+                Each("port ", Ports(0, 64, 32), ": 1\n"),
                 Lines(1, "size 64 keys 32\n"),
             ],
         ),
@@ -161,14 +166,14 @@ fn tables_grow_and_shrink(rt: HostRuntime) -> Result<(), Fail> {
         (
             &[
                 Lines(1, "table single hash low\n"),
-                Each("1 bind ", ports(0, 64, 25), " 1\n"),
+                Each("1 bind ", Ports(0, 64, 25), " 1\n"),
                 Lines(1, "1 count\n"),
             ],
             &[
                 Lines(23, "1: bound\n"),
                 Lines(2, "1: notable 64\n"),
                 Lines(1, "1: count 23\n"),
-                Each("port ", ports(0, 64, 23), ": 1\n"),
+                Each("port ", Ports(0, 64, 23), ": 1\n"),
                 Lines(1, "size 64 keys 23\n"),
             ],
         ),
@@ -179,21 +184,21 @@ fn tables_grow_and_shrink(rt: HostRuntime) -> Result<(), Fail> {
                     1,
                     "table single hint 1 shrink on hash low work manual\n1 bind 0 10\n",
                 ),
-                Each("1 bind ", ports(1, 1, 3), " 10\n"),
+                Each("1 bind ", Ports(1, 1, 3), " 10\n"),
                 Lines(1, "1 work\n"),
-                Each("1 release ", ports(1, 1, 3), " 10\n"),
+                Each("1 release ", Ports(1, 1, 3), " 10\n"),
                 Lines(1, "1 work\n"),
-                Each("1 bind ", ports(1, 1, 3), " 10\n"),
+                Each("1 bind ", Ports(1, 1, 3), " 10\n"),
                 Lines(1, "1 work\n"),
-                Each("1 release ", ports(1, 1, 3), " 10\n"),
+                Each("1 release ", Ports(1, 1, 3), " 10\n"),
                 Lines(1, "1 work\n"),
-                Each("1 bind ", ports(1, 1, 3), " 10\n"),
+                Each("1 bind ", Ports(1, 1, 3), " 10\n"),
                 Lines(1, "1 work\n"),
-                Each("1 release ", ports(1, 1, 3), " 10\n"),
+                Each("1 release ", Ports(1, 1, 3), " 10\n"),
                 Lines(1, "1 work\n"),
-                Each("1 bind ", ports(1, 1, 3), " 10\n"),
+                Each("1 bind ", Ports(1, 1, 3), " 10\n"),
                 Lines(1, "1 work\n"),
-                Each("1 release ", ports(1, 1, 3), " 10\n"),
+                Each("1 release ", Ports(1, 1, 3), " 10\n"),
                 Lines(1, "1 work\n"),
             ],
             &[
@@ -214,7 +219,7 @@ fn tables_grow_and_shrink(rt: HostRuntime) -> Result<(), Fail> {
         (
             &[
                 Lines(1, "table single pages 4 hint 96 hash low work manual\n"),
-                Each("1 bind ", ports(0, 1, 130), " 1\n"),
+                Each("1 bind ", Ports(0, 1, 130), " 1\n"),
                 Lines(
                     1,
                     "1 bind 130 1\n1 bind 133 1\n1 find 130\n1 find 129\n1 work\n",
@@ -226,7 +231,7 @@ fn tables_grow_and_shrink(rt: HostRuntime) -> Result<(), Fail> {
                     1,
                     "1: notable 256\n1: bound\n1: missing\n1: found 1\n1: notable 256\n",
                 ),
-                Each("port ", ports(0, 1, 130), ": 1\n"),
+                Each("port ", Ports(0, 1, 130), ": 1\n"),
                 Lines(1, "port 133: 1\nsize 128 keys 131\n"),
             ],
         ),
@@ -238,7 +243,7 @@ fn tables_grow_and_shrink(rt: HostRuntime) -> Result<(), Fail> {
                     1,
                     "table single nodes 32 pages 132 hint 6144 hash low work manual\n",
                 ),
-                Each("1 bind ", ports(0, 8192, 17), " 1\n"),
+                Each("1 bind ", Ports(0, 8192, 17), " 1\n"),
                 Lines(
                     1,
                     "1 bind 1 1\n1 find 1\n1 bind 2 1\n1 bind 128 1\n1 find 128\n1 find 131072\n1 rebind 128 1 2\n1 release 131072 1\n1 find 131072\n1 work\n",
@@ -251,13 +256,10 @@ fn tables_grow_and_shrink(rt: HostRuntime) -> Result<(), Fail> {
                     "1: notable 8192\n1: missing\n1: notable 8192\n1: bound\n1: found 1\n1: found 1\n1: rebound\n1: released\n1: missing\n1: notable 8192\n",
                 ),
                 Lines(1, "port 0: 1\nport 128: 2\n"),
-                Each("port ", ports(8192, 8192, 15), ": 1\n"),
+                Each("port ", Ports(8192, 8192, 15), ": 1\n"),
                 Lines(1, "size 8192 keys 17\n"),
             ],
         ),
     ];
-    for (script, text) in cases {
-        assert_written(&rt, rt.alloc(), script, text)?;
-    }
-    Ok(())
+    assert_cases(&rt, rt.alloc(), &cases)
 }

@@ -52,7 +52,7 @@ fn is_number(word: &[u8]) -> bool
 fn are_digits(word: &[u8]) -> bool
     ensures { result ≡ list_all is_ascii_digit word.now }
 {
-    word.iter().all(|byte| byte.is_ascii_digit())
+    word.iter().all(u8::is_ascii_digit)
 }
 
 /// What the digits stand for, where that is below 2^64.
