@@ -1,7 +1,6 @@
 -- In a run of the script of a number no command finds no node: `NoNode` comes only where more commands bind or rebind than there are
 -- nodes, and of 20,000 commands 12,000 look up and 2,000 release, which leaves fewer than 8,192.
 use Rattle.std.proofs.Common.{◌≡◌, ℕ, ◌+◌, ◌≤◌, List, [], ◌∷◌, length, subst, arith}
-use Rattle.std.specs.Prelude.{count_by}
 use Rattle.std.proofs.lemmas.List.Sums.{sum_by-cons}
 use Rattle.rht_words.proofs.Members.{one_if}
 use Rattle.rht_model.specs.declared.history.Call.{Call}
