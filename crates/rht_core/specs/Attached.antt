@@ -72,16 +72,12 @@ pub record MovesOn (g : Geometry) (words : List ℕ) (did : Did) : Type 0 where
   pub becomes : word_after did.old did.op ≡ table
   pub followed : slot_of (word_at g words (Slot (table_of did.old) FutureWord)) ≡ Some table
 
--- the table of this slot is in force by these words, or is retired
-abbrev pub IsInForceOrRetired : Geometry → List ℕ → ℕ → Type 0
-IsInForceOrRetired g words table = In table (in_force g words) ⊎ (word_at g words (Slot table StateWord) ≡ 2)
-
--- the operation changes this entry, which by the words before is a way's end of such a table, and so leads to no page
+-- the operation changes this entry, which by the words before is a way's end of a table in force, and so leads to no page
 pub record ChangesMissing (g : Geometry) (words : List ℕ) (entry : ℕ) (did : Did) : Type 0 where
   pub entry_in : entry < 64 * g.pages
   pub table : ℕ
   pub table_in : table < 8
-  pub stands : IsInForceOrRetired g words table
+  pub stands : In table (in_force g words)
   pub way : IsWaysEnd g words table entry
   pub there : op_place did.op ≡ place_of g (PageWord entry)
   pub other : word_after did.old did.op ≢ did.old

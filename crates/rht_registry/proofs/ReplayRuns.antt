@@ -5,9 +5,8 @@
 -- are played one behind the other put their events one behind the other. That the replay with its lines ends where the one with its
 -- events does is seen part by part, since what is kept of an event says nothing of what comes next.
 use Rattle.std.proofs.Common.{◌≡◌, ℕ, zero, suc, ◌+◌, ◌-◌, ◌^◌, ◌<◌, ◌≤◌, ◌==◌, ◌||◌, Bool, true, false, cond, List, [], ◌∷◌, ◌++◌, replicate, refl, sym, ◌∙◌, ap, subst, append_assoc, append-nil, arith}
-use Rattle.std.specs.Prelude.{Option, Some, None, nat_lt}
+use Rattle.std.specs.Prelude.{Option, None, nat_lt}
 use Rattle.std.specs.List.{AllByRecursion}
-use Rattle.rht_words.specs.declared.config.Kind.{Kind}
 use Rattle.rht_words.specs.declared.env.Env.{Env}
 use Rattle.rht_words.proofs.EachElement.{AllByRecursion-append}
 use Rattle.rht_model.specs.declared.history.Call.{Call}
@@ -21,7 +20,7 @@ use Rattle.rht_core.proofs.Events.Worlds.{run_of-push}
 use Rattle.rht_script.specs.declared.script.Script.{Script}
 use Rattle.rht_script.specs.declared.script.Sched.{Sched}
 use Rattle.rht_script.specs.declared.script.Sched.TheVariants as lines
-use Rattle.rht_registry.specs.Replays.{most_events, Playing, left_at, is_through, still_to_end, times, given, readied, turn_of, event_of, lines_at, given_events, readied_events, events_at, stepping_with, finishing_with, line_with, schedule_with, playing_from, replay_events, replayed, IsInRun}
+use Rattle.rht_registry.specs.Replays.{most_events, Playing, left_at, is_through, still_to_end, times, given, readied, turn_of, event_of, lines_at, given_events, readied_events, events_at, stepping_with, finishing_with, line_with, schedule_with, playing_from, IsInRun}
 use Rattle.rht_registry.specs.Players.{IsLineFor}
 
 module _ (env : Env) where

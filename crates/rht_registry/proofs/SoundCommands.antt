@@ -1,7 +1,7 @@
 -- Each command of a sound script is one of its workers', and its call is one that a table of the script's config may be given. Where
 -- commands can ask for it there is a machine for it; and where there is one worker all calls are its own.
 use Rattle.std.proofs.Common.{◌≡◌, ◌≢◌, ℕ, ◌^◌, ◌<◌, ◌≤◌, Bool, true, false, List, [], ◌∷◌, length, map, get_or, refl, sym, ap, subst, arith}
-use Rattle.std.specs.Prelude.{IsTrue, ◌&&◌, Some, None, is_some, nat_le}
+use Rattle.std.specs.Prelude.{IsTrue, ◌&&◌, Some, None, nat_le}
 use Rattle.std.specs.List.{AllByRecursion, list_all}
 use Rattle.std.proofs.lemmas.Bool.{leb-true, eq-eqb, eqb-true}
 use Rattle.std.proofs.lemmas.List.Elements.{All-from_recursion}

@@ -25,7 +25,7 @@ use Rattle.rht_core.specs.Traces.{Did, performed_of}
 use Rattle.rht_nest.specs.MakeLaws.{TakesSlot}
 use Rattle.rht_core.specs.Seen.{words_before}
 use Rattle.rht_core.specs.ResizeCauses.{wanted_size}
-use Rattle.rht_core.specs.Attached.{ChangesTable, size_made, AttachesFull, AttachesRightly, ChangesRightly, IsInForceOrRetired, ChangesMissing}
+use Rattle.rht_core.specs.Attached.{ChangesTable, size_made, AttachesFull, AttachesRightly, ChangesRightly, ChangesMissing}
 
 -- where it loads the shape of a table, that is one of so many buckets
 abbrev pub FindsSize : Geometry → ℕ → Did → Type 0
@@ -106,7 +106,7 @@ module _ (M : Type 0) (mix : ℕ → ℕ → ℕ → ℕ) (env : Env) (events : 
   -- ---- an exchange that enters a page at an entry which leads to none
 
   module _ (entry page : ℕ) (entry_in : entry < 64 * g.pages) (slot : ℕ) (low : slot < 8)
-      (way : IsWaysEnd g words slot entry) (stands : IsInForceOrRetired g words slot) where
+      (way : IsWaysEnd g words slot entry) (stands : In slot (in_force g words)) where
     abbrev enters : Did
     enters = record { index = index; op = Exchange (place_of g (PageWord entry)) 0 (entry_of page); old = 0 }
 

@@ -29,7 +29,8 @@ use Rattle.rht_move.specs.declared.work.WorkAt.{WorkAt}
 use Rattle.rht_move.specs.declared.work.WorkAt.TheVariants as working
 use Rattle.rht_core.specs.Jobs.{Job, finds, binds, lists, releases, rebinds, works, counts, job_plan, held_of}
 use Rattle.rht_core.specs.Traces.{Did}
-use Rattle.rht_core.specs.Attached.{IsInForceOrRetired, ChangesMissing}
+use Rattle.rht_stands.specs.StandsFor.{in_force}
+use Rattle.rht_core.specs.Attached.{ChangesMissing}
 use Rattle.rht_ghost.proofs.Theory.Ghosts.{PageOwner, PageFree, PageHeld, put_in, put_in-other, has_bit, with_pages, is_entry_of, table_of_page, Ghost, SlotOwner, SlotFree, SlotHeld, Live, Retired, has_table, state_word, table_at, is_entry, entry_word}
 use Rattle.rht_ghost.proofs.Theory.Wholes.{Whole}
 use Rattle.rht_ghost.proofs.Theory.Readiness.{IsEntering, ArePagesOf}
@@ -62,22 +63,14 @@ module _ (env : Env) (mix : ℕ → ℕ → ℕ → ℕ) (c : ℕ) (words : List
   abbrev Here : Type 0
   Here = EntersThere env mix c G did before after entry
 
-  -- a slot whose table is in force or retired has a table
-  retired_has : (owner : SlotOwner) → state_word owner ≡ 2 → has_table owner ≡ true
-  retired_has SlotFree is = cc
-  retired_has (SlotHeld d) is = cc
-  retired_has (Live τ) is = refl
-  retired_has (Retired τ) is = refl
-
-  standing_has : (slot : ℕ) → slot < 8 → IsInForceOrRetired g words slot → has_table (G.slot slot) ≡ true
-  standing_has slot low (inl stands) =
+  -- a slot whose table is in force has a table
+  standing_has : (slot : ℕ) → In slot (in_force g words) → has_table (G.slot slot) ≡ true
+  standing_has slot stands =
       let table = in_force_is env mix words G whole slot stands in
       ap (λ s. has_table (G.slot s)) table.slot_is ∙ (whole.tables.each table.table table.attached).has_slot
-  standing_has slot low (inr retired) = retired_has (G.slot slot) (sym (whole.slots.states slot low) ∙ retired)
 
   of_entry : is_entry G entry ≡ true
-  of_entry =
-      missing_is_entry env mix words G whole entry changes.table changes.way (standing_has changes.table changes.table_in changes.stands)
+  of_entry = missing_is_entry env mix words G whole entry changes.table changes.way (standing_has changes.table changes.stands)
 
   -- a move that leaves where the entry leads leaves its word
   unchanged : (G' : Ghost) → Whole env mix (mem env mix (applied words did.op)) G' → is_entry G' entry ≡ true
