@@ -1,5 +1,5 @@
 -- What a script's replay writes is what the form `replay` prints.
-use Rattle.std.proofs.Common.{◌≡◌, ℕ, Option, Result, List, refl}
+use Rattle.std.proofs.Common.{ℕ, Option, Result, List, refl}
 use Rattle.rht_policy.specs.Mix.{mix_named}
 use Rattle.rht_run.specs.ServedRuns.{tag_of}
 use Rattle.rht_script.specs.declared.script.Script.{Script}

@@ -1,6 +1,6 @@
 -- How a form that reads a script is served: what was read of it is its input, and a text of its was written whole, or where the sink
 -- failed a prefix of it was.
-use Rattle.std.proofs.Common.{◌≡◌, ℕ, List, Option, Result, Ok, Err, refl, inl, inr, arith}
+use Rattle.std.proofs.Common.{ℕ, List, Option, Result, Ok, Err, refl, inl, inr, arith}
 use Rattle.rht_io.specs.declared.source.Failed.{Failed}
 use Rattle.rht_io.specs.Told.{Rose, Puts}
 use Rattle.rht_registry.specs.declared.replaying.ReplayError.{ReplayError}

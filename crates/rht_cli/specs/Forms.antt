@@ -7,11 +7,10 @@ use Rattle.std.specs.Str.{bytes_eq}
 use Rattle.std.specs.Str.Parse.{digits_value}
 use Rattle.rht_script.specs.declared.script.ScriptFault.{ScriptFault}
 use Rattle.rht_script.specs.Grammar.{Said}
-use Rattle.rht_script.specs.Generated.{generated_said}
 use Rattle.rht_cli.specs.declared.form.Form.{Form}
 use Rattle.rht_cli.specs.declared.form.Form.TheVariants.{Run, Replay, Gen}
 use Rattle.rht_cli.specs.Input.{IsScriptRead, IsNoScript}
-use Rattle.rht_cli.specs.RunText.{whole_text, summary_text, IsRunText}
+use Rattle.rht_cli.specs.RunText.{whole_text, IsRunText}
 use Rattle.rht_cli.specs.GenText.{IsGenText}
 use Rattle.rht_cli.specs.ReplayText.{IsReplayText}
 

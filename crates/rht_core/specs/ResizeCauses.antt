@@ -190,7 +190,7 @@ IsGivenBack g page [] = Unit {0}
 IsGivenBack g page (step ∷ steps) = (TakesPage g page step → Any (GivesPage g page) steps) × IsGivenBack g page steps
 
 -- Each run of so many pages was found taken in its turn, and by the operations behind that each page in its. What the first of
--- these had taken they gave back, so that no page counts as found taken which the caller itself held.
+-- these had taken they gave back, so that no page counts as found taken which they had taken and still held.
 pub record AreRunsThenPagesTaken (g : Geometry) (pages : ℕ) (steps : List Performed) : Type 0 where
   pub flat : List Performed
   pub nested : List Performed

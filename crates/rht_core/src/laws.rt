@@ -117,8 +117,9 @@ pub fn taken_alone<M: Mix>()
 /// isn't due to grow; for `NoTable`, that there is no slot, or no pages for the size that is wanted: twice the
 /// full table's where that is due to grow by the count, and else its own, where it is the current one. No slot:
 /// each is taken, by each of its operations on the state of one. No pages: each run is taken in its turn, by a
-/// page that it hadn't taken itself. Where a table of 128 buckets or more is wanted, it had then given back each
-/// page that it took, and behind that each page is taken in its turn, which it hadn't taken since. Or `NoTable`
+/// page that it hadn't taken since the count. Where a table of 128 buckets or more is wanted, it had then given
+/// back each page that it took since the count, and behind that each page is taken in its turn, which it hadn't
+/// taken since. Or `NoTable`
 /// has another cause: the last table that the bind walked is nested and has the size that is named, the bind
 /// loaded its future as none, while its port had no owner, then an entry of it that led to no page, at which
 /// the way to the port's bucket ends, and behind that each page was seen taken in its turn.
@@ -213,8 +214,8 @@ pub fn counted<M: Mix>()
 /// a read section. So no node is lost: a bind that is refused, or finds its port bound, has given its node
 /// back, and so has a rebind that is answered `Absent`. And no slot or page is lost: each that isn't free is
 /// a table's that is in force or retired, so what was taken for a table that wasn't attached, or for an entry
-/// behind which another page was entered, has been given back, and each table that was left behind is
-/// retired. It doesn't say which nodes are out or which call took one, that no table in force is retired, nor
+/// behind which another page was entered, has been given back, or stands in a slot that was retired; and each
+/// table that was left behind is retired. It doesn't say which nodes are out or which call took one, that no table in force is retired, nor
 /// that such a moment comes.
 pub fn at_rest<M: Mix>()
     ensures { AtRest M M.mix_of }
@@ -242,7 +243,7 @@ pub fn refused<M: Mix>()
 /// each bucket: it turned the lowest bit of the word an even number of times. The one exception is the word
 /// of an entry at which the call, a bind, entered a page that it had taken; by the words before, the entry
 /// was one of a nested table to which the call had come, and led to none. It says nothing of a call in
-/// progress, nor that a lock is ever given back.
+/// progress, nor that a call ends; and of the work lock it speaks by its lowest bit alone.
 pub fn let_go<M: Mix>()
     ensures { LetGo M M.mix_of }
 {}
@@ -265,7 +266,7 @@ pub fn sections<M: Mix>()
 /// twice the size, or of the same where the bind had loaded this one as the current one. Behind the count it
 /// stored in the slot, last of all shapes, that of a table of the wanted size, or of 2^17 buckets where more
 /// are wanted. Where that table is nested it has 128 buckets or more. Then the bind saw, behind the count, each
-/// run of pages for a flat one taken, and not by its own operations. A `Work` had chosen, by what it loaded
+/// run of pages for a flat one taken, and not by operations behind the count. A `Work` had chosen, by what it loaded
 /// under the work lock, that a table of this size is due behind this one, which was the last. Behind that it
 /// stored, last of all shapes, that of a flat table of this size. Either had drawn the serial that it stored last.
 ///
@@ -283,6 +284,7 @@ pub fn sections<M: Mix>()
 /// the current one.
 ///
 /// It doesn't say that a slot which was taken is given back, or that a table is ever attached, or a page entered.
+/// Nor does it say that who attaches a table has taken its pages, or that a retired one ever was in force.
 pub fn attached<M: Mix>()
     ensures { Attached M M.mix_of }
 {}
@@ -303,8 +305,8 @@ pub fn nodes<M: Mix>()
 ///
 /// So many serials were drawn as events changed the next one, and one more, the first table's; the next
 /// serial is that number, in 64 bits. Each table in force has a draw of its own, and its serial is the
-/// number of that. While fewer than 2^64 were drawn no serial comes back: a table in force with the serial
-/// of one that was in force before is that one, and was in force in between. It says nothing of tables that
+/// number of that, in 64 bits. While fewer than 2^64 were drawn no serial comes back: a table in force with the serial
+/// of one that was in force before is in the same slot, which had a table in force in between. It says nothing of tables that
 /// are being made or were never in force, nor which of these sizes a table has.
 pub fn tables<M: Mix>()
     ensures each { Tables M M.mix_of }

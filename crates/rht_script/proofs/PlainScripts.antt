@@ -121,7 +121,10 @@ module _ (table : TableLine) (callers : table.config.callers < 2 ^ 32) where
       → command_of table (command_words command) ≡ Ok command
   unfolding command_of
   command_of-plain command sayable =
-      rw (worker_read command.0 sayable.0, call_of-plain table.config.kind command.1 sayable.1) refl
+      let other = BeginsNoSchedule-decimal command.0 (omega (arith, sayable.0, callers)) in
+      let worker_is = worker_read command.0 sayable.0 in
+      let call_is = call_of-plain table.config.kind command.1 sayable.1 in
+      rw (other.step, other.skip, other.finish, worker_is, call_is) refl
 
   -- the words of a command are plain, and at most five
   command_words-plain : (command : ℕ × Call) → IsSayableCommand table.config command

@@ -22,7 +22,7 @@ use Rattle.rht_script.specs.declared.cause.Cause.{Cause}
 use Rattle.rht_script.specs.declared.cause.Cause.TheVariants.{BadNumber, OutOfRange, UnknownWord, TooManyLines, LineTooLong}
 use Rattle.rht_script.specs.Grammar.{most_bytes, most_lines, most_in_line, at_line, words_at, lines_from, Said, said_from, reading_of}
 use Rattle.rht_script.specs.TableLines.{table_of}
-use Rattle.rht_script.specs.CommandLines.{port_limits, owner_limits, worker_limits, number_first, end_of, bind_of, find_of, all_of, release_of, of_single, rebind_of, bare_of, call_of, command_of}
+use Rattle.rht_script.specs.CommandLines.{port_limits, owner_limits, worker_limits, number_first, end_of, bind_of, find_of, all_of, release_of, of_single, rebind_of, bare_of, call_of, begins_schedule, command_of}
 use Rattle.rht_script.specs.ScheduleLines.{event_limits, events_of}
 use Rattle.rht_script.specs.ScriptLines.{scheduled, line_of, commands_among, schedule_among}
 use Rattle.rht_script.specs.Spelling.{◌>>=◌, is_word, is_number, value_of, is_within, number_of, lines_of, words_of, is_skipped}
@@ -179,9 +179,10 @@ module _ (P : ℕ × Call → Type 0) (Q : Call → Type 0) (table : TableLine)
   command_holds [] = tt
   command_holds (worker ∷ words) =
       let limits = worker_limits table.config in
-      IfOk-then (λ number. is_within limits number ≡ true) P (number_of limits worker) _
+      IfOk-cond P (begins_schedule worker) (Err UnknownWord) _ tt
+      (IfOk-then (λ number. is_within limits number ≡ true) P (number_of limits worker) _
       (number_within limits worker) (λ number within.
-      IfOk-then Q P (call_of table.config.kind words) _ (each words) (λ call holds. both number call within holds))
+      IfOk-then Q P (call_of table.config.kind words) _ (each words) (λ call holds. both number call within holds)))
 
 -- ---- a schedule line
 

@@ -12,6 +12,7 @@ use Rattle.rht_model.specs.declared.history.Call.{Call}
 use Rattle.rht_model.specs.declared.history.Call.TheVariants.{Bind, Find, All, Release, Rebind, Work, Count}
 use Rattle.rht_script.specs.declared.script.Sched.{Sched}
 use Rattle.rht_script.specs.declared.script.Sched.TheVariants.{Step, Skip, Finish}
+use Rattle.rht_script.specs.declared.script.TableLine.{TableLine}
 use Rattle.rht_script.specs.declared.cause.Cause.{Cause}
 use Rattle.rht_script.specs.declared.cause.Cause.TheVariants.{NoTableLine, UnknownWord, BadNumber, OutOfRange, LineTooLong, WrongKind, OptionsDisagree}
 use Rattle.rht_script.specs.Spelling.{lines_of, words_of, number_of}
@@ -52,6 +53,14 @@ below_table lines = map (λ line. codes "table single\n" ++ line) lines
 abbrev too_long : List (List ℕ) → List (List ℕ)
 too_long lines = map (λ line. replicate (most_in_line + 1) 32 ++ line) lines
 
+-- a plain table line
+abbrev plain_table : TableLine
+plain_table = record { config = plain_config; auto = true }
+
+-- each of these lines, read as a command's below that one, has this cause
+abbrev HaveCause : Cause → List (List ℕ) → Type 0
+HaveCause cause lines = map (λ line. command_of plain_table (words_of line)) lines ≡ map (λ line. Err cause) lines
+
 -- ---- each cause at its places
 
 -- the first line that isn't skipped begins with another word
@@ -89,6 +98,19 @@ unknown_words_of_commands : HaveFault 2 UnknownWord (below_table (
     ∷ []))
 unfolding whole_reading
 unknown_words_of_commands = refl
+
+-- a word that begins a line of the schedule is unknown at a worker's place, where a line is read as a command's
+no_workers : HaveCause UnknownWord (
+    codes "step" ∷ codes "skip" ∷ codes "finish" ∷ codes "step 1 5" ∷ codes "skip find 80"
+    ∷ codes "finish bind x" ∷ [])
+unfolding whole_reading
+no_workers = refl
+
+-- any other word there that is no number is a bad number
+other_workers : HaveCause BadNumber (
+    codes "Step 1 5" ∷ codes "skips find 80" ∷ codes "find 80" ∷ codes "finished" ∷ [])
+unfolding whole_reading
+other_workers = refl
 
 -- a word of a schedule line is missing, or is one too many
 unknown_words_of_schedules : HaveFault 2 UnknownWord (below_table (

@@ -1,5 +1,5 @@
 -- What the words of a command line stand for: a worker, and what that asks. Words are read from left to right.
-use Rattle.std.specs.Prelude.{ℕ, false, if◌then◌else◌, Result, Ok, Err, List, [], ◌∷◌, codes}
+use Rattle.std.specs.Prelude.{ℕ, Bool, false, ◌||◌, if◌then◌else◌, Result, Ok, Err, List, [], ◌∷◌, codes}
 use Rattle.rht_words.specs.declared.config.Config.{Config}
 use Rattle.rht_words.specs.declared.config.Kind.{Kind}
 use Rattle.rht_words.specs.declared.config.Kind.TheVariants.{Single, Listed}
@@ -94,10 +94,16 @@ call_of kind (verb ∷ words) =
 abbrev pub worker_limits : Config → Limits
 worker_limits config = record { least = 1; greatest = config.callers }
 
+-- a line of the schedule begins with this word, and a command line never does
+abbrev pub begins_schedule : List ℕ → Bool
+begins_schedule word = is_word word (codes "step") || is_word word (codes "skip") || is_word word (codes "finish")
+
 -- the command of a line of these words below this table line: its worker, and what that asks
 unfoldable pub command_of : TableLine → List (List ℕ) → Result (ℕ × Call) Cause
 command_of table [] = Err UnknownWord
-command_of table (worker ∷ words) = do
-  number ← number_of (worker_limits table.config) worker
-  call ← call_of table.config.kind words
-  Ok (number, call)
+command_of table (worker ∷ words) =
+    if begins_schedule worker then Err UnknownWord
+    else do
+      number ← number_of (worker_limits table.config) worker
+      call ← call_of table.config.kind words
+      Ok (number, call)

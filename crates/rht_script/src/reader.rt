@@ -265,11 +265,15 @@ fn events(config: &Config, mut words: Words) -> Result<(u32, u32), Cause>
     Ok((worker, number))
 }
 
-/// The command of a line that begins with this word: its worker, and what that asks.
+/// The command of a line that begins with this word: its worker, and what that asks. A word that
+/// begins a line of the schedule is an unknown word at a worker's place.
 #[tactic(auto, unfolding(crate::specs::CommandLines::command_of))]
 fn command(table: &TableLine, worker: &[u8], words: Words) -> Result<(u32, Call), Cause>
     ensures { result ≡ command_of table.now (worker.now ∷ words.entry) }
 {
+    if worker == STEP || worker == SKIP || worker == FINISH {
+        return Err(Cause::UnknownWord);
+    }
     let worker = number_within(worker_limits(&table.config), worker)?;
     Ok((worker, call(table.config.kind, words)?))
 }

@@ -1,4 +1,4 @@
-use Rattle.std.proofs.Common.{rules, ◌≡◌, ℕ, ◌^◌, Bool, true, false, List, length, Option, Some, None, Ok, Err, refl, sym}
+use Rattle.std.proofs.Common.{rules, ◌≡◌, ◌^◌, Bool, true, false, length, Some, None, Ok, Err, refl, sym}
 use Rattle.std.specs.Prelude.{◌&&◌, nat_lt, if◌then◌else◌}
 use Rattle.std.specs.Char.{is_ascii_digit}
 use Rattle.std.specs.List.{list_all}

@@ -1,4 +1,4 @@
-use Rattle.std.proofs.Common.{◌≡◌, ◌≤◌, ℕ, List, Option, length, refl, inl, sym, subst, arith}
+use Rattle.std.proofs.Common.{◌≤◌, ℕ, List, Option, length, refl, inl, sym, subst, arith}
 use Rattle.std.proofs.lemmas.Result.{err_from_is_err_and}
 use Rattle.rht_script.specs.Reading.{said_by}
 use Rattle.rht_script.specs.SummaryText.{summary_line, AreCountable}
