@@ -6,6 +6,8 @@ pub mod Completeness
 pub mod RunTexts
 -- the script of a number has nodes enough
 pub mod GenNodes
+-- the endings of a run of that script are as many of each sort as its commands ask for
+pub mod GenCounts
 -- what a replay writes
 pub mod ReplayTexts
 -- how a form that reads a script is served

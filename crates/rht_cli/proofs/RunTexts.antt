@@ -13,6 +13,7 @@ use Rattle.rht_words.proofs.EachElement.{AllByRecursion-weaker}
 use Rattle.rht_core.specs.ToldHistories.{IsOutnumbered}
 use Rattle.rht_cli.specs.GenText.{IsGenText}
 use Rattle.rht_cli.proofs.GenNodes.{not_outnumbered}
+use Rattle.rht_cli.proofs.GenCounts.{counts_commands}
 use Rattle.rht_model.specs.declared.finished.Finished.{Finished}
 use Rattle.rht_model.specs.Endings.{Ending}
 use Rattle.rht_core.specs.Serving.{Serves, calls_of, IsServedRun}
@@ -49,9 +50,10 @@ unfolding Prints
 Prints-run left left_after said endings closed read all run =
     record { said = said; read = read; is_text = IsRunText-served whole_text said endings closed all run }
 
--- or `gen`, whose script has nodes enough
-gen_text : (number : ℕ) (text : List ℕ) → IsRunText (summary_text number) (generated_said number) text → IsGenText number text
-gen_text number text done =
+-- or `gen`, whose script has nodes enough, and whose endings are counted as its commands are
+gen_text : (number : ℕ) (text : List ℕ) → AllByRecursion (IsCommandFor (generated_said number).config) (generated_said number).commands
+    → IsRunText (summary_text number) (generated_said number) text → IsGenText number text
+gen_text number text sound done =
     let told = done.run.tells.told in
     record {
       done = done;
@@ -60,6 +62,7 @@ gen_text number text done =
           (λ (call : Finished). call.reply ≡ NoNode → IsOutnumbered (generated_said number).config (generated_said number).commands)
           (λ (call : Finished). call.reply ≢ NoNode) (λ call so is. not_outnumbered number (generated_said number) refl (so is))
           (told.dones caller) (told.no_node caller);
+      counts = counts_commands number done.endings done.closed sound done.run;
     }
 
 pub Prints-gen : (number : ℕ) (left : Option (List ℕ)) (said : Said) (endings : List (List Ending)) (closed : Closed)
@@ -70,6 +73,7 @@ unfolding Prints
 Prints-gen number left said endings closed says all run = (
   refl,
   gen_text number (summary_line number endings closed.bindings.pairs)
+      (subst (λ (s : Said). AllByRecursion (IsCommandFor s.config) s.commands) says all)
       (subst (λ (s : Said). IsRunText (summary_text number) s (summary_line number endings closed.bindings.pairs)) says
       (IsRunText-served (summary_text number) said endings closed all run)),
 )
