@@ -1,7 +1,7 @@
 # The drawing of tools/draw, from the printed operations of a replay alone: what these do to the words,
 # and how they are said in words. picture.awk draws what comes of them.
 #
-#   awk -v first=FIRST -v last=LAST -v form=text|svg -f draw.awk -f picture.awk SCRIPT REPLAY
+#   awk -v first=FIRST -v last=LAST -v form=text|svg -f draw.awk -f picture.awk -f svg.awk SCRIPT REPLAY
 #
 # SCRIPT has no `skip`, and no `finish` before event LAST; REPLAY is what `rht replay` prints of it.
 # The words of the table begin as docs/WORDS.md says for the script's table line, and each printed

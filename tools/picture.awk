@@ -1,4 +1,4 @@
-# The pictures of tools/draw: what draw.awk knows behind an event, as text or as an SVG.
+# The pictures of tools/draw: what draw.awk knows behind an event, as text, or by svg.awk as an SVG.
 
 # ---- The picture of an event --------------------------------------------------------------------
 
@@ -176,10 +176,10 @@ function print_lines(    i, text) {
 # ---- As an SVG ----------------------------------------------------------------------------------
 
 # The lines of an event are put below those before, each 28 high, or 20 where it goes on with the one
-# above, and 26 where that one has boxes. A letter is 8 wide.
+# above, and 26 where that one has boxes.
 function svg_lines(    i) {
   if (svg_high > 0)
-    svg_add("<path d=\"M0 " svg_high "h10000\" stroke=\"#999\"/>")
+    svg_path("M0 " svg_high "h10000", " stroke=\"#999\"")
   for (i = 1; i <= lines; i++) {
     if (line_kind[i] == "blank") { svg_high += 10; continue }
     svg_high += line_kind[i] != "more" ? 28 : line_kind[i - 1] == "chain" ? 26 : 20
@@ -197,7 +197,7 @@ function svg_chain(text,    n, i, cell, left) {
   left = 48
   for (i = 1; i <= n; i++) {
     if (i > 1) {
-      svg_add("<path d=\"M" left " " (svg_high - 5) "h26m-7 -4l7 4l-7 4\" fill=\"none\" stroke=\"#000\"/>")
+      svg_path("M" left " " (svg_high - 5) "h26m-7 -4l7 4l-7 4", " fill=\"none\" stroke=\"#000\"")
       left += 28
     }
     if (i < n && cell[i] !~ /^[0-9]/) svg_box(left, cell[i], color_of(cell[i]))
@@ -215,28 +215,6 @@ function color_of(cell) {
 
 # The box of a cell, with a thick red line where the event has changed a word of it.
 function svg_box(left, text, color,    line) {
-  line = sub(/^!/, "", text) ? "stroke=\"#c00\" stroke-width=\"3\"" : "stroke=\"#000\""
-  svg_add("<rect x=\"" left "\" y=\"" (svg_high - 17) "\" width=\"" (8 * length(text) + 12) \
-    "\" height=\"24\" fill=\"" color "\" " line "/>")
-}
-
-# A text without the blanks behind it, which an SVG would drop.
-function svg_text(left, text, more,    wide) {
-  sub(/ +$/, "", text)
-  wide = 8 * length(text)
-  if (left + wide > svg_wide) svg_wide = left + wide
-  gsub(/&/, "\\&amp;", text)
-  gsub(/</, "\\&lt;", text)
-  svg_add("<text x=\"" left "\" y=\"" svg_high "\" textLength=\"" wide "\"" more ">" text "</text>")
-}
-
-function svg_add(text) { svg_part[++svg_parts] = text }
-
-function print_svg(    i) {
-  svg_wide += 16
-  print "<svg xmlns=\"http://www.w3.org/2000/svg\" width=\"" svg_wide "\" height=\"" svg_high \
-    "\" viewBox=\"0 0 " svg_wide " " svg_high "\" font-family=\"monospace\" font-size=\"13\">"
-  print "<rect width=\"100%\" height=\"100%\" fill=\"#fff\"/>"
-  for (i = 1; i <= svg_parts; i++) print svg_part[i]
-  print "</svg>"
+  line = sub(/^!/, "", text) ? " stroke=\"#c00\" stroke-width=\"3\"" : " stroke=\"#000\""
+  svg_rect(left, svg_high - 17, 8 * length(text) + 12, 24, color, line)
 }
