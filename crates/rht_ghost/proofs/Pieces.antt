@@ -6,6 +6,8 @@ pub mod Locates
 pub mod Locks
 -- the operations in a bucket: it is locked and walked
 pub mod Probes
+-- the caller's read section is opened and closed
+pub mod OwnSections
 -- the count of ports is raised
 pub mod PortCounts
 -- along the list of a port's nodes

@@ -1,4 +1,4 @@
--- What a job holds and does that may still be refused, or that ends without a change: it has raised no count and moves nothing. Where it
+-- What a job holds and does that may still be refused, or that ends without a change: it has raised no count, moves nothing, and is in no read section. Where it
 -- takes nodes or makes tables it has a node where it has a lock, and else it holds a lock at most. Its pages are its own, the one exchange
 -- of a future is that of a bind which attaches the table that it has made, and a page that it enters is none of its own any more.
 use Rattle.std.proofs.Common.{◌≡◌, ◌≢◌, ℕ, ◌+◌, ◌<◌, Bool, false, List, [], Option, Some, None, refl, sym, ◌∙◌, subst, arith}
@@ -187,6 +187,41 @@ refusable (binds port owner once state) may = (bind-refusable state may).refusab
 refusable (rebinds port owner new state) may = (rebind-refusable state may).refusable
 refusable (works state) may = (work-refusable state (early_work state may)).refusable
 refusable job may = (alone job tt may).refusable
+
+-- no machine opens a read section yet
+find-outside : (state : FindAt) → (held_of_find state).section ≡ false
+find-outside finding.CurrentTable = refl
+find-outside _ = refl
+
+bind-outside : (state : BindAt) → bind_is_past state ≡ false → (held_of_bind state).section ≡ false
+bind-outside (binding.Replacing list relink) may = absurd (cc)
+bind-outside _ may = refl
+
+all-outside : (owners : List ℕ) (state : AllAt) → (held_of_all owners state).section ≡ false
+all-outside owners (listing.Seeking seek) = refl
+all-outside owners _ = refl
+
+release-outside : (state : ReleaseAt) → release_is_past state ≡ false → (held_of_release state).section ≡ false
+release-outside (releasing.Promoting found relink) may = absurd (cc)
+release-outside (releasing.Unlinking found relink) may = absurd (cc)
+release-outside _ may = refl
+
+rebind-outside : (state : RebindAt) → rebind_is_past state ≡ false → (held_of_rebind state).section ≡ false
+rebind-outside (rebinding.Replacing node found relink) may = absurd (cc)
+rebind-outside _ may = refl
+
+work-outside : (state : WorkAt) → (held_of_work state).section ≡ false
+work-outside working.WorkLock = refl
+work-outside _ = refl
+
+pub outside : (job : Job) → is_past job ≡ false → (held_of job).section ≡ false
+outside (finds port state) may = find-outside state
+outside (binds port owner once state) may = bind-outside state may
+outside (lists port room state) may = all-outside room.items state
+outside (releases port owner state) may = release-outside state may
+outside (rebinds port owner new state) may = rebind-outside state may
+outside (works state) may = work-outside state
+outside counts may = refl
 
 -- what it has stored for a table that it makes
 abbrev pub JobStored : Env → Job → List Did → Type 0

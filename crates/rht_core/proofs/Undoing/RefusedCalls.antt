@@ -64,7 +64,7 @@ use Rattle.rht_core.proofs.Undoing.GoingBack.{GoesBack}
 use Rattle.rht_core.proofs.Undoing.UndoneMoves.{kept_by}
 use Rattle.rht_core.proofs.Undoing.PastRefusal.{due_is_past, is_past, StaysPast, bind-past, release-past, rebind-past, work-past}
 use Rattle.rht_core.proofs.Undoing.StoredShapes.{bind-stored}
-use Rattle.rht_core.proofs.Undoing.RefusableJobs.{refusable, mine, JobStored, attaches, enters, gone}
+use Rattle.rht_core.proofs.Undoing.RefusableJobs.{refusable, outside, mine, JobStored, attaches, enters, gone}
 use Rattle.rht_core.proofs.Undoing.LockedJobs.{locked-leaves}
 
 -- ---- answers that say that bindings were changed
@@ -233,7 +233,7 @@ module _ (M : Type 0) (mix : ℕ → ℕ → ℕ → ℕ) (env : Env) (events : 
 
     abbrev UndoesOr : Holding → Type 0
     UndoesOr after =
-        after.raised ≡ false → after.moving ≡ false → SaysChange after.answer ⊎ Undoes g (words_before M mix env events) (call_of job) after all
+        after.raised ≡ false → after.moving ≡ false → after.section ≡ false → SaysChange after.answer ⊎ Undoes g (words_before M mix env events) (call_of job) after all
 
     go_on : (after : Job) → call_of after ≡ call_of job → LeavesOr (held_of after) → UndoesOr (held_of after)
         → JobStored env after all → (t : Bool) → is_past after ≡ t → Going after all
@@ -242,7 +242,7 @@ module _ (M : Type 0) (mix : ℕ → ℕ → ℕ → ℕ) (env : Env) (events : 
         let may_then = refusable after not_past in
         elim leaves [
           | inl says ↦ inr (inl says)
-          | inr left ↦ elim (undoes may_then.low may_then.still) [
+          | inr left ↦ elim (undoes may_then.low may_then.still (outside after not_past)) [
             | inl says ↦ inr (inl says)
             | inr now ↦ inr (inr (record {
               undoes = subst (λ call. Undoes g (words_before M mix env events) call (held_of after) all) (sym same) now;
@@ -256,7 +256,7 @@ module _ (M : Type 0) (mix : ℕ → ℕ → ℕ → ℕ) (env : Env) (events : 
         → Leads job all (after, Done ending)
     end after ending leaves undoes = elim leaves [
       | inl says ↦ change-leads all job (after, Done ending) says
-      | inr left ↦ elim (undoes refl refl) [
+      | inr left ↦ elim (undoes refl refl refl) [
         | inl says ↦ change-leads all job (after, Done ending) says
         | inr now ↦ λ nothing. record {
           even = λ place bit low. elim (now.even place bit low) [
@@ -295,7 +295,7 @@ module _ (M : Type 0) (mix : ℕ → ℕ → ℕ → ℕ) (env : Env) (events : 
       ]
 
       undoes : UndoesOr after
-      undoes low_then still_then =
+      undoes low_then still_then outside_then =
           let gone_then : GoneWhereEntered g (words_before M mix env events) (call_of job) steps did (held_of job) after =
           λ entry page exchanges free had i.
           gone env mix performs.caller (mem env mix performs.words) performs.ghost did entry page exchanges job may performs.planned
@@ -319,6 +319,8 @@ module _ (M : Type 0) (mix : ℕ → ℕ → ℕ → ℕ) (env : Env) (events : 
               low_then = low_then;
               still = holds.still;
               still_then = still_then;
+              outside = outside job may;
+              outside_then = outside_then;
               locked_leaves = locked-leaves env mix did.op did.old job may performs.planned;
               mine = mine env mix performs.caller (mem env mix performs.words) performs.ghost job may performs.knows;
               attaches = λ last slot low exchanges has.
