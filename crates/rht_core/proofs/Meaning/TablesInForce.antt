@@ -43,6 +43,22 @@ module _ (env : Env) (mix : ℕ → ℕ → ℕ → ℕ) (words : List ℕ) (G :
       ∙ ap (λ t. cond t (future_of (G.table (τ + 1)).slot) 0) (lt-ltb (τ + 1) G.attached (omega (arith, all))))
       ∙ entries_come_back.future_names (G.table (τ + 1)).slot next.slot_in
 
+  -- so where the future of a table names a slot, that is the next table's
+  pub record IsNextTable (τ slot : ℕ) : Type 0 where
+    pub attached : τ + 1 < G.attached
+    pub slot_is : (G.table (τ + 1)).slot ≡ slot
+
+  pub next_named : (τ slot : ℕ) → τ < G.attached → slot_of (M (Slot (G.table τ).slot FutureWord)) ≡ Some slot → IsNextTable τ slot
+  next_named τ slot l named = go (G.attached - (τ + 1)) refl
+    where
+      go : (count : ℕ) → G.attached - (τ + 1) ≡ count → IsNextTable τ slot
+      go zero is =
+          let none : ◌≡◌ {A = Option ℕ} None (Some slot) = sym (future-leads τ zero (omega (arith, is, l))) ∙ named in absurd (cc)
+      go (suc count) is =
+          let same : ◌≡◌ {A = Option ℕ} (Some (G.table (τ + 1)).slot) (Some slot) =
+          sym (future-leads τ (suc count) (omega (arith, is, l))) ∙ named in
+          record { attached = omega (arith, is); slot_is = cc }
+
   tables_met : (left τ count : ℕ) → count ≤ left → τ + count ≡ G.attached
       → tables_from g words left (next_slot τ count) ≡ slots_from τ count
   tables_met zero τ zero fuel all = refl

@@ -2,7 +2,7 @@
 --
 -- The words of entries are those that the whole says, and of all moves the entering of a page alone makes other ones of them. The page is one
 -- that the call has, and a bind alone exchanges an entry for a page of its own.
-use Rattle.std.proofs.Common.{◌≡◌, ℕ, ◌/◌, ◌<◌, Bool, true, false, List, length, refl, sym, ap, ◌∙◌, subst, inl, inr, arith}
+use Rattle.std.proofs.Common.{◌≡◌, ℕ, ◌/◌, ◌<◌, Bool, true, false, List, length, refl, sym, ap, ◌∙◌, subst, arith}
 use Rattle.rht_words.specs.declared.op.Op.TheVariants.{Store, Exchange}
 use Rattle.rht_words.specs.declared.env.Env.{Env}
 use Rattle.rht_words.specs.declared.geometry.Geometry.{Geometry}
@@ -31,7 +31,7 @@ use Rattle.rht_core.specs.Jobs.{Job, finds, binds, lists, releases, rebinds, wor
 use Rattle.rht_core.specs.Traces.{Did}
 use Rattle.rht_stands.specs.StandsFor.{in_force}
 use Rattle.rht_core.specs.Attached.{ChangesMissing}
-use Rattle.rht_ghost.proofs.Theory.Ghosts.{PageOwner, PageFree, PageHeld, put_in, put_in-other, has_bit, with_pages, is_entry_of, table_of_page, Ghost, SlotOwner, SlotFree, SlotHeld, Live, Retired, has_table, state_word, table_at, is_entry, entry_word}
+use Rattle.rht_ghost.proofs.Theory.Ghosts.{PageOwner, PageFree, PageHeld, put_in, put_in-other, has_bit, with_pages, is_entry_of, table_of_page, Ghost, has_table, table_at, is_entry, entry_word}
 use Rattle.rht_ghost.proofs.Theory.Wholes.{Whole}
 use Rattle.rht_ghost.proofs.Theory.Readiness.{IsEntering, ArePagesOf}
 use Rattle.rht_ghost.proofs.Theory.Steps as steps
