@@ -2,8 +2,8 @@
 -- What the words of a slot say of its table is changed by the caller alone that has taken the slot for a new table. Of a table in force it
 -- stays as it is, but for its future. That becomes another one only by the exchange that attaches the next table. A bind does that which
 -- saw the table full, or a resizing that chose one. The current table becomes another one only by a resizing, which goes on to the next. And
--- where an entry of a nested table leads to no page, a bind alone enters one, on the way to its own port's bucket. And a slot is taken by
--- whoever makes a table, given back by who took it, and retired by a resizing.
+-- where an entry of a nested table leads to no page, a bind alone enters one, on the way to its own port's bucket: in a table in force, and in
+-- each to which the call has come. And a slot is taken by whoever makes a table, given back by who took it, and retired by a resizing.
 use Rattle.std.specs.Prelude.{◌≡◌, ◌≢◌, ℕ, ◌^◌, ◌*◌, ◌<◌, ◌⊎◌, ◌≤◌, min, true, false, Some, List, [], ◌∷◌, ◌++◌, IfSome, map}
 use Rattle.std.specs.List.{AllByRecursion, Any}
 use Rattle.rht_words.specs.declared.op.Op.TheVariants.{Load, Store}
@@ -28,7 +28,7 @@ use Rattle.rht_move.specs.declared.work.choice.Choice.TheVariants as choices
 use Rattle.rht_core.specs.declared.event.Event.{Event}
 use Rattle.rht_core.specs.Runs.{IsAdmitted}
 use Rattle.rht_core.specs.Traces.{Did, Traced, performed_of, traced_of}
-use Rattle.rht_core.specs.Seen.{LoadsCurrent, LastWalked, words_before}
+use Rattle.rht_core.specs.Seen.{LoadsCurrent, CameTo, LastWalked, words_before}
 use Rattle.rht_core.specs.ResizeCauses.{Loaded, Attaches, WalkedFull, wanted_size, AreRunsTaken}
 use Rattle.rht_core.specs.Due.{pages_due}
 use Rattle.rht_core.specs.WorkCauses.{HasChosen}
@@ -72,12 +72,13 @@ pub record MovesOn (g : Geometry) (words : List ℕ) (did : Did) : Type 0 where
   pub becomes : word_after did.old did.op ≡ table
   pub followed : slot_of (word_at g words (Slot (table_of did.old) FutureWord)) ≡ Some table
 
--- the operation changes this entry, which by the words before is a way's end of a table in force, and so leads to no page
-pub record ChangesMissing (g : Geometry) (words : List ℕ) (entry : ℕ) (did : Did) : Type 0 where
+-- The operation changes this entry, which by the words before is a way's end of a table, and so leads to no page. That table is in force by
+-- these words; or the call's operations before had come to it, whether it has been left behind since or not.
+pub record ChangesMissing (g : Geometry) (words : List ℕ) (before : List Did) (entry : ℕ) (did : Did) : Type 0 where
   pub entry_in : entry < 64 * g.pages
   pub table : ℕ
   pub table_in : table < 8
-  pub stands : In table (in_force g words)
+  pub stands : In table (in_force g words) ⊎ CameTo g table before
   pub way : IsWaysEnd g words table entry
   pub there : op_place did.op ≡ place_of g (PageWord entry)
   pub other : word_after did.old did.op ≢ did.old
@@ -220,7 +221,7 @@ module _ (M : Type 0) (mix : ℕ → ℕ → ℕ → ℕ) (env : Env) (events : 
         → (call ≡ Work) × MovesOn env.geometry (words_before M mix env events did.index) did
     pub states : (slot : ℕ) → ChangesState env.geometry slot did → StateCause call slot before did
     pub entries :
-        (entry : ℕ) → ChangesMissing env.geometry (words_before M mix env events did.index) entry did
+        (entry : ℕ) → ChangesMissing env.geometry (words_before M mix env events did.index) before entry did
         → EnterCause env.geometry (words_before M mix env events) mix call entry before did
 
   -- so do all calls of the caller, those that have ended and the one in progress

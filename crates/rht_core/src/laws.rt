@@ -273,10 +273,11 @@ pub fn sections<M: Mix>()
 /// No operation changes which table is the current one, but for one of a `Work`, which makes that table
 /// current that was the future of the one before.
 ///
-/// An entry leads to no page where the way to a bucket of a nested table in force ends. No operation changes
-/// such an entry, but for one of a bind that enters a page there. The bind had taken the page, and by the words
-/// before, the way to its own port's bucket ends there, in the table that it walked last. Of entries of a table
-/// that is left behind nothing is said.
+/// An entry leads to no page where the way to a bucket of a nested table ends. Where that table is in force, or the
+/// call's operations before had come to it, no operation changes such an entry, but for one of a bind that enters a
+/// page there. The bind had taken the page, and by the words before, the way to its own port's bucket ends there, in
+/// the table that it walked last. Of the entries of a table that was left behind it says nothing where the call
+/// hadn't come to that table from its last load of the current one on.
 ///
 /// Nor does it change the word that says whether a slot is free, but in three cases. A bind or a `Work` takes a
 /// slot that was free. A call gives back a slot of its own, in which by the words before no table is in force.

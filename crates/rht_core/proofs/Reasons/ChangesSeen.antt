@@ -1,7 +1,7 @@
 -- What is kept of each operation of a call, with those before it: where it changes a word of a slot's table the call has the slot, or attaches
 -- the table that it has made. It makes another table the current one only as a resizing, takes, gives back and retires slots as it may, and
 -- enters a missing page only on its way.
-use Rattle.std.proofs.Common.{◌≡◌, ◌⊎◌, ℕ, true, false, List, [], ◌∷◌, ◌++◌, Some, inl, inr, refl, sym, ap, ◌∙◌, subst, arith}
+use Rattle.std.proofs.Common.{◌≡◌, ◌⊎◌, ◌*◌, ◌<◌, ℕ, true, false, List, [], ◌∷◌, ◌++◌, Some, inl, inr, refl, sym, ap, ◌∙◌, subst, arith}
 use Rattle.std.specs.Prelude.{min, max, ◌≤◌, take, drop}
 use Rattle.std.specs.List.{AllByRecursion}
 use Rattle.rht_words.specs.declared.env.Env.{Env}
@@ -55,7 +55,9 @@ use Rattle.rht_core.proofs.Reasons.OwnTables.{own_slot, moving_works, AttachesNo
 use Rattle.rht_words.specs.declared.op.Op.TheVariants.{Load, Store}
 use Rattle.rht_words.specs.Operations.{old_of}
 use Rattle.rht_words.specs.Links.{page_of, table_of}
-use Rattle.rht_core.specs.Refused.{PutsPage, HasTaken}
+use Rattle.rht_core.specs.Refused.{PutsPage, HasTaken, IsWaysEnd}
+use Rattle.rht_core.proofs.Events.TablesThere.{HadTable}
+use Rattle.rht_core.proofs.Undoing.EnteredWords.{missing_is_entry}
 use Rattle.rht_ghost.proofs.Theory.Knowledge.{TableMeans}
 use Rattle.rht_ghost.proofs.Pieces.OpenEntries.{known_growing}
 use Rattle.rht_core.proofs.Reasons.PagesMissed.{misses-page}
@@ -102,7 +104,8 @@ module _ (M : Type 0) (mix : ℕ → ℕ → ℕ → ℕ) (env : Env) (events : 
         → IsOwnTable M mix env events c slot before did ⊎ AttachesSeen call slot before did
     pub current : ChangesCurrent g did → (call ≡ Work) × MovesOn g (words_at did.index) did
     pub states : (slot : ℕ) → ChangesState g slot did → StateCause M mix env events c call slot before did
-    pub entries : (entry : ℕ) → ChangesMissing g (words_at did.index) entry did → EnterCause g words_at mix call entry before did
+    pub entries : (entry : ℕ) (changed : ChangesMissing g (words_at did.index) before entry did)
+        → HadTable g words_at did.index changed.table → EnterCause g words_at mix call entry before did
 
   abbrev pub Now : Job → List Did → Type 0
   Now job steps = JobSaw env words_at mix job steps × refusals.Going M mix env events job steps × EachBehind (ChangesSeen (call_of job)) [] steps
@@ -239,10 +242,10 @@ module _ (M : Type 0) (mix : ℕ → ℕ → ℕ → ℕ) (env : Env) (events : 
         }
 
     entered : (job : Job) (entry : ℕ) (performs : Performs mix env job did) → performs.words ≡ words_at did.index
-        → JobSaw env words_at mix job steps → refusals.Going M mix env events job steps → ChangesMissing g (words_at did.index) entry did
+        → JobSaw env words_at mix job steps → refusals.Going M mix env events job steps → entry < 64 * g.pages
         → (there : EntersThere env mix performs.caller performs.ghost did (held_of job) (held_next (job_after mix env job did.old)) entry)
         → EnterCause g words_at mix (call_of job) entry steps did
-    entered job entry performs now saw going changed there =
+    entered job entry performs now saw going low there =
         let page = there.page in
         let is_early = early env mix performs.caller (mem env mix performs.words) performs.ghost did entry page there.does.entering job
         performs.within performs.planned there.does.had in
@@ -258,7 +261,7 @@ module _ (M : Type 0) (mix : ℕ → ℕ → ℕ → ℕ) (env : Env) (events : 
         performs.planned there.does.had) performs now saw took
         (record {
           page_in = there.ready.among;
-          entry_in = changed.entry_in;
+          entry_in = low;
           exchanges = there.does.entering;
           found = there.does.found;
         })
@@ -303,9 +306,10 @@ module _ (M : Type 0) (mix : ℕ → ℕ → ℕ → ℕ) (env : Env) (events : 
           retires performs.words performs.ghost performs.caller slot performs.whole now here.can here.stores,
         ))
 
-    changes : (job : Job) (performs : Performs mix env job did) → performs.words ≡ words_at did.index
+    changes : (job : Job) (performs : Performs mix env job did) → StandsIn mix env words_at job did performs
         → JobSaw env words_at mix job steps → refusals.Going M mix env events job steps → ChangesSeen (call_of job) steps did
-    changes job performs now saw going =
+    changes job performs stands saw going =
+        let now = stands.now in
         let next = job_after mix env job did.old in
         let step = performs.step in
         let there = mem env mix performs.words in
@@ -330,11 +334,14 @@ module _ (M : Type 0) (mix : ℕ → ℕ → ℕ → ℕ) (env : Env) (events : 
               stated job slot performs now saw
               (state_by_move env mix performs.caller there performs.ghost did (held_of job) (held_next next) slot fits changed step.move
               step.ready does);
-          entries = λ entry changed.
-              entered job entry performs now saw going changed
+          entries = λ entry changed had.
+              let has = stands.stayed did.index changed.table (omega arith) had in
+              let way = subst (λ ws. IsWaysEnd g ws changed.table entry) (sym now) changed.way in
+              entered job entry performs now saw going changed.entry_in
               (entered_by_move env mix performs.caller performs.words performs.ghost did (held_of job) (held_next next) performs.whole
-              performs.all performs.found entry (subst (λ ws. ChangesMissing g ws entry did) (sym now) changed) step.move step.ready
-              step.made.whole does);
+              performs.all performs.found entry changed.entry_in
+              (missing_is_entry env mix performs.words performs.ghost performs.whole entry changed.table way has.has) changed.there
+              changed.other step.move step.ready step.made.whole does);
         }
 
     -- an operation leads on with this too
@@ -351,6 +358,6 @@ module _ (M : Type 0) (mix : ℕ → ℕ → ℕ → ℕ) (env : Env) (events : 
         → LeadsOn M mix env Now Ended job (steps ++ did ∷ []) (job_after mix env job did.old)
     goes job performs stands (saw, going, each) =
         by_next job (job_after mix env job did.old) (same_call mix env job did.old)
-        (each-push (ChangesSeen (call_of job)) [] steps did each (changes job performs stands.now saw going))
+        (each-push (ChangesSeen (call_of job)) [] steps did each (changes job performs stands saw going))
         (job-leads M mix env events job steps did performs stands saw)
         (refusals.goes M mix env events job steps did performs stands.now (saw-came env words_at mix job steps saw) going)

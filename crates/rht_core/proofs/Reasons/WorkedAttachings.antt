@@ -1,8 +1,8 @@
 -- Operations that attach a table or enter a page wrongly, whatever the call did before: a look-up that attaches a table behind one in
 -- force; a bind that attaches one of 4 buckets where each shape that it loaded was that of 64; a bind that makes another table the current
--- one; a look-up that enters a page; a bind that enters one where no way to its port's bucket ends; a look-up that takes a slot; and a bind
--- that frees a slot which it never took.
-use Rattle.std.proofs.Common.{◌≡◌, ◌≢◌, ℕ, ◌*◌, ◌<◌, Bool, List, ◌∷◌, refl, sym, ap, ◌∙◌, subst, inl, inr, arith, Some}
+-- one; a look-up that enters a page; a resizing that does so, in the table from which it has gone on, or in one in force; a bind that enters one
+-- where no way to its port's bucket ends; a look-up that takes a slot; and a bind that frees a slot which it never took.
+use Rattle.std.proofs.Common.{◌≡◌, ◌≢◌, ◌⊎◌, ℕ, ◌*◌, ◌<◌, Bool, List, ◌∷◌, refl, sym, ap, ◌∙◌, subst, inl, inr, arith, Some}
 use Rattle.std.specs.List.{AllByRecursion}
 use Rattle.std.proofs.lemmas.Bool.{cond_both}
 use Rattle.rht_words.specs.declared.env.Env.{Env}
@@ -19,11 +19,11 @@ use Rattle.rht_nest.specs.Place.{nested_place, missing_at}
 use Rattle.rht_stands.specs.StandsFor.{in_force, page_word}
 use Rattle.rht_core.specs.Refused.{IsWaysEnd}
 use Rattle.rht_model.specs.declared.history.Call.{Call}
-use Rattle.rht_model.specs.declared.history.Call.TheVariants.{Bind, Find}
+use Rattle.rht_model.specs.declared.history.Call.TheVariants.{Bind, Find, Work}
 use Rattle.rht_core.specs.declared.event.Event.{Event}
 use Rattle.rht_core.specs.Traces.{Did, performed_of}
 use Rattle.rht_nest.specs.MakeLaws.{TakesSlot}
-use Rattle.rht_core.specs.Seen.{words_before}
+use Rattle.rht_core.specs.Seen.{CameTo, words_before}
 use Rattle.rht_core.specs.ResizeCauses.{wanted_size}
 use Rattle.rht_core.specs.Attached.{ChangesTable, size_made, AttachesFull, AttachesRightly, ChangesRightly, ChangesMissing}
 
@@ -103,14 +103,14 @@ module _ (M : Type 0) (mix : ℕ → ℕ → ℕ → ℕ) (env : Env) (events : 
   bind_moves_on port owner old table once other right =
       let works = (right.current (record { there = refl; other = other })).0 in absurd (cc)
 
-  -- ---- an exchange that enters a page at an entry which leads to none
+  -- ---- an exchange that enters a page at an entry which leads to none, of a table in force or of one that was left behind
 
   module _ (entry page : ℕ) (entry_in : entry < 64 * g.pages) (slot : ℕ) (low : slot < 8)
-      (way : IsWaysEnd g words slot entry) (stands : In slot (in_force g words)) where
+      (way : IsWaysEnd g words slot entry) (stands : In slot (in_force g words) ⊎ CameTo g slot before) where
     abbrev enters : Did
     enters = record { index = index; op = Exchange (place_of g (PageWord entry)) 0 (entry_of page); old = 0 }
 
-    changes_missing : ChangesMissing g words entry enters
+    changes_missing : ChangesMissing g words before entry enters
     changes_missing = record {
       entry_in = entry_in;
       table = slot;
@@ -124,6 +124,10 @@ module _ (M : Type 0) (mix : ℕ → ℕ → ℕ → ℕ) (env : Env) (events : 
     -- by a look-up
     pub look_up_enters : (port : ℕ) → Rightly (Find port) enters → ⊥
     look_up_enters port right = right.entries entry changes_missing
+
+    -- by a resizing, as one in the table from which it has gone on
+    pub resizing_enters : Rightly Work enters → ⊥
+    resizing_enters right = right.entries entry changes_missing
 
     -- by a bind, where the way to its port's bucket ends elsewhere in each table, whichever shape it loaded
     pub bind_enters_elsewhere : (port owner : ℕ) (once : Bool)
