@@ -4,7 +4,7 @@
 -- saw the table full, or a resizing that chose one. The current table becomes another one only by a resizing, which goes on to the next. And
 -- where an entry of a nested table leads to no page, a bind alone enters one, on the way to its own port's bucket: in a table in force, and in
 -- each to which the call has come. And a slot is taken by whoever makes a table, given back by who took it, and retired by a resizing.
-use Rattle.std.specs.Prelude.{◌≡◌, ◌≢◌, ℕ, ◌^◌, ◌*◌, ◌<◌, ◌⊎◌, ◌≤◌, min, true, false, Some, List, [], ◌∷◌, ◌++◌, IfSome, map}
+use Rattle.std.specs.Prelude.{◌≡◌, ◌≢◌, ℕ, ◌*◌, ◌<◌, ◌⊎◌, ◌≤◌, true, false, Some, List, [], ◌∷◌, ◌++◌, IfSome, map}
 use Rattle.std.specs.List.{AllByRecursion, Any}
 use Rattle.rht_words.specs.declared.op.Op.TheVariants.{Load, Store}
 use Rattle.rht_words.specs.declared.env.Env.{Env}
@@ -120,10 +120,6 @@ pub record SawNoRun (g : Geometry) (pages : ℕ) (steps : List Performed) : Type
   pub are : steps ≡ first ++ behind
   pub runs : AreRunsTaken g pages 0 [] first
 
--- a table has at most 2^17 buckets, however many are wanted
-abbrev pub size_made : ℕ → ℕ
-size_made wanted = min wanted (2 ^ 17)
-
 -- A resizing attaches a table behind this one. It had chosen that one of this size is due behind this one, which was the last. Behind that it
 -- stored this shape in the slot last, that of a flat table of this size, and a serial that it had drawn.
 pub record AttachesDue (env : Env) (table slot shape : ℕ) (before : List Did) : Type 0 where
@@ -176,7 +172,7 @@ module _ (M : Type 0) (mix : ℕ → ℕ → ℕ → ℕ) (env : Env) (events : 
         ⊎ Any (LoadsCurrent env.geometry table) sooner
     pub stored : StoresLast env.geometry slot shape making
     pub numbered : StoresDrawn env.geometry slot making
-    pub sized : size_of (unpacked shape) ≡ size_made (wanted_size env full.shape count)
+    pub sized : size_of (unpacked shape) ≡ wanted_size env full.shape count
     pub nested : is_nested shape ≡ true → 128 ≤ size_of (unpacked shape)
     pub no_run :
         is_nested shape ≡ true

@@ -264,9 +264,9 @@ pub fn sections<M: Mix>()
 /// The call is then a bind or a `Work`. A bind saw the table full up to this operation, by its port's bucket or
 /// by the count. In between it loaded a count, and no other behind that. By that count a table is wanted of
 /// twice the size, or of the same where the bind had loaded this one as the current one. Behind the count it
-/// stored in the slot, last of all shapes, that of a table of the wanted size, or of 2^17 buckets where more
-/// are wanted. Where that table is nested it has 128 buckets or more. Then the bind saw, behind the count, each
-/// run of pages for a flat one taken, and not by operations behind the count. A `Work` had chosen, by what it loaded
+/// stored in the slot, last of all shapes, that of a table of the wanted size. Where that table is nested it has
+/// 128 buckets or more. Then the bind saw, behind the count, each run of pages for a flat one taken, and not by
+/// operations behind the count. A `Work` had chosen, by what it loaded
 /// under the work lock, that a table of this size is due behind this one, which was the last. Behind that it
 /// stored, last of all shapes, that of a flat table of this size. Either had drawn the serial that it stored last.
 ///

@@ -2,7 +2,7 @@
 -- changes the words of a table but its maker, and a missing page is entered by a bind on its way.
 --
 -- What is kept of each operation says so, since each was recorded at its event; and so it does of calls in progress.
-use Rattle.std.proofs.Common.{◌≡◌, ℕ, ◌+◌, true, List, [], ◌∷◌, ◌++◌, Option, Some, None, inl, inr, refl, sym, ap, ◌∙◌, subst, map}
+use Rattle.std.proofs.Common.{◌≡◌, ℕ, ◌+◌, ◌^◌, arith, true, List, [], ◌∷◌, ◌++◌, Option, Some, None, inl, inr, refl, sym, ap, ◌∙◌, subst, map}
 use Rattle.std.specs.Prelude.{IfSome, min, ◌≤◌}
 use Rattle.std.specs.List.{AllByRecursion}
 use Rattle.rht_words.specs.declared.env.Env.{Env}
@@ -22,12 +22,12 @@ use Rattle.rht_core.specs.Traces.{Did, Past, Trace, traced_of, performed_of, beh
 use Rattle.rht_core.specs.Laws.{IsRecorded, IsPastCall, IsInProgress}
 use Rattle.rht_core.specs.Seen.{words_before}
 use Rattle.rht_core.specs.ResizeCauses.{Attaches, wanted_size}
-use Rattle.rht_core.specs.Attached.{EachBehind, size_made, AttachesFull, AttachCause, ChangesRightly, Attached, SawNoRun}
+use Rattle.rht_core.specs.Attached.{EachBehind, AttachesFull, AttachCause, ChangesRightly, Attached, SawNoRun}
 use Rattle.rht_core.proofs.Tracing.TracesAtEvents.{at_events}
 use Rattle.rht_core.proofs.Tracing.TracedJobs.{IsEndedSo, IsAtJob, jobs_keep_standing}
 use Rattle.rht_core.proofs.Reasons.SlotsTaken.{each-map}
-use Rattle.rht_core.proofs.Reasons.MadeSizes.{pages-wanted}
-use Rattle.rht_core.proofs.Reasons.TablesCome.{AreTraced, traced-front, missing_had}
+use Rattle.rht_core.proofs.Reasons.MadeSizes.{pages-wanted, wanted-most}
+use Rattle.rht_core.proofs.Reasons.TablesCome.{AreTraced, traced-front, missing_had, walked_size}
 use Rattle.rht_core.proofs.Reasons.TablesWalked.{no_load, LastWalked-push}
 use Rattle.rht_core.proofs.Reasons.RefusedBinds.{Behind, SawWhy, SawToAttach, Settled}
 use Rattle.rht_core.proofs.Reasons.BindCauses.{walked_full, unclamped}
@@ -84,6 +84,7 @@ module _ (M : Type 0) (mix : ℕ → ℕ → ℕ → ℕ) (env : Env) (events : 
         let same : min wanted.count 65536 ≡ wanted.count =
         subst (λ n. min n 65536 ≡ n) wanted.counted.found
         (unclamped M mix env events c admitted wanted.counting counting wanted.counted.word.loads) in
+        let most = walked_size M mix env events c before did traced admitted growing.table growing.shape slot walked attaches in
         record {
           full =
               walked_full M mix env events c admitted port growing.table (SawWhy env words_at mix port growing.table)
@@ -106,7 +107,8 @@ module _ (M : Type 0) (mix : ℕ → ℕ → ℕ → ℕ) (env : Env) (events : 
           no_run = λ is. subst (λ pages. SawNoRun g pages (map performed_of wanted.making))
               (ap pages_for (wanted.wanted ∙ ap (wanted_size env growing.shape) same) ∙ pages-wanted env growing.shape wanted.count)
               (saw.no_run is);
-          sized = saw.sized ∙ ap size_made (wanted.wanted ∙ ap (wanted_size env growing.shape) same);
+          sized = saw.sized ∙ ap (λ size. min size (2 ^ 17)) (wanted.wanted ∙ ap (wanted_size env growing.shape) same)
+              ∙ wanted-most env growing.shape wanted.count (omega (arith, same)) most;
         }
 
     full-cause : (port table slot shape : ℕ) (before : List Did) (did : Did) → AreTracedHere (before ++ did ∷ [])

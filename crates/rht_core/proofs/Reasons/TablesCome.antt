@@ -1,23 +1,32 @@
--- A slot to which a call has come had a table: each load on the way there was made at its event.
-use Rattle.std.proofs.Common.{◌≡◌, ℕ, zero, suc, ◌<◌, List, [], ◌∷◌, ◌++◌, Option, Some, None, refl, sym, ap, ◌∙◌, subst, inl, inr, arith}
+-- A slot to which a call has come had a table: each load on the way there was made at its event. So where a bind attaches a table behind the
+-- one that it walked last, that one is in force and has the shape that was loaded; and it has 2^17 buckets at most.
+use Rattle.std.proofs.Common.{◌≡◌, ℕ, zero, suc, ◌^◌, ◌<◌, ◌≤◌, List, [], ◌∷◌, ◌++◌, take, drop, Option, Some, None, refl, sym, ap, ◌∙◌, subst, inl, inr, arith}
 use Rattle.std.specs.List.{AllByRecursion}
+use Rattle.std.proofs.lemmas.List.{take-append-drop}
+use Rattle.std.proofs.lemmas.Option.{slice_get_within}
 use Rattle.rht_words.specs.declared.env.Env.{Env}
 use Rattle.rht_words.specs.declared.geometry.Geometry.{Geometry}
 use Rattle.rht_words.specs.declared.op.Op.TheVariants.{Load}
 use Rattle.rht_words.specs.Links.{table_of, slot_of}
 use Rattle.rht_words.specs.Members.{In}
 use Rattle.rht_words.specs.Operations.{old_of}
-use Rattle.rht_words.specs.Places.{Address, CurrentTable, Slot, FutureWord, place_of, word_at}
+use Rattle.rht_words.specs.Places.{Address, CurrentTable, Slot, ShapeWord, FutureWord, place_of, word_at}
+use Rattle.rht_words.specs.Shapes.{unpacked, size_of}
 use Rattle.rht_words.proofs.EachElement.{AllByRecursion-cut}
 use Rattle.rht_stands.specs.StandsFor.{in_force, tables_from}
 use Rattle.rht_core.specs.declared.event.Event.{Event}
+use Rattle.rht_core.specs.declared.event.Event.TheVariants.{Step}
+use Rattle.rht_core.specs.Runs.{IsAdmitted, IsAdmittedEvent}
 use Rattle.rht_core.specs.Traces.{Did, IsRising}
 use Rattle.rht_core.specs.Laws.{IsRecorded}
-use Rattle.rht_core.specs.Seen.{CameTo, as_current, as_future, words_before}
+use Rattle.rht_core.specs.Seen.{CameTo, as_current, as_future, LastWalked, words_before}
+use Rattle.rht_core.specs.ResizeCauses.{Attaches}
 use Rattle.rht_core.specs.Attached.{ChangesMissing}
+use Rattle.rht_core.proofs.Meaning.TablesInForce.{last_stands}
 use Rattle.rht_core.proofs.Events.TablesThere as there
 use Rattle.rht_core.proofs.Events.TablesThere.{HadTable, tables_at}
 use Rattle.rht_core.proofs.Tracing.StepsInTraces.{rising-before, rising_around}
+use Rattle.rht_core.proofs.Counting.TablesInRuns.{tables}
 
 module _ (M : Type 0) (mix : ℕ → ℕ → ℕ → ℕ) (env : Env) (events : List Event) (c : ℕ) where
   abbrev g : Geometry
@@ -103,3 +112,28 @@ module _ (M : Type 0) (mix : ℕ → ℕ → ℕ → ℕ) (env : Env) (events : 
       | inl stands ↦ stands_had did.index changed.table stands
       | inr came ↦ came_had changed.table before did.index (traced-front before (did ∷ []) all) early_steps came
     ]
+
+    -- and the table behind which another one is attached has 2^17 buckets at most
+    pub walked_size : IsAdmitted env.config.kind events → (table shape slot : ℕ) → LastWalked g table shape before
+        → Attaches g table slot did → size_of (unpacked shape) ≤ 2 ^ 17
+    walked_size admitted table shape slot walked attaches =
+        let at = walked.at in
+        let front = subst AreTraced walked.split (traced-front before (did ∷ []) all) in
+        let was = (AllByRecursion-cut IsRecordedHere walked.before (at ∷ walked.behind) front.recorded).1.0 in
+        let low = (AllByRecursion-cut (IsBefore did.index) walked.before (at ∷ walked.behind)
+        (subst (AllByRecursion (IsBefore did.index)) walked.split early_steps)).1.0 in
+        let had =
+        came_had table walked.before at.index (traced-front walked.before (at ∷ walked.behind) front)
+        (rising_around front.from walked.before at walked.behind front.rising).0 walked.reached in
+        let now = (AllByRecursion-cut IsRecordedHere before (did ∷ []) all.recorded).1.0 in
+        let within = slice_get_within events did.index (Step c) now.event in
+        let here = tables_at env mix M events did.index (omega (arith, within)) admitted in
+        let stayed = here.1 at.index table (omega (arith, low)) had in
+        let read : shape ≡ word_at g (words_at did.index) (Slot table ShapeWord) =
+        sym walked.found ∙ load-found (Slot table ShapeWord) at was walked.loaded ∙ stayed.shape in
+        let none : word_at g (words_at did.index) (Slot table FutureWord) ≡ 0 =
+        sym (ap (old_of (words_at did.index)) attaches.exchanges) ∙ now.found ∙ attaches.found in
+        let stands = last_stands env mix (words_at did.index) here.0.ghost here.0.inv.whole table stayed.has none in
+        let parts = AllByRecursion-cut (IsAdmittedEvent env.config.kind) (take did.index events) (drop did.index events)
+        (subst (IsAdmitted env.config.kind) (sym (take-append-drop did.index events)) admitted) in
+        subst (λ s. size_of (unpacked s) ≤ 2 ^ 17) (sym read) ((tables M mix env (take did.index events) parts.0).0.each table stands).most

@@ -25,7 +25,7 @@ use Rattle.rht_core.specs.Traces.{Did, performed_of}
 use Rattle.rht_nest.specs.MakeLaws.{TakesSlot}
 use Rattle.rht_core.specs.Seen.{CameTo, words_before}
 use Rattle.rht_core.specs.ResizeCauses.{wanted_size}
-use Rattle.rht_core.specs.Attached.{ChangesTable, size_made, AttachesFull, AttachesRightly, ChangesRightly, ChangesMissing}
+use Rattle.rht_core.specs.Attached.{ChangesTable, AttachesFull, AttachesRightly, ChangesRightly, ChangesMissing}
 
 -- where it loads the shape of a table, that is one of so many buckets
 abbrev pub FindsSize : Geometry → ℕ → Did → Type 0
@@ -71,10 +71,10 @@ module _ (M : Type 0) (mix : ℕ → ℕ → ℕ → ℕ) (env : Env) (events : 
     -- by a bind that saw tables of 64 buckets alone, where the one that it attaches has 4
     module _ (few : size_of (unpacked (word_at g words (Slot slot ShapeWord))) ≡ 4) (seen : AllByRecursion (FindsSize g 64) before) where
       -- what is wanted behind a table of 64 buckets has so many, or twice as many
-      wanted : (shape count : ℕ) → size_of (unpacked shape) ≡ 64 → 4 ≢ size_made (wanted_size env shape count)
+      wanted : (shape count : ℕ) → size_of (unpacked shape) ≡ 64 → 4 ≢ wanted_size env shape count
       wanted shape count is =
           cond_both (is_above_75 count (size_of (unpacked shape)) env.config.max) (2 * size_of (unpacked shape))
-          (size_of (unpacked shape)) (λ size. 4 ≢ size_made size)
+          (size_of (unpacked shape)) (λ size. 4 ≢ size)
           (λ t same. absurd (omega (arith, is, same))) (λ f same. absurd (omega (arith, is, same)))
 
       other_size : (port made shape : ℕ) → size_of (unpacked shape) ≡ 4
