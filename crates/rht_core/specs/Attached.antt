@@ -3,7 +3,8 @@
 -- stays as it is, but for its future. That becomes another one only by the exchange that attaches the next table. A bind does that which
 -- saw the table full, or a resizing that chose one. The current table becomes another one only by a resizing, which goes on to the next. And
 -- where an entry of a nested table leads to no page, a bind alone enters one, on the way to its own port's bucket: in a table in force, and in
--- each to which the call has come. And a slot is taken by whoever makes a table, given back by who took it, and retired by a resizing.
+-- each to which the call has come. A slot is taken by whoever makes a table, given back by who took it, and retired by a resizing. And the work
+-- lock is taken by a resizing, and given back by the one that took it.
 use Rattle.std.specs.Prelude.{◌≡◌, ◌≢◌, ℕ, ◌*◌, ◌<◌, ◌⊎◌, ◌≤◌, true, false, Some, List, [], ◌∷◌, ◌++◌, IfSome, map}
 use Rattle.std.specs.List.{AllByRecursion, Any}
 use Rattle.rht_words.specs.declared.op.Op.TheVariants.{Load, Store}
@@ -13,7 +14,7 @@ use Rattle.rht_words.specs.Links.{table_of, slot_of}
 use Rattle.rht_words.specs.Machines.{Performed}
 use Rattle.rht_words.specs.Members.{In}
 use Rattle.rht_words.specs.Operations.{op_place, word_after}
-use Rattle.rht_words.specs.Places.{SlotWord, CurrentTable, PortCount, Slot, ShapeWord, FutureWord, SeedWord, SerialWord, StateWord, PageWord, place_of, word_at}
+use Rattle.rht_words.specs.Places.{SlotWord, CurrentTable, WorkLock, PortCount, Slot, ShapeWord, FutureWord, SeedWord, SerialWord, StateWord, PageWord, place_of, word_at}
 use Rattle.rht_words.specs.Shapes.{unpacked, size_of}
 use Rattle.rht_words.specs.TableWords.{IsTableWord}
 use Rattle.rht_policy.specs.Mix.{bucket_of}
@@ -31,7 +32,7 @@ use Rattle.rht_core.specs.Traces.{Did, Traced, performed_of, traced_of}
 use Rattle.rht_core.specs.Seen.{LoadsCurrent, CameTo, LastWalked, words_before}
 use Rattle.rht_core.specs.ResizeCauses.{Loaded, Attaches, WalkedFull, wanted_size, AreRunsTaken}
 use Rattle.rht_core.specs.Due.{pages_due}
-use Rattle.rht_core.specs.WorkCauses.{HasChosen}
+use Rattle.rht_core.specs.WorkCauses.{TakesWorkLock, HasChosen}
 use Rattle.rht_core.specs.Refused.{StoresLast, IsWaysEnd, PutsPage, HasTaken}
 
 -- the operation changes one of the words that say something of the table in this slot
@@ -71,6 +72,25 @@ pub record MovesOn (g : Geometry) (words : List ℕ) (did : Did) : Type 0 where
   pub table_in : table < 8
   pub becomes : word_after did.old did.op ≡ table
   pub followed : slot_of (word_at g words (Slot (table_of did.old) FutureWord)) ≡ Some table
+
+-- the operation changes the word of the work lock
+pub record ChangesWorkLock (g : Geometry) (did : Did) : Type 0 where
+  pub there : op_place did.op ≡ place_of g WorkLock
+  pub other : word_after did.old did.op ≢ did.old
+
+-- one of these operations took the work lock, which was free, and none behind it changed its word
+pub record HasWorkLock (g : Geometry) (steps : List Did) : Type 0 where
+  pub before : List Did
+  pub at : Did
+  pub behind : List Did
+  pub split : steps ≡ before ++ at ∷ behind
+  pub takes : TakesWorkLock g at
+  pub kept : AllByRecursion (λ did. ¬ ChangesWorkLock g did) behind
+
+-- Only a resizing changes it: it takes the lock, which was free, or gives it back, which it had taken and has had since.
+abbrev pub WorkLockCause : Geometry → Call → List Did → Did → Type 0
+WorkLockCause g call before did =
+    (call ≡ Work) × (TakesWorkLock g did ⊎ (HasWorkLock g before × (did.op ≡ Store (place_of g WorkLock) 0)))
 
 -- The operation changes this entry, which by the words before is a way's end of a table, and so leads to no page. That table is in force by
 -- these words; or the call's operations before had come to it, whether it has been left behind since or not.
@@ -209,7 +229,8 @@ module _ (M : Type 0) (mix : ℕ → ℕ → ℕ → ℕ) (env : Env) (events : 
 
   -- Where the operation changes what a slot's words say of a table, that is the call's own, or it attaches another one behind it. And where it
   -- changes which table is the current one, the call is a resizing, and goes on to the next table. Where it changes an entry that leads to no
-  -- page, the call is a bind, and enters a page there. And where it changes whether a slot is free there is a cause for that.
+  -- page, the call is a bind, and enters a page there. Where it changes whether a slot is free there is a cause for that. And where it changes
+  -- the work lock, the call is a resizing, which takes it or gives it back.
   pub record ChangesRightly (call : Call) (before : List Did) (did : Did) : Type 0 where
     pub tables : (slot : ℕ) → ChangesTable env.geometry slot did → IsOwnTable slot before did ⊎ AttachesRightly call slot before did
     pub current :
@@ -219,6 +240,7 @@ module _ (M : Type 0) (mix : ℕ → ℕ → ℕ → ℕ) (env : Env) (events : 
     pub entries :
         (entry : ℕ) → ChangesMissing env.geometry (words_before M mix env events did.index) before entry did
         → EnterCause env.geometry (words_before M mix env events) mix call entry before did
+    pub work : ChangesWorkLock env.geometry did → WorkLockCause env.geometry call before did
 
   -- so do all calls of the caller, those that have ended and the one in progress
   pub record HasAttachedRightly (r : Traced M) : Type 0 where

@@ -279,9 +279,9 @@ pub fn sections<M: Mix>()
 /// twice the size, or of the same where the bind had loaded this one as the current one. Behind the count it
 /// stored in the slot, last of all shapes, that of a table of the wanted size. Where that table is nested it has
 /// 128 buckets or more. Then the bind saw, behind the count, each run of pages for a flat one taken, and not by
-/// operations behind the count. A `Work` had chosen, by what it loaded
-/// under the work lock, that a table of this size is due behind this one, which was the last. Behind that it
-/// stored, last of all shapes, that of a flat table of this size. Either had drawn the serial that it stored last.
+/// operations behind the count. A `Work` had chosen, by what it loaded under the work lock, that a table of this
+/// size is due behind this one, which was the last. Behind that it stored, last of all shapes, that of a flat table
+/// of this size. Either had drawn the serial that it stored last.
 ///
 /// No operation changes which table is the current one, but for one of a `Work`, which makes that table
 /// current that was the future of the one before.
@@ -296,6 +296,9 @@ pub fn sections<M: Mix>()
 /// slot that was free. A call gives back a slot of its own, in which by the words before no table is in force.
 /// Or a `Work` retires a slot, whose table isn't in force by the words before, and from which futures lead to
 /// the current one.
+///
+/// Nor does it change the word of the work lock, but for one of a `Work`. That takes the lock, by an exchange of 0
+/// for 1, or stores 0, where its own operations took it and left that word alone since.
 ///
 /// It doesn't say that a slot which was taken is given back, or that a table is ever attached, or a page entered.
 /// Nor does it say that who attaches a table has taken its pages, or that a retired one ever was in force.

@@ -33,7 +33,7 @@ use Rattle.rht_core.proofs.Reasons.RefusedBinds.{Behind, SawWhy, SawToAttach, Se
 use Rattle.rht_core.proofs.Reasons.BindCauses.{walked_full, unclamped}
 use Rattle.rht_core.proofs.Undoing.RefusedCalls as refusals
 use Rattle.rht_core.proofs.Reasons.CausesInRuns.{first_job-saw}
-use Rattle.rht_core.proofs.Reasons.ChangesSeen.{SeenFull, SeenCause, ChangesSeen, Now, Ended, goes}
+use Rattle.rht_core.proofs.Reasons.ChangesSeen.{SeenFull, SeenCause, ChangesSeen, Now, Ended, begins, goes}
 use Rattle.rht_nest.specs.MakeLaws.{pages_for}
 
 module _ (M : Type 0) (mix : ℕ → ℕ → ℕ → ℕ) (env : Env) (events : List Event) (c : ℕ) where
@@ -146,6 +146,7 @@ module _ (M : Type 0) (mix : ℕ → ℕ → ℕ → ℕ) (env : Env) (events : 
       ];
       current = seen.current;
       states = seen.states;
+      work = seen.work;
       entries = λ entry changed. seen.entries entry changed (missing_had M mix env events c before did traced entry changed);
     }
 
@@ -182,7 +183,7 @@ attached M mix env events c admitted =
     let keeping =
     jobs_keep_standing M mix env (Now M mix env events c) (Ended M mix env events c) events
     (record {
-      begins = λ call job is. (first_job-saw M mix env events call job is, refusals.begins M mix env events call job is, tt);
+      begins = λ call job is. (first_job-saw M mix env events call job is, refusals.begins M mix env events call job is, tt, begins M mix env events c call job is);
       goes = λ job steps did performs stands kept. goes M mix env events c admitted steps did job performs stands kept;
     }) c admitted in
     let were = at_events M mix env events admitted c in

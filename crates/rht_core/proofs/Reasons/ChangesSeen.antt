@@ -11,7 +11,7 @@ use Rattle.rht_words.specs.declared.machine.Next.TheVariants.{Go, Done}
 use Rattle.rht_words.specs.Members.{In}
 use Rattle.rht_words.specs.Places.{Slot, ShapeWord, FutureWord, PageWord, place_of, word_at, CurrentTable, StateWord}
 use Rattle.rht_words.specs.Shapes.{unpacked, size_of}
-use Rattle.rht_words.proofs.EachElement.{AllByRecursion-cut}
+use Rattle.rht_words.proofs.EachElement.{AllByRecursion-cut, AllByRecursion-push}
 use Rattle.rht_nest.specs.Tables.{is_nested}
 use Rattle.rht_model.specs.declared.history.Call.{Call}
 use Rattle.rht_model.specs.declared.history.Call.TheVariants.{Bind, Work}
@@ -19,22 +19,22 @@ use Rattle.rht_model.specs.Endings.{Ending}
 use Rattle.rht_bind.specs.declared.bind.growth.Growing.{Growing}
 use Rattle.rht_stands.specs.StandsFor.{in_force, tables_from}
 use Rattle.rht_core.specs.declared.event.Event.{Event}
-use Rattle.rht_core.specs.Jobs.{Job, finds, binds, lists, releases, rebinds, works, counts, job_plan, call_of, job_after, held_of, held_next}
+use Rattle.rht_core.specs.Jobs.{Job, finds, binds, lists, releases, rebinds, works, counts, job_plan, call_of, job_after, held_of, held_next, first_job}
 use Rattle.rht_core.specs.Runs.{IsAdmitted, IsAdmittedEvent}
 use Rattle.rht_core.specs.Traces.{Did}
 use Rattle.rht_core.specs.Seen.{words_before}
 use Rattle.rht_core.specs.ResizeCauses.{Attaches}
-use Rattle.rht_core.specs.Attached.{ChangesMissing, EnterCause, ChangesTable, ChangesCurrent, MovesOn, HasTakenSlot, EachBehind, AttachesDue, IsOwnTable, ChangesState, StateCause, MakesTables, RetiresTable}
+use Rattle.rht_core.specs.Attached.{ChangesMissing, EnterCause, ChangesWorkLock, HasWorkLock, WorkLockCause, ChangesTable, ChangesCurrent, MovesOn, HasTakenSlot, EachBehind, AttachesDue, IsOwnTable, ChangesState, StateCause, MakesTables, RetiresTable}
 use Rattle.rht_ghost.proofs.Theory.Ghosts.{Ghost, has_table, SlotHeld, index_at}
 use Rattle.rht_ghost.proofs.Theory.Wholes.{Whole}
-use Rattle.rht_ghost.proofs.Theory.Steps.{mem, Does}
+use Rattle.rht_ghost.proofs.Theory.Steps.{mem, Holding, Does}
 use Rattle.rht_words.specs.Operations.{op_value}
 use Rattle.rht_words.specs.Planned.{IsWord, IsPlannedIn}
 use Rattle.rht_words.proofs.PlannedWords.{old_of-fits, word_after-fits}
 use Rattle.rht_words.proofs.Memory.{Memory}
 use Rattle.rht_words.proofs.Rounding.{powers-rise}
 use Rattle.std.proofs.lemmas.Bool.{le-ltb, both_ways}
-use Rattle.std.proofs.lemmas.List.{take-append-drop}
+use Rattle.std.proofs.lemmas.List.{append_assoc, take-append-drop}
 use Rattle.rht_find.proofs.FindPlanned.{planned_find}
 use Rattle.rht_bind.proofs.BindPlanned.{planned_bind}
 use Rattle.rht_release.proofs.AllPlanned.{planned_all}
@@ -43,13 +43,14 @@ use Rattle.rht_release.proofs.RebindPlanned.{planned_rebind}
 use Rattle.rht_move.proofs.WorkPlanned.{planned_work}
 use Rattle.rht_ghost.proofs.Theory.Knowledge.{IsMade}
 use Rattle.rht_core.proofs.Machines.JobSteps.{JobIn}
+use Rattle.rht_core.proofs.Machines.WhoWorks.{worker_works}
 use Rattle.rht_core.proofs.Events.RangesInRuns.{planned_count, words_fit}
-use Rattle.rht_core.proofs.Events.JobsOfCallers.{same_call}
+use Rattle.rht_core.proofs.Events.JobsOfCallers.{same_call, first_holds}
 use Rattle.rht_core.proofs.Meaning.TablesInForce.{in_force_is, leads_to_current}
 use Rattle.rht_core.proofs.Tracing.TracedJobs.{Performs, StandsIn, LeadsOn}
 use Rattle.rht_core.proofs.Reasons.MadeSizes.{made_flat}
 use Rattle.rht_core.proofs.Reasons.SlotsTaken.{each-push}
-use Rattle.rht_core.proofs.Reasons.TableWordsKept.{FitBefore, by_move, current_by_move, StateHere, state_by_move}
+use Rattle.rht_core.proofs.Reasons.TableWordsKept.{FitBefore, by_move, current_by_move, StateHere, state_by_move, TakesWorkHere, GivesWorkHere, lock_by_move, worker_by_move}
 use Rattle.rht_core.proofs.Reasons.RefusedBinds.{Behind, SawToAttach, attach-taken}
 use Rattle.rht_core.proofs.Reasons.OwnTables.{own_slot, moving_works, AttachesNow, attaches_now, by_bind, by_work, slot_makes}
 use Rattle.rht_words.specs.declared.op.Op.TheVariants.{Load, Store}
@@ -106,9 +107,16 @@ module _ (M : Type 0) (mix : ℕ → ℕ → ℕ → ℕ) (env : Env) (events : 
     pub states : (slot : ℕ) → ChangesState g slot did → StateCause M mix env events c call slot before did
     pub entries : (entry : ℕ) (changed : ChangesMissing g (words_at did.index) before entry did)
         → HadTable g words_at did.index changed.table → EnterCause g words_at mix call entry before did
+    pub work : ChangesWorkLock g did → WorkLockCause g call before did
+
+  -- a call that has the work lock has taken it by an operation of its own
+  abbrev pub HasTakenWork : Job → List Did → Type 0
+  HasTakenWork job steps = (held_of job).worker ≡ true → HasWorkLock g steps
 
   abbrev pub Now : Job → List Did → Type 0
-  Now job steps = JobSaw env words_at mix job steps × refusals.Going M mix env events job steps × EachBehind (ChangesSeen (call_of job)) [] steps
+  Now job steps =
+      JobSaw env words_at mix job steps × refusals.Going M mix env events job steps × EachBehind (ChangesSeen (call_of job)) [] steps
+      × HasTakenWork job steps
 
   abbrev pub Ended : Call → Ending → List Did → Type 0
   Ended call ending steps = EndsSeen M mix env events call ending steps × EachBehind (ChangesSeen call) [] steps
@@ -306,16 +314,64 @@ module _ (M : Type 0) (mix : ℕ → ℕ → ℕ → ℕ) (env : Env) (events : 
           retires performs.words performs.ghost performs.caller slot performs.whole now here.can here.stores,
         ))
 
+    -- a call whose job has the work lock behind the operation is a resizing
+    works_then : (job : Job) (next : Job × Next Ending) → call_of next.0 ≡ call_of job → (held_next next).worker ≡ true → call_of job ≡ Work
+    works_then job (after, Go) same has = sym same ∙ worker_works after has
+    works_then job (after, Done ending) same has = absurd (cc)
+
+    -- what the operation does to what the call has
+    does_now : (job : Job) (performs : Performs mix env job did)
+        → Does env mix performs.step.move did.op did.old (held_of job) (held_next (job_after mix env job did.old))
+    does_now job performs =
+        subst (λ old. Does env mix performs.step.move did.op old (held_of job) (held_next (job_after mix env job did.old)))
+        (sym performs.found) performs.step.does
+
+    fits_now : (job : Job) (performs : Performs mix env job did) → performs.words ≡ words_at did.index → FitBefore did
+    fits_now job performs now = fit_before job did performs (subst (AllByRecursion IsWord) (sym now) (words_fit_at admitted did.index))
+
+    work_lock : (job : Job) (performs : Performs mix env job did) → performs.words ≡ words_at did.index → ChangesWorkLock g did
+        → TakesWorkHere env mix performs.caller (mem env mix performs.words) performs.ghost did (held_of job) (held_next (job_after mix env job did.old))
+        ⊎ GivesWorkHere env mix performs.caller (mem env mix performs.words) performs.ghost did (held_of job) (held_next (job_after mix env job did.old))
+    work_lock job performs now changed =
+        lock_by_move env mix performs.caller (mem env mix performs.words) performs.ghost did (held_of job)
+        (held_next (job_after mix env job did.old)) (fits_now job performs now) changed performs.step.move performs.step.ready
+        (does_now job performs)
+
+    -- it has taken the work lock still, or has done so now
+    worked : (job : Job) (performs : Performs mix env job did) → performs.words ≡ words_at did.index → HasTakenWork job steps
+        → (held_next (job_after mix env job did.old)).worker ≡ true → HasWorkLock g (steps ++ did ∷ [])
+    worked job performs now taken has =
+        let next = held_next (job_after mix env job did.old) in
+        elim (worker_by_move env mix performs.caller (mem env mix performs.words) performs.ghost did (held_of job) next performs.step.move
+        (does_now job performs) has) [
+          | inr takes ↦ record { before = steps; at = did; behind = []; split = refl; takes = takes; kept = tt }
+          | inl had ↦
+              let was = taken had in
+              record {
+                before = was.before;
+                at = was.at;
+                behind = was.behind ++ did ∷ [];
+                split = ap (λ s. s ++ did ∷ []) was.split ∙ append_assoc was.before (was.at ∷ was.behind) (did ∷ []);
+                takes = was.takes;
+                kept =
+                    AllByRecursion-push (λ other. ¬ ChangesWorkLock g other) was.behind did was.kept
+                    (λ changed. elim (work_lock job performs now changed) [
+                      | inl here ↦ both_ways (held_of job).worker here.idle had
+                      | inr here ↦ both_ways next.worker here.idle has
+                    ]);
+              }
+        ]
+
     changes : (job : Job) (performs : Performs mix env job did) → StandsIn mix env words_at job did performs
-        → JobSaw env words_at mix job steps → refusals.Going M mix env events job steps → ChangesSeen (call_of job) steps did
-    changes job performs stands saw going =
+        → JobSaw env words_at mix job steps → refusals.Going M mix env events job steps → HasTakenWork job steps
+        → ChangesSeen (call_of job) steps did
+    changes job performs stands saw going taken =
         let now = stands.now in
         let next = job_after mix env job did.old in
         let step = performs.step in
         let there = mem env mix performs.words in
-        let fits = fit_before job did performs (subst (AllByRecursion IsWord) (sym now) (words_fit_at admitted did.index)) in
-        let does : Does env mix step.move did.op did.old (held_of job) (held_next next) =
-        subst (λ old. Does env mix step.move did.op old (held_of job) (held_next next)) (sym performs.found) step.does in
+        let fits = fits_now job performs now in
+        let does = does_now job performs in
         record {
           tables = λ slot changed. elim (by_move env mix performs.caller there performs.ghost did (held_of job) (held_next next) slot fits
               changed step.move step.ready does) [
@@ -342,6 +398,10 @@ module _ (M : Type 0) (mix : ℕ → ℕ → ℕ → ℕ) (env : Env) (events : 
               performs.all performs.found entry changed.entry_in
               (missing_is_entry env mix performs.words performs.ghost performs.whole entry changed.table way has.has) changed.there
               changed.other step.move step.ready step.made.whole does);
+          work = λ changed. elim (work_lock job performs now changed) [
+            | inl here ↦ (works_then job next (same_call mix env job did.old) here.has, inl here.takes)
+            | inr here ↦ (worker_works job here.had, inr (taken here.had, here.gives))
+          ];
         }
 
     -- an operation leads on with this too
@@ -349,15 +409,21 @@ module _ (M : Type 0) (mix : ℕ → ℕ → ℕ → ℕ) (env : Env) (events : 
         → EachBehind (ChangesSeen (call_of job)) [] (steps ++ did ∷ [])
         → LeadsOn M mix env (JobSaw env words_at mix) (EndsSeen M mix env events) job (steps ++ did ∷ []) next
         → LeadsOn M mix env (refusals.Going M mix env events) (refusals.Undone M mix env events) job (steps ++ did ∷ []) next
+        → ((held_next next).worker ≡ true → HasWorkLock g (steps ++ did ∷ []))
         → LeadsOn M mix env Now Ended job (steps ++ did ∷ []) next
-    by_next job (after, Go) same each leads going =
-        (leads, going, subst (λ call. EachBehind (ChangesSeen call) [] (steps ++ did ∷ [])) (sym same) each)
-    by_next job (after, Done ending) same each leads going = (leads, each)
+    by_next job (after, Go) same each leads going taken =
+        (leads, going, subst (λ call. EachBehind (ChangesSeen call) [] (steps ++ did ∷ [])) (sym same) each, taken)
+    by_next job (after, Done ending) same each leads going taken = (leads, each)
 
     pub goes : (job : Job) (performs : Performs mix env job did) → StandsIn mix env words_at job did performs → Now job steps
         → LeadsOn M mix env Now Ended job (steps ++ did ∷ []) (job_after mix env job did.old)
-    goes job performs stands (saw, going, each) =
+    goes job performs stands (saw, going, each, taken) =
         by_next job (job_after mix env job did.old) (same_call mix env job did.old)
-        (each-push (ChangesSeen (call_of job)) [] steps did each (changes job performs stands saw going))
+        (each-push (ChangesSeen (call_of job)) [] steps did each (changes job performs stands saw going taken))
         (job-leads M mix env events job steps did performs stands saw)
         (refusals.goes M mix env events job steps did performs stands.now (saw-came env words_at mix job steps saw) going)
+        (worked job performs stands.now taken)
+
+  -- a call has no work lock at its beginning
+  pub begins : (call : Call) (job : Job) → first_job env call ≡ Some job → HasTakenWork job []
+  begins call job is has = absurd (both_ways _ (ap (λ (h : Holding). h.worker) (first_holds env call job is)) has)
