@@ -22,6 +22,8 @@ pub mod PagesThere
 pub mod BucketsThere
 -- the invariant holds in every run
 pub mod InvariantRuns
+-- a slot that has a table has one for the rest of a run
+pub mod TablesThere
 -- in every run each caller works at the call of its book, and its calls took out as many nodes as that says
 pub mod BooksInRuns
 -- in every run each section word is even

@@ -80,6 +80,8 @@ pub mod TableWordsKept
 pub mod OwnTables
 -- what is kept of each operation that changes one of these words, or enters a page
 pub mod ChangesSeen
+-- a slot to which a call has come had a table
+pub mod TablesCome
 -- so in every run tables are attached when, by whom and of which size they are to be
 pub mod AttachedInRuns
 -- and what attaches one wrongly

@@ -1,7 +1,7 @@
 -- What is kept of each operation of a call, with those before it: where it changes a word of a slot's table the call has the slot, or attaches
 -- the table that it has made. It makes another table the current one only as a resizing, takes, gives back and retires slots as it may, and
 -- enters a missing page only on its way.
-use Rattle.std.proofs.Common.{◌≡◌, ◌⊎◌, ℕ, true, false, List, [], ◌∷◌, ◌++◌, Some, inl, inr, refl, sym, ap, ◌∙◌, subst, arith}
+use Rattle.std.proofs.Common.{◌≡◌, ◌⊎◌, ◌*◌, ◌<◌, ℕ, true, false, List, [], ◌∷◌, ◌++◌, Some, inl, inr, refl, sym, ap, ◌∙◌, subst, arith}
 use Rattle.std.specs.Prelude.{min, max, ◌≤◌, take, drop}
 use Rattle.std.specs.List.{AllByRecursion}
 use Rattle.rht_words.specs.declared.env.Env.{Env}
@@ -11,7 +11,7 @@ use Rattle.rht_words.specs.declared.machine.Next.TheVariants.{Go, Done}
 use Rattle.rht_words.specs.Members.{In}
 use Rattle.rht_words.specs.Places.{Slot, ShapeWord, FutureWord, PageWord, place_of, word_at, CurrentTable, StateWord}
 use Rattle.rht_words.specs.Shapes.{unpacked, size_of}
-use Rattle.rht_words.proofs.EachElement.{AllByRecursion-cut}
+use Rattle.rht_words.proofs.EachElement.{AllByRecursion-cut, AllByRecursion-push}
 use Rattle.rht_nest.specs.Tables.{is_nested}
 use Rattle.rht_model.specs.declared.history.Call.{Call}
 use Rattle.rht_model.specs.declared.history.Call.TheVariants.{Bind, Work}
@@ -19,22 +19,22 @@ use Rattle.rht_model.specs.Endings.{Ending}
 use Rattle.rht_bind.specs.declared.bind.growth.Growing.{Growing}
 use Rattle.rht_stands.specs.StandsFor.{in_force, tables_from}
 use Rattle.rht_core.specs.declared.event.Event.{Event}
-use Rattle.rht_core.specs.Jobs.{Job, finds, binds, lists, releases, rebinds, works, counts, job_plan, call_of, job_after, held_of, held_next}
+use Rattle.rht_core.specs.Jobs.{Job, finds, binds, lists, releases, rebinds, works, counts, job_plan, call_of, job_after, held_of, held_next, first_job}
 use Rattle.rht_core.specs.Runs.{IsAdmitted, IsAdmittedEvent}
 use Rattle.rht_core.specs.Traces.{Did}
 use Rattle.rht_core.specs.Seen.{words_before}
 use Rattle.rht_core.specs.ResizeCauses.{Attaches}
-use Rattle.rht_core.specs.Attached.{ChangesMissing, EnterCause, ChangesTable, ChangesCurrent, MovesOn, HasTakenSlot, EachBehind, AttachesDue, IsOwnTable, ChangesState, StateCause, MakesTables, RetiresTable}
+use Rattle.rht_core.specs.Attached.{ChangesMissing, EnterCause, ChangesWorkLock, HasWorkLock, WorkLockCause, ChangesTable, ChangesCurrent, MovesOn, HasTakenSlot, EachBehind, AttachesDue, IsOwnTable, ChangesState, StateCause, MakesTables, RetiresTable}
 use Rattle.rht_ghost.proofs.Theory.Ghosts.{Ghost, has_table, SlotHeld, index_at}
 use Rattle.rht_ghost.proofs.Theory.Wholes.{Whole}
-use Rattle.rht_ghost.proofs.Theory.Steps.{mem, Does}
+use Rattle.rht_ghost.proofs.Theory.Steps.{mem, Holding, Does}
 use Rattle.rht_words.specs.Operations.{op_value}
 use Rattle.rht_words.specs.Planned.{IsWord, IsPlannedIn}
 use Rattle.rht_words.proofs.PlannedWords.{old_of-fits, word_after-fits}
 use Rattle.rht_words.proofs.Memory.{Memory}
 use Rattle.rht_words.proofs.Rounding.{powers-rise}
 use Rattle.std.proofs.lemmas.Bool.{le-ltb, both_ways}
-use Rattle.std.proofs.lemmas.List.{take-append-drop}
+use Rattle.std.proofs.lemmas.List.{append_assoc, take-append-drop}
 use Rattle.rht_find.proofs.FindPlanned.{planned_find}
 use Rattle.rht_bind.proofs.BindPlanned.{planned_bind}
 use Rattle.rht_release.proofs.AllPlanned.{planned_all}
@@ -43,19 +43,22 @@ use Rattle.rht_release.proofs.RebindPlanned.{planned_rebind}
 use Rattle.rht_move.proofs.WorkPlanned.{planned_work}
 use Rattle.rht_ghost.proofs.Theory.Knowledge.{IsMade}
 use Rattle.rht_core.proofs.Machines.JobSteps.{JobIn}
+use Rattle.rht_core.proofs.Machines.WhoWorks.{worker_works}
 use Rattle.rht_core.proofs.Events.RangesInRuns.{planned_count, words_fit}
-use Rattle.rht_core.proofs.Events.JobsOfCallers.{same_call}
+use Rattle.rht_core.proofs.Events.JobsOfCallers.{same_call, first_holds}
 use Rattle.rht_core.proofs.Meaning.TablesInForce.{in_force_is, leads_to_current}
 use Rattle.rht_core.proofs.Tracing.TracedJobs.{Performs, StandsIn, LeadsOn}
 use Rattle.rht_core.proofs.Reasons.MadeSizes.{made_flat}
 use Rattle.rht_core.proofs.Reasons.SlotsTaken.{each-push}
-use Rattle.rht_core.proofs.Reasons.TableWordsKept.{FitBefore, by_move, current_by_move, StateHere, state_by_move}
+use Rattle.rht_core.proofs.Reasons.TableWordsKept.{FitBefore, by_move, current_by_move, StateHere, state_by_move, TakesWorkHere, GivesWorkHere, lock_by_move, worker_by_move}
 use Rattle.rht_core.proofs.Reasons.RefusedBinds.{Behind, SawToAttach, attach-taken}
 use Rattle.rht_core.proofs.Reasons.OwnTables.{own_slot, moving_works, AttachesNow, attaches_now, by_bind, by_work, slot_makes}
 use Rattle.rht_words.specs.declared.op.Op.TheVariants.{Load, Store}
 use Rattle.rht_words.specs.Operations.{old_of}
 use Rattle.rht_words.specs.Links.{page_of, table_of}
-use Rattle.rht_core.specs.Refused.{PutsPage, HasTaken}
+use Rattle.rht_core.specs.Refused.{PutsPage, HasTaken, IsWaysEnd}
+use Rattle.rht_core.proofs.Events.TablesThere.{HadTable}
+use Rattle.rht_core.proofs.Undoing.EnteredWords.{missing_is_entry}
 use Rattle.rht_ghost.proofs.Theory.Knowledge.{TableMeans}
 use Rattle.rht_ghost.proofs.Pieces.OpenEntries.{known_growing}
 use Rattle.rht_core.proofs.Reasons.PagesMissed.{misses-page}
@@ -102,10 +105,18 @@ module _ (M : Type 0) (mix : ℕ → ℕ → ℕ → ℕ) (env : Env) (events : 
         → IsOwnTable M mix env events c slot before did ⊎ AttachesSeen call slot before did
     pub current : ChangesCurrent g did → (call ≡ Work) × MovesOn g (words_at did.index) did
     pub states : (slot : ℕ) → ChangesState g slot did → StateCause M mix env events c call slot before did
-    pub entries : (entry : ℕ) → ChangesMissing g (words_at did.index) entry did → EnterCause g words_at mix call entry before did
+    pub entries : (entry : ℕ) (changed : ChangesMissing g (words_at did.index) before entry did)
+        → HadTable g words_at did.index changed.table → EnterCause g words_at mix call entry before did
+    pub work : ChangesWorkLock g did → WorkLockCause g call before did
+
+  -- a call that has the work lock has taken it by an operation of its own
+  abbrev pub HasTakenWork : Job → List Did → Type 0
+  HasTakenWork job steps = (held_of job).worker ≡ true → HasWorkLock g steps
 
   abbrev pub Now : Job → List Did → Type 0
-  Now job steps = JobSaw env words_at mix job steps × refusals.Going M mix env events job steps × EachBehind (ChangesSeen (call_of job)) [] steps
+  Now job steps =
+      JobSaw env words_at mix job steps × refusals.Going M mix env events job steps × EachBehind (ChangesSeen (call_of job)) [] steps
+      × HasTakenWork job steps
 
   abbrev pub Ended : Call → Ending → List Did → Type 0
   Ended call ending steps = EndsSeen M mix env events call ending steps × EachBehind (ChangesSeen call) [] steps
@@ -239,10 +250,10 @@ module _ (M : Type 0) (mix : ℕ → ℕ → ℕ → ℕ) (env : Env) (events : 
         }
 
     entered : (job : Job) (entry : ℕ) (performs : Performs mix env job did) → performs.words ≡ words_at did.index
-        → JobSaw env words_at mix job steps → refusals.Going M mix env events job steps → ChangesMissing g (words_at did.index) entry did
+        → JobSaw env words_at mix job steps → refusals.Going M mix env events job steps → entry < 64 * g.pages
         → (there : EntersThere env mix performs.caller performs.ghost did (held_of job) (held_next (job_after mix env job did.old)) entry)
         → EnterCause g words_at mix (call_of job) entry steps did
-    entered job entry performs now saw going changed there =
+    entered job entry performs now saw going low there =
         let page = there.page in
         let is_early = early env mix performs.caller (mem env mix performs.words) performs.ghost did entry page there.does.entering job
         performs.within performs.planned there.does.had in
@@ -258,7 +269,7 @@ module _ (M : Type 0) (mix : ℕ → ℕ → ℕ → ℕ) (env : Env) (events : 
         performs.planned there.does.had) performs now saw took
         (record {
           page_in = there.ready.among;
-          entry_in = changed.entry_in;
+          entry_in = low;
           exchanges = there.does.entering;
           found = there.does.found;
         })
@@ -303,15 +314,64 @@ module _ (M : Type 0) (mix : ℕ → ℕ → ℕ → ℕ) (env : Env) (events : 
           retires performs.words performs.ghost performs.caller slot performs.whole now here.can here.stores,
         ))
 
-    changes : (job : Job) (performs : Performs mix env job did) → performs.words ≡ words_at did.index
-        → JobSaw env words_at mix job steps → refusals.Going M mix env events job steps → ChangesSeen (call_of job) steps did
-    changes job performs now saw going =
+    -- a call whose job has the work lock behind the operation is a resizing
+    works_then : (job : Job) (next : Job × Next Ending) → call_of next.0 ≡ call_of job → (held_next next).worker ≡ true → call_of job ≡ Work
+    works_then job (after, Go) same has = sym same ∙ worker_works after has
+    works_then job (after, Done ending) same has = absurd (cc)
+
+    -- what the operation does to what the call has
+    does_now : (job : Job) (performs : Performs mix env job did)
+        → Does env mix performs.step.move did.op did.old (held_of job) (held_next (job_after mix env job did.old))
+    does_now job performs =
+        subst (λ old. Does env mix performs.step.move did.op old (held_of job) (held_next (job_after mix env job did.old)))
+        (sym performs.found) performs.step.does
+
+    fits_now : (job : Job) (performs : Performs mix env job did) → performs.words ≡ words_at did.index → FitBefore did
+    fits_now job performs now = fit_before job did performs (subst (AllByRecursion IsWord) (sym now) (words_fit_at admitted did.index))
+
+    work_lock : (job : Job) (performs : Performs mix env job did) → performs.words ≡ words_at did.index → ChangesWorkLock g did
+        → TakesWorkHere env mix performs.caller (mem env mix performs.words) performs.ghost did (held_of job) (held_next (job_after mix env job did.old))
+        ⊎ GivesWorkHere env mix performs.caller (mem env mix performs.words) performs.ghost did (held_of job) (held_next (job_after mix env job did.old))
+    work_lock job performs now changed =
+        lock_by_move env mix performs.caller (mem env mix performs.words) performs.ghost did (held_of job)
+        (held_next (job_after mix env job did.old)) (fits_now job performs now) changed performs.step.move performs.step.ready
+        (does_now job performs)
+
+    -- it has taken the work lock still, or has done so now
+    worked : (job : Job) (performs : Performs mix env job did) → performs.words ≡ words_at did.index → HasTakenWork job steps
+        → (held_next (job_after mix env job did.old)).worker ≡ true → HasWorkLock g (steps ++ did ∷ [])
+    worked job performs now taken has =
+        let next = held_next (job_after mix env job did.old) in
+        elim (worker_by_move env mix performs.caller (mem env mix performs.words) performs.ghost did (held_of job) next performs.step.move
+        (does_now job performs) has) [
+          | inr takes ↦ record { before = steps; at = did; behind = []; split = refl; takes = takes; kept = tt }
+          | inl had ↦
+              let was = taken had in
+              record {
+                before = was.before;
+                at = was.at;
+                behind = was.behind ++ did ∷ [];
+                split = ap (λ s. s ++ did ∷ []) was.split ∙ append_assoc was.before (was.at ∷ was.behind) (did ∷ []);
+                takes = was.takes;
+                kept =
+                    AllByRecursion-push (λ other. ¬ ChangesWorkLock g other) was.behind did was.kept
+                    (λ changed. elim (work_lock job performs now changed) [
+                      | inl here ↦ both_ways (held_of job).worker here.idle had
+                      | inr here ↦ both_ways next.worker here.idle has
+                    ]);
+              }
+        ]
+
+    changes : (job : Job) (performs : Performs mix env job did) → StandsIn mix env words_at job did performs
+        → JobSaw env words_at mix job steps → refusals.Going M mix env events job steps → HasTakenWork job steps
+        → ChangesSeen (call_of job) steps did
+    changes job performs stands saw going taken =
+        let now = stands.now in
         let next = job_after mix env job did.old in
         let step = performs.step in
         let there = mem env mix performs.words in
-        let fits = fit_before job did performs (subst (AllByRecursion IsWord) (sym now) (words_fit_at admitted did.index)) in
-        let does : Does env mix step.move did.op did.old (held_of job) (held_next next) =
-        subst (λ old. Does env mix step.move did.op old (held_of job) (held_next next)) (sym performs.found) step.does in
+        let fits = fits_now job performs now in
+        let does = does_now job performs in
         record {
           tables = λ slot changed. elim (by_move env mix performs.caller there performs.ghost did (held_of job) (held_next next) slot fits
               changed step.move step.ready does) [
@@ -330,11 +390,18 @@ module _ (M : Type 0) (mix : ℕ → ℕ → ℕ → ℕ) (env : Env) (events : 
               stated job slot performs now saw
               (state_by_move env mix performs.caller there performs.ghost did (held_of job) (held_next next) slot fits changed step.move
               step.ready does);
-          entries = λ entry changed.
-              entered job entry performs now saw going changed
+          entries = λ entry changed had.
+              let has = stands.stayed did.index changed.table (omega arith) had in
+              let way = subst (λ ws. IsWaysEnd g ws changed.table entry) (sym now) changed.way in
+              entered job entry performs now saw going changed.entry_in
               (entered_by_move env mix performs.caller performs.words performs.ghost did (held_of job) (held_next next) performs.whole
-              performs.all performs.found entry (subst (λ ws. ChangesMissing g ws entry did) (sym now) changed) step.move step.ready
-              step.made.whole does);
+              performs.all performs.found entry changed.entry_in
+              (missing_is_entry env mix performs.words performs.ghost performs.whole entry changed.table way has.has) changed.there
+              changed.other step.move step.ready step.made.whole does);
+          work = λ changed. elim (work_lock job performs now changed) [
+            | inl here ↦ (works_then job next (same_call mix env job did.old) here.has, inl here.takes)
+            | inr here ↦ (worker_works job here.had, inr (taken here.had, here.gives))
+          ];
         }
 
     -- an operation leads on with this too
@@ -342,15 +409,21 @@ module _ (M : Type 0) (mix : ℕ → ℕ → ℕ → ℕ) (env : Env) (events : 
         → EachBehind (ChangesSeen (call_of job)) [] (steps ++ did ∷ [])
         → LeadsOn M mix env (JobSaw env words_at mix) (EndsSeen M mix env events) job (steps ++ did ∷ []) next
         → LeadsOn M mix env (refusals.Going M mix env events) (refusals.Undone M mix env events) job (steps ++ did ∷ []) next
+        → ((held_next next).worker ≡ true → HasWorkLock g (steps ++ did ∷ []))
         → LeadsOn M mix env Now Ended job (steps ++ did ∷ []) next
-    by_next job (after, Go) same each leads going =
-        (leads, going, subst (λ call. EachBehind (ChangesSeen call) [] (steps ++ did ∷ [])) (sym same) each)
-    by_next job (after, Done ending) same each leads going = (leads, each)
+    by_next job (after, Go) same each leads going taken =
+        (leads, going, subst (λ call. EachBehind (ChangesSeen call) [] (steps ++ did ∷ [])) (sym same) each, taken)
+    by_next job (after, Done ending) same each leads going taken = (leads, each)
 
     pub goes : (job : Job) (performs : Performs mix env job did) → StandsIn mix env words_at job did performs → Now job steps
         → LeadsOn M mix env Now Ended job (steps ++ did ∷ []) (job_after mix env job did.old)
-    goes job performs stands (saw, going, each) =
+    goes job performs stands (saw, going, each, taken) =
         by_next job (job_after mix env job did.old) (same_call mix env job did.old)
-        (each-push (ChangesSeen (call_of job)) [] steps did each (changes job performs stands.now saw going))
+        (each-push (ChangesSeen (call_of job)) [] steps did each (changes job performs stands saw going taken))
         (job-leads M mix env events job steps did performs stands saw)
         (refusals.goes M mix env events job steps did performs stands.now (saw-came env words_at mix job steps saw) going)
+        (worked job performs stands.now taken)
+
+  -- a call has no work lock at its beginning
+  pub begins : (call : Call) (job : Job) → first_job env call ≡ Some job → HasTakenWork job []
+  begins call job is has = absurd (both_ways _ (ap (λ (h : Holding). h.worker) (first_holds env call job is)) has)
