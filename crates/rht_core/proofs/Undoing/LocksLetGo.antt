@@ -2,7 +2,7 @@
 --
 -- Of each lock that a call holds it has turned the bit an odd number of times, and of each other one an even number; but for the entries at
 -- which it entered pages. Once it has ended it holds none.
-use Rattle.std.proofs.Common.{◌≡◌, ◌⊎◌, ℕ, ◌+◌, ◌%◌, ◌<◌, Bool, true, false, List, [], ◌∷◌, ◌++◌, Some, None, refl, sym, ap, ◌∙◌, subst, inl, inr, arith}
+use Rattle.std.proofs.Common.{◌≡◌, ◌⊎◌, ℕ, ◌+◌, ◌%◌, ◌<◌, Bool, false, List, [], ◌∷◌, ◌++◌, Some, None, refl, sym, ap, ◌∙◌, subst, inl, inr, arith}
 use Rattle.std.specs.List.{AllByRecursion}
 use Rattle.std.proofs.lemmas.List.{append_assoc}
 use Rattle.rht_words.specs.declared.env.Env.{Env}
@@ -22,32 +22,16 @@ use Rattle.rht_words.proofs.PlacesApart.{parts_in_order}
 use Rattle.rht_model.specs.declared.history.Call.{Call}
 use Rattle.rht_model.specs.declared.history.Call.TheVariants.{Bind, Find, All, Release, Rebind, Work, Count}
 use Rattle.rht_model.specs.Endings.{Ending}
-use Rattle.rht_find.specs.FindHeld.{held_of_find}
-use Rattle.rht_find.specs.declared.find.FindAt.{FindAt}
-use Rattle.rht_find.specs.declared.find.FindAt.TheVariants as finding
-use Rattle.rht_bind.specs.BindHeld as bind_held
 use Rattle.rht_bind.specs.BindHeld.{held_of_bind}
-use Rattle.rht_bind.specs.declared.bind.Claimed.{Claimed}
 use Rattle.rht_bind.specs.declared.bind.BindAt.{BindAt}
 use Rattle.rht_bind.specs.declared.bind.BindAt.TheVariants as binding
 use Rattle.rht_chain.specs.Relink.{has_relinked}
-use Rattle.rht_release.specs.declared.found_port.FoundPort.{FoundPort}
-use Rattle.rht_release.specs.AllHeld.{held_of_all}
-use Rattle.rht_release.specs.declared.all.AllAt.{AllAt}
-use Rattle.rht_release.specs.declared.all.AllAt.TheVariants as listing
-use Rattle.rht_release.specs.ReleaseHeld.{held_of_release, holds_relinking}
-use Rattle.rht_release.specs.declared.release.ReleaseAt.{ReleaseAt}
-use Rattle.rht_release.specs.declared.release.ReleaseAt.TheVariants as releasing
-use Rattle.rht_release.specs.RebindHeld as rebind_held
-use Rattle.rht_release.specs.RebindHeld.{held_of_rebind}
-use Rattle.rht_release.specs.declared.rebind.RebindAt.{RebindAt}
-use Rattle.rht_release.specs.declared.rebind.RebindAt.TheVariants as rebinding
 use Rattle.rht_move.specs.WorkHeld.{held_of_work}
 use Rattle.rht_move.specs.Work.{IsWorkAtIn}
 use Rattle.rht_move.specs.declared.work.WorkAt.{WorkAt}
 use Rattle.rht_move.specs.declared.work.WorkAt.TheVariants as working
 use Rattle.rht_core.specs.declared.event.Event.{Event}
-use Rattle.rht_core.specs.Jobs.{Job, finds, binds, lists, releases, rebinds, works, counts, call_of, first_rebind, first_job, job_plan, job_after, held_of, held_next}
+use Rattle.rht_core.specs.Jobs.{Job, binds, works, call_of, first_rebind, first_job, job_plan, job_after, held_of, held_next}
 use Rattle.rht_core.specs.Traces.{Did, Past, traced_of}
 use Rattle.rht_core.specs.Seen.{words_before}
 use Rattle.rht_core.specs.Refused.{turns, IsMissingEntry}
@@ -55,6 +39,7 @@ use Rattle.rht_core.specs.LetGo.{HasEnteredAt, HasLetGo, LetGo}
 use Rattle.rht_ghost.proofs.Theory.Ghosts.{Ghost}
 use Rattle.rht_ghost.proofs.Theory.Steps.{Holding, mem, Does, Move, TakesNode, GivesNode, Links, Rebinds, SaysChange}
 use Rattle.rht_core.proofs.Machines.JobSteps.{JobIn}
+use Rattle.rht_core.proofs.Machines.NeverHeld.{tableless, front-tableless, pageless}
 use Rattle.rht_core.proofs.Events.JobsOfCallers.{same_call}
 use Rattle.rht_core.proofs.Tracing.TracedJobs.{Performs, LeadsOn, IsEndedSo}
 use Rattle.rht_core.proofs.Tracing.JobsBeside.{kept_beside}
@@ -69,41 +54,6 @@ use Rattle.rht_core.proofs.Undoing.RefusedCalls as refusals
 use Rattle.rht_core.proofs.Undoing.LocksTurned.{IsLockPlace, lock_bits, Turning, EntersHere, turns_evenly}
 
 -- ---- which job enters a page
-
-module _ (page : ℕ) where
-  -- a job without pages enters none
-  pub find-none : (state : FindAt) → In page (held_of_find state).pages → ⊥
-  find-none finding.CurrentTable i = i
-  find-none _ i = i
-
-  pub all-none : (owners : List ℕ) (state : AllAt) → In page (held_of_all owners state).pages → ⊥
-  all-none owners (listing.Seeking seek) i = i
-  all-none owners _ i = i
-
-  pub front-none : (claimed : Claimed) (stored : Bool) → In page (bind_held.holds_replacing claimed stored).pages → ⊥
-  front-none claimed true i = i
-  front-none claimed false i = i
-
-  pub replacing-none : (node : ℕ) (found : FoundPort) (stored : Bool)
-      → In page (rebind_held.holds_replacing node found stored).pages → ⊥
-  replacing-none node found true i = i
-  replacing-none node found false i = i
-
-  pub relinking-none : (found : FoundPort) (raised stored : Bool) → In page (holds_relinking found raised stored).pages → ⊥
-  relinking-none found raised true i = i
-  relinking-none found raised false i = i
-
-  pub release-none : (state : ReleaseAt) → In page (held_of_release state).pages → ⊥
-  release-none (releasing.Promoting found relink) i =
-      relinking-none found false (has_relinked found.before relink.at) i
-  release-none (releasing.Unlinking found relink) i =
-      relinking-none found true (has_relinked found.before relink.at) i
-  release-none _ i = i
-
-  pub rebind-none : (state : RebindAt) → In page (held_of_rebind state).pages → ⊥
-  rebind-none (rebinding.Replacing node found relink) i =
-      replacing-none node found (has_relinked found.before relink.at) i
-  rebind-none _ i = i
 
 -- The job may still be refused, and hasn't told an answer that says that bindings were changed.
 pub record IsEarly (job : Job) : Type 0 where
@@ -121,7 +71,7 @@ module _ (env : Env) (mix : ℕ → ℕ → ℕ → ℕ) (c : ℕ) (M : Memory) 
   bind-early port owner once (binding.Unmaking attempt unmake answer) is had =
       absurd (unmake-enters env mix c M G did entry page exchanges unmake.geometry unmake.slot unmake.at is)
   bind-early port owner once (binding.Replacing list relink) is had =
-      absurd (front-none page list.claimed (has_relinked list.before relink.at) had)
+      absurd (pageless (front-tableless list.claimed (has_relinked list.before relink.at)) page had)
   bind-early port owner once _ is had = absurd had
 
   work-early : (state : WorkAt) → IsWorkAtIn env state → did.op ≡ job_plan env (works state) → In page (held_of_work state).pages
@@ -133,13 +83,9 @@ module _ (env : Env) (mix : ℕ → ℕ → ℕ → ℕ) (c : ℕ) (M : Memory) 
   work-early _ within is had = absurd had
 
   pub early : (job : Job) → JobIn env mix c job → did.op ≡ job_plan env job → In page (held_of job).pages → IsEarly job
-  early (finds port state) within is had = absurd (find-none page state had)
   early (binds port owner once state) within is had = bind-early port owner once state is had
-  early (lists port room state) within is had = absurd (all-none page room.items state had)
-  early (releases port owner state) within is had = absurd (release-none page state had)
-  early (rebinds port owner new state) within is had = absurd (rebind-none page state had)
   early (works state) within is had = work-early state within is had
-  early counts within is had = absurd had
+  early job within is had = absurd (pageless (tableless job refl) page had)
 
 -- ---- the node of a call
 
