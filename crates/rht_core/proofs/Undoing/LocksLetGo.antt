@@ -4,10 +4,7 @@
 -- which it entered pages. Once it has ended it holds none.
 use Rattle.std.proofs.Common.{◌≡◌, ◌⊎◌, ℕ, ◌+◌, ◌%◌, ◌<◌, Bool, false, List, [], ◌∷◌, ◌++◌, Some, None, refl, sym, ap, ◌∙◌, subst, inl, inr, arith}
 use Rattle.std.specs.List.{AllByRecursion}
-use Rattle.std.proofs.lemmas.List.{append_assoc}
 use Rattle.rht_words.specs.declared.env.Env.{Env}
-use Rattle.rht_words.specs.declared.config.Kind.{Kind}
-use Rattle.rht_words.specs.declared.config.Kind.TheVariants.{Single, Listed}
 use Rattle.rht_words.specs.declared.geometry.Geometry.{Geometry}
 use Rattle.rht_words.specs.declared.machine.Next.{Next}
 use Rattle.rht_words.specs.declared.machine.Next.TheVariants.{Go, Done}
@@ -20,7 +17,6 @@ use Rattle.rht_words.specs.Places.{WorkLock, PageWord, place_of}
 use Rattle.rht_words.proofs.Memory.{Memory}
 use Rattle.rht_words.proofs.PlacesApart.{parts_in_order}
 use Rattle.rht_model.specs.declared.history.Call.{Call}
-use Rattle.rht_model.specs.declared.history.Call.TheVariants.{Bind, Find, All, Release, Rebind, Work, Count}
 use Rattle.rht_model.specs.Endings.{Ending}
 use Rattle.rht_bind.specs.BindHeld.{held_of_bind}
 use Rattle.rht_bind.specs.declared.bind.BindAt.{BindAt}
@@ -31,7 +27,7 @@ use Rattle.rht_move.specs.Work.{IsWorkAtIn}
 use Rattle.rht_move.specs.declared.work.WorkAt.{WorkAt}
 use Rattle.rht_move.specs.declared.work.WorkAt.TheVariants as working
 use Rattle.rht_core.specs.declared.event.Event.{Event}
-use Rattle.rht_core.specs.Jobs.{Job, binds, works, call_of, first_rebind, first_job, job_plan, job_after, held_of, held_next}
+use Rattle.rht_core.specs.Jobs.{Job, binds, works, call_of, first_job, job_plan, job_after, held_of, held_next}
 use Rattle.rht_core.specs.Traces.{Did, Past, traced_of}
 use Rattle.rht_core.specs.Seen.{words_before}
 use Rattle.rht_core.specs.Refused.{turns, IsMissingEntry}
@@ -40,13 +36,13 @@ use Rattle.rht_ghost.proofs.Theory.Ghosts.{Ghost}
 use Rattle.rht_ghost.proofs.Theory.Steps.{Holding, mem, Does, Move, TakesNode, GivesNode, Links, Rebinds, SaysChange}
 use Rattle.rht_core.proofs.Machines.JobSteps.{JobIn}
 use Rattle.rht_core.proofs.Machines.NeverHeld.{tableless, front-tableless, pageless}
-use Rattle.rht_core.proofs.Events.JobsOfCallers.{same_call}
+use Rattle.rht_core.proofs.Events.JobsOfCallers.{same_call, first_holds, first_without}
 use Rattle.rht_core.proofs.Tracing.TracedJobs.{Performs, LeadsOn, IsEndedSo}
 use Rattle.rht_core.proofs.Tracing.JobsBeside.{kept_beside}
 use Rattle.rht_core.proofs.Reasons.CausesInRuns.{JobSaw, EndsSeen, job-leads, first_job-saw}
 use Rattle.rht_core.proofs.Undoing.EnteringBinds.{CameToEnter, attaching-none, saw-came, came_to_entry}
 use Rattle.rht_core.proofs.Undoing.TurnedBits.{turns-push}
-use Rattle.rht_core.proofs.Undoing.UndoneSoFar.{one_more}
+use Rattle.rht_core.proofs.Undoing.UndoneSoFar.{one_more, entered-more}
 use Rattle.rht_core.proofs.Undoing.EnteredWords.{entering_missing}
 use Rattle.rht_core.proofs.Undoing.PastRefusal.{is_past}
 use Rattle.rht_core.proofs.Undoing.RefusableJobs.{enters, unmake-enters}
@@ -140,28 +136,6 @@ module _ (M : Type 0) (mix : ℕ → ℕ → ℕ → ℕ) (env : Env) (events : 
 
   -- ---- an operation
 
-  entered-more : (call : Call) (steps : List Did) (did : Did) (place : ℕ) → HasEntered call steps place
-      → HasEntered call (steps ++ did ∷ []) place
-  entered-more call steps did place is =
-      let has = is.entered.entered in
-      record {
-        index = is.index;
-        here = is.here;
-        entered = record {
-          may = is.entered.may;
-          page = is.entered.page;
-          entered = record {
-            before = has.before;
-            at = has.at;
-            behind = has.behind ++ did ∷ [];
-            split = ap (λ before. before ++ did ∷ []) has.split ∙ append_assoc has.before (has.at ∷ has.behind) (did ∷ []);
-            enters = has.enters;
-            missing = has.missing;
-            took = has.took;
-          };
-        };
-      }
-
   nothing_held : (n : ℕ) → (n + (0 + 0 + 0)) % 2 ≡ 0 → n % 2 ≡ 0
   nothing_held n even = omega (arith, even)
 
@@ -234,7 +208,15 @@ module _ (M : Type 0) (mix : ℕ → ℕ → ℕ → ℕ) (env : Env) (events : 
 
     turned_then : Turned (call_of job) (held_next next) all
     turned_then place is = elim (kept.1.turned place is) [
-      | inl entered ↦ inl (entered-more (call_of job) steps did place entered)
+      | inl was ↦ inl (record {
+        index = was.index;
+        here = was.here;
+        entered = record {
+          may = was.entered.may;
+          page = was.entered.page;
+          entered = entered-more g words_at was.index was.entered.page steps did was.entered.entered;
+        };
+      })
       | inr even ↦ elim (turns_evenly step performs.step.move performs.step.ready performs.step.made.whole does place is) [
         | inl enters_it ↦ inl (enters_now place enters_it)
         | inr now ↦ inr (
@@ -272,28 +254,11 @@ module _ (M : Type 0) (mix : ℕ → ℕ → ℕ → ℕ) (env : Env) (events : 
 
   -- ---- the beginning
 
-  holds_none : (job : Job) → (held_of job).node ≡ None → ((place : ℕ) → lock_bits g (held_of job) place ≡ 0) → HasTurned job []
-  holds_none job node none = record {
-    turned = λ place is. inr (ap (λ n. (0 + n) % 2) (none place));
-    node_in = λ n is. absurd (let both = sym node ∙ is in cc);
-  }
-
-  of_first : (first job : Job) → Some first ≡ Some job → HasTurned first [] → HasTurned job []
-  of_first first job is turned = let same : first ≡ job = cc in subst (λ j. HasTurned j []) same turned
-
-  begins-rebind : (port owner new : ℕ) (kind : Kind) (job : Job) → first_rebind env port owner new kind ≡ Some job → HasTurned job []
-  begins-rebind port owner new Single job is = of_first _ job is (holds_none _ refl (λ place. refl))
-  begins-rebind port owner new Listed job is = absurd (cc)
-
   begins : (call : Call) (job : Job) → first_job env call ≡ Some job → HasTurned job []
-  begins (Rebind port owner new) job is = begins-rebind port owner new env.config.kind job is
-  begins (Find port) job is = of_first _ job is (holds_none _ refl (λ place. refl))
-  begins (Bind port owner once) job is = of_first _ job is (holds_none _ refl (λ place. refl))
-  begins (All port) job is = of_first _ job is (holds_none _ refl (λ place. refl))
-  begins (Release port owner) job is = of_first _ job is (holds_none _ refl (λ place. refl))
-  begins Work job is = of_first _ job is (holds_none _ refl (λ place. refl))
-  begins Count job is = of_first _ job is (holds_none _ refl (λ place. refl))
-  begins _ job is = absurd (cc)
+  begins call job is = record {
+    turned = subst (λ h. Turned (call_of job) h []) (sym (first_holds env call job is)) (λ place at. inr refl);
+    node_in = λ n has. absurd (let both = sym (first_without env call job is) ∙ has in cc);
+  }
 
   -- ---- the law
 
