@@ -2,3 +2,5 @@
 pub mod JobSteps
 -- only a resizing has the work lock
 pub mod WhoWorks
+-- what a job never holds, by its call
+pub mod NeverHeld

@@ -36,7 +36,7 @@ use Rattle.rht_release.specs.ReleaseHeld.{held_of_release, holds_relinking}
 use Rattle.rht_release.specs.declared.release.ReleaseAt.{ReleaseAt}
 use Rattle.rht_release.specs.declared.release.ReleaseAt.TheVariants as releasing
 use Rattle.rht_core.specs.declared.book.Book.{Book}
-use Rattle.rht_core.specs.Jobs.{Job, finds, binds, lists, releases, rebinds, works, counts, call_of, held_of, job_of}
+use Rattle.rht_core.specs.Jobs.{Job, finds, binds, lists, releases, rebinds, works, call_of, held_of, job_of}
 use Rattle.rht_core.specs.declared.event.Event.{Event}
 use Rattle.rht_core.specs.declared.event.Event.TheVariants.{Enroll, Begin, Step}
 use Rattle.rht_core.specs.Runs.{Core, World, local_of, run_of, planned_in, with_step, enrolling, core_step, world_step, IsAdmitted, IsAdmittedEvent}
@@ -92,7 +92,7 @@ job_has_none (lists port room state) needs = all_has_none room.items state
 job_has_none (releases port owner state) needs = release_has_none state
 job_has_none (rebinds port owner new state) needs = absurd (cc)
 job_has_none (works state) needs = work_has_none state
-job_has_none counts needs = refl
+job_has_none _ needs = refl
 
 -- nor does its answer tell of one
 tells_none : (call : Call) (node : Option ℕ) (reply : Reply) → needs_node call ≡ false → TellsNode call node reply

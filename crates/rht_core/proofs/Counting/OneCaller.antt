@@ -12,8 +12,6 @@ use Rattle.std.proofs.lemmas.List.{take_all}
 use Rattle.rht_words.specs.declared.op.Op.{Op}
 use Rattle.rht_words.specs.declared.op.Op.TheVariants.{Exchange}
 use Rattle.rht_words.specs.declared.env.Env.{Env}
-use Rattle.rht_words.specs.declared.config.Kind.{Kind}
-use Rattle.rht_words.specs.declared.config.Kind.TheVariants.{Single, Listed}
 use Rattle.rht_words.specs.declared.machine.Next.{Next}
 use Rattle.rht_words.specs.declared.machine.Next.TheVariants.{Go, Done}
 use Rattle.rht_words.specs.Links.{future_of}
@@ -49,7 +47,7 @@ use Rattle.rht_core.specs.declared.event.Event.TheVariants.{Enroll, Begin, Step}
 use Rattle.rht_callers.specs.declared.local.Local.{Local}
 use Rattle.rht_callers.specs.declared.local.Doing.{Doing}
 use Rattle.rht_core.specs.FewPorts.{IsBindTaken, OneCaller}
-use Rattle.rht_core.specs.Jobs.{Job, binds, works, first_job, first_rebind, call_of, job_of, job_plan, job_after, told, held_of, held_next}
+use Rattle.rht_core.specs.Jobs.{Job, binds, works, first_job, call_of, job_of, job_plan, job_after, told, held_of, held_next}
 use Rattle.rht_core.specs.Laws.{view_stepped}
 use Rattle.rht_callers.specs.Locals.{local_after, ending_of}
 use Rattle.rht_core.specs.Runs.{World, View, opening, local_of, planned_in, beginning_in, view_of, world_step, run_of, book_after, finished_with, IsAdmitted, IsAdmittedEvent}
@@ -63,11 +61,12 @@ use Rattle.rht_ghost.proofs.Theory.Wholes.{outs}
 use Rattle.rht_ghost.proofs.Theory.Steps.{ReadyFor, Does, ghost_after, mem}
 use Rattle.rht_ghost.proofs.Pieces.Locates.{known_locate}
 use Rattle.rht_core.proofs.Machines.JobSteps.{JobIn, JobKnows}
+use Rattle.rht_core.proofs.Machines.NeverHeld.{may_make}
 use Rattle.rht_move.proofs.WorkKnowledge.{last_aim}
 use Rattle.rht_core.proofs.Events.BooksInRuns.{BookSays, has_books}
 use Rattle.rht_core.proofs.Events.Invariants.{Inv, StepOf, step_of, kept}
 use Rattle.rht_core.proofs.Events.InvariantRuns.{opening_ghost, opening_inv, idle_at_opening}
-use Rattle.rht_core.proofs.Events.JobsOfCallers.{first-so, each_goes, same_call, first_job-machine, left-job, doing_after-reply}
+use Rattle.rht_core.proofs.Events.JobsOfCallers.{first-so, first_rebind-so, each_goes, same_call, first_job-machine, left-job, doing_after-reply}
 use Rattle.rht_core.proofs.Events.RangesInRuns.{AllIn, opens-all, event-all}
 use Rattle.rht_core.proofs.Events.SoundRuns.{has_place, made_in}
 use Rattle.rht_core.proofs.Events.Worlds.{induct_by_last, beginning-some, planned-some, run_of-push, begin_none, begin_self, begin_other, step_none, step_self, step_other}
@@ -77,7 +76,7 @@ use Rattle.rht_core.proofs.Reasons.CausesInRuns.{JobSaw, EndsSeen, job-leads, fi
 use Rattle.rht_core.proofs.Reasons.CalmCalls.{below-max, below-size}
 use Rattle.rht_core.proofs.Reasons.CalmBinds.{CalmBind, IsCalmAt, calm-bind, bind-spares}
 use Rattle.rht_core.proofs.Counting.CountedPorts.{fewer-AreBound}
-use Rattle.rht_core.proofs.Counting.FewPorts.{before-push, GoesOn, next-goes, may_make, job-spares}
+use Rattle.rht_core.proofs.Counting.FewPorts.{before-push, GoesOn, next-goes, job-spares}
 use Rattle.rht_core.proofs.Counting.FullTables.{taken}
 use Rattle.rht_core.proofs.Counting.GoodShapes.{moved-good, slot-good}
 use Rattle.rht_core.proofs.Counting.SizedTables.{IsSized, AreSized, SizedWork, sized-work}
@@ -121,12 +120,8 @@ module _ (env : Env) where
     other-one (works state) other = absurd (cc)
     other-one _ other = tt
 
-    first_rebind-one : (port owner new : ℕ) (kind : Kind) → IfSome (first_rebind env port owner new kind) OneJob
-    first_rebind-one port owner new Single = tt
-    first_rebind-one port owner new Listed = tt
-
     first-one : (call : Call) → IfSome (first_job env call) OneJob
-    first-one (Rebind port owner new) = first_rebind-one port owner new env.config.kind
+    first-one (Rebind port owner new) = first_rebind-so OneJob env port owner new tt
     first-one _ = tt
 
     module _ (first : 16 ≤ first_size env.config) (mix : ℕ → ℕ → ℕ → ℕ) (words_at : ℕ → List ℕ)
