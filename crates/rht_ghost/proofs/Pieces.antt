@@ -1,5 +1,7 @@
 -- taking a node, giving it back, and writing its words
 pub mod NewNodes
+-- what loads of a table's words and entries tell
+pub mod TableLoads
 -- the way to a port's bucket
 pub mod Locates
 -- the lock of a bucket is dropped
