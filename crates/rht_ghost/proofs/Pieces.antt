@@ -4,6 +4,8 @@ pub mod NewNodes
 pub mod TableLoads
 -- the way to a port's bucket
 pub mod Locates
+-- the same for a look-up that knows nothing of the tables before
+pub mod Reaches
 -- the lock of a bucket is dropped
 pub mod Locks
 -- the operations in a bucket: it is locked and walked
