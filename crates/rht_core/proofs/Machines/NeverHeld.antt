@@ -1,6 +1,7 @@
--- What a job never holds, by its call: no slot and no pages, and no entries that it moves, where the call makes no table; and no raised count,
--- unless it binds or releases.
+-- What a job never holds, by its call: no slot and no pages, and no entries that it moves, where the call makes no table; no work lock, unless
+-- it is a resizing; and no raised count, unless it binds or releases.
 use Rattle.std.proofs.Common.{◌≡◌, ℕ, Bool, true, false, List, [], Some, None, refl, sym, ◌∙◌, subst}
+use Rattle.std.proofs.lemmas.Bool.{both_ways}
 use Rattle.rht_words.specs.Members.{In}
 use Rattle.rht_model.specs.declared.history.Call.{Call}
 use Rattle.rht_model.specs.declared.history.Call.TheVariants.{Bind, Find, All, Release, Rebind, Walk, Work, Tidy, Count}
@@ -9,6 +10,9 @@ use Rattle.rht_find.specs.FindHeld.{held_of_find}
 use Rattle.rht_find.specs.declared.find.FindAt.{FindAt}
 use Rattle.rht_find.specs.declared.find.FindAt.TheVariants as finding
 use Rattle.rht_bind.specs.BindHeld as bind_held
+use Rattle.rht_bind.specs.BindHeld.{held_of_bind}
+use Rattle.rht_bind.specs.declared.bind.BindAt.{BindAt}
+use Rattle.rht_bind.specs.declared.bind.BindAt.TheVariants as binding
 use Rattle.rht_bind.specs.declared.bind.Claimed.{Claimed}
 use Rattle.rht_release.specs.declared.found_port.FoundPort.{FoundPort}
 use Rattle.rht_release.specs.AllHeld.{held_of_all}
@@ -41,14 +45,15 @@ may_make Work = true
 may_make Tidy = false
 may_make Count = false
 
--- no slot and no pages are held, and no entries are moved
+-- no slot, no pages and no work lock are held, and no entries are moved
 pub record HoldsNoTable (h : Holding) : Type 0 where
   pub slot : h.slot ≡ None
   pub pages : h.pages ≡ []
+  pub idle : h.worker ≡ false
   pub still : h.moving ≡ false
 
-no_table : {h : Holding} → h.slot ≡ None → h.pages ≡ [] → h.moving ≡ false → HoldsNoTable h
-no_table slot pages still = record { slot = slot; pages = pages; still = still }
+no_table : {h : Holding} → h.slot ≡ None → h.pages ≡ [] → h.worker ≡ false → h.moving ≡ false → HoldsNoTable h
+no_table slot pages idle still = record { slot = slot; pages = pages; idle = idle; still = still }
 
 pub slotless : {h : Holding} → HoldsNoTable h → (slot : ℕ) → h.slot ≡ Some slot → ⊥
 slotless none slot has = let both = sym none.slot ∙ has in cc
@@ -57,34 +62,34 @@ pub pageless : {h : Holding} → HoldsNoTable h → (page : ℕ) → In page h.p
 pageless none page i = subst (In page) none.pages i
 
 find-tableless : (state : FindAt) → HoldsNoTable (held_of_find state)
-find-tableless finding.CurrentTable = no_table refl refl refl
-find-tableless _ = no_table refl refl refl
+find-tableless finding.CurrentTable = no_table refl refl refl refl
+find-tableless _ = no_table refl refl refl refl
 
 all-tableless : (owners : List ℕ) (state : AllAt) → HoldsNoTable (held_of_all owners state)
-all-tableless owners (listing.Seeking seek) = no_table refl refl refl
-all-tableless owners _ = no_table refl refl refl
+all-tableless owners (listing.Seeking seek) = no_table refl refl refl refl
+all-tableless owners _ = no_table refl refl refl refl
 
 relinking-tableless : (found : FoundPort) (raised stored : Bool) → HoldsNoTable (holds_relinking found raised stored)
-relinking-tableless found raised true = no_table refl refl refl
-relinking-tableless found raised false = no_table refl refl refl
+relinking-tableless found raised true = no_table refl refl refl refl
+relinking-tableless found raised false = no_table refl refl refl refl
 
 release-tableless : (state : ReleaseAt) → HoldsNoTable (held_of_release state)
 release-tableless (releasing.Promoting found relink) = relinking-tableless found false (has_relinked found.before relink.at)
 release-tableless (releasing.Unlinking found relink) = relinking-tableless found true (has_relinked found.before relink.at)
-release-tableless _ = no_table refl refl refl
+release-tableless _ = no_table refl refl refl refl
 
 replacing-tableless : (node : ℕ) (found : FoundPort) (stored : Bool) → HoldsNoTable (rebind_held.holds_replacing node found stored)
-replacing-tableless node found true = no_table refl refl refl
-replacing-tableless node found false = no_table refl refl refl
+replacing-tableless node found true = no_table refl refl refl refl
+replacing-tableless node found false = no_table refl refl refl refl
 
 rebind-tableless : (state : RebindAt) → HoldsNoTable (held_of_rebind state)
 rebind-tableless (rebinding.Replacing node found relink) = replacing-tableless node found (has_relinked found.before relink.at)
-rebind-tableless _ = no_table refl refl refl
+rebind-tableless _ = no_table refl refl refl refl
 
 -- nor does a bind hold any that puts its node in front of a list
 pub front-tableless : (claimed : Claimed) (stored : Bool) → HoldsNoTable (bind_held.holds_replacing claimed stored)
-front-tableless claimed true = no_table refl refl refl
-front-tableless claimed false = no_table refl refl refl
+front-tableless claimed true = no_table refl refl refl refl
+front-tableless claimed false = no_table refl refl refl refl
 
 pub tableless : (job : Job) → may_make (call_of job) ≡ false → HoldsNoTable (held_of job)
 tableless (finds port state) none = find-tableless state
@@ -93,7 +98,19 @@ tableless (lists port room state) none = all-tableless room.items state
 tableless (releases port owner state) none = release-tableless state
 tableless (rebinds port owner new state) none = rebind-tableless state
 tableless (works state) none = absurd (cc)
-tableless _ none = no_table refl refl refl
+tableless _ none = no_table refl refl refl refl
+
+-- ---- no work lock
+
+bind-idle : (state : BindAt) → (held_of_bind state).worker ≡ false
+bind-idle (binding.Replacing list relink) = (front-tableless list.claimed (has_relinked list.before relink.at)).idle
+bind-idle _ = refl
+
+-- only a resizing has the work lock
+pub worker_works : (job : Job) → (held_of job).worker ≡ true → call_of job ≡ Work
+worker_works (binds port owner once state) has = absurd (both_ways _ (bind-idle state) has)
+worker_works (works state) has = refl
+worker_works job has = absurd (both_ways _ (tableless job refl).idle has)
 
 -- ---- no raised count
 

@@ -35,16 +35,10 @@ use Rattle.rht_words.proofs.Memory.{Memory}
 use Rattle.rht_words.proofs.Rounding.{powers-rise}
 use Rattle.std.proofs.lemmas.Bool.{le-ltb, both_ways}
 use Rattle.std.proofs.lemmas.List.{append_assoc, take-append-drop}
-use Rattle.rht_find.proofs.FindPlanned.{planned_find}
-use Rattle.rht_bind.proofs.BindPlanned.{planned_bind}
-use Rattle.rht_release.proofs.AllPlanned.{planned_all}
-use Rattle.rht_release.proofs.ReleasePlanned.{planned_release}
-use Rattle.rht_release.proofs.RebindPlanned.{planned_rebind}
-use Rattle.rht_move.proofs.WorkPlanned.{planned_work}
 use Rattle.rht_ghost.proofs.Theory.Knowledge.{IsMade}
 use Rattle.rht_core.proofs.Machines.JobSteps.{JobIn}
-use Rattle.rht_core.proofs.Machines.WhoWorks.{worker_works}
-use Rattle.rht_core.proofs.Events.RangesInRuns.{planned_count, words_fit, planned_job}
+use Rattle.rht_core.proofs.Machines.NeverHeld.{worker_works}
+use Rattle.rht_core.proofs.Events.RangesInRuns.{planned_job, words_fit}
 use Rattle.rht_core.proofs.Events.JobsOfCallers.{same_call, first_holds}
 use Rattle.rht_core.proofs.Meaning.TablesInForce.{in_force_is, leads_to_current}
 use Rattle.rht_core.proofs.Tracing.TracedJobs.{Performs, StandsIn, LeadsOn}

@@ -28,12 +28,18 @@ use Rattle.rht_nest.specs.declared.grow.GrowAt.TheVariants as grows
 use Rattle.rht_nest.specs.Unmake.{unmake_plan_at}
 use Rattle.rht_nest.specs.declared.unmake.UnmakeAt.{UnmakeAt}
 use Rattle.rht_nest.specs.declared.unmake.UnmakeAt.TheVariants as unmakes
+use Rattle.rht_find.specs.FindHeld.{held_of_find}
+use Rattle.rht_find.specs.declared.find.FindAt.{FindAt}
+use Rattle.rht_find.specs.declared.find.FindAt.TheVariants as finding
 use Rattle.rht_bind.specs.Bind.{behind_page, grown}
 use Rattle.rht_bind.specs.Growing.{has_attached, ended_attempt, behind_attempt}
 use Rattle.rht_bind.specs.declared.bind.Attempt.{Attempt}
 use Rattle.rht_bind.specs.BindHeld.{held_of_bind}
 use Rattle.rht_bind.specs.declared.bind.BindAt.{BindAt}
 use Rattle.rht_bind.specs.declared.bind.BindAt.TheVariants as binding
+use Rattle.rht_release.specs.AllHeld.{held_of_all}
+use Rattle.rht_release.specs.declared.all.AllAt.{AllAt}
+use Rattle.rht_release.specs.declared.all.AllAt.TheVariants as listing
 use Rattle.rht_release.specs.ReleaseHeld.{held_of_release}
 use Rattle.rht_release.specs.declared.release.ReleaseAt.{ReleaseAt}
 use Rattle.rht_release.specs.declared.release.ReleaseAt.TheVariants as releasing
