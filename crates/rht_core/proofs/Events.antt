@@ -26,5 +26,5 @@ pub mod InvariantRuns
 pub mod TablesThere
 -- in every run each caller works at the call of its book, and its calls took out as many nodes as that says
 pub mod BooksInRuns
--- in every run each section word is even
+-- in every run a section word is odd just where its caller's call is in its section, and no other call changes it
 pub mod SectionsInRuns
