@@ -32,7 +32,7 @@ use Rattle.rht_core.specs.Traces.{Did, Traced, performed_of, traced_of}
 use Rattle.rht_core.specs.Seen.{LoadsCurrent, CameTo, LastWalked, words_before}
 use Rattle.rht_core.specs.ResizeCauses.{Loaded, Attaches, WalkedFull, wanted_size, AreRunsTaken}
 use Rattle.rht_core.specs.Due.{pages_due}
-use Rattle.rht_core.specs.WorkCauses.{TakesWorkLock, HasChosen}
+use Rattle.rht_core.specs.WorkCauses.{TakesWorkLock, HasChosen, StoresCurrent}
 use Rattle.rht_core.specs.Refused.{StoresLast, IsWaysEnd, PutsPage, HasTaken}
 
 -- the operation changes one of the words that say something of the table in this slot
@@ -49,8 +49,20 @@ pub record ChangesState (g : Geometry) (slot : ℕ) (did : Did) : Type 0 where
   pub there : op_place did.op ≡ place_of g (Slot slot StateWord)
   pub other : word_after did.old did.op ≢ did.old
 
--- the operation retires the table of this slot, which by the words before isn't in force, and from which futures lead to the current one
-pub record RetiresTable (g : Geometry) (words : List ℕ) (slot : ℕ) (did : Did) : Type 0 where
+-- one of these operations made another table the current one in the place of that of this slot
+pub record HasGoneOn (g : Geometry) (slot : ℕ) (steps : List Did) : Type 0 where
+  pub before : List Did
+  pub at : Did
+  pub behind : List Did
+  pub split : steps ≡ before ++ at ∷ behind
+  pub next : ℕ
+  pub stores : StoresCurrent g next at
+  pub from : table_of at.old ≡ slot
+
+-- The operation retires the table of this slot, from which the call has gone on. By the words before it isn't in force, and futures lead from
+-- it to the current one.
+pub record RetiresTable (g : Geometry) (words : List ℕ) (slot : ℕ) (before : List Did) (did : Did) : Type 0 where
+  pub gone_on : HasGoneOn g slot before
   pub stores : did.op ≡ Store (place_of g (Slot slot StateWord)) 2
   pub apart : ¬ In slot (in_force g words)
   pub left : In (table_of (word_at g words CurrentTable)) (tables_from g words 8 (Some slot))
@@ -220,12 +232,13 @@ module _ (M : Type 0) (mix : ℕ → ℕ → ℕ → ℕ) (env : Env) (events : 
     pub none_behind : word_at env.geometry (words_before M mix env events did.index) (Slot slot FutureWord) ≡ 0
     pub cause : AttachCause call table slot shape before did
 
-  -- A bind or a resizing takes the slot, which was free; or the call gives back its own; or a resizing retires the slot's table.
+  -- A bind or a resizing takes the slot, which was free; or the call gives back its own; or a resizing retires the slot's
+  -- table, from which it has gone on.
   abbrev pub StateCause : Call → ℕ → List Did → Did → Type 0
   StateCause call slot before did =
       (MakesTables call × TakesSlot env.geometry slot (performed_of did))
       ⊎ (IsOwnTable slot before did × (did.op ≡ Store (place_of env.geometry (Slot slot StateWord)) 0))
-      ⊎ ((call ≡ Work) × RetiresTable env.geometry (words_before M mix env events did.index) slot did)
+      ⊎ ((call ≡ Work) × RetiresTable env.geometry (words_before M mix env events did.index) slot before did)
 
   -- Where the operation changes what a slot's words say of a table, that is the call's own, or it attaches another one behind it. And where it
   -- changes which table is the current one, the call is a resizing, and goes on to the next table. Where it changes an entry that leads to no

@@ -296,14 +296,14 @@ pub fn sections<M: Mix>()
 ///
 /// Nor does it change the word that says whether a slot is free, but in three cases. A bind or a `Work` takes a
 /// slot that was free. A call gives back a slot of its own, in which by the words before no table is in force.
-/// Or a `Work` retires a slot, whose table isn't in force by the words before, and from which futures lead to
-/// the current one.
+/// Or a `Work` retires a slot, in the place of whose table its own operations have made another one current. By the
+/// words before, that table isn't in force, and from it futures lead to the current one.
 ///
 /// Nor does it change the word of the work lock, but for one of a `Work`. That takes the lock, by an exchange of 0
 /// for 1, or stores 0, where its own operations took it and left that word alone since.
 ///
 /// It doesn't say that a slot which was taken is given back, or that a table is ever attached, or a page entered.
-/// Nor does it say that who attaches a table has taken its pages, or that a retired one ever was in force.
+/// Nor does it say that who attaches a table has taken its pages.
 pub fn attached<M: Mix>()
     ensures { Attached M M.mix_of }
 {}

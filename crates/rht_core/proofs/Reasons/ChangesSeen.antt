@@ -24,7 +24,7 @@ use Rattle.rht_core.specs.Runs.{IsAdmitted, IsAdmittedEvent}
 use Rattle.rht_core.specs.Traces.{Did}
 use Rattle.rht_core.specs.Seen.{words_before}
 use Rattle.rht_core.specs.ResizeCauses.{Attaches}
-use Rattle.rht_core.specs.Attached.{ChangesMissing, EnterCause, ChangesWorkLock, HasWorkLock, WorkLockCause, ChangesTable, ChangesCurrent, MovesOn, HasTakenSlot, EachBehind, AttachesDue, IsOwnTable, ChangesState, StateCause, MakesTables, RetiresTable}
+use Rattle.rht_core.specs.Attached.{ChangesMissing, EnterCause, HasGoneOn, ChangesWorkLock, HasWorkLock, WorkLockCause, ChangesTable, ChangesCurrent, MovesOn, HasTakenSlot, EachBehind, AttachesDue, IsOwnTable, ChangesState, StateCause, MakesTables, RetiresTable}
 use Rattle.rht_ghost.proofs.Theory.Ghosts.{Ghost, has_table, SlotHeld, index_at}
 use Rattle.rht_ghost.proofs.Theory.Wholes.{Whole}
 use Rattle.rht_ghost.proofs.Theory.Steps.{mem, Holding, Does}
@@ -62,6 +62,7 @@ use Rattle.rht_core.proofs.Undoing.MissingKept.{EntersThere, EntersNow, by_enter
 use Rattle.rht_core.proofs.Undoing.RefusedCalls as refusals
 use Rattle.rht_core.proofs.Reasons.CausesInRuns.{JobSaw, EndsSeen, job-leads}
 use Rattle.rht_core.proofs.Reasons.WorksSeen.{to_attach-taken}
+use Rattle.rht_core.proofs.Reasons.TablesLeft.{gone_on}
 use Rattle.rht_ghost.proofs.Theory.Departures.{CanRetire}
 
 module _ (M : Type 0) (mix : ℕ → ℕ → ℕ → ℕ) (env : Env) (events : List Event) (c : ℕ) where
@@ -266,12 +267,13 @@ module _ (M : Type 0) (mix : ℕ → ℕ → ℕ → ℕ) (env : Env) (events : 
     makes_then job slot (after, Done ending) same has = absurd (cc)
 
     retires : (words : List ℕ) (G : Ghost) (caller slot : ℕ) → Whole env mix (mem env mix words) G → words ≡ words_at did.index
-        → CanRetire env mix caller slot G → did.op ≡ Store (place_of g (Slot slot StateWord)) 2
-        → RetiresTable g (words_at did.index) slot did
-    retires words G caller slot whole now can stores =
+        → CanRetire env mix caller slot G → did.op ≡ Store (place_of g (Slot slot StateWord)) 2 → HasGoneOn g slot steps
+        → RetiresTable g (words_at did.index) slot steps did
+    retires words G caller slot whole now can stores gone =
         let of = whole.tables.slots slot can.table in
         let τ = index_at G slot in
-        subst (λ ws. RetiresTable g ws slot did) now (record {
+        subst (λ ws. RetiresTable g ws slot steps did) now (record {
+          gone_on = gone;
           stores = stores;
           apart = λ i.
               let table = in_force_is env mix words G whole slot i in
@@ -285,18 +287,21 @@ module _ (M : Type 0) (mix : ℕ → ℕ → ℕ → ℕ) (env : Env) (events : 
         })
 
     stated : (job : Job) (slot : ℕ) (performs : Performs mix env job did) → performs.words ≡ words_at did.index
-        → JobSaw env words_at mix job steps
+        → JobSaw env words_at mix job steps → ChangesState g slot did
         → StateHere env mix performs.caller (mem env mix performs.words) performs.ghost did (held_of job) (held_next (job_after mix env job did.old)) slot
         → StateCause M mix env events c (call_of job) slot steps did
-    stated job slot performs now saw (inl takes) =
+    stated job slot performs now saw changed (inl takes) =
         inl (makes_then job slot (job_after mix env job did.old) (same_call mix env job did.old) takes.has, takes.takes)
-    stated job slot performs now saw (inr (inl gives)) =
+    stated job slot performs now saw changed (inr (inl gives)) =
         let is = own_slot env words_at mix performs.caller (mem env mix performs.words) performs.ghost steps slot job performs.knows saw gives.has in
         inr (inl (own_table slot performs.caller performs.words performs.ghost performs.whole now is.held is.taken, gives.gives))
-    stated job slot performs now saw (inr (inr here)) =
+    stated job slot performs now saw changed (inr (inr here)) =
+        let gone =
+        gone_on env words_at mix performs.caller performs.words performs.ghost performs.whole did performs.found slot changed.slot_in here.can
+        here.stores changed.other steps job performs.planned here.moves performs.knows saw in
         inr (inr (
           moving_works job here.moves,
-          retires performs.words performs.ghost performs.caller slot performs.whole now here.can here.stores,
+          retires performs.words performs.ghost performs.caller slot performs.whole now here.can here.stores gone,
         ))
 
     -- a call whose job has the work lock behind the operation is a resizing
@@ -372,7 +377,7 @@ module _ (M : Type 0) (mix : ℕ → ℕ → ℕ → ℕ) (env : Env) (events : 
               performs.whole performs.all performs.found fits changed step.move step.ready step.made.whole does in
               (moving_works job publishing.moves, subst (λ ws. MovesOn g ws did) now publishing.on);
           states = λ slot changed.
-              stated job slot performs now saw
+              stated job slot performs now saw changed
               (state_by_move env mix performs.caller there performs.ghost did (held_of job) (held_next next) slot fits changed step.move
               step.ready does);
           entries = λ entry changed had.

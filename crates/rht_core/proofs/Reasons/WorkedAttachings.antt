@@ -2,7 +2,8 @@
 -- force; a bind that attaches one of 4 buckets where each shape that it loaded was that of 64; a bind that makes another table the current
 -- one; a look-up that enters a page; a resizing that does so, in the table from which it has gone on, or in one in force; a bind that enters one
 -- where no way to its port's bucket ends; a look-up that takes a slot; a bind that frees a slot which it never took; a look-up that takes the
--- work lock; a resizing that gives it back and never took it; and one that leaves another value there than 0 or 1.
+-- work lock; a resizing that gives it back and never took it; one that leaves another value there than 0 or 1; and one that retires a table
+-- in whose place it made no other one the current one.
 use Rattle.std.proofs.Common.{◌≡◌, ◌≢◌, ◌⊎◌, ℕ, ◌*◌, ◌<◌, Bool, List, ◌∷◌, refl, sym, ap, ◌∙◌, subst, inl, inr, arith, Some}
 use Rattle.std.specs.List.{AllByRecursion}
 use Rattle.std.proofs.lemmas.Bool.{cond_both}
@@ -11,7 +12,7 @@ use Rattle.rht_words.specs.declared.geometry.Geometry.{Geometry}
 use Rattle.rht_words.specs.declared.op.Op.{Op}
 use Rattle.rht_words.specs.declared.op.Op.TheVariants.{Load, Store, Exchange}
 use Rattle.rht_words.specs.Operations.{op_place, word_after}
-use Rattle.rht_words.specs.Links.{future_of, entry_of}
+use Rattle.rht_words.specs.Links.{table_of, future_of, entry_of}
 use Rattle.rht_words.specs.Members.{In}
 use Rattle.rht_words.specs.Places.{CurrentTable, WorkLock, Slot, ShapeWord, SeedWord, FutureWord, StateWord, PageWord, place_of, word_at}
 use Rattle.rht_words.specs.Shapes.{unpacked, size_of}
@@ -29,7 +30,7 @@ use Rattle.rht_nest.specs.MakeLaws.{TakesSlot}
 use Rattle.rht_core.specs.Seen.{CameTo, words_before}
 use Rattle.rht_core.specs.ResizeCauses.{wanted_size}
 use Rattle.rht_core.specs.Attached.{ChangesTable, AttachesFull, AttachesRightly, ChangesRightly, ChangesMissing, ChangesWorkLock}
-use Rattle.rht_core.specs.WorkCauses.{TakesWorkLock}
+use Rattle.rht_core.specs.WorkCauses.{TakesWorkLock, StoresCurrent}
 
 -- where it loads the shape of a table, that is one of so many buckets
 abbrev pub FindsSize : Geometry → ℕ → Did → Type 0
@@ -168,6 +169,21 @@ module _ (M : Type 0) (mix : ℕ → ℕ → ℕ → ℕ) (env : Env) (events : 
             (subst (AllByRecursion (λ did. ¬ TakesSlot g slot (performed_of did))) taken.split none) in
             parts.1.0 taken.takes
         | inr (inr retired) ↦ let same = retired.0 in absurd (cc)
+      ]
+
+  -- a resizing that retires a table which it never replaced, as a second one that it took and attached nowhere
+  pub resizing_retires : (slot : ℕ) → slot < 8
+      → AllByRecursion (λ did. (next : ℕ) → StoresCurrent g next did → table_of did.old ≢ slot) before
+      → Rightly Work (record { index = index; op = Store (place_of g (Slot slot StateWord)) 2; old = 1 }) → ⊥
+  resizing_retires slot low none right =
+      elim (right.states slot (record { slot_in = low; there = refl; other = λ same. cc })) [
+        | inl taken ↦ let same = taken.1.taking in absurd (cc)
+        | inr (inl given) ↦ let same = given.1 in absurd (cc)
+        | inr (inr retired) ↦
+            let gone = retired.1.gone_on in
+            (AllByRecursion-cut (λ did. (next : ℕ) → StoresCurrent g next did → table_of did.old ≢ slot) gone.before (gone.at ∷ gone.behind)
+            (subst (AllByRecursion (λ did. (next : ℕ) → StoresCurrent g next did → table_of did.old ≢ slot)) gone.split none)).1.0 gone.next
+            gone.stores gone.from
       ]
 
   -- ---- the work lock
