@@ -22,6 +22,8 @@ pub mod PagesThere
 pub mod BucketsThere
 -- the invariant holds in every run
 pub mod InvariantRuns
+-- what each event keeps of callers and of the ghost
+pub mod KeptAtEvents
 -- in every run each caller works at the call of its book, and its calls took out as many nodes as that says
 pub mod BooksInRuns
 -- in every run each section word is even
