@@ -2,9 +2,8 @@
 --
 -- By induction over the events, with the ghost: each job that makes a table has chosen it by the shape of one that was attached, which is good;
 -- so what it attaches is good, and no other move of the ghost attaches any.
-use Rattle.std.proofs.Common.{◌≡◌, ℕ, Bool, List, refl, sym, ap, ◌∙◌, subst, inl, inr}
-use Rattle.std.specs.Prelude.{Option, Some, None}
-use Rattle.std.proofs.lemmas.Bool.{cases_eq}
+use Rattle.std.proofs.Common.{◌≡◌, ℕ, Bool, List, refl, sym, ap, ◌∙◌, subst}
+use Rattle.std.specs.Prelude.{Option, Some}
 use Rattle.rht_words.specs.declared.op.Op.{Op}
 use Rattle.rht_words.specs.declared.env.Env.{Env}
 use Rattle.rht_words.specs.Opening.{opening_word}
@@ -12,7 +11,6 @@ use Rattle.rht_words.specs.Operations.{old_of}
 use Rattle.rht_words.specs.Places.{Slot, ShapeWord}
 use Rattle.rht_words.proofs.Memory.{Memory}
 use Rattle.rht_model.specs.Endings.{plain_ending}
-use Rattle.rht_model.specs.declared.history.Call.{Call}
 use Rattle.rht_bind.specs.Bind as bind
 use Rattle.rht_bind.specs.declared.bind.BindAt.{BindAt}
 use Rattle.rht_nest.specs.Make.{MakeModel}
@@ -22,12 +20,10 @@ use Rattle.rht_move.specs.Work as work
 use Rattle.rht_move.specs.declared.work.WorkAt.{WorkAt}
 use Rattle.rht_move.specs.declared.work.WorkAt.TheVariants as work_at
 use Rattle.rht_move.proofs.WorkKnowledge.{last_aim}
-use Rattle.rht_callers.specs.declared.local.Doing.{Doing}
 use Rattle.rht_core.specs.declared.event.Event.{Event}
-use Rattle.rht_core.specs.declared.event.Event.TheVariants.{Enroll, Begin, Step}
 use Rattle.rht_core.specs.Jobs.{Job, binds, works, job_of, job_plan, job_after, told, held_of, held_next}
 use Rattle.rht_core.specs.Laws.{view_stepped}
-use Rattle.rht_core.specs.Runs.{World, View, opening, local_of, planned_in, beginning_in, view_of, world_step, run_of, IsAdmitted, IsAdmittedEvent}
+use Rattle.rht_core.specs.Runs.{World, opening, local_of, planned_in, view_of, world_step, run_of, IsAdmitted, IsAdmittedEvent}
 use Rattle.rht_ghost.proofs.Theory.Ghosts.{Ghost}
 use Rattle.rht_ghost.proofs.Theory.Knowledge.{AimMeans}
 use Rattle.rht_ghost.proofs.Theory.Wholes.{Whole}
@@ -35,10 +31,10 @@ use Rattle.rht_ghost.proofs.Theory.Steps.{ReadyFor, Does, ghost_after, mem}
 use Rattle.rht_core.proofs.Machines.JobSteps.{JobIn, JobKnows}
 use Rattle.rht_core.proofs.Events.Invariants.{Inv, StepOf, step_of, kept}
 use Rattle.rht_core.proofs.Events.InvariantRuns.{opening_ghost, opening_inv, idle_at_opening}
-use Rattle.rht_core.proofs.Events.JobsOfCallers.{first_job-machine, left-job}
+use Rattle.rht_core.proofs.Events.KeptAtEvents.{views_kept, ghosts_kept}
+use Rattle.rht_core.proofs.Events.JobsOfCallers.{left-job}
 use Rattle.rht_core.proofs.Events.RangesInRuns.{AllIn, opens-all, event-all}
-use Rattle.rht_core.proofs.Events.SoundRuns.{has_place, made_in}
-use Rattle.rht_core.proofs.Events.Worlds.{run_keeps_admitted, beginning-some, planned-some, begin_none, begin_self, begin_other, step_none, step_self, step_other}
+use Rattle.rht_core.proofs.Events.Worlds.{run_keeps_admitted}
 use Rattle.rht_core.proofs.Counting.GoodShapes.{AreAll, AreMadeGood, AreGrownGood, GoodWork, GoodBind, IsSeenGood, good-work, good-bind, moved-good, slot-good}
 use Rattle.rht_core.proofs.Counting.MakingJobs.{JobMakes, MakesLeft, told-makes, others-make, begins-making}
 use Rattle.rht_core.proofs.Counting.AttachingJobs.{IsAttachingJob, job-attaches}
@@ -154,53 +150,6 @@ module _ (env : Env) (Good Fit : ℕ → Type 0) (keeps_works : AreMadeGood env 
             (subst (λ o. Left (told (job_after mix env of.job (old_of w.core.words o))).0) (sym of.plan)
             (goes-good c w.core.words has.ghost has.inv.whole has.good of.job of.within of.knows (subst Left of.is (has.jobs c))))
 
-      abbrev after_event : (event : Event) → Ghost
-      after_event event = (kept env mix L w.core has.ghost event has.all has.inv).ghost
-
-      event-tables : (event : Event) → AreAll Good (after_event event)
-      event-tables Enroll = subst (AreAll Good) (sym (kept env mix L w.core has.ghost Enroll has.all has.inv).ghost_kept) has.good
-      event-tables (Begin c call) =
-          subst (AreAll Good) (sym (kept env mix L w.core has.ghost (Begin c call) has.all has.inv).ghost_kept) has.good
-      event-tables (Step c) = go (planned_in w.core c) refl
-        where
-          go : (plan : Option Op) → planned_in w.core c ≡ plan → AreAll Good (after_event (Step c))
-          go None is =
-              subst (AreAll Good) (sym ((kept env mix L w.core has.ghost (Step c) has.all has.inv).ghost_kept.none is)) has.good
-          go (Some op) is =
-              let moves = (kept env mix L w.core has.ghost (Step c) has.all has.inv).ghost_kept.some op is in
-              subst (AreAll Good) (sym moves.1) (step-tables c op moves.0)
-
-      abbrev JobOf : View L → Type 0
-      JobOf view = Left (job_of view.local.doing)
-
-      begun-job : (c : ℕ) (call : Call) (machine : Option (Doing L)) → beginning_in w.core c call ≡ machine
-          → JobOf (view_of (world_step mix w (Begin c call)) c)
-      begun-job c call None is = subst (λ (v : World L). JobOf (view_of v c)) (sym (begin_none L mix w c call is)) (has.jobs c)
-      begun-job c call (Some machine) is =
-          let can = beginning-some w.core.env w.core.enrolled w.core.locals c call machine is in
-          let place = has_place L mix env w.core c has.all.stays can.below in
-          let first = first_job-machine env c call machine (made_in L mix env w.core c call machine has.all.stays can) in
-          subst JobOf (sym (begin_self L mix w c call machine is place))
-          (subst Left (sym first.does) (begins-making Good Fits Has env call first.job first.first))
-
-      stepped-job : (c : ℕ) (plan : Option Op) → planned_in w.core c ≡ plan → JobOf (view_of (world_step mix w (Step c)) c)
-      stepped-job c None is = subst (λ (v : World L). JobOf (view_of v c)) (sym (step_none L mix w c is)) (has.jobs c)
-      stepped-job c (Some op) is =
-          let can = planned-some w.core.env w.core.enrolled w.core.locals c op is in
-          let place = has_place L mix env w.core c has.all.stays can.below in
-          subst JobOf (sym (step_self L mix w c op is place)) (step-job c op is)
-
-      event-jobs : (event : Event) (k : ℕ) → JobOf (view_of (world_step mix w event) k)
-      event-jobs Enroll k = has.jobs k
-      event-jobs (Begin c call) k = elim (cases_eq k c) [
-        | inl e ↦ subst (λ d. JobOf (view_of (world_step mix w (Begin c call)) d)) (sym e) (begun-job c call (beginning_in w.core c call) refl)
-        | inr ne ↦ subst JobOf (sym (begin_other L mix w c call k ne)) (has.jobs k)
-      ]
-      event-jobs (Step c) k = elim (cases_eq k c) [
-        | inl e ↦ subst (λ d. JobOf (view_of (world_step mix w (Step c)) d)) (sym e) (stepped-job c (planned_in w.core c) refl)
-        | inr ne ↦ subst JobOf (sym (step_other L mix w c k ne)) (has.jobs k)
-      ]
-
       event-good : (event : Event) → IsAdmittedEvent env.config.kind event → HasGood (world_step mix w event)
       event-good event may =
           let k = kept env mix L w.core has.ghost event has.all has.inv in
@@ -208,8 +157,11 @@ module _ (env : Env) (Good Fit : ℕ → Type 0) (keeps_works : AreMadeGood env 
             ghost = k.ghost;
             inv = k.inv;
             all = event-all L mix env w event may has.all;
-            good = event-tables event;
-            jobs = event-jobs event;
+            good =
+                ghosts_kept L mix env w (AreAll Good) has.ghost has.all has.inv has.good (λ c op of. step-tables c op of) event;
+            jobs = views_kept L mix env w (λ view. Left (job_of view.local.doing)) has.all.stays has.jobs
+                (λ c call machine first. subst Left (sym first.does) (begins-making Good Fits Has env call first.job first.first))
+                (λ c op is. step-job c op is) event;
           }
 
     opening-good : HasGood (opening env)

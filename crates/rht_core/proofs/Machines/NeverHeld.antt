@@ -61,13 +61,25 @@ slotless none slot has = let both = sym none.slot ∙ has in cc
 pub pageless : {h : Holding} → HoldsNoTable h → (page : ℕ) → In page h.pages → ⊥
 pageless none page i = subst (In page) none.pages i
 
-find-tableless : (state : FindAt) → HoldsNoTable (held_of_find state)
-find-tableless finding.CurrentTable = no_table refl refl refl refl
-find-tableless _ = no_table refl refl refl refl
+-- A look-up and a listing hold a lock at most. No machine opens a read section yet.
+pub record HoldsLockAlone (h : Holding) : Type 0 where
+  pub node : h.node ≡ None
+  pub low : h.raised ≡ false
+  pub outside : h.section ≡ false
+  pub table : HoldsNoTable h
 
-all-tableless : (owners : List ℕ) (state : AllAt) → HoldsNoTable (held_of_all owners state)
-all-tableless owners (listing.Seeking seek) = no_table refl refl refl refl
-all-tableless owners _ = no_table refl refl refl refl
+lock_alone : {h : Holding} → h.node ≡ None → h.raised ≡ false → h.section ≡ false → h.slot ≡ None → h.pages ≡ [] → h.worker ≡ false
+    → h.moving ≡ false → HoldsLockAlone h
+lock_alone node low outside slot pages idle still =
+    record { node = node; low = low; outside = outside; table = no_table slot pages idle still }
+
+pub find-alone : (state : FindAt) → HoldsLockAlone (held_of_find state)
+find-alone finding.CurrentTable = lock_alone refl refl refl refl refl refl refl
+find-alone _ = lock_alone refl refl refl refl refl refl refl
+
+pub all-alone : (owners : List ℕ) (state : AllAt) → HoldsLockAlone (held_of_all owners state)
+all-alone owners (listing.Seeking seek) = lock_alone refl refl refl refl refl refl refl
+all-alone owners _ = lock_alone refl refl refl refl refl refl refl
 
 relinking-tableless : (found : FoundPort) (raised stored : Bool) → HoldsNoTable (holds_relinking found raised stored)
 relinking-tableless found raised true = no_table refl refl refl refl
@@ -92,9 +104,9 @@ front-tableless claimed true = no_table refl refl refl refl
 front-tableless claimed false = no_table refl refl refl refl
 
 pub tableless : (job : Job) → may_make (call_of job) ≡ false → HoldsNoTable (held_of job)
-tableless (finds port state) none = find-tableless state
+tableless (finds port state) none = (find-alone state).table
 tableless (binds port owner once state) none = absurd (cc)
-tableless (lists port room state) none = all-tableless room.items state
+tableless (lists port room state) none = (all-alone room.items state).table
 tableless (releases port owner state) none = release-tableless state
 tableless (rebinds port owner new state) none = rebind-tableless state
 tableless (works state) none = absurd (cc)
@@ -113,14 +125,6 @@ worker_works (works state) has = refl
 worker_works job has = absurd (both_ways _ (tableless job refl).idle has)
 
 -- ---- no raised count
-
-find-unraised : (state : FindAt) → (held_of_find state).raised ≡ false
-find-unraised finding.CurrentTable = refl
-find-unraised _ = refl
-
-all-unraised : (owners : List ℕ) (state : AllAt) → (held_of_all owners state).raised ≡ false
-all-unraised owners (listing.Seeking seek) = refl
-all-unraised owners _ = refl
 
 replacing-unraised : (node : ℕ) (found : FoundPort) (stored : Bool) → (rebind_held.holds_replacing node found stored).raised ≡ false
 replacing-unraised node found false = refl
@@ -141,9 +145,9 @@ MayLead (Release port owner) raised = Unit {0}
 MayLead _ raised = raised ≡ false
 
 pub may_lead : (job : Job) → MayLead (call_of job) (held_of job).raised
-may_lead (finds port state) = find-unraised state
+may_lead (finds port state) = (find-alone state).low
 may_lead (binds port owner once state) = tt
-may_lead (lists port room state) = all-unraised room.items state
+may_lead (lists port room state) = (all-alone room.items state).low
 may_lead (releases port owner state) = tt
 may_lead (rebinds port owner new state) = rebind-unraised state
 may_lead (works state) = work-unraised state

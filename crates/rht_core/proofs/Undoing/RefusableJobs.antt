@@ -28,18 +28,12 @@ use Rattle.rht_nest.specs.declared.grow.GrowAt.TheVariants as grows
 use Rattle.rht_nest.specs.Unmake.{unmake_plan_at}
 use Rattle.rht_nest.specs.declared.unmake.UnmakeAt.{UnmakeAt}
 use Rattle.rht_nest.specs.declared.unmake.UnmakeAt.TheVariants as unmakes
-use Rattle.rht_find.specs.FindHeld.{held_of_find}
-use Rattle.rht_find.specs.declared.find.FindAt.{FindAt}
-use Rattle.rht_find.specs.declared.find.FindAt.TheVariants as finding
 use Rattle.rht_bind.specs.Bind.{behind_page, grown}
 use Rattle.rht_bind.specs.Growing.{has_attached, ended_attempt, behind_attempt}
 use Rattle.rht_bind.specs.declared.bind.Attempt.{Attempt}
 use Rattle.rht_bind.specs.BindHeld.{held_of_bind}
 use Rattle.rht_bind.specs.declared.bind.BindAt.{BindAt}
 use Rattle.rht_bind.specs.declared.bind.BindAt.TheVariants as binding
-use Rattle.rht_release.specs.AllHeld.{held_of_all}
-use Rattle.rht_release.specs.declared.all.AllAt.{AllAt}
-use Rattle.rht_release.specs.declared.all.AllAt.TheVariants as listing
 use Rattle.rht_release.specs.ReleaseHeld.{held_of_release}
 use Rattle.rht_release.specs.declared.release.ReleaseAt.{ReleaseAt}
 use Rattle.rht_release.specs.declared.release.ReleaseAt.TheVariants as releasing
@@ -63,7 +57,7 @@ use Rattle.rht_ghost.proofs.Theory.Steps.{Holding}
 use Rattle.rht_ghost.proofs.Pieces.Makes.{known_of_make}
 use Rattle.rht_words.proofs.FilteredLists.{range_with_len-from}
 use Rattle.rht_core.proofs.Machines.JobSteps.{JobKnows}
-use Rattle.rht_core.proofs.Machines.NeverHeld.{may_lead, tableless, slotless, pageless}
+use Rattle.rht_core.proofs.Machines.NeverHeld.{may_lead, find-alone, all-alone, tableless, slotless, pageless}
 use Rattle.rht_core.proofs.Reasons.AttachedTables.{make-none, unmake-none}
 use Rattle.rht_core.proofs.Undoing.GoingBack.{MayAttachWith}
 use Rattle.rht_core.proofs.Undoing.PastRefusal.{bind_is_past, release_is_past, rebind_is_past, work_is_past, is_past}
@@ -158,17 +152,9 @@ refusable (works state) may = (work-refusable state (early_work state may)).refu
 refusable job may = record { low = may_lead job; still = (tableless job refl).still }
 
 -- no machine opens a read section yet
-find-outside : (state : FindAt) → (held_of_find state).section ≡ false
-find-outside finding.CurrentTable = refl
-find-outside _ = refl
-
 bind-outside : (state : BindAt) → bind_is_past state ≡ false → (held_of_bind state).section ≡ false
 bind-outside (binding.Replacing list relink) may = absurd (cc)
 bind-outside _ may = refl
-
-all-outside : (owners : List ℕ) (state : AllAt) → (held_of_all owners state).section ≡ false
-all-outside owners (listing.Seeking seek) = refl
-all-outside owners _ = refl
 
 release-outside : (state : ReleaseAt) → release_is_past state ≡ false → (held_of_release state).section ≡ false
 release-outside (releasing.Promoting found relink) may = absurd (cc)
@@ -184,9 +170,9 @@ work-outside working.WorkLock = refl
 work-outside _ = refl
 
 pub outside : (job : Job) → is_past job ≡ false → (held_of job).section ≡ false
-outside (finds port state) may = find-outside state
+outside (finds port state) may = (find-alone state).outside
 outside (binds port owner once state) may = bind-outside state may
-outside (lists port room state) may = all-outside room.items state
+outside (lists port room state) may = (all-alone room.items state).outside
 outside (releases port owner state) may = release-outside state may
 outside (rebinds port owner new state) may = rebind-outside state may
 outside (works state) may = work-outside state
