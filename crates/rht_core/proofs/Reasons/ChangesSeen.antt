@@ -19,7 +19,7 @@ use Rattle.rht_model.specs.Endings.{Ending}
 use Rattle.rht_bind.specs.declared.bind.growth.Growing.{Growing}
 use Rattle.rht_stands.specs.StandsFor.{in_force, tables_from}
 use Rattle.rht_core.specs.declared.event.Event.{Event}
-use Rattle.rht_core.specs.Jobs.{Job, finds, binds, lists, releases, rebinds, works, counts, job_plan, call_of, job_after, held_of, held_next, first_job}
+use Rattle.rht_core.specs.Jobs.{Job, call_of, job_after, held_of, held_next, first_job}
 use Rattle.rht_core.specs.Runs.{IsAdmitted, IsAdmittedEvent}
 use Rattle.rht_core.specs.Traces.{Did}
 use Rattle.rht_core.specs.Seen.{words_before}
@@ -36,7 +36,6 @@ use Rattle.rht_words.proofs.Rounding.{powers-rise}
 use Rattle.std.proofs.lemmas.Bool.{le-ltb, both_ways}
 use Rattle.std.proofs.lemmas.List.{append_assoc, take-append-drop}
 use Rattle.rht_ghost.proofs.Theory.Knowledge.{IsMade}
-use Rattle.rht_core.proofs.Machines.JobSteps.{JobIn}
 use Rattle.rht_core.proofs.Machines.NeverHeld.{worker_works}
 use Rattle.rht_core.proofs.Events.RangesInRuns.{planned_job, words_fit}
 use Rattle.rht_core.proofs.Events.JobsOfCallers.{same_call, first_holds}

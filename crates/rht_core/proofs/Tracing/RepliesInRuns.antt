@@ -10,12 +10,11 @@ use Rattle.rht_words.specs.declared.machine.Next.TheVariants.{Go, Done}
 use Rattle.rht_model.specs.declared.history.Call.{Call}
 use Rattle.rht_model.specs.Answers.{Answer}
 use Rattle.rht_model.specs.Endings.{Ending, ended_with}
-use Rattle.rht_release.specs.All as all
 use Rattle.rht_core.specs.declared.event.Event.{Event}
 use Rattle.rht_core.specs.declared.book.Book.{Book}
 use Rattle.rht_callers.specs.declared.local.Doing.{Doing}
 use Rattle.rht_callers.specs.declared.local.Doing.TheVariants.{Idle, Counting}
-use Rattle.rht_core.specs.Jobs.{Job, lists, call_of, job_after, job_of, held_of, held_next}
+use Rattle.rht_core.specs.Jobs.{Job, call_of, job_after, job_of, held_of, held_next}
 use Rattle.rht_core.specs.Runs.{World, IsAdmitted, view_of, local_of}
 use Rattle.rht_core.specs.Traces.{Did, Past, Traced, traced_of}
 use Rattle.rht_core.specs.Replies.{ArePairsWith, IsRightlyAnswered, IsBookOf, AnswersIn}

@@ -36,8 +36,6 @@ use Rattle.rht_ghost.proofs.Theory.Steps as steps
 use Rattle.rht_ghost.proofs.Theory.Steps.{mem, ghost_after, Holding, Does, DoesEnter, ReadyFor, Move, TakesPages, GivesPages, Enters}
 use Rattle.rht_core.proofs.Machines.JobSteps.{JobIn}
 use Rattle.rht_core.proofs.Machines.NeverHeld.{tableless, front-tableless, pageless}
-use Rattle.rht_core.proofs.Meaning.TablesInForce.{in_force_is}
-use Rattle.rht_core.proofs.Undoing.EnteredWords.{missing_is_entry}
 use Rattle.rht_core.proofs.Undoing.RefusableJobs.{take-none, make-enters, unmake-enters}
 use Rattle.rht_core.proofs.Undoing.EnteringBinds.{attaching-none}
 
