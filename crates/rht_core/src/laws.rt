@@ -279,27 +279,31 @@ pub fn sections<M: Mix>()
 /// The call is then a bind or a `Work`. A bind saw the table full up to this operation, by its port's bucket or
 /// by the count. In between it loaded a count, and no other behind that. By that count a table is wanted of
 /// twice the size, or of the same where the bind had loaded this one as the current one. Behind the count it
-/// stored in the slot, last of all shapes, that of a table of the wanted size, or of 2^17 buckets where more
-/// are wanted. Where that table is nested it has 128 buckets or more. Then the bind saw, behind the count, each
-/// run of pages for a flat one taken, and not by operations behind the count. A `Work` had chosen, by what it loaded
-/// under the work lock, that a table of this size is due behind this one, which was the last. Behind that it
-/// stored, last of all shapes, that of a flat table of this size. Either had drawn the serial that it stored last.
+/// stored in the slot, last of all shapes, that of a table of the wanted size. Where that table is nested it has
+/// 128 buckets or more. Then the bind saw, behind the count, each run of pages for a flat one taken, and not by
+/// operations behind the count. A `Work` had chosen, by what it loaded under the work lock, that a table of this
+/// size is due behind this one, which was the last. Behind that it stored, last of all shapes, that of a flat table
+/// of this size. Either had drawn the serial that it stored last.
 ///
 /// No operation changes which table is the current one, but for one of a `Work`, which makes that table
 /// current that was the future of the one before.
 ///
-/// An entry leads to no page where the way to a bucket of a nested table in force ends. No operation changes
-/// such an entry, but for one of a bind that enters a page there. The bind had taken the page, and by the words
-/// before, the way to its own port's bucket ends there, in the table that it walked last. Of entries of a table
-/// that is left behind nothing is said.
+/// An entry leads to no page where the way to a bucket of a nested table ends. Where that table is in force, or the
+/// call's operations before had come to it, no operation changes such an entry, but for one of a bind that enters a
+/// page there. The bind had taken the page, and by the words before, the way to its own port's bucket ends there, in
+/// the table that it walked last. Of the entries of a table that was left behind it says nothing where the call
+/// hadn't come to that table from its last load of the current one on.
 ///
 /// Nor does it change the word that says whether a slot is free, but in three cases. A bind or a `Work` takes a
 /// slot that was free. A call gives back a slot of its own, in which by the words before no table is in force.
-/// Or a `Work` retires a slot, whose table isn't in force by the words before, and from which futures lead to
-/// the current one.
+/// Or a `Work` retires a slot, in the place of whose table its own operations have made another one current. By the
+/// words before, that table isn't in force, and from it futures lead to the current one.
+///
+/// Nor does it change the word of the work lock, but for one of a `Work`. That takes the lock, by an exchange of 0
+/// for 1, or stores 0, where its own operations took it and left that word alone since.
 ///
 /// It doesn't say that a slot which was taken is given back, or that a table is ever attached, or a page entered.
-/// Nor does it say that who attaches a table has taken its pages, or that a retired one ever was in force.
+/// Nor does it say that who attaches a table has taken its pages.
 pub fn attached<M: Mix>()
     ensures { Attached M M.mix_of }
 {}

@@ -1,7 +1,11 @@
 -- taking a node, giving it back, and writing its words
 pub mod NewNodes
+-- what loads of a table's words and entries tell
+pub mod TableLoads
 -- the way to a port's bucket
 pub mod Locates
+-- the same for a look-up that knows nothing of the tables before
+pub mod Reaches
 -- the lock of a bucket is dropped
 pub mod Locks
 -- the operations in a bucket: it is locked and walked
