@@ -13,7 +13,7 @@ ghost use Rattle.rht_core.specs.NodesUsed.{Nodes};
 ghost use Rattle.rht_core.specs.Refused.{Refused};
 ghost use Rattle.rht_core.specs.Tables.{Tables, NeverAgain};
 ghost use Rattle.rht_core.specs.RunHistories.{HasFittingHistory};
-ghost use Rattle.rht_core.specs.Sections.{Sections};
+ghost use Rattle.rht_core.specs.Sections.{Sections, OwnSections};
 ghost use Rattle.rht_core.specs.ToldHistories.{HasToldHistory};
 ghost use Rattle.rht_core.specs.Worked.{Worked};
 ghost use Rattle.rht_core.specs.Laws.{Extends, InRange, Enrolled, NotEnrolled, Replies, Remembers, AtEvents, AllStepsTraced, TakenAlone, WordsFit};
@@ -262,10 +262,12 @@ pub fn let_go<M: Mix>()
 {}
 
 /// In every run a caller that is in no call is in no read section: its section word is even. That is so
-/// whether it is enrolled or not. It says nothing of a caller in a call, and not that calls read inside of
-/// sections.
+/// whether it is enrolled or not. An operation of a call leaves each section word as it was, but for one
+/// that adds 1 to its own caller's. It doesn't say that any call opens a section, and not that calls read
+/// inside of sections.
 pub fn sections<M: Mix>()
-    ensures { Sections M M.mix_of }
+    ensures idle { Sections M M.mix_of }
+    ensures own { OwnSections M M.mix_of }
 {}
 
 /// In every run, of each call, ended or in progress, no operation changes what the words of a slot say of a

@@ -135,7 +135,7 @@ module _ {M : Type 0} (mix : ℕ → ℕ → ℕ → ℕ) (t : Table M) (auto : 
       whole.0
 
   -- and no pairs came with its reply
-  pub served-pairs : (call : Call) (reply : Reply) (before now : Pass M) → IsCommandCall call
+  served-pairs : (call : Call) (reply : Reply) (before now : Pass M) → IsCommandCall call
       → HasServed mix t auto call reply before now → now.local.pairs.items ≡ []
   served-pairs call reply before now asked has =
       let right = own-answered call reply before now has in
@@ -144,7 +144,7 @@ module _ {M : Type 0} (mix : ℕ → ℕ → ℕ → ℕ) (t : Table M) (auto : 
   -- ---- one command more
 
   -- where it is the worker's own, with the reply that it was answered
-  pub HasServedWorker-own : (commands : List (ℕ × Call)) (number : ℕ) (call : Call) (reply : Reply) (before now : Pass M)
+  HasServedWorker-own : (commands : List (ℕ × Call)) (number : ℕ) (call : Call) (reply : Reply) (before now : Pass M)
       (endings : List Ending)
       → HasServed mix t auto call reply before now → HasServedWorker mix t auto commands number before endings
       → HasServedWorker mix t auto (commands ++ (number + 1, call) ∷ []) number now
@@ -163,6 +163,20 @@ module _ {M : Type 0} (mix : ℕ → ℕ → ℕ → ℕ) (t : Table M) (auto : 
             subst (λ calls. Serves auto calls all (book_of now).finished) (sym (calls_of-own worker commands call))
             (subst (Serves auto (calls_of worker commands ++ call ∷ []) all) (sym has.finished) pushed);
       }
+
+  -- so it is where the reply and the owners that came with it are kept
+  pub served-kept : (commands : List (ℕ × Call)) (number : ℕ) (call : Call) (reply : Reply) (before now : Pass M)
+      (endings all : List Ending) (owners : List ℕ)
+      → IsCommandCall call → HasServed mix t auto call reply before now → owners ≡ now.local.owners.items
+      → all ≡ endings ++ replied reply owners [] ∷ [] → HasServedWorker mix t auto commands number before endings
+      → HasServedWorker mix t auto (commands ++ (number + 1, call) ∷ []) number now all
+  served-kept commands number call reply before now endings all owners asked has owners_are all_are served =
+      let none = served-pairs call reply before now asked has in
+      let more : all ≡ endings ++ replied reply now.local.owners.items now.local.pairs.items ∷ [] =
+      all_are
+      ∙ ap (λ l. endings ++ replied reply l [] ∷ []) owners_are
+      ∙ ap (λ l. endings ++ replied reply now.local.owners.items l ∷ []) (sym none) in
+      rw more (HasServedWorker-own commands number call reply before now endings has served)
 
   -- and where it is another one's
   pub HasServedWorker-other : (commands : List (ℕ × Call)) (number : ℕ) (command : ℕ × Call) (pass : Pass M) (endings : List Ending)

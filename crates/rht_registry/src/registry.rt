@@ -110,39 +110,19 @@ fn work_of<M: Mix, R: Wait, G: Gate>(
         worked.0 worked.1) }
 {
     let worker = number as u32 + 1;
+    let auto = script.auto;
     let mut replies = Replies::new(alloc);
     let mut index = 0;
     for command in script.commands.iter() {
         if command.0 == worker {
             index += 1;
             gate.before(worker, index);
-            serve(rt, table, &mut pass, command.1, script.auto, &mut replies)?;
+            let reply = table.serve(rt, &mut pass, command.1, auto);
+            replies.push(reply, pass.owners(), &[])?;
             gate.after(worker, index);
         }
     }
     Ok((pass, replies))
-}
-
-/// Does a command to its end, and appends the reply with the lists that came with it.
-fn serve<M: Mix, R: Wait>(
-    rt: &R,
-    table: &Table<M>,
-    pass: &mut Pass<M>,
-    call: Call,
-    auto: bool,
-    replies: &mut Replies,
-) -> Result<(), AllocError>
-    requires pass { IsPassOf M.mix_of table.now pass.old }
-    requires idle { is_idle pass.old.local ≡ true }
-    requires kind { IsBuiltFor table.now.env.config.kind call }
-    requires asked { IsCommandCall call }
-    ensures { OnOk result ((commands : List (ℕ × CallOf)) (number : ℕ)
-        → HasServedWorker M.mix_of table.now auto commands number pass.old replies.old
-        → HasServedWorker M.mix_of table.now auto (commands ++ (number + 1, call) ∷ []) number pass.new replies.new) }
-{
-    let reply = table.serve(rt, pass, call, auto);
-    replies.push(reply, pass.owners(), &[])?;
-    Ok(())
 }
 
 /// The passes and the replies of all workers, each in order of their numbers, unless one of them has

@@ -19,7 +19,7 @@ use Rattle.rht_model.specs.Endings.{ended_with, replied}
 use Rattle.rht_callers.specs.declared.local.Local.{Local}
 use Rattle.rht_core.specs.Locals.{is_idle, machine_of, rebinding_of}
 use Rattle.rht_core.specs.Runs.{IsAdmittedCall, IsBuiltFor}
-use Rattle.rht_core.specs.Replies.{IsWorkReply, AreOwnersWith, ArePairsWith}
+use Rattle.rht_core.specs.Replies.{IsFindReply, IsWorkReply, AreOwnersWith, ArePairsWith}
 use Rattle.rht_core.specs.Serving.{asks_for_work, AreWorks, AreBehind}
 use Rattle.rht_run.specs.declared.table.Table.{Table}
 use Rattle.rht_run.specs.declared.pass.Pass.{Pass}
@@ -70,6 +70,12 @@ work_no_lists : (reply : Reply) (owners : List ℕ) (pairs : List (ℕ × ℕ)) 
     → AreOwnersWith reply owners → ArePairsWith reply pairs → (owners ≡ []) × (pairs ≡ [])
 work_no_lists reply owners pairs right =
     no_lists reply owners pairs (λ len is. subst IsWorkReply is right) (λ len next is. subst IsWorkReply is right)
+
+-- that of a look-up doesn't ask for it
+find_asks_none : (port : ℕ) (reply : Reply) → IsFindReply reply → asks_for_work (Find port) reply ≡ false
+find_asks_none port (Found owner) right = refl
+find_asks_none port Missing right = refl
+find_asks_none port _ right = absurd right
 
 -- ---- a machine for the command's own call
 
@@ -201,6 +207,13 @@ module _ {M : Type 0} (mix : ℕ → ℕ → ℕ → ℕ) (t : Table M) where
         none : (auto ≡ false) ⊎ (asks_for_work call reply ≡ false) → AreBehind (auto && asks_for_work call reply) []
         none (inl manual) = rw manual refl
         none (inr asks) = rw asks (none_asked auto)
+
+    -- as it is where that is a look-up
+    pub serves_find : (port : ℕ) (now : Pass M) → call ≡ Find port → IsFindReply reply → HasCalled mix t (Find port) reply before now
+        → HasServed mix t auto call reply before now
+    serves_find port now is right has =
+        serves_alone now (inr (rw is (find_asks_none port reply right)))
+        (subst (λ (asked : Call). HasCalled mix t asked reply before now) (sym is) has)
 
     -- or the work behind it too
     pub serves_works : (p now : Pass M) → auto ≡ true → asks_for_work call reply ≡ true → HasCalled mix t call reply before p

@@ -187,7 +187,8 @@ impl<M: Mix> Table<M> {
         ensures reply { IsWorkReply result }
         ensures cause { IsCaused M.mix_of self.now Work result pass.old pass.new }
     {
-        self.call(rt, pass, Call::Work)
+        clear_rooms(&mut pass.local);
+        self.drive_work::<R, Brand>(rt, &mut pass.seat, pass.number)
     }
 
     /// Counts the bound ports: `Counted`. The ports bound where it loaded the count were at most so many,

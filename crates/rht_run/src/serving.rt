@@ -1,6 +1,7 @@
 //! Commands. Each is a call and the work that its reply asks for.
 
-ghost use Rattle.std.specs.Prelude.{◌≡◌, ◌↔◌, true, IsTrue};
+ghost use Rattle.std.specs.Prelude.{◌≡◌, ◌≢◌, ◌↔◌, ℕ, true, IsTrue};
+ghost use Rattle.rht_model.specs.declared.history.Call.TheVariants.{Find};
 ghost use Rattle.rht_model.specs.declared.history.Reply.TheVariants.{Moved};
 ghost use Rattle.rht_core.specs.Locals.{is_idle};
 ghost use Rattle.rht_core.specs.Replies.{IsReplyTo};
@@ -33,6 +34,10 @@ impl<M: Mix> Table<M> {
         ensures reply { IsReplyTo call result }
         ensures cause { IsCaused M.mix_of self.now call result pass.old pass.new }
     {
+        // A look-up asks for no work.
+        if let Call::Find { port } = call {
+            return self.find(rt, pass, port);
+        }
         let reply = self.answer(rt, pass, call);
         if auto && asks_for_work(call, reply) {
             self.work_off(rt, pass);
@@ -40,10 +45,11 @@ impl<M: Mix> Table<M> {
         reply
     }
 
-    /// Makes a call. For a walk and a tidying there is no machine yet.
+    /// Makes a call other than a look-up. For a walk and a tidying there is no machine yet.
     fn answer<R: Wait>(&self, rt: &R, pass: &mut Pass<M>, call: Call) -> Reply
         requires pass { IsPassOf M.mix_of self.now pass.old }
         requires may { MayBegin self.now.env pass.old.number call pass.old.local }
+        requires other { (port : ℕ) → call ≢ Find port }
         ensures { HasCalled M.mix_of self.now call result pass.old pass.new }
     {
         match call {
@@ -54,13 +60,12 @@ impl<M: Mix> Table<M> {
                     self.bind(rt, pass, port, owner)
                 }
             }
-            Call::Find { port } => self.find(rt, pass, port),
             Call::All { port } => self.all(rt, pass, port),
             Call::Release { port, owner } => self.release(rt, pass, port, owner),
             Call::Rebind { port, owner, new } => self.rebind(rt, pass, port, owner, new),
             Call::Work => self.work(rt, pass),
             Call::Count => self.count(pass),
-            Call::Walk { .. } | Call::Tidy => unreachable!(),
+            Call::Find { .. } | Call::Walk { .. } | Call::Tidy => unreachable!(),
         }
     }
 

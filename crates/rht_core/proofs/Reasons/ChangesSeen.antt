@@ -20,7 +20,7 @@ use Rattle.rht_model.specs.Endings.{Ending}
 use Rattle.rht_bind.specs.declared.bind.growth.Growing.{Growing}
 use Rattle.rht_stands.specs.StandsFor.{in_force, tables_from}
 use Rattle.rht_core.specs.declared.event.Event.{Event}
-use Rattle.rht_core.specs.Jobs.{Job, finds, binds, lists, releases, rebinds, works, counts, job_plan, call_of, job_after, held_of, held_next, first_job}
+use Rattle.rht_core.specs.Jobs.{Job, call_of, job_after, held_of, held_next, first_job}
 use Rattle.rht_core.specs.Runs.{IsAdmitted, IsAdmittedEvent}
 use Rattle.rht_core.specs.Traces.{Did, performed_of}
 use Rattle.rht_core.specs.Seen.{words_before}
@@ -30,22 +30,16 @@ use Rattle.rht_ghost.proofs.Theory.Ghosts.{Ghost, PageHeld, has_table, SlotHeld,
 use Rattle.rht_ghost.proofs.Theory.Wholes.{Whole}
 use Rattle.rht_ghost.proofs.Theory.Steps.{mem, ghost_after, Holding, Does}
 use Rattle.rht_words.specs.Operations.{op_value}
-use Rattle.rht_words.specs.Planned.{IsWord, IsPlannedIn}
+use Rattle.rht_words.specs.Planned.{IsWord}
 use Rattle.rht_words.proofs.PlannedWords.{old_of-fits, word_after-fits}
 use Rattle.rht_words.proofs.Memory.{Memory}
 use Rattle.rht_words.proofs.Rounding.{powers-rise}
 use Rattle.std.proofs.lemmas.Bool.{le-ltb, both_ways}
 use Rattle.std.proofs.lemmas.List.{append_assoc, take-append-drop}
-use Rattle.rht_find.proofs.FindPlanned.{planned_find}
-use Rattle.rht_bind.proofs.BindPlanned.{planned_bind}
-use Rattle.rht_release.proofs.AllPlanned.{planned_all}
-use Rattle.rht_release.proofs.ReleasePlanned.{planned_release}
-use Rattle.rht_release.proofs.RebindPlanned.{planned_rebind}
-use Rattle.rht_move.proofs.WorkPlanned.{planned_work}
 use Rattle.rht_ghost.proofs.Theory.Knowledge.{IsMade}
-use Rattle.rht_core.proofs.Machines.JobSteps.{JobIn, JobNext}
-use Rattle.rht_core.proofs.Machines.WhoWorks.{worker_works}
-use Rattle.rht_core.proofs.Events.RangesInRuns.{planned_count, words_fit}
+use Rattle.rht_core.proofs.Machines.JobSteps.{JobNext}
+use Rattle.rht_core.proofs.Machines.NeverHeld.{worker_works}
+use Rattle.rht_core.proofs.Events.RangesInRuns.{planned_job, words_fit}
 use Rattle.rht_core.proofs.Events.JobsOfCallers.{same_call, first_holds}
 use Rattle.rht_core.proofs.Meaning.TablesInForce.{in_force_is, leads_to_current}
 use Rattle.rht_core.proofs.Tracing.TracedJobs.{Performs, StandsIn, LeadsOn}
@@ -158,22 +152,13 @@ module _ (M : Type 0) (mix : ℕ → ℕ → ℕ → ℕ) (env : Env) (events : 
   ]
 
   -- the words that an operation finds and leaves have 64 bits
-  planned_job : (caller : ℕ) (job : Job) → JobIn env mix caller job → IsPlannedIn g (job_plan env job)
-  planned_job caller (finds port state) within = planned_find env state within
-  planned_job caller (binds port owner once state) within = planned_bind env state within.at_in
-  planned_job caller (lists port room state) within = planned_all env state within.at_in
-  planned_job caller (releases port owner state) within = planned_release env state within
-  planned_job caller (rebinds port owner new state) within = planned_rebind env state within.at_in
-  planned_job caller (works state) within = planned_work env state within
-  planned_job caller counts within = planned_count env
-
   fit_before : (job : Job) (did : Did) (performs : Performs mix env job did) → AllByRecursion IsWord performs.words → FitBefore did
   fit_before job did performs words =
       let old : IsWord did.old = subst IsWord (sym performs.found) (old_of-fits performs.words did.op words) in
       record {
         found = old;
         left = word_after-fits did.old did.op old
-            (subst (λ op. IsWord (op_value op)) (sym performs.planned) (planned_job performs.caller job performs.within).fits);
+            (subst (λ op. IsWord (op_value op)) (sym performs.planned) (planned_job env mix performs.caller job performs.within).fits);
       }
 
   -- the words before each event do

@@ -24,7 +24,7 @@ use Rattle.rht_ghost.proofs.Theory.Ghosts.{Ghost}
 use Rattle.rht_ghost.proofs.Theory.Wholes.{Whole}
 use Rattle.rht_ghost.proofs.Theory.Departures.{CanPublish, published, CanRetire}
 use Rattle.rht_ghost.proofs.Theory.Steps as steps
-use Rattle.rht_ghost.proofs.Theory.Steps.{mem, ghost_after, LeavesBits, DoesPublish, Holding, Does, ReadyFor, DoesQuiet, IsAside, Move, Quiet, TakesNode, GivesNode, TakesLock, DropsLock, Raises, Links, Lowers, Rebinds, LinksBehind, Arms, TakesSlot, GivesSlot, TakesPages, GivesPages, Enters, TakesWork, GivesWork, BeginsMoving, TakesSecond, Leaves, Arrives, CutsOff, Publishes, Retires, IsOnOwnSlot, DoesAttach, DoesTakeSlot, DoesGiveSlot, DoesRetire, DoesTakeWork, DoesGiveWork}
+use Rattle.rht_ghost.proofs.Theory.Steps.{mem, ghost_after, LeavesBits, DoesPublish, Holding, Does, ReadyFor, DoesQuiet, IsAside, Move, Quiet, TakesNode, GivesNode, TakesLock, DropsLock, Raises, Links, Lowers, Rebinds, LinksBehind, Arms, TakesSlot, GivesSlot, TakesPages, GivesPages, Enters, TakesWork, GivesWork, BeginsMoving, TakesSecond, Leaves, Arrives, CutsOff, Publishes, Retires, Opens, Closes, IsOnOwnSlot, DoesAttach, DoesTakeSlot, DoesGiveSlot, DoesRetire, DoesTakeWork, DoesGiveWork}
 use Rattle.rht_core.proofs.Meaning.TablesInForce.{current_slot, future-leads}
 use Rattle.rht_nest.specs.MakeLaws.{slot_taking, TakesSlot as TakesSlotNow}
 use Rattle.rht_ghost.proofs.Theory.Readiness.{IsAttaching}
@@ -159,6 +159,8 @@ module _ (env : Env) (mix : ℕ → ℕ → ℕ → ℕ) (c : ℕ) (M : Memory) 
   kind_of_move (CutsOff j entry (Some b)) ready does = nodes _ _ does.on (omega arith)
   kind_of_move Publishes ready does = publishing ready does
   kind_of_move (Retires s) ready does = retiring s ready does
+  kind_of_move (Opens d) ready does = low _ (8 + d) (ap op_place does.turns) (omega arith) (omega (arith, does.within))
+  kind_of_move (Closes d) ready does = low _ (8 + d) (ap op_place does.turns) (omega arith) (omega (arith, does.within))
 
   -- ---- the words that say something of a table
 

@@ -27,7 +27,7 @@ use Rattle.rht_move.specs.Work.{IsWorkAtIn}
 use Rattle.rht_move.specs.WorkHeld.{held_of_work}
 use Rattle.rht_move.specs.declared.work.WorkAt.{WorkAt}
 use Rattle.rht_move.specs.declared.work.WorkAt.TheVariants as working
-use Rattle.rht_core.specs.Jobs.{Job, finds, binds, lists, releases, rebinds, works, counts, job_plan, held_of}
+use Rattle.rht_core.specs.Jobs.{Job, binds, works, job_plan, held_of}
 use Rattle.rht_core.specs.Traces.{Did}
 use Rattle.rht_ghost.proofs.Theory.Ghosts.{PageOwner, PageFree, PageHeld, put_in, put_in-other, has_bit, with_pages, is_entry_of, table_of_page, Ghost, table_at, is_entry, entry_word}
 use Rattle.rht_ghost.proofs.Theory.Wholes.{Whole}
@@ -35,9 +35,9 @@ use Rattle.rht_ghost.proofs.Theory.Readiness.{IsEntering, ArePagesOf}
 use Rattle.rht_ghost.proofs.Theory.Steps as steps
 use Rattle.rht_ghost.proofs.Theory.Steps.{mem, ghost_after, Holding, Does, DoesEnter, ReadyFor, Move, TakesPages, GivesPages, Enters}
 use Rattle.rht_core.proofs.Machines.JobSteps.{JobIn}
+use Rattle.rht_core.proofs.Machines.NeverHeld.{tableless, front-tableless, pageless}
 use Rattle.rht_core.proofs.Undoing.RefusableJobs.{take-none, make-enters, unmake-enters}
 use Rattle.rht_core.proofs.Undoing.EnteringBinds.{attaching-none}
-use Rattle.rht_core.proofs.Undoing.LocksLetGo.{find-none, all-none, front-none, release-none, rebind-none}
 
 -- ---- by each move
 
@@ -147,7 +147,7 @@ module _ (env : Env) (mix : ℕ → ℕ → ℕ → ℕ) (c : ℕ) (M : Memory) 
   bind-enters port owner once (binding.Unmaking attempt unmake answer) within is had =
       absurd (unmake-enters env mix c M G did entry page exchanges unmake.geometry unmake.slot unmake.at is)
   bind-enters port owner once (binding.Replacing list relink) within is had =
-      absurd (front-none page list.claimed (has_relinked list.before relink.at) had)
+      absurd (pageless (front-tableless list.claimed (has_relinked list.before relink.at)) page had)
   bind-enters port owner once _ within is had = absurd had
 
   work-none : (state : WorkAt) → IsWorkAtIn env state → did.op ≡ job_plan env (works state) → In page (held_of_work state).pages → ⊥
@@ -160,10 +160,6 @@ module _ (env : Env) (mix : ℕ → ℕ → ℕ → ℕ) (c : ℕ) (M : Memory) 
   work-none _ within is had = had
 
   pub enters_now : (job : Job) → JobIn env mix c job → did.op ≡ job_plan env job → In page (held_of job).pages → Now job
-  enters_now (finds port state) within is had = absurd (find-none page state had)
   enters_now (binds port owner once state) within is had = bind-enters port owner once state within.at_in is had
-  enters_now (lists port room state) within is had = absurd (all-none page room.items state had)
-  enters_now (releases port owner state) within is had = absurd (release-none page state had)
-  enters_now (rebinds port owner new state) within is had = absurd (rebind-none page state had)
   enters_now (works state) within is had = absurd (work-none state within is had)
-  enters_now counts within is had = absurd had
+  enters_now job within is had = absurd (pageless (tableless job refl) page had)

@@ -3,9 +3,9 @@ use Rattle.rht_words.specs.declared.config.Config.{Config}
 use Rattle.rht_model.specs.declared.history.Call.TheVariants.{Bind}
 use Rattle.rht_core.specs.Runs.{IsBuiltFor}
 use Rattle.rht_script.specs.Sound.{IsCommandCall}
-use Rattle.rht_registry.proofs.ServedCalls.{new-below, served-own, served-other, served-same}
-use Rattle.rht_registry.proofs.SoundCommands.{IsCommandFor, sound-commands, next-command}
-use Rattle.rht_registry.proofs.registry.work_of.Goals.{then-command-worker+in_ok-serve, else-command-worker}
+use Rattle.rht_registry.proofs.ServedCalls.{new-below, served-kept, served-own, served-other, served-same}
+use Rattle.rht_registry.proofs.SoundCommands.{IsCommandFor, IsMadeCall-asked, sound-commands, next-command}
+use Rattle.rht_registry.proofs.registry.work_of.Goals.{then-command-worker+in_ok-push, else-command-worker}
 use Rattle.rht_registry.proofs.registry.work_of.Goals as goal
 
 pub overflow_add-worker : goal.overflow_add-worker
@@ -13,8 +13,8 @@ overflow_add-worker g c =
     let few = new-below g.M.Mix.mix_of c.args.table.now c.args.number c.args.pass c.requires.new in
     omega (arith, few)
 
-pub serve-requires-clause-kind : goal.serve-requires-clause-kind
-serve-requires-clause-kind g c =
+pub serve-reply-requires-clause-kind : goal.serve-reply-requires-clause-kind
+serve-reply-requires-clause-kind g c =
     let config = c.args.script.now.config in
     let items = c.deref-command-items.result.now in
     let i = c.loop-command.command-index in
@@ -25,13 +25,14 @@ serve-requires-clause-kind g c =
     (sound-commands config commands c.requires.can.sound.commands) within in
     subst (λ (k : Config). IsBuiltFor k.kind (get_or items i (0, Bind 0 0 false)).1) (sym c.requires.can.config) command.kind
 
-pub serve-requires-clause-asked : goal.serve-requires-clause-asked
-serve-requires-clause-asked g c =
+pub serve-reply-requires-clause-made : goal.serve-reply-requires-clause-made
+serve-reply-requires-clause-made g c =
     let items = c.deref-command-items.result.now in
     let i = c.loop-command.command-index in
     let within : i < length items = omega arith in
-    next-command (λ command. IsCommandCall command.1) items c.args.script.now.commands.items i (0, Bind 0 0 false)
-    c.loop-command.invariant.items c.requires.can.asked within
+    IsMadeCall-asked (get_or items i (0, Bind 0 0 false)).1
+    (next-command (λ command. IsCommandCall command.1) items c.args.script.now.commands.items i (0, Bind 0 0 false)
+    c.loop-command.invariant.items c.requires.can.asked within)
 
 pub loop-command-preserved : goal.loop-command-preserved
 loop-command-preserved g c =
@@ -48,15 +49,21 @@ loop-command-preserved g c =
     let pass = c.if-command-worker.pass in
     let replies = c.if-command-worker.replies in
     elim c.if-command-worker.branch [
-      | then-command-worker+in_ok-serve w ↦
+      | then-command-worker+in_ok-push w ↦
           let own : here.0 ≡ number + 1 = omega (arith, w.if-command-worker.true) in
-          let now = w.serve.new.pass in
-          let served = w.in_ok-serve.ensures (take i items) number before.served in
+          let now = w.serve-reply.new.pass in
+          let all = w.push.new.self in
+          let asked =
+          next-command (λ command. IsCommandCall command.1) items c.args.script.now.commands.items i (0, Bind 0 0 false) before.items
+          c.requires.can.asked within in
+          let kept =
+          served-kept mix table auto (take i items) number here.1 w.serve-reply.result c.loop-command.pass now c.loop-command.replies
+          all w.owners.result.now asked w.serve-reply.ensures.served w.owners.ensures.owners w.in_ok-push.ensures.ok before.served in
           let index_is = w.index-is in
           record {
             served =
-                served-same mix table auto (take (i + 1) items) number pass now replies w.serve.new.replies w.pass-is w.replies-is
-                (served-own mix table auto items i (0, Bind 0 0 false) number now w.serve.new.replies within own served);
+                served-same mix table auto (take (i + 1) items) number pass now replies all w.pass-is w.replies-is
+                (served-own mix table auto items i (0, Bind 0 0 false) number now all within own kept);
             items = before.items;
             few = omega (arith, few, index_is);
           }

@@ -1,7 +1,7 @@
 use Rattle.std.proofs.Common.{◌≡◌, ◌⊎◌, false, sym, ◌∙◌, inl, inr, rules}
 use Rattle.rht_core.specs.Serving.{asks_for_work}
 use Rattle.rht_run.proofs.CallSteps.{answered}
-use Rattle.rht_run.proofs.ServedCommands.{MayBegin-made, serves_alone, serves_works, served_caused}
+use Rattle.rht_run.proofs.ServedCommands.{MayBegin-made, serves_alone, serves_find, serves_works, served_caused}
 use Rattle.rht_run.proofs.table.Table.serve.Goals.{else-auto-via-then-auto+else-asks_for_work, else-auto-via-else-auto}
 use Rattle.rht_run.proofs.table.Table.serve.Goals as goal
 
@@ -9,6 +9,21 @@ pub answer-reply-requires-clause-may : goal.answer-reply-requires-clause-may
 answer-reply-requires-clause-may g c =
     MayBegin-made c.args.self.now.env c.args.pass.now.number c.args.call c.args.pass.now.local c.requires.idle (search rules)
     c.requires.kind c.requires.made
+
+-- ---- a look-up
+
+pub returns-in-Find-clause-served : goal.returns-in-Find-clause-served
+returns-in-Find-clause-served g c =
+    serves_find g.M.Mix.mix_of c.args.self.now c.args.auto c.args.call c.find.result c.args.pass.now c.in-Find.port
+    c.find.new.pass c.in-Find.is c.find.ensures.reply c.find.ensures.called
+
+pub returns-in-Find-clause-reply : goal.returns-in-Find-clause-reply
+returns-in-Find-clause-reply g c = rw c.in-Find.is c.find.ensures.reply
+
+pub returns-in-Find-clause-cause : goal.returns-in-Find-clause-cause
+returns-in-Find-clause-cause g c =
+    served_caused g.M.Mix.mix_of c.args.self.now c.args.auto c.args.call c.find.result c.args.pass.now
+    c.find.new.pass (returns-in-Find-clause-served g c)
 
 -- ---- with the work behind the call
 
