@@ -80,6 +80,8 @@ pub mod TableWordsKept
 pub mod OwnTables
 -- a resizing retires the table from which it has gone on
 pub mod TablesLeft
+-- a resizing has taken the pages that it has
+pub mod WorksPages
 -- what is kept of each operation that changes one of these words, or enters a page
 pub mod ChangesSeen
 -- a slot to which a call has come had a table

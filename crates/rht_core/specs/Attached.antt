@@ -21,7 +21,7 @@ use Rattle.rht_policy.specs.Mix.{bucket_of}
 use Rattle.rht_policy.specs.Thresholds.{is_above_75}
 use Rattle.rht_nest.specs.MakeLaws.{TakesSlot, TakesSerial}
 use Rattle.rht_nest.specs.Place.{nested_place, missing_at}
-use Rattle.rht_nest.specs.Tables.{is_nested}
+use Rattle.rht_nest.specs.Tables.{is_nested, pages_of_shape}
 use Rattle.rht_stands.specs.StandsFor.{tables_from, in_force, page_word}
 use Rattle.rht_model.specs.declared.history.Call.{Call}
 use Rattle.rht_model.specs.declared.history.Call.TheVariants.{Bind, Work}
@@ -222,7 +222,7 @@ module _ (M : Type 0) (mix : ℕ → ℕ → ℕ → ℕ) (env : Env) (events : 
     pub apart : ¬ In slot (in_force env.geometry (words_before M mix env events did.index))
 
   -- The operation attaches a table of the call's own behind this one, and has a cause for it. By the words before, the slot of that table has
-  -- the shape that the cause names, and no table behind it.
+  -- the shape that the cause names, and no table behind it. Each page of a table of that shape the call has taken, and still has.
   pub record AttachesRightly (call : Call) (table : ℕ) (before : List Did) (did : Did) : Type 0 where
     pub slot : ℕ
     pub attaches : Attaches env.geometry table slot did
@@ -230,6 +230,7 @@ module _ (M : Type 0) (mix : ℕ → ℕ → ℕ → ℕ) (env : Env) (events : 
     pub shape : ℕ
     pub shape_is : word_at env.geometry (words_before M mix env events did.index) (Slot slot ShapeWord) ≡ shape
     pub none_behind : word_at env.geometry (words_before M mix env events did.index) (Slot slot FutureWord) ≡ 0
+    pub pages : (page : ℕ) → In page (pages_of_shape shape) → HasTaken env.geometry page before
     pub cause : AttachCause call table slot shape before did
 
   -- A bind or a resizing takes the slot, which was free; or the call gives back its own; or a resizing retires the slot's

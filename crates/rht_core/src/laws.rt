@@ -274,7 +274,8 @@ pub fn sections<M: Mix>()
 /// table, but for two cases. The table is the call's own: its operations took the slot, which was free, and
 /// have neither given it back nor attached the table since. By the words before, it isn't in force. Or the
 /// operation attaches a table of the call's own behind this one, by an exchange that finds its future to be
-/// none. By the words before, that table has no future, and the shape that is told next.
+/// none. By the words before, that table has no future, and the shape that is told next. Each page of a table of
+/// that shape the call has taken, and has neither given it back nor entered it since.
 ///
 /// The call is then a bind or a `Work`. A bind saw the table full up to this operation, by its port's bucket or
 /// by the count. In between it loaded a count, and no other behind that. By that count a table is wanted of
@@ -303,7 +304,6 @@ pub fn sections<M: Mix>()
 /// for 1, or stores 0, where its own operations took it and left that word alone since.
 ///
 /// It doesn't say that a slot which was taken is given back, or that a table is ever attached, or a page entered.
-/// Nor does it say that who attaches a table has taken its pages.
 pub fn attached<M: Mix>()
     ensures { Attached M M.mix_of }
 {}

@@ -141,6 +141,7 @@ module _ (M : Type 0) (mix : ℕ → ℕ → ℕ → ℕ) (env : Env) (events : 
           shape = attached.shape;
           shape_is = attached.shape_is;
           none_behind = attached.none_behind;
+          pages = attached.pages;
           cause = cause_of call slot attached.slot attached.shape before did traced attached.nested attached.attaches attached.cause;
         })
       ];
@@ -183,7 +184,9 @@ attached M mix env events c admitted =
     let keeping =
     jobs_keep_standing M mix env (Now M mix env events c) (Ended M mix env events c) events
     (record {
-      begins = λ call job is. (first_job-saw M mix env events call job is, refusals.begins M mix env events call job is, tt, begins M mix env events c call job is);
+      begins = λ call job is.
+          let none = begins M mix env events c call job is in
+          (first_job-saw M mix env events call job is, refusals.begins M mix env events call job is, tt, none.0, none.1);
       goes = λ job steps did performs stands kept. goes M mix env events c admitted steps did job performs stands kept;
     }) c admitted in
     let were = at_events M mix env events admitted c in

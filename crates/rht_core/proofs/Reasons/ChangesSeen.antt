@@ -8,11 +8,12 @@ use Rattle.rht_words.specs.declared.env.Env.{Env}
 use Rattle.rht_words.specs.declared.geometry.Geometry.{Geometry}
 use Rattle.rht_words.specs.declared.machine.Next.{Next}
 use Rattle.rht_words.specs.declared.machine.Next.TheVariants.{Go, Done}
+use Rattle.rht_words.specs.Machines.{GoesOrEnds}
 use Rattle.rht_words.specs.Members.{In}
 use Rattle.rht_words.specs.Places.{Slot, ShapeWord, FutureWord, PageWord, place_of, word_at, CurrentTable, StateWord}
 use Rattle.rht_words.specs.Shapes.{unpacked, size_of}
 use Rattle.rht_words.proofs.EachElement.{AllByRecursion-cut, AllByRecursion-push}
-use Rattle.rht_nest.specs.Tables.{is_nested}
+use Rattle.rht_nest.specs.Tables.{is_nested, pages_of_shape}
 use Rattle.rht_model.specs.declared.history.Call.{Call}
 use Rattle.rht_model.specs.declared.history.Call.TheVariants.{Bind, Work}
 use Rattle.rht_model.specs.Endings.{Ending}
@@ -21,13 +22,13 @@ use Rattle.rht_stands.specs.StandsFor.{in_force, tables_from}
 use Rattle.rht_core.specs.declared.event.Event.{Event}
 use Rattle.rht_core.specs.Jobs.{Job, call_of, job_after, held_of, held_next, first_job}
 use Rattle.rht_core.specs.Runs.{IsAdmitted, IsAdmittedEvent}
-use Rattle.rht_core.specs.Traces.{Did}
+use Rattle.rht_core.specs.Traces.{Did, performed_of}
 use Rattle.rht_core.specs.Seen.{words_before}
 use Rattle.rht_core.specs.ResizeCauses.{Attaches}
 use Rattle.rht_core.specs.Attached.{ChangesMissing, EnterCause, HasGoneOn, ChangesWorkLock, HasWorkLock, WorkLockCause, ChangesTable, ChangesCurrent, MovesOn, HasTakenSlot, EachBehind, AttachesDue, IsOwnTable, ChangesState, StateCause, MakesTables, RetiresTable}
-use Rattle.rht_ghost.proofs.Theory.Ghosts.{Ghost, has_table, SlotHeld, index_at}
+use Rattle.rht_ghost.proofs.Theory.Ghosts.{Ghost, PageHeld, has_table, SlotHeld, index_at}
 use Rattle.rht_ghost.proofs.Theory.Wholes.{Whole}
-use Rattle.rht_ghost.proofs.Theory.Steps.{mem, Holding, Does}
+use Rattle.rht_ghost.proofs.Theory.Steps.{mem, ghost_after, Holding, Does}
 use Rattle.rht_words.specs.Operations.{op_value}
 use Rattle.rht_words.specs.Planned.{IsWord}
 use Rattle.rht_words.proofs.PlannedWords.{old_of-fits, word_after-fits}
@@ -36,6 +37,7 @@ use Rattle.rht_words.proofs.Rounding.{powers-rise}
 use Rattle.std.proofs.lemmas.Bool.{le-ltb, both_ways}
 use Rattle.std.proofs.lemmas.List.{append_assoc, take-append-drop}
 use Rattle.rht_ghost.proofs.Theory.Knowledge.{IsMade}
+use Rattle.rht_core.proofs.Machines.JobSteps.{JobNext}
 use Rattle.rht_core.proofs.Machines.NeverHeld.{worker_works}
 use Rattle.rht_core.proofs.Events.RangesInRuns.{planned_job, words_fit}
 use Rattle.rht_core.proofs.Events.JobsOfCallers.{same_call, first_holds}
@@ -47,7 +49,7 @@ use Rattle.rht_core.proofs.Reasons.TableWordsKept.{FitBefore, by_move, current_b
 use Rattle.rht_core.proofs.Reasons.RefusedBinds.{Behind, SawToAttach, attach-taken}
 use Rattle.rht_core.proofs.Reasons.OwnTables.{own_slot, moving_works, AttachesNow, attaches_now, by_bind, by_work, slot_makes}
 use Rattle.rht_words.specs.declared.op.Op.TheVariants.{Load, Store}
-use Rattle.rht_words.specs.Operations.{old_of}
+use Rattle.rht_words.specs.Operations.{old_of, applied}
 use Rattle.rht_words.specs.Links.{page_of, table_of}
 use Rattle.rht_core.specs.Refused.{PutsPage, HasTaken, IsWaysEnd}
 use Rattle.rht_core.proofs.Events.TablesThere.{HadTable}
@@ -55,13 +57,16 @@ use Rattle.rht_core.proofs.Undoing.EnteredWords.{missing_is_entry}
 use Rattle.rht_ghost.proofs.Theory.Knowledge.{TableMeans}
 use Rattle.rht_ghost.proofs.Pieces.OpenEntries.{known_growing}
 use Rattle.rht_core.proofs.Reasons.PagesMissed.{misses-page}
-use Rattle.rht_core.proofs.Undoing.LocksLetGo.{early}
+use Rattle.rht_core.proofs.Undoing.LocksLetGo.{IsEarly, early}
+use Rattle.rht_core.proofs.Undoing.PastRefusal.{is_past}
 use Rattle.rht_core.proofs.Undoing.EnteringBinds.{saw-came}
 use Rattle.rht_core.proofs.Undoing.MissingKept.{EntersThere, EntersNow, by_entering, entered_by_move, enters_now}
 use Rattle.rht_core.proofs.Undoing.RefusedCalls as refusals
 use Rattle.rht_core.proofs.Reasons.CausesInRuns.{JobSaw, EndsSeen, job-leads}
 use Rattle.rht_core.proofs.Reasons.WorksSeen.{to_attach-taken}
 use Rattle.rht_core.proofs.Reasons.TablesLeft.{gone_on}
+use Rattle.rht_core.proofs.Reasons.WorksPages.{HadOrTakes, held_by_move, pages-mine, unless_given, enters-binds}
+use Rattle.rht_arena.specs.RunLaws.{GivesPage}
 use Rattle.rht_ghost.proofs.Theory.Departures.{CanRetire}
 
 module _ (M : Type 0) (mix : ℕ → ℕ → ℕ → ℕ) (env : Env) (events : List Event) (c : ℕ) where
@@ -72,6 +77,10 @@ module _ (M : Type 0) (mix : ℕ → ℕ → ℕ → ℕ) (env : Env) (events : 
   words_at = words_before M mix env events
 
   -- ---- what is kept
+
+  -- where the call goes on this is so of its next job
+  abbrev IfGoes : Job × Next Ending → (Job → Type 0) → Type 0
+  IfGoes next So = GoesOrEnds So (λ ending. Unit {0}) next
 
   -- a bind of this port attaches the table of this slot, with this shape, behind this one
   pub record SeenFull (port table slot shape : ℕ) (before : List Did) : Type 0 where
@@ -92,6 +101,7 @@ module _ (M : Type 0) (mix : ℕ → ℕ → ℕ → ℕ) (env : Env) (events : 
     pub shape_is : word_at g (words_at did.index) (Slot slot ShapeWord) ≡ shape
     pub none_behind : word_at g (words_at did.index) (Slot slot FutureWord) ≡ 0
     pub nested : is_nested shape ≡ true → 128 ≤ size_of (unpacked shape)
+    pub pages : (page : ℕ) → In page (pages_of_shape shape) → HasTaken g page before
     pub cause : SeenCause call table slot shape before
 
   pub record ChangesSeen (call : Call) (before : List Did) (did : Did) : Type 0 where
@@ -107,10 +117,15 @@ module _ (M : Type 0) (mix : ℕ → ℕ → ℕ → ℕ) (env : Env) (events : 
   abbrev pub HasTakenWork : Job → List Did → Type 0
   HasTakenWork job steps = (held_of job).worker ≡ true → HasWorkLock g steps
 
+  -- and a resizing each page that it has
+  abbrev pub HasTakenPages : Job → List Did → Type 0
+  HasTakenPages job steps =
+      call_of job ≡ Work → (page : ℕ) → In page (held_of job).pages → (page < g.pages) × HasTaken g page steps
+
   abbrev pub Now : Job → List Did → Type 0
   Now job steps =
       JobSaw env words_at mix job steps × refusals.Going M mix env events job steps × EachBehind (ChangesSeen (call_of job)) [] steps
-      × HasTakenWork job steps
+      × HasTakenWork job steps × HasTakenPages job steps
 
   abbrev pub Ended : Call → Ending → List Did → Type 0
   Ended call ending steps = EndsSeen M mix env events call ending steps × EachBehind (ChangesSeen call) [] steps
@@ -161,10 +176,21 @@ module _ (M : Type 0) (mix : ℕ → ℕ → ℕ → ℕ) (env : Env) (events : 
       apart = subst (λ ws. ¬ In slot (in_force g ws)) now (held_apart words G whole caller slot held);
     }
 
+    -- a call that may still be refused, and has told no answer, has taken the pages that it has
+    has_taken : (job : Job) → IsEarly job → refusals.Going M mix env events job steps → (page : ℕ) → In page (held_of job).pages
+        → HasTaken g page steps
+    has_taken job is_early going page has = elim going [
+      | inl past ↦ absurd (both_ways (is_past job) is_early.not_past past)
+      | inr goes_on ↦ elim goes_on [
+        | inl says ↦ absurd (is_early.untold says)
+        | inr may ↦ may.undoes.took page has
+      ]
+    ]
+
     attaching : (job : Job) (table slot : ℕ) → AttachesNow env did slot table job → Attaches g table slot did
         → (performs : Performs mix env job did) → performs.words ≡ words_at did.index → JobSaw env words_at mix job steps
-        → AttachesSeen (call_of job) table steps did
-    attaching job table slot (by_bind port owner once growing shape same) attaches performs now saw =
+        → refusals.Going M mix env events job steps → HasTakenPages job steps → AttachesSeen (call_of job) table steps did
+    attaching job table slot (by_bind port owner once growing shape same) attaches performs now saw going paged =
         let made = performs.knows.knowing.means.making in
         record {
           slot = slot;
@@ -176,9 +202,10 @@ module _ (M : Type 0) (mix : ℕ → ℕ → ℕ → ℕ) (env : Env) (events : 
           shape_is = subst (λ ws. word_at g ws (Slot slot ShapeWord) ≡ shape) now made.shape_is;
           none_behind = subst (λ ws. word_at g ws (Slot slot FutureWord) ≡ 0) now made.future_is;
           nested = nested_many slot shape performs.caller (mem env mix performs.words) performs.ghost made;
+          pages = has_taken _ (record { not_past = refl; untold = λ says. says }) going;
           cause = record { growing = growing; table_is = same; seen = saw.0 };
         }
-    attaching job table slot (by_work root last shape same) attaches performs now saw =
+    attaching job table slot (by_work root last shape same) attaches performs now saw going paged =
         let made = performs.knows.knowing.means.making in
         let within = performs.within.made_in in
         let since = saw.1 in
@@ -192,6 +219,7 @@ module _ (M : Type 0) (mix : ℕ → ℕ → ℕ → ℕ) (env : Env) (events : 
           shape_is = subst (λ ws. word_at g ws (Slot slot ShapeWord) ≡ shape) now made.shape_is;
           none_behind = subst (λ ws. word_at g ws (Slot slot FutureWord) ≡ 0) now made.future_is;
           nested = nested_many slot shape performs.caller (mem env mix performs.words) performs.ghost made;
+          pages = λ page i. (paged refl page i).1;
           cause = record {
             size = saw.0;
             chose = since.chose;
@@ -242,13 +270,7 @@ module _ (M : Type 0) (mix : ℕ → ℕ → ℕ → ℕ) (env : Env) (events : 
         let page = there.page in
         let is_early = early env mix performs.caller (mem env mix performs.words) performs.ghost did entry page there.does.entering job
         performs.within performs.planned there.does.had in
-        let took : HasTaken g page steps = elim going [
-          | inl past ↦ absurd (let both = sym is_early.not_past ∙ past in cc)
-          | inr goes_on ↦ elim goes_on [
-            | inl says ↦ absurd (is_early.untold says)
-            | inr may ↦ may.undoes.took page there.does.had
-          ]
-        ] in
+        let took = has_taken job is_early going page there.does.had in
         entering job entry page
         (enters_now env mix performs.caller (mem env mix performs.words) performs.ghost did entry page there.does.entering job performs.within
         performs.planned there.does.had) performs now saw took
@@ -351,10 +373,46 @@ module _ (M : Type 0) (mix : ℕ → ℕ → ℕ → ℕ) (env : Env) (events : 
               }
         ]
 
+    -- so it has behind the operation, by which no page of its own is given back or entered
+    pages_then : (job : Job) (performs : Performs mix env job did) (next : Job × Next Ending) (G : Ghost)
+        → Whole env mix (mem env mix (applied performs.words did.op)) G
+        → JobNext env mix performs.caller next (mem env mix (applied performs.words did.op)) G
+        → ((page : ℕ) → G.page page ≡ PageHeld performs.caller → HadOrTakes env mix performs.caller performs.words performs.ghost did page)
+        → call_of next.0 ≡ call_of job → HasTakenPages job steps → IfGoes next (λ after. HasTakenPages after (steps ++ did ∷ []))
+    pages_then job performs (after, Done ending) G then knows by same paged = tt
+    pages_then job performs (after, Go) G then knows by same paged = λ is page i.
+        let held = pages-mine env mix performs.caller (mem env mix (applied performs.words did.op)) G after is knows page i in
+        elim (by page held) [
+          | inr taken ↦ (taken.0, record { before = steps; at = did; behind = []; split = refl; takes = taken.1; kept = tt; unentered = tt })
+          | inl had ↦
+              let i_before = performs.knows.knowing.only.pages_in page had in
+              let was = paged (sym same ∙ is) page i_before in
+              let has = was.1 in (
+                was.0,
+                record {
+                  before = has.before;
+                  at = has.at;
+                  behind = has.behind ++ did ∷ [];
+                  split = ap (λ s. s ++ did ∷ []) has.split ∙ append_assoc has.before (has.at ∷ has.behind) (did ∷ []);
+                  takes = has.takes;
+                  kept =
+                      AllByRecursion-push (λ other. ¬ GivesPage g page (performed_of other)) has.behind did has.kept
+                      (unless_given env mix performs.caller performs.words performs.ghost did page G then performs.all performs.found was.0
+                      held);
+                  unentered =
+                      AllByRecursion-push (λ other. (entry : ℕ) → ¬ PutsPage g entry page other) has.behind did has.unentered
+                      (λ entry puts.
+                      enters-binds env entry page job (sym same ∙ is)
+                      (enters_now env mix performs.caller (mem env mix performs.words) performs.ghost did entry page puts.exchanges job
+                      performs.within performs.planned i_before));
+                },
+              )
+        ]
+
     changes : (job : Job) (performs : Performs mix env job did) → StandsIn mix env words_at job did performs
         → JobSaw env words_at mix job steps → refusals.Going M mix env events job steps → HasTakenWork job steps
-        → ChangesSeen (call_of job) steps did
-    changes job performs stands saw going taken =
+        → HasTakenPages job steps → ChangesSeen (call_of job) steps did
+    changes job performs stands saw going taken paged =
         let now = stands.now in
         let next = job_after mix env job did.old in
         let step = performs.step in
@@ -369,7 +427,7 @@ module _ (M : Type 0) (mix : ℕ → ℕ → ℕ → ℕ) (env : Env) (events : 
                     inl (own_table slot performs.caller performs.words performs.ghost performs.whole now is.held is.taken)
                 | inr here ↦
                     inr (attaching job slot here.made_slot
-                    (attaches_now env did here.made_slot slot here.attaches job performs.planned here.has) here.attaches performs now saw)
+                    (attaches_now env did here.made_slot slot here.attaches job performs.planned here.has) here.attaches performs now saw going paged)
               ];
           current = λ changed.
               let publishing = current_by_move env mix performs.caller performs.words performs.ghost did (held_of job) (held_next next)
@@ -399,20 +457,31 @@ module _ (M : Type 0) (mix : ℕ → ℕ → ℕ → ℕ) (env : Env) (events : 
         → LeadsOn M mix env (JobSaw env words_at mix) (EndsSeen M mix env events) job (steps ++ did ∷ []) next
         → LeadsOn M mix env (refusals.Going M mix env events) (refusals.Undone M mix env events) job (steps ++ did ∷ []) next
         → ((held_next next).worker ≡ true → HasWorkLock g (steps ++ did ∷ []))
+        → IfGoes next (λ after. HasTakenPages after (steps ++ did ∷ []))
         → LeadsOn M mix env Now Ended job (steps ++ did ∷ []) next
-    by_next job (after, Go) same each leads going taken =
-        (leads, going, subst (λ call. EachBehind (ChangesSeen call) [] (steps ++ did ∷ [])) (sym same) each, taken)
-    by_next job (after, Done ending) same each leads going taken = (leads, each)
+    by_next job (after, Go) same each leads going taken paged =
+        (leads, going, subst (λ call. EachBehind (ChangesSeen call) [] (steps ++ did ∷ [])) (sym same) each, taken, paged)
+    by_next job (after, Done ending) same each leads going taken paged = (leads, each)
 
     pub goes : (job : Job) (performs : Performs mix env job did) → StandsIn mix env words_at job did performs → Now job steps
         → LeadsOn M mix env Now Ended job (steps ++ did ∷ []) (job_after mix env job did.old)
-    goes job performs stands (saw, going, each, taken) =
+    goes job performs stands (saw, going, each, taken, paged) =
         by_next job (job_after mix env job did.old) (same_call mix env job did.old)
-        (each-push (ChangesSeen (call_of job)) [] steps did each (changes job performs stands saw going taken))
+        (each-push (ChangesSeen (call_of job)) [] steps did each (changes job performs stands saw going taken paged))
         (job-leads M mix env events job steps did performs stands saw)
         (refusals.goes M mix env events job steps did performs stands.now (saw-came env words_at mix job steps saw) going)
         (worked job performs stands.now taken)
+        (pages_then job performs (job_after mix env job did.old) (ghost_after env mix performs.caller performs.step.move performs.ghost)
+        performs.step.made.whole performs.step.knows
+        (λ page held.
+        held_by_move env mix performs.caller performs.words performs.ghost did page performs.step.move (held_of job)
+        (held_next (job_after mix env job did.old)) performs.step.ready (does_now job performs) held)
+        (same_call mix env job did.old) paged)
 
-  -- a call has no work lock at its beginning
-  pub begins : (call : Call) (job : Job) → first_job env call ≡ Some job → HasTakenWork job []
-  begins call job is has = absurd (both_ways _ (ap (λ (h : Holding). h.worker) (first_holds env call job is)) has)
+  -- a call has no work lock and no pages at its beginning
+  pub begins : (call : Call) (job : Job) → first_job env call ≡ Some job → HasTakenWork job [] × HasTakenPages job []
+  begins call job is =
+      let holds = first_holds env call job is in (
+        λ has. absurd (both_ways _ (ap (λ (h : Holding). h.worker) holds) has),
+        λ works page i. absurd (subst (λ (h : Holding). In page h.pages) holds i),
+      )

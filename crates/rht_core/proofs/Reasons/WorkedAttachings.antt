@@ -1,6 +1,6 @@
 -- Operations that attach a table or enter a page wrongly, whatever the call did before: a look-up that attaches a table behind one in
--- force; a bind that attaches one of 4 buckets where each shape that it loaded was that of 64; a bind that makes another table the current
--- one; a look-up that enters a page; a resizing that does so, in the table from which it has gone on, or in one in force; a bind that enters one
+-- force; whoever attaches one of which a page was never taken; a bind that attaches one of 4 buckets where each shape that it loaded was that
+-- of 64; a bind that makes another table the current one; a look-up that enters a page; a resizing that does so, in the table from which it has gone on, or in one in force; a bind that enters one
 -- where no way to its port's bucket ends; a look-up that takes a slot; a bind that frees a slot which it never took; a look-up that takes the
 -- work lock; a resizing that gives it back and never took it; one that leaves another value there than 0 or 1; and one that retires a table
 -- in whose place it made no other one the current one.
@@ -21,12 +21,14 @@ use Rattle.rht_policy.specs.Thresholds.{is_above_75}
 use Rattle.rht_policy.specs.Mix.{bucket_of}
 use Rattle.rht_nest.specs.Place.{nested_place, missing_at}
 use Rattle.rht_stands.specs.StandsFor.{in_force, page_word}
-use Rattle.rht_core.specs.Refused.{IsWaysEnd}
+use Rattle.rht_core.specs.Refused.{IsWaysEnd, HasTaken}
 use Rattle.rht_model.specs.declared.history.Call.{Call}
 use Rattle.rht_model.specs.declared.history.Call.TheVariants.{Bind, Find, Work}
 use Rattle.rht_core.specs.declared.event.Event.{Event}
 use Rattle.rht_core.specs.Traces.{Did, performed_of}
 use Rattle.rht_nest.specs.MakeLaws.{TakesSlot}
+use Rattle.rht_nest.specs.Tables.{pages_of_shape}
+use Rattle.rht_arena.specs.RunLaws.{TakesPage}
 use Rattle.rht_core.specs.Seen.{CameTo, words_before}
 use Rattle.rht_core.specs.ResizeCauses.{wanted_size}
 use Rattle.rht_core.specs.Attached.{ChangesTable, AttachesFull, AttachesRightly, ChangesRightly, ChangesMissing, ChangesWorkLock}
@@ -72,6 +74,21 @@ module _ (M : Type 0) (mix : ℕ → ℕ → ℕ → ℕ) (env : Env) (events : 
     -- by a look-up
     pub look_up_attaches : (port : ℕ) → Rightly (Find port) attaches → ⊥
     look_up_attaches port right = (attached_so (Find port) right).cause
+
+    -- of which a page was never taken, whoever does so
+    untaken : (page : ℕ) → AllByRecursion (λ did. ¬ TakesPage g page (performed_of did)) before → HasTaken g page before → ⊥
+    untaken page none taken =
+        (AllByRecursion-cut (λ did. ¬ TakesPage g page (performed_of did)) taken.before (taken.at ∷ taken.behind)
+        (subst (AllByRecursion (λ did. ¬ TakesPage g page (performed_of did))) taken.split none)).1.0 taken.takes
+
+    pub attaches_untaken : (call : Call) (page : ℕ) → In page (pages_of_shape (word_at g words (Slot slot ShapeWord)))
+        → AllByRecursion (λ did. ¬ TakesPage g page (performed_of did)) before → Rightly call attaches → ⊥
+    attaches_untaken call page has none right =
+        let so = attached_so call right in
+        let same : future_of slot ≡ future_of so.slot = let is = so.attaches.exchanges in cc in
+        let one : slot ≡ so.slot = omega (arith, same) in
+        let shape : word_at g words (Slot slot ShapeWord) ≡ so.shape = ap (λ s. word_at g words (Slot s ShapeWord)) one ∙ so.shape_is in
+        untaken page none (so.pages page (subst (λ s. In page (pages_of_shape s)) shape has))
 
     -- by a bind that saw tables of 64 buckets alone, where the one that it attaches has 4
     module _ (few : size_of (unpacked (word_at g words (Slot slot ShapeWord))) ≡ 4) (seen : AllByRecursion (FindsSize g 64) before) where
