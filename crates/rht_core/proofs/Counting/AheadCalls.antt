@@ -44,7 +44,7 @@ use Rattle.rht_core.proofs.Events.JobsOfCallers.{same_call, first_holds}
 use Rattle.rht_core.proofs.Reasons.UnraisedBinds.{locate-none, probe-none, relink-none}
 use Rattle.rht_stands.specs.StandsFor.{stands_for}
 use Rattle.rht_core.proofs.Machines.JobSteps.{JobStepOf}
-use Rattle.rht_core.proofs.Machines.NeverHeld.{MayLead, may_lead}
+use Rattle.rht_core.proofs.Machines.NeverHeld.{IsUnraised, job-unraised}
 use Rattle.rht_core.proofs.Tracing.TracedJobs.{Performs, StandsIn, LeadsOn, IsAtJob, jobs_keep_standing}
 use Rattle.rht_core.proofs.Tracing.TracedRuns.{world-traced_of}
 use Rattle.rht_core.proofs.Counting.NumbersBelow.{having, having-length, having-among, having-distinct, having-in, having-out}
@@ -276,7 +276,7 @@ module _ (M : Type 0) (mix : ℕ → ℕ → ℕ → ℕ) (env : Env) (events : 
     raised-ahead c is = go (job_of (local_of w.core c).doing) is (at_job c)
       where
         led : (call : Call) → (w.books c).call ≡ Some call → Ahead (steps_of c) → AllByRecursion (Keeps call) (steps_of c)
-            → MayLead call true → IsAheadBy M mix env events c
+            → IsUnraised call true → IsAheadBy M mix env events c
         led (Bind port owner once) is_call is keeps may =
             inl (
               port,
@@ -307,7 +307,7 @@ module _ (M : Type 0) (mix : ℕ → ℕ → ℕ → ℕ) (env : Env) (events : 
         go None raised at = absurd (cc)
         go (Some job) raised at =
             led (call_of job) at.call (subst (λ b. Shows b (steps_of c)) raised at.now.shows) at.now.keeps
-            (subst (MayLead (call_of job)) raised (may_lead job))
+            (subst (IsUnraised (call_of job)) raised (job-unraised job))
 
     ahead-raised : (c : ℕ) → IsAheadBy M mix env events c → is_raising (local_of w.core c).doing ≡ true
     ahead-raised c by = go (job_of (local_of w.core c).doing) (at_job c)

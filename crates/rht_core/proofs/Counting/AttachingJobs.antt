@@ -33,7 +33,7 @@ IsAttachingJob (binds port owner once state) slot = IsBindAttaching state slot
 IsAttachingJob (works state) slot = IsWorkAttaching state slot
 IsAttachingJob _ slot = ⊥
 
-module _ (env : Env) (mix : ℕ → ℕ → ℕ → ℕ) (last slot : ℕ) (low : last < 8) where
+module _ (env : Env) (last slot : ℕ) (low : last < 8) where
   -- the operation would attach the slot's table behind that of another
   abbrev pub attaching : Op
   attaching = Exchange (place_of env.geometry (Slot last FutureWord)) 0 (future_of slot)

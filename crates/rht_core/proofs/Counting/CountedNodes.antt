@@ -36,7 +36,7 @@ use Rattle.rht_ghost.proofs.Theory.Knowledge.{HasTakenOut, BucketMeans}
 use Rattle.rht_ghost.proofs.Theory.Steps.{mem}
 use Rattle.rht_release.proofs.ReleaseKnowledge.{known_relinking}
 use Rattle.rht_core.proofs.Machines.JobSteps.{JobKnows}
-use Rattle.rht_core.proofs.Machines.NeverHeld.{may_lead}
+use Rattle.rht_core.proofs.Machines.NeverHeld.{job-unraised}
 use Rattle.rht_core.proofs.Events.Invariants.{Knows, Inv}
 use Rattle.rht_core.proofs.Events.InvariantRuns.{has_inv}
 use Rattle.rht_core.proofs.Counting.RaisedNodes.{OwnNode, few_used}
@@ -81,7 +81,7 @@ module _ (env : Env) (mix : ℕ → ℕ → ℕ → ℕ) (c : ℕ) (M : Memory) 
   job-own : (job : Job) → JobKnows env mix c job M G → (held_of job).raised ≡ true → OwnNode env G c
   job-own (binds port owner once state) knows is = bind-own port owner once state knows is
   job-own (releases port owner state) knows is = release-own port owner state knows is
-  job-own job knows is = absurd (both_ways _ (may_lead job) is)
+  job-own job knows is = absurd (both_ways _ (job-unraised job) is)
 
   -- who has raised the count has a node of its own
   raised-own : (job : Option Job) → Knows env mix c job M G → G.raised c ≡ true → OwnNode env G c

@@ -154,7 +154,7 @@ module _ (env : Env) (mix : ℕ → ℕ → ℕ → ℕ) where
             let does = subst (λ m. Does env mix m op (old_of w.core.words op) (held_of of.job)
             (held_next (job_after mix env of.job (old_of w.core.words op)))) at.is of.step.does in
             let ready = subst (ReadyFor env mix c M has.ghost) at.is of.step.ready in
-            let there = job-attaches env mix does.last at.slot does.within of.job does.has (sym of.plan ∙ does.attaching) in
+            let there = job-attaches env does.last at.slot does.within of.job does.has (sym of.plan ∙ does.attaching) in
             let same : after NextSerial ≡ M NextSerial = elim (job-draws env mix c of.job of.within) [
               | inl spares ↦ spared_serial w.core.words op (subst SparesSerial (sym of.plan) spares)
               | inr draws_it ↦ absurd (attaching-draws at.slot of.job there draws_it)

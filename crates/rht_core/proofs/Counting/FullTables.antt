@@ -42,7 +42,7 @@ use Rattle.rht_ghost.proofs.Theory.Steps.{mem}
 use Rattle.rht_core.proofs.Events.Invariants.{Knows, step_of}
 use Rattle.rht_core.proofs.Events.InvariantRuns.{has_inv}
 use Rattle.rht_core.proofs.Counting.CountedPorts.{firsts-AreAllBound}
-use Rattle.rht_core.proofs.Machines.NeverHeld.{may_lead}
+use Rattle.rht_core.proofs.Machines.NeverHeld.{job-unraised}
 
 -- what holds of each of a list holds of the first ones
 pub taken : {X : Type 0} (P : X → Type 0) (n : ℕ) (xs : List X) → AllByRecursion P xs
@@ -108,7 +108,7 @@ load-unraised : (env : Env) (job : Job) (place : ℕ) → job_plan env job ≡ L
     → (held_of job).raised ≡ false
 load-unraised env (binds port owner once state) place is = bind_loads-unraised env place state is
 load-unraised env (releases port owner state) place is = release_loads-unraised env place state is
-load-unraised env job place is = may_lead job
+load-unraised env job place is = job-unraised job
 
 module _ (M : Type 0) (mix : ℕ → ℕ → ℕ → ℕ) (env : Env) where
   -- the callers that have raised the count are others in mid-call

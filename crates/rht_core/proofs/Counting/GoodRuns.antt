@@ -137,7 +137,7 @@ module _ (env : Env) (Good Fit : ℕ → Type 0) (keeps_works : AreMadeGood env 
             (held_next (job_after mix env of.job (old_of w.core.words op)))) at of.step.does in
             let ready = subst (ReadyFor env mix c (mem env mix w.core.words) has.ghost) at of.step.ready in
             attaches-good c (mem env mix w.core.words) has.ghost slot shape ready.made.shape_is of.job of.knows now
-            (job-attaches env mix does.last slot does.within of.job does.has (sym of.plan ∙ does.attaching)))
+            (job-attaches env does.last slot does.within of.job does.has (sym of.plan ∙ does.attaching)))
 
         -- and the caller
         step-job : planned_in w.core c ≡ Some op → Left (job_of (view_stepped mix (old_of w.core.words op) (view_of w c)).local.doing)

@@ -206,7 +206,7 @@ module _ (env : Env) where
       attach-sized (binds port owner once state) within knows one last slot shape l has e is =
           absurd (spares-none env _ last 0 (future_of slot) (bind-spares env Any Any state within.at_in one) l e)
       attach-sized (works state) within knows one last slot shape l has e is =
-          let at = work-attaches env mix last slot l state has e in
+          let at = work-attaches env last slot l state has e in
           let known = subst (λ s. JobKnows env mix c (works s) M G) at.is knows in
           let sized : IsSized at.shape = subst SizedWork at.is one in
           subst IsSized (sym known.knowing.means.making.shape_is ∙ is) sized

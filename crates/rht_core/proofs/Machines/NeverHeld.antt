@@ -138,17 +138,17 @@ work-unraised : (state : WorkAt) → (held_of_work state).raised ≡ false
 work-unraised working.WorkLock = refl
 work-unraised _ = refl
 
--- a call that is neither a bind nor a release raises nothing
-abbrev pub MayLead : Call → Bool → Type 0
-MayLead (Bind port owner once) raised = Unit {0}
-MayLead (Release port owner) raised = Unit {0}
-MayLead _ raised = raised ≡ false
+-- no count is raised, unless the call binds or releases
+abbrev pub IsUnraised : Call → Bool → Type 0
+IsUnraised (Bind port owner once) raised = Unit {0}
+IsUnraised (Release port owner) raised = Unit {0}
+IsUnraised _ raised = raised ≡ false
 
-pub may_lead : (job : Job) → MayLead (call_of job) (held_of job).raised
-may_lead (finds port state) = (find-alone state).low
-may_lead (binds port owner once state) = tt
-may_lead (lists port room state) = (all-alone room.items state).low
-may_lead (releases port owner state) = tt
-may_lead (rebinds port owner new state) = rebind-unraised state
-may_lead (works state) = work-unraised state
-may_lead _ = refl
+pub job-unraised : (job : Job) → IsUnraised (call_of job) (held_of job).raised
+job-unraised (finds port state) = (find-alone state).low
+job-unraised (binds port owner once state) = tt
+job-unraised (lists port room state) = (all-alone room.items state).low
+job-unraised (releases port owner state) = tt
+job-unraised (rebinds port owner new state) = rebind-unraised state
+job-unraised (works state) = work-unraised state
+job-unraised _ = refl

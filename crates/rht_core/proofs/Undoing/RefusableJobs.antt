@@ -57,7 +57,7 @@ use Rattle.rht_ghost.proofs.Theory.Steps.{Holding}
 use Rattle.rht_ghost.proofs.Pieces.Makes.{known_of_make}
 use Rattle.rht_words.proofs.FilteredLists.{range_with_len-from}
 use Rattle.rht_core.proofs.Machines.JobSteps.{JobKnows}
-use Rattle.rht_core.proofs.Machines.NeverHeld.{may_lead, find-alone, all-alone, tableless, slotless, pageless}
+use Rattle.rht_core.proofs.Machines.NeverHeld.{job-unraised, find-alone, all-alone, tableless, slotless, pageless}
 use Rattle.rht_core.proofs.Reasons.AttachedTables.{make-none, unmake-none}
 use Rattle.rht_core.proofs.Undoing.GoingBack.{MayAttachWith}
 use Rattle.rht_core.proofs.Undoing.PastRefusal.{bind_is_past, release_is_past, rebind_is_past, work_is_past, is_past}
@@ -149,7 +149,7 @@ refusable (binds port owner once state) may = (bind-refusable state may).refusab
 refusable (releases port owner state) may =
     record { low = release-low state may; still = (tableless (releases port owner state) refl).still }
 refusable (works state) may = (work-refusable state (early_work state may)).refusable
-refusable job may = record { low = may_lead job; still = (tableless job refl).still }
+refusable job may = record { low = job-unraised job; still = (tableless job refl).still }
 
 -- no machine opens a read section yet
 bind-outside : (state : BindAt) → bind_is_past state ≡ false → (held_of_bind state).section ≡ false
