@@ -27,8 +27,9 @@ use rht_words::{Env, Next, slot_of, table_of};
 use std::sync::Wait;
 
 impl<M: Mix> Table<M> {
-    /// Resizes the table where that is due, from the first operation to the reply.
-    #[inline(always)]
+    /// Resizes the table where that is due, from the first operation to the reply. It stays out of line,
+    /// so that a worker's loop is as short as without it.
+    #[inline(never)]
     pub(crate) fn drive_work<R: Wait, K: Ride>(
         &self,
         rt: &R,
