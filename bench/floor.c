@@ -1,15 +1,19 @@
 /*
  * What `rht_bench` does, in C: the same operations on the same words in the same order, each of them
- * one atomic operation, sequentially consistent. It is built twice:
+ * one atomic operation, sequentially consistent. Each of these can be chosen or not:
  *
- *   cc -O2 -pthread floor.c        with the clamps and the replies that the machines make
- *   cc -O2 -pthread -DBARE floor.c without them: no word is doubted, and a reply is a number
+ *   cc -O2 -pthread floor.c    with the clamps and the replies that the machines make
+ *   -DBARE                     without them: no word is doubted, and a reply is a number
+ *   -DOUTLINED                 each call is a function of its own, in place of code in its loop
+ *   -DOFFSET=16                the words begin so many bytes behind the start of a cache line
  *
- * It prints the rows of `rht_bench`, on standard output how many calls had the reply that they must
- * have, and on standard error the nanoseconds a call. The rows of a table that grows aren't there.
- * `docs/WORDS.md` says where the words stand, `docs/MACHINES.md` which operations a call makes.
+ * It takes the words of `rht_bench` and prints its rows, on standard output how many calls had the
+ * reply that they must have, and on standard error the nanoseconds a call. The rows of a table that
+ * grows aren't there. `docs/WORDS.md` says where the words stand, `docs/MACHINES.md` which operations
+ * a call makes.
  */
 #include <pthread.h>
+#include <sched.h>
 #include <stdatomic.h>
 #include <stdbool.h>
 #include <stdint.h>
@@ -26,6 +30,16 @@
 
 #define ALWAYS static inline __attribute__((always_inline))
 
+#ifdef OUTLINED
+#define CALL static __attribute__((noinline))
+#else
+#define CALL ALWAYS
+#endif
+
+#ifndef OFFSET
+#define OFFSET 0
+#endif
+
 typedef uint32_t u32;
 typedef uint64_t u64;
 typedef _Atomic u64 word;
@@ -40,6 +54,7 @@ enum { CHAIN_LINK = 0, KEY = 1, OWNER_WORD = 2, LIST_LINK = 3 };
 #define GAPS 168
 
 struct table {
+  void *block;
   word *words;
   u32 nodes, pages, map_words;
   size_t page_map, first_node, first_page;
@@ -232,7 +247,7 @@ ALWAYS void relink(const struct table *t, const struct probed *p, u32 before, u6
 
 /* ---- the calls */
 
-ALWAYS reply find(const struct table *t, bool low, u32 port) {
+ALWAYS reply find_by(const struct table *t, bool low, u32 port) {
   u32 slot = table_of(load(single(t, CURRENT_TABLE)));
   for (;;) {
     struct probed p;
@@ -288,7 +303,7 @@ ALWAYS bool above_100(const struct table *t, u64 count, u32 size) {
 
 /* A bind in a table that has room. Where it has none, as where a chain of 16 nodes is full, the call
  * would attach a further table: here it is refused. */
-ALWAYS reply bind(const struct table *t, bool low, u32 port, u32 owner) {
+ALWAYS reply bind_by(const struct table *t, bool low, u32 port, u32 owner) {
   u32 node = take_node(t);
   if (node == NONE) return PLAIN_REPLY(NO_NODE);
   store(node_word(t, node, KEY), port);
@@ -335,7 +350,7 @@ ALWAYS reply bind(const struct table *t, bool low, u32 port, u32 owner) {
   }
 }
 
-ALWAYS reply release(const struct table *t, bool low, u32 port, u32 owner) {
+ALWAYS reply release_by(const struct table *t, bool low, u32 port, u32 owner) {
   u32 slot = table_of(load(single(t, CURRENT_TABLE)));
   for (;;) {
     struct probed p;
@@ -370,6 +385,13 @@ ALWAYS reply release(const struct table *t, bool low, u32 port, u32 owner) {
   }
 }
 
+/* The same, each by the one hash or by the other. */
+CALL reply find(const struct table *t, u32 port) { return find_by(t, false, port); }
+CALL reply low_find(const struct table *t, u32 port) { return find_by(t, true, port); }
+CALL reply bind(const struct table *t, u32 port, u32 owner) { return bind_by(t, false, port, owner); }
+CALL reply low_bind(const struct table *t, u32 port, u32 owner) { return bind_by(t, true, port, owner); }
+CALL reply release(const struct table *t, u32 port, u32 owner) { return release_by(t, false, port, owner); }
+
 /* ---- opening */
 
 static void *taken(void *memory) {
@@ -396,7 +418,8 @@ static void open_table(struct table *t, u32 nodes, u32 pages, u32 callers, u32 h
   t->max = 0;
   t->shrink = false;
   size_t count = t->first_page + 64 * (size_t)pages + GAPS;
-  t->words = taken(aligned_alloc(64, (8 * count + 63) / 64 * 64));
+  t->block = taken(aligned_alloc(64, (8 * count + OFFSET + 63) / 64 * 64));
+  t->words = (word *)((char *)t->block + OFFSET);
   memset((void *)t->words, 0, 8 * count);
   u32 exponent = 2;
   while (((u32)1 << exponent) < hint * 4 / 3) exponent++;
@@ -425,7 +448,7 @@ ALWAYS bool is_done(reply r) { return IS_FOUND(r, OWNER) || IS(r, BOUND) || IS(r
 ALWAYS u32 hits_in(const struct table *t, bool low, struct ports ports) {
   u32 right = 0;
   for (u32 i = 0; i < ports.count; i++) {
-    reply r = find(t, low, ports.first + i);
+    reply r = low ? low_find(t, ports.first + i) : find(t, ports.first + i);
     right += IS_FOUND(r, OWNER);
   }
   return right;
@@ -433,7 +456,10 @@ ALWAYS u32 hits_in(const struct table *t, bool low, struct ports ports) {
 
 ALWAYS u32 binds_in(const struct table *t, bool low, struct ports ports) {
   u32 right = 0;
-  for (u32 i = 0; i < ports.count; i++) right += is_done(bind(t, low, ports.first + i, OWNER));
+  for (u32 i = 0; i < ports.count; i++) {
+    u32 port = ports.first + i;
+    right += is_done(low ? low_bind(t, port, OWNER) : bind(t, port, OWNER));
+  }
   return right;
 }
 
@@ -447,33 +473,31 @@ LOOP low_binds(const struct table *t, struct ports ports) { return binds_in(t, t
 LOOP misses(const struct table *t, struct ports ports) {
   u32 right = 0;
   for (u32 i = 0; i < ports.count; i++) {
-    reply r = find(t, false, (ports.first + i) | OTHER);
+    reply r = find(t, (ports.first + i) | OTHER);
     right += IS(r, MISSING);
   }
   return right;
 }
 
+/* Of twenty calls a bind, a release and eighteen look-ups; the ports that are left are looked up. */
 LOOP mixed(const struct table *t, struct ports ports) {
   u32 other = ports.first | OTHER;
+  u32 blocks = ports.count / 20;
   u32 right = 0;
-  for (u32 i = 0; i < ports.count; i++) {
-    reply r;
-    switch (i % 20) {
-    case 0: r = bind(t, false, other, OWNER); break;
-    case 1: r = release(t, false, other, OWNER); break;
-    default: r = find(t, false, ports.first + i); break;
-    }
-    right += is_done(r);
+  for (u32 i = 0; i < blocks; i++) {
+    right += is_done(bind(t, other, OWNER));
+    right += is_done(release(t, other, OWNER));
+    right += hits_in(t, false, (struct ports){ports.first + 20 * i + 2, 18});
   }
-  return right;
+  return right + hits_in(t, false, (struct ports){ports.first + 20 * blocks, ports.count % 20});
 }
 
 LOOP churn(const struct table *t, struct ports ports) {
   u32 right = 0;
   for (u32 i = 0; i < ports.count; i++) {
     u32 other = (ports.first + i) | OTHER;
-    reply bound = bind(t, false, other, OWNER);
-    reply released = release(t, false, other, OWNER);
+    reply bound = bind(t, other, OWNER);
+    reply released = release(t, other, OWNER);
     right += is_done(bound);
     right += is_done(released);
   }
@@ -486,16 +510,41 @@ enum workload { HITS, APART, MISSES, MIXED, CHURN, BINDS, WORKLOADS };
 
 static const char *const names[] = {"hits", "apart", "misses", "mixed", "churn", "binds"};
 
+struct row {
+  enum workload workload;
+  u32 ports, threads, rounds, tables, nodes, pages;
+};
+
+/* Where the threads of a table wait for one another before they begin. */
+struct gate {
+  _Atomic u32 arrived;
+  u32 all;
+};
+
+/* How often a thread looks whether all have come, before it goes on without them. */
+#define PATIENCE ((u32)1 << 20)
+
 struct job {
   const struct table *table;
+  struct gate *gate;
   enum workload workload;
   struct ports ports;
   u32 rounds;
-  u64 right;
+  u64 right, began, ended;
 };
 
-static void *work(void *given) {
-  struct job *job = given;
+static u64 now(void) {
+  struct timespec t;
+  clock_gettime(CLOCK_MONOTONIC, &t);
+  return (u64)t.tv_sec * 1000000000 + (u64)t.tv_nsec;
+}
+
+static void pass(struct gate *gate) {
+  atomic_fetch_add(&gate->arrived, 1);
+  for (u32 i = 0; i < PATIENCE && atomic_load(&gate->arrived) < gate->all; i++) sched_yield();
+}
+
+static u64 rounds(const struct job *job) {
   u64 right = 0;
   for (u32 i = 0; i < job->rounds; i++) {
     switch (job->workload) {
@@ -507,19 +556,17 @@ static void *work(void *given) {
     default: right += binds(job->table, job->ports); break;
     }
   }
-  job->right = right;
+  return right;
+}
+
+static void *work(void *given) {
+  struct job *job = given;
+  pass(job->gate);
+  job->began = now();
+  job->right = rounds(job);
+  job->ended = now();
   return NULL;
 }
-
-static u64 now(void) {
-  struct timespec t;
-  clock_gettime(CLOCK_MONOTONIC, &t);
-  return (u64)t.tv_sec * 1000000000 + (u64)t.tv_nsec;
-}
-
-struct scale {
-  u32 few, many, nodes, pages, times;
-};
 
 struct measured {
   u64 calls, nanos;
@@ -538,54 +585,89 @@ static void work_all(struct job *jobs, u32 threads) {
   for (u32 i = 1; i < threads; i++) pthread_join(started[i], NULL);
 }
 
-static struct measured measure(struct scale s, enum workload workload, u32 ports, u32 threads,
-                               u32 rounds) {
-  struct table t;
-  struct job jobs[4];
+/* The calls of all jobs, from the first beginning to the last end. */
+static struct measured all_of(const struct job *jobs, u32 threads) {
+  u64 began = jobs[0].began, ended = jobs[0].ended;
   struct measured m = {0, 0};
-  open_table(&t, s.nodes, s.pages, threads, ports);
-  u32 count = ports / threads;
   for (u32 i = 0; i < threads; i++) {
-    struct ports own = {i * count, count};
-    jobs[i] = (struct job){&t, workload, own, rounds, 0};
-    if (workload == APART) low_binds(&t, own);
-    else if (workload != BINDS) binds(&t, own);
+    if (jobs[i].began < began) began = jobs[i].began;
+    if (jobs[i].ended > ended) ended = jobs[i].ended;
+    m.calls += jobs[i].right;
   }
-  u64 start = now();
-  work_all(jobs, threads);
-  m.nanos = now() - start;
-  for (u32 i = 0; i < threads; i++) m.calls += jobs[i].right;
-  free((void *)t.words);
+  m.nanos = ended - began;
   return m;
 }
 
-static void print_row(struct scale s, enum workload workload, u32 ports, u32 threads) {
-  u32 share = s.many / ports;
-  u32 rounds = 1, tables = 1;
-  switch (workload) {
-  case MIXED: rounds = 4 * share, tables = s.times; break;
-  case CHURN: rounds = share, tables = s.times; break;
-  case BINDS: tables = share * s.times; break;
-  default: rounds = 16 * share * s.times; break;
+/* Measures a row in one table. */
+static struct measured measure(struct row row) {
+  struct table t;
+  struct job jobs[4];
+  struct gate gate = {0, row.threads};
+  open_table(&t, row.nodes, row.pages, row.threads, row.ports);
+  u32 count = row.ports / row.threads;
+  for (u32 i = 0; i < row.threads; i++) {
+    struct ports own = {i * count, count};
+    jobs[i] = (struct job){&t, &gate, row.workload, own, row.rounds, 0, 0, 0};
+    if (row.workload == APART) low_binds(&t, own);
+    else if (row.workload != BINDS) binds(&t, own);
   }
+  work_all(jobs, row.threads);
+  free(t.block);
+  return all_of(jobs, row.threads);
+}
+
+struct scale {
+  u32 few, many, nodes, pages, times;
+};
+
+static u32 one_or(u32 count) { return count > 0 ? count : 1; }
+
+static struct row row_of(struct scale s, enum workload workload, u32 ports, u32 threads) {
+  u32 share = s.many / ports;
+  struct row row = {workload, ports, threads, 1, 1, s.nodes, s.pages};
+  switch (workload) {
+  case APART: row.rounds = one_or(512 * share * s.times); break;
+  case MIXED: row.rounds = 4 * share, row.tables = one_or(16 * s.times); break;
+  case CHURN: row.rounds = share, row.tables = one_or(8 * s.times); break;
+  case BINDS:
+    row.tables = one_or(16 * share * s.times);
+    row.nodes = s.nodes / share, row.pages = s.pages / share;
+    break;
+  default: row.rounds = one_or(128 * share * s.times); break;
+  }
+  return row;
+}
+
+static void print_row(struct row row) {
   struct measured all = {0, 0};
-  for (u32 i = 0; i < tables; i++) {
-    struct measured once = measure(s, workload, ports, threads, rounds);
+  for (u32 i = 0; i < row.tables; i++) {
+    struct measured once = measure(row);
     all.calls += once.calls;
     all.nanos += once.nanos;
   }
-  printf("%s_of_%u %u %llu\n", names[workload], ports, threads, (unsigned long long)all.calls);
+  const char *name = names[row.workload];
+  printf("%s_of_%u %u %llu\n", name, row.ports, row.threads, (unsigned long long)all.calls);
   u64 hundredths = all.nanos * 100 / (all.calls > 0 ? all.calls : 1);
-  fprintf(stderr, "%s_of_%u %u %llu.%02llu\n", names[workload], ports, threads,
+  fprintf(stderr, "%s_of_%u %u %llu.%02llu\n", name, row.ports, row.threads,
           (unsigned long long)hundredths / 100, (unsigned long long)hundredths % 100);
 }
 
+/* Whether the words of the program ask for the row: by its name, where it isn't empty, and its threads. */
+static bool is_asked(struct row row, int count, char **words) {
+  char name[32];
+  snprintf(name, sizeof name, "%s_of_%u", names[row.workload], row.ports);
+  return (count < 3 || words[2][0] == '\0' || strcmp(words[2], name) == 0) &&
+         (count < 4 || strtoul(words[3], NULL, 10) == row.threads);
+}
+
 int main(int count, char **words) {
-  struct scale s = {40, 160, 4096, 64, 1};
+  struct scale s = {40, 160, 4096, 64, 0};
   if (count > 1) s = (struct scale){1000, 16000, 65536, 2048, (u32)strtoul(words[1], NULL, 10)};
   for (u32 workload = 0; workload < WORKLOADS; workload++)
     for (u32 i = 0; i < 2; i++)
-      for (u32 threads = 1; threads <= 4; threads *= 2)
-        print_row(s, workload, i == 0 ? s.few : s.many, threads);
+      for (u32 threads = 1; threads <= 4; threads *= 2) {
+        struct row row = row_of(s, workload, i == 0 ? s.few : s.many, threads);
+        if (is_asked(row, count, words)) print_row(row);
+      }
   return 0;
 }

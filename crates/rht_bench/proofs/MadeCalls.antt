@@ -3,6 +3,7 @@
 use Rattle.std.proofs.Common.{◌≡◌, ℕ, ◌+◌, ◌≤◌, Bool, true, false, cond, List, [], ◌∷◌, ◌++◌, length, refl, sym, ◌∙◌, ap, subst, arith, append_assoc, zero-add, add-zero}
 use Rattle.std.proofs.lemmas.List.{append-nil, length-append}
 use Rattle.std.proofs.lemmas.List.Sums.{sum_by-append}
+use mir.Val.{bool_byte}
 use Rattle.rht_model.specs.declared.history.Call.{Call}
 use Rattle.rht_model.specs.declared.history.Reply.{Reply}
 use Rattle.rht_model.specs.declared.history.Reply.TheVariants as replies
@@ -12,7 +13,8 @@ use Rattle.rht_core.specs.Replies.{IsWorkReply}
 use Rattle.rht_run.specs.declared.table.Table.{Table}
 use Rattle.rht_run.specs.declared.pass.Pass.{Pass}
 use Rattle.rht_run.specs.Passes.{IsPassOf, HasCalled, book_of}
-use Rattle.rht_bench.specs.Right.{is_bound}
+use Rattle.rht_bench.specs.declared.rows.Asked.TheVariants.{Own}
+use Rattle.rht_bench.specs.Right.{is_bound, is_done, IsOfLookups}
 use Rattle.rht_bench.specs.Made.{HasMade, HasMadeSome, right_among}
 
 -- 1 for a right reply
@@ -22,6 +24,11 @@ one_if right = cond right 1 0
 right_among-append : (is_right : Reply → Bool) (xs ys : List Finished)
     → right_among is_right (xs ++ ys) ≡ right_among is_right xs + right_among is_right ys
 right_among-append is_right xs ys = sum_by-append (λ (f : Finished). cond (is_right f.reply) 1 0) xs ys
+
+-- the same number as code makes of it
+one_if-bool_byte : (right : Bool) → one_if right ≡ bool_byte right
+one_if-bool_byte true = refl
+one_if-bool_byte false = refl
 
 one_if-few : (right : Bool) → one_if right ≤ 1
 one_if-few true = omega arith
@@ -54,6 +61,14 @@ module _ {M : Type 0} (mix : ℕ → ℕ → ℕ → ℕ) (t : Table M) (is_righ
     right_made = zero-add (one_if (is_right reply));
     few = one_if-few (is_right reply);
   }
+
+  -- The same, by a test that is known to have this answer.
+  pub HasCalled-HasMade-by : (answer : Bool) (count : ℕ) (call : Call) (reply : Reply) (before now : Pass M)
+      → HasCalled mix t call reply before now → is_right reply ≡ answer → count ≡ bool_byte answer
+      → HasMade mix t is_right 1 count before now
+  HasCalled-HasMade-by answer count call reply before now called is counted =
+      let same : one_if (is_right reply) ≡ count = ap one_if is ∙ one_if-bool_byte answer ∙ sym counted in
+      subst (λ (n : ℕ). HasMade mix t is_right 1 n before now) same (HasCalled-HasMade call reply before now called)
 
   -- Calls behind calls.
   pub HasMade-HasMade : (calls right more more_right : ℕ) (before between now : Pass M)
@@ -124,6 +139,12 @@ module _ {M : Type 0} (mix : ℕ → ℕ → ℕ → ℕ) (t : Table M) (is_righ
   HasMadeSome-right least right call reply before between now some called good =
       subst (λ (n : ℕ). HasMadeSome mix t is_right (least + 1) n before now) (ap (λ (b : Bool). right + one_if b) good)
       (HasMadeSome-call least right call reply before between now some called)
+
+-- Of a look-up's replies those that are done are those that found the port.
+pub IsOfLookups-is_done : IsOfLookups Own is_done
+IsOfLookups-is_done (replies.Found owner) is = refl
+IsOfLookups-is_done replies.Missing is = refl
+IsOfLookups-is_done _ is = absurd is
 
 -- No reply of `work` says that a port was bound.
 pub IsWorkReply-is_bound : (reply : Reply) → IsWorkReply reply → is_bound reply ≡ false

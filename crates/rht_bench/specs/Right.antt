@@ -1,7 +1,10 @@
 -- Which replies are right: the ones that the calls of a row must have.
-use Rattle.std.specs.Prelude.{ℕ, Bool, true, false, nat_eq}
+use Rattle.std.specs.Prelude.{◌≡◌, ℕ, Bool, true, false, nat_eq}
 use Rattle.rht_model.specs.declared.history.Reply.{Reply}
 use Rattle.rht_model.specs.declared.history.Reply.TheVariants.{Found, Missing, Bound, Released}
+use Rattle.rht_model.specs.Replies.{IsFindReply}
+use Rattle.rht_bench.specs.declared.rows.Asked.{Asked}
+use Rattle.rht_bench.specs.declared.rows.Asked.TheVariants.{Own, Others}
 use Rattle.rht_bench.specs.declared.rows.Workload.{Workload}
 use Rattle.rht_bench.specs.declared.rows.Workload.TheVariants.{Hits, Apart, Misses, Mixed, Churn, Binds, Growth}
 
@@ -27,6 +30,15 @@ is_done (Found owner) = nat_eq owner owner_of_all
 is_done (Bound kick) = true
 is_done (Released kick) = true
 is_done _ = false
+
+-- the right replies to look-ups of these ports
+abbrev pub is_answer : Asked → Reply → Bool
+is_answer Own = is_found
+is_answer Others = is_missing
+
+-- of a look-up's replies, those that pass this test are the right ones to look-ups of these ports
+abbrev pub IsOfLookups : Asked → (Reply → Bool) → Type 0
+IsOfLookups asked is_right = (reply : Reply) → IsFindReply reply → is_right reply ≡ is_answer asked reply
 
 -- the right replies in the rows of a workload
 abbrev pub right_in : Workload → Reply → Bool

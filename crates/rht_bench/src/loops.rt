@@ -1,14 +1,14 @@
 //! What is timed: the loops of one thread. Each goes once through the thread's ports, and answers
 //! how many calls had the reply that they must have.
 
-ghost use Rattle.std.specs.Prelude.{◌≡◌, ◌+◌, ◌*◌, ◌^◌, ◌<◌, ◌≤◌, true};
-ghost use Rattle.rht_model.specs.declared.history.Call.{Call};
+ghost use Rattle.std.specs.Prelude.{◌≡◌, ◌+◌, ◌*◌, ◌^◌, ◌<◌, ◌≤◌, Bool, true};
+ghost use Rattle.rht_model.specs.declared.history.Reply.{Reply as ReplyOf};
 ghost use Rattle.rht_core.specs.Locals.{is_idle};
-ghost use Rattle.rht_run.specs.Passes.{IsPassOf, HasCalled};
-ghost use Rattle.rht_bench.specs.Right.{is_found, is_missing, is_bound, is_done, right_in};
+ghost use Rattle.rht_run.specs.Passes.{IsPassOf};
+ghost use Rattle.rht_bench.specs.Right.{is_found, is_missing, is_bound, is_done, right_in, is_answer, IsOfLookups};
 ghost use Rattle.rht_bench.specs.Made.{HasMade, HasMadeSome};
 
-use crate::rows::Workload;
+use crate::rows::{Asked, Workload};
 use rht_model::Reply;
 use rht_policy::Mix;
 use rht_run::{Pass, Table};
@@ -41,6 +41,17 @@ impl Ports {
         ensures { self.first + index < 2 ^ 32 → result ≡ self.first + index }
     {
         self.first.wrapping_add(index)
+    }
+
+    /// So many of them, of which the first one stands so far behind the first of all.
+    fn part(self, index: u32, count: u32) -> Ports
+        requires { count ≤ self.count }
+        ensures { result.count ≡ count }
+    {
+        Ports {
+            first: self.at(index),
+            count,
+        }
     }
 }
 
@@ -78,8 +89,8 @@ fn round<M: Mix, R: Wait>(
     ensures few { result ≤ 2 * ports.count }
 {
     match workload {
-        Workload::Hits | Workload::Apart => hits(rt, table, pass, ports),
-        Workload::Misses => misses(rt, table, pass, ports),
+        Workload::Hits | Workload::Apart => lookups(rt, table, pass, ports, Asked::Own),
+        Workload::Misses => lookups(rt, table, pass, ports, Asked::Others),
         Workload::Mixed => mixed(rt, table, pass, ports),
         Workload::Churn => churn(rt, table, pass, ports),
         Workload::Binds => binds(rt, table, pass, ports),
@@ -87,66 +98,73 @@ fn round<M: Mix, R: Wait>(
     }
 }
 
-/// Looks up ports that are bound.
-fn hits<M: Mix, R: Wait>(rt: &R, table: &Table<M>, pass: &mut Pass<M>, ports: Ports) -> u64
+/// Looks up the ports, or their others. This is the one place of a loop that calls `find`, which is
+/// inlined where there is one alone.
+fn lookups<M: Mix, R: Wait>(
+    rt: &R,
+    table: &Table<M>,
+    pass: &mut Pass<M>,
+    ports: Ports,
+    asked: Asked,
+) -> u64
     requires pass { IsPassOf M.mix_of table.now pass.old }
     requires idle { is_idle pass.old.local ≡ true }
-    ensures made { HasMade M.mix_of table.now is_found ports.count result pass.old pass.new }
+    ensures made { HasMade M.mix_of table.now (is_answer asked) ports.count result pass.old pass.new }
+    ensures fitting { (is_right : ReplyOf → Bool) → IsOfLookups asked is_right
+        → HasMade M.mix_of table.now is_right ports.count result pass.old pass.new }
 {
+    let other = match asked {
+        Asked::Own => 0,
+        Asked::Others => OTHER,
+    };
     let mut right = 0u64;
     for index in 0..ports.count {
-        let reply = table.find(rt, pass, ports.at(index));
-        right += u64::from(is_found(reply));
+        let reply = table.find(rt, pass, ports.at(index) | other);
+        right += u64::from(is_answer(asked, reply));
     }
     right
 }
 
-/// Looks up ports that aren't bound.
-fn misses<M: Mix, R: Wait>(rt: &R, table: &Table<M>, pass: &mut Pass<M>, ports: Ports) -> u64
-    requires pass { IsPassOf M.mix_of table.now pass.old }
-    requires idle { is_idle pass.old.local ≡ true }
-    ensures made { HasMade M.mix_of table.now is_missing ports.count result pass.old pass.new }
-{
-    let mut right = 0u64;
-    for index in 0..ports.count {
-        let reply = table.find(rt, pass, ports.at(index) | OTHER);
-        right += u64::from(is_missing(reply));
-    }
-    right
-}
-
-/// Of twenty calls, binds another port and releases it in two, and looks up bound ports in the rest.
+/// Of twenty calls, binds another port and releases it in two, and looks up bound ports in the rest;
+/// and looks up the ports that are left.
 fn mixed<M: Mix, R: Wait>(rt: &R, table: &Table<M>, pass: &mut Pass<M>, ports: Ports) -> u64
     requires pass { IsPassOf M.mix_of table.now pass.old }
     requires idle { is_idle pass.old.local ≡ true }
     ensures made { HasMade M.mix_of table.now is_done ports.count result pass.old pass.new }
 {
     let mut right = 0u64;
-    for index in 0..ports.count {
-        right += u64::from(is_done(mixed_call(rt, table, pass, ports, index)));
+    for block in 0..ports.count / 20 {
+        right += twenty(rt, table, pass, ports, block);
     }
+    let left = ports.count % 20;
     right
+        + lookups(
+            rt,
+            table,
+            pass,
+            ports.part(ports.count - left, left),
+            Asked::Own,
+        )
 }
 
-/// The call of this number.
-#[inline(always)]
-fn mixed_call<M: Mix, R: Wait>(
+/// The twenty calls of a block.
+fn twenty<M: Mix, R: Wait>(
     rt: &R,
     table: &Table<M>,
     pass: &mut Pass<M>,
     ports: Ports,
-    index: u32,
-) -> Reply
+    block: u32,
+) -> u64
     requires pass { IsPassOf M.mix_of table.now pass.old }
     requires idle { is_idle pass.old.local ≡ true }
-    ensures called { (call : Call) × HasCalled M.mix_of table.now call result pass.old pass.new }
+    requires block { block * 20 + 20 ≤ ports.count }
+    ensures made { HasMade M.mix_of table.now is_done 20 result pass.old pass.new }
 {
     let other = ports.first | OTHER;
-    match index % 20 {
-        0 => table.bind(rt, pass, other, OWNER),
-        1 => table.release(rt, pass, other, OWNER),
-        _ => table.find(rt, pass, ports.at(index)),
-    }
+    let bound = table.bind(rt, pass, other, OWNER);
+    let released = table.release(rt, pass, other, OWNER);
+    let found = lookups(rt, table, pass, ports.part(block * 20 + 2, 18), Asked::Own);
+    u64::from(is_done(bound)) + u64::from(is_done(released)) + found
 }
 
 /// Binds a port and releases it again.
@@ -235,6 +253,17 @@ fn grow<M: Mix, R: Wait>(rt: &R, table: &Table<M>, pass: &mut Pass<M>)
         }
     }
     unreachable!()
+}
+
+/// Whether a look-up of these ports has the reply that it must have.
+#[inline(always)]
+fn is_answer(asked: Asked, reply: Reply) -> bool
+    ensures { result ≡ is_answer asked reply }
+{
+    match asked {
+        Asked::Own => is_found(reply),
+        Asked::Others => is_missing(reply),
+    }
 }
 
 /// Whether the port was found bound to its owner.

@@ -2,12 +2,14 @@
 //!
 //! Stands on `rht_run`, and uses only its public calls. Standard output has how many calls had the
 //! reply that they must have, which no schedule of the threads changes; standard error has the
-//! nanoseconds a call. `tools/dev bench` runs it beside `bench/floor.c`, which does the same in C and
-//! has the same rows.
+//! nanoseconds a call. Its words are the scale, the name of a row and a number of threads; without them
+//! it measures little, or all rows. `tools/dev bench` runs it beside `bench/floor.c`, which does the
+//! same in C and has the same words and rows.
 //! Read `src/rows.rt` first, which says what a row is, and then `src/loops.rt`, which has what is
 //! timed.
 #![tactic(auto)]
 
+mod gate;
 mod loops;
 mod measure;
 mod rows;
@@ -25,33 +27,68 @@ use std::{env, io};
 fn main(rt: HostRuntime) -> io::Result<()> {
     let mut args = env::args(&rt)?.skip(1);
     let scale = match args.next() {
-        Some(times) => scale_of(&times)?,
+        Some(times) => Scale::large(number_of(&times)?),
         None => Scale::small(),
     };
+    let wanted = Wanted {
+        name: args.next(),
+        threads: match args.next() {
+            Some(threads) => Some(number_of(&threads)?),
+            None => None,
+        },
+    };
     for workload in WORKLOADS {
-        print_workload(&rt, rt.alloc(), scale, workload)?;
+        print_workload(&rt, rt.alloc(), scale, workload, &wanted)?;
     }
     Ok(())
 }
 
-/// The scale of so many times. A word that is no number is refused.
-fn scale_of(times: &str) -> io::Result<Scale> {
-    match times.parse::<u32>() {
-        Ok(times) => Ok(Scale::large(times)),
+/// A word as a number. One that is none is refused.
+fn number_of(word: &str) -> io::Result<u32> {
+    match word.parse::<u32>() {
+        Ok(number) => Ok(number),
         Err(_) => Err(io::Error::from(io::ErrorKind::InvalidInput)),
     }
 }
 
-/// Measures the rows of a workload, and prints a line of each.
+/// Which rows are measured: those of this name, where one is given that isn't empty, and of so many
+/// threads, where they are given.
+#[derive(Drop)]
+struct Wanted {
+    name: Option<String>,
+    threads: Option<u32>,
+}
+
+impl Wanted {
+    /// Whether the row of this name is one.
+    fn has(&self, name: &str, threads: u32) -> bool {
+        let named = match &self.name {
+            Some(wanted) => wanted.is_empty() || wanted.as_str() == name,
+            None => true,
+        };
+        named && self.threads.unwrap_or(threads) == threads
+    }
+}
+
+/// Measures the rows of a workload that are wanted, and prints a line of each.
 fn print_workload<R: Threads + Wait + Sync + Clock + Print + Eprint>(
     rt: &R,
     alloc: Global,
     scale: Scale,
     workload: Workload,
+    wanted: &Wanted,
 ) -> io::Result<()> {
     for ports in [scale.few, scale.many] {
+        let name = format!(in alloc; "{}_of_{ports}", workload.name())?;
         for threads in [1, 2, 4] {
-            print_row(rt, alloc, scale.row(workload, ports, threads))?;
+            if wanted.has(name.as_str(), threads) {
+                print_row(
+                    rt,
+                    alloc,
+                    name.as_str(),
+                    scale.row(workload, ports, threads),
+                )?;
+            }
         }
     }
     Ok(())
@@ -61,18 +98,18 @@ fn print_workload<R: Threads + Wait + Sync + Clock + Print + Eprint>(
 fn print_row<R: Threads + Wait + Sync + Clock + Print + Eprint>(
     rt: &R,
     alloc: Global,
+    name: &str,
     row: Row,
 ) -> io::Result<()> {
     let measured = match row.config.hash {
         Hash::Mix => measure::<Lookup3, R>(rt, alloc, row)?,
         Hash::Low => measure::<Low, R>(rt, alloc, row)?,
     };
-    let name = row.workload.name();
-    let Row { ports, threads, .. } = row;
-    println!(rt; "{name}_of_{ports} {threads} {}", measured.calls)?;
+    let threads = row.threads;
+    println!(rt; "{name} {threads} {}", measured.calls)?;
     let hundredths = measured.hundredths_a_call();
     eprintln!(rt;
-        "{name}_of_{ports} {threads} {}.{:02}",
+        "{name} {threads} {}.{:02}",
         hundredths / 100,
         hundredths % 100
     )

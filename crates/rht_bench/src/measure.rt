@@ -1,5 +1,5 @@
-//! How a row is measured: a table is opened, each thread has ports of its own, and the clock is read
-//! before the threads begin and after the last one has ended.
+//! How a row is measured: a table is opened, each thread has ports of its own, and reads the clock when
+//! all threads have come to a gate, and when it has done its calls.
 
 ghost use Rattle.std.specs.Prelude.{◌≡◌, ◌*◌, true, All, IfOk, vec_len};
 ghost use Rattle.rht_core.specs.Locals.{is_idle};
@@ -7,6 +7,7 @@ ghost use Rattle.rht_run.specs.Passes.{IsPassOf, AreNew};
 ghost use Rattle.rht_bench.specs.Made.{IsReady};
 ghost use Rattle.rht_bench.specs.Jobs.{IsReadyJob, HasWorked, AllHaveWorked};
 
+use crate::gate::Gate;
 use crate::loops::{MOST, Ports, binds, rounds};
 use crate::rows::{Row, Workload};
 use rht_policy::Mix;
@@ -23,7 +24,7 @@ use std::{io, thread};
 pub struct Measured {
     /// How many calls had the reply that they must have.
     pub calls: u64,
-    /// From the beginning of the first thread to the end of the last one, in all tables.
+    /// From the first beginning of a thread to the last end of one, in all tables.
     pub nanos: u64,
 }
 
@@ -50,6 +51,32 @@ pub struct Worked<M: Mix> {
     pub pass: Pass<M>,
     /// How many calls had the reply that they must have.
     pub right: u64,
+    /// From when to when. `None` where the clock can't be read.
+    pub span: Option<Span>,
+}
+
+/// From one reading of the clock to another.
+#[derive(Clone, Copy)]
+pub struct Span {
+    /// The first.
+    pub began: Instant,
+    /// The second.
+    pub ended: Instant,
+}
+
+impl Span {
+    /// The least span in which both lie.
+    fn with(self, other: Span) -> Span {
+        Span {
+            began: self.began.min(other.began),
+            ended: self.ended.max(other.ended),
+        }
+    }
+
+    /// How long it is.
+    fn length(self) -> Duration {
+        self.ended.duration_since(self.began)
+    }
 }
 
 /// Measures a row, one table after another.
@@ -78,13 +105,15 @@ fn measure_once<M: Mix + Send + Sync, R: Threads + Wait + Sync + Clock>(
     }
     let (table, passes) = Table::<M>::open(alloc, row.config)?;
     let jobs = share_out(rt, alloc, &table, passes, row)?;
-    let start = Instant::now(rt)?;
-    let worked = work_all(rt, &table, jobs, row.workload, row.rounds)?;
-    let elapsed = start.elapsed(rt)?;
-    Ok(Measured {
-        calls: right_of(&worked),
-        nanos: nanos_of(elapsed),
-    })
+    let gate = Gate::new(row.threads);
+    let worked = work_all(rt, &table, &gate, jobs, row.workload, row.rounds)?;
+    match span_of(&worked) {
+        Some(span) => Ok(Measured {
+            calls: right_of(&worked),
+            nanos: nanos_of(span.length()),
+        }),
+        None => Err(io::Error::from(io::ErrorKind::Unsupported)),
+    }
 }
 
 /// Gives each pass ports of its own, and binds them where they are to be bound.
@@ -127,9 +156,10 @@ fn prepared<M: Mix, R: Wait>(
 }
 
 /// Does the jobs, each in a thread of its own.
-fn work_all<M: Mix + Send + Sync, R: Threads + Wait + Sync>(
+fn work_all<M: Mix + Send + Sync, R: Threads + Wait + Sync + Clock>(
     rt: &R,
     table: &Table<M>,
+    gate: &Gate,
     jobs: Vec<Job<M>>,
     workload: Workload,
     times: u32,
@@ -144,14 +174,15 @@ fn work_all<M: Mix + Send + Sync, R: Threads + Wait + Sync>(
         &|job| -> Worked<M>
             requires { IsReadyJob M.mix_of table.now job }
             ensures { HasWorked M.mix_of table.entry.now workload times job result }
-        { work(rt, table, job, workload, times) },
+        { work(rt, table, gate, job, workload, times) },
     )
 }
 
-/// Does a job.
-fn work<M: Mix, R: Wait>(
+/// Does a job, once all threads have come.
+fn work<M: Mix, R: Wait + Clock>(
     rt: &R,
     table: &Table<M>,
+    gate: &Gate,
     job: Job<M>,
     workload: Workload,
     times: u32,
@@ -160,8 +191,28 @@ fn work<M: Mix, R: Wait>(
     ensures { HasWorked M.mix_of table.now workload times job result }
 {
     let Job { mut pass, ports } = job;
+    gate.pass();
+    let began = Instant::now(rt).ok();
     let right = rounds(rt, table, &mut pass, workload, ports, times);
-    Worked { pass, right }
+    let ended = Instant::now(rt).ok();
+    let span = match (began, ended) {
+        (Some(began), Some(ended)) => Some(Span { began, ended }),
+        _ => None,
+    };
+    Worked { pass, right, span }
+}
+
+/// From the first beginning to the last end. `None` where the clock couldn't be read.
+fn span_of<M: Mix>(worked: &Vec<Worked<M>>) -> Option<Span> {
+    let mut all: Option<Span> = None;
+    for one in worked.iter() {
+        let span = one.span?;
+        all = match all {
+            Some(before) => Some(before.with(span)),
+            None => Some(span),
+        };
+    }
+    all
 }
 
 /// How many calls of all threads had the reply that they must have.

@@ -22,7 +22,16 @@ pub enum Workload {
     Growth,
 }
 
-/// All of them, in the order of the record.
+/// Which ports a thread looks up.
+#[derive(Clone, Copy)]
+pub enum Asked {
+    /// Its own, which are bound.
+    Own,
+    /// The others of those, which aren't.
+    Others,
+}
+
+/// All workloads, in the order of the record.
 pub const WORKLOADS: [Workload; 7] = [
     Workload::Hits,
     Workload::Apart,
@@ -68,7 +77,8 @@ pub struct Scale {
     pub nodes: u32,
     /// The pages of each table.
     pub pages: u32,
-    /// How often a row is measured.
+    /// How many times as much is measured. With 0 each thread goes once through its ports, which is
+    /// enough where instructions are counted.
     pub times: u32,
 }
 
@@ -90,18 +100,19 @@ pub struct Row {
 }
 
 impl Scale {
-    /// Some thousand calls, which take milliseconds.
+    /// Some hundred calls a row, which take less than a millisecond.
     pub fn small() -> Scale {
         Scale {
             few: 40,
             many: 160,
             nodes: 4_096,
             pages: 64,
-            times: 1,
+            times: 0,
         }
     }
 
-    /// Some hundred thousand calls a row, and so many times that.
+    /// Some hundred thousand calls a row, and so many times that. With 8 a row of four threads takes half
+    /// a second or so.
     pub fn large(times: u32) -> Scale {
         Scale {
             few: 1_000,
@@ -117,12 +128,12 @@ impl Scale {
     pub fn row(self, workload: Workload, ports: u32, threads: u32) -> Row {
         let share = self.many / ports.max(1);
         let (rounds, tables) = match workload {
-            Workload::Hits | Workload::Apart | Workload::Misses => {
-                (share.saturating_mul(16).saturating_mul(self.times), 1)
-            }
-            Workload::Mixed => (share.saturating_mul(4), self.times),
-            Workload::Churn => (share, self.times),
-            Workload::Binds | Workload::Growth => (1, share.saturating_mul(self.times)),
+            Workload::Hits | Workload::Misses => (self.often(share.saturating_mul(128)), 1),
+            Workload::Apart => (self.often(share.saturating_mul(512)), 1),
+            Workload::Mixed => (share.saturating_mul(4), self.often(16)),
+            Workload::Churn => (share, self.often(8)),
+            Workload::Binds => (1, self.often(share.saturating_mul(16))),
+            Workload::Growth => (1, self.often(share.saturating_mul(4))),
         };
         Row {
             workload,
@@ -134,12 +145,21 @@ impl Scale {
         }
     }
 
-    /// What the table of a row is opened with.
+    /// So often, and so many times that, but at least once.
+    fn often(self, count: u32) -> u32 {
+        count.saturating_mul(self.times).max(1)
+    }
+
+    /// What the table of a row is opened with. Where many tables are opened, one for few ports is small.
     fn config(self, workload: Workload, ports: u32, threads: u32) -> Config {
+        let share = match workload {
+            Workload::Binds | Workload::Growth => (self.many / ports.max(1)).max(1),
+            _ => 1,
+        };
         Config {
             kind: Kind::Single,
-            nodes: self.nodes,
-            pages: self.pages,
+            nodes: self.nodes / share,
+            pages: self.pages / share,
             callers: threads,
             hint: match workload {
                 Workload::Growth => (ports / GROWTH).max(1),

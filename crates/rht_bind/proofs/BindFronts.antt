@@ -253,6 +253,7 @@ module _ (env : Env) (mix : ℕ → ℕ → ℕ → ℕ) (c : ℕ) (port owner :
                 lock = ap Some (sym back);
                 left_lock = leaves;
                 left_second = refl;
+                left_section = refl;
                 left_worker = refl;
                 left_node = inr refl;
                 raised_is = sym k.only.raising;

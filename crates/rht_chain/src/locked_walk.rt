@@ -4,6 +4,7 @@ ghost use Rattle.std.specs.Prelude.{◌≡◌, ◌<◌};
 ghost use Rattle.rht_words.specs.Operations.{op_place};
 ghost use Rattle.rht_words.specs.Links.{node_of};
 ghost use Rattle.rht_words.specs.Places.{words_in};
+ghost use Rattle.rht_chain.specs.declared.locked_walk.LockedWalkAt.TheVariants.{Key};
 ghost use Rattle.rht_chain.specs.LockedWalk.{locked_walk_new, locked_walk_plan, locked_walk_after, counted, compared, followed, IsStartIn, IsNextIn};
 
 use rht_words::{Geometry, Next, Op, Start, head_of, link_of, node_of};
@@ -77,6 +78,18 @@ impl LockedWalk {
                 length: 0,
                 end: first,
             }),
+        }
+    }
+
+    /// The walk at another node of the same chain, before it loads that node's key.
+    #[inline(always)]
+    pub fn at_key(&self, node: u32) -> LockedWalk
+        requires { node < self.now.geometry.nodes }
+        ensures { result ≡ record self.now { at = Key node } }
+    {
+        LockedWalk {
+            at: LockedWalkAt::Key { node },
+            ..*self
         }
     }
 

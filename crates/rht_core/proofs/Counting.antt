@@ -38,6 +38,7 @@ pub mod FewPorts
 -- what a resizing and a bind make, and what they attach
 pub mod MakingWorks
 pub mod MakingBinds
+pub mod MakingJobs
 -- what is true of shapes by which tables are made is so of all
 pub mod GoodShapes
 -- which jobs attach a table

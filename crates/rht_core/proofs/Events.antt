@@ -22,7 +22,11 @@ pub mod PagesThere
 pub mod BucketsThere
 -- the invariant holds in every run
 pub mod InvariantRuns
+-- a slot that has a table has one for the rest of a run
+pub mod TablesThere
+-- what each event keeps of callers and of the ghost
+pub mod KeptAtEvents
 -- in every run each caller works at the call of its book, and its calls took out as many nodes as that says
 pub mod BooksInRuns
--- in every run each section word is even
+-- in every run a section word is odd just where its caller's call is in its section, and no other call changes it
 pub mod SectionsInRuns

@@ -1,2 +1,4 @@
 -- a job, operation by operation
 pub mod JobSteps
+-- what a job never holds, by its call
+pub mod NeverHeld

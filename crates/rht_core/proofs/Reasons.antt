@@ -78,8 +78,14 @@ pub mod WorkedPages
 pub mod TableWordsKept
 -- which the call took, and from which a bind or a resizing attaches the table that it has made
 pub mod OwnTables
+-- a resizing retires the table from which it has gone on
+pub mod TablesLeft
+-- a resizing has taken the pages that it has
+pub mod WorksPages
 -- what is kept of each operation that changes one of these words, or enters a page
 pub mod ChangesSeen
+-- a slot to which a call has come had a table
+pub mod TablesCome
 -- so in every run tables are attached when, by whom and of which size they are to be
 pub mod AttachedInRuns
 -- and what attaches one wrongly

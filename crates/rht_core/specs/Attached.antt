@@ -2,9 +2,10 @@
 -- What the words of a slot say of its table is changed by the caller alone that has taken the slot for a new table. Of a table in force it
 -- stays as it is, but for its future. That becomes another one only by the exchange that attaches the next table. A bind does that which
 -- saw the table full, or a resizing that chose one. The current table becomes another one only by a resizing, which goes on to the next. And
--- where an entry of a nested table leads to no page, a bind alone enters one, on the way to its own port's bucket. And a slot is taken by
--- whoever makes a table, given back by who took it, and retired by a resizing.
-use Rattle.std.specs.Prelude.{◌≡◌, ◌≢◌, ℕ, ◌^◌, ◌*◌, ◌<◌, ◌⊎◌, ◌≤◌, min, true, false, Some, List, [], ◌∷◌, ◌++◌, IfSome, map}
+-- where an entry of a nested table leads to no page, a bind alone enters one, on the way to its own port's bucket: in a table in force, and in
+-- each to which the call has come. A slot is taken by whoever makes a table, given back by who took it, and retired by a resizing. And the work
+-- lock is taken by a resizing, and given back by the one that took it.
+use Rattle.std.specs.Prelude.{◌≡◌, ◌≢◌, ℕ, ◌*◌, ◌<◌, ◌⊎◌, ◌≤◌, true, false, Some, List, [], ◌∷◌, ◌++◌, IfSome, map}
 use Rattle.std.specs.List.{AllByRecursion, Any}
 use Rattle.rht_words.specs.declared.op.Op.TheVariants.{Load, Store}
 use Rattle.rht_words.specs.declared.env.Env.{Env}
@@ -13,14 +14,14 @@ use Rattle.rht_words.specs.Links.{table_of, slot_of}
 use Rattle.rht_words.specs.Machines.{Performed}
 use Rattle.rht_words.specs.Members.{In}
 use Rattle.rht_words.specs.Operations.{op_place, word_after}
-use Rattle.rht_words.specs.Places.{SlotWord, CurrentTable, PortCount, Slot, ShapeWord, FutureWord, SeedWord, SerialWord, StateWord, PageWord, place_of, word_at}
+use Rattle.rht_words.specs.Places.{SlotWord, CurrentTable, WorkLock, PortCount, Slot, ShapeWord, FutureWord, SeedWord, SerialWord, StateWord, PageWord, place_of, word_at}
 use Rattle.rht_words.specs.Shapes.{unpacked, size_of}
 use Rattle.rht_words.specs.TableWords.{IsTableWord}
 use Rattle.rht_policy.specs.Mix.{bucket_of}
 use Rattle.rht_policy.specs.Thresholds.{is_above_75}
 use Rattle.rht_nest.specs.MakeLaws.{TakesSlot, TakesSerial}
 use Rattle.rht_nest.specs.Place.{nested_place, missing_at}
-use Rattle.rht_nest.specs.Tables.{is_nested}
+use Rattle.rht_nest.specs.Tables.{is_nested, pages_of_shape}
 use Rattle.rht_stands.specs.StandsFor.{tables_from, in_force, page_word}
 use Rattle.rht_model.specs.declared.history.Call.{Call}
 use Rattle.rht_model.specs.declared.history.Call.TheVariants.{Bind, Work}
@@ -28,10 +29,10 @@ use Rattle.rht_move.specs.declared.work.choice.Choice.TheVariants as choices
 use Rattle.rht_core.specs.declared.event.Event.{Event}
 use Rattle.rht_core.specs.Runs.{IsAdmitted}
 use Rattle.rht_core.specs.Traces.{Did, Traced, performed_of, traced_of}
-use Rattle.rht_core.specs.Seen.{LoadsCurrent, LastWalked, words_before}
+use Rattle.rht_core.specs.Seen.{LoadsCurrent, CameTo, LastWalked, words_before}
 use Rattle.rht_core.specs.ResizeCauses.{Loaded, Attaches, WalkedFull, wanted_size, AreRunsTaken}
 use Rattle.rht_core.specs.Due.{pages_due}
-use Rattle.rht_core.specs.WorkCauses.{HasChosen}
+use Rattle.rht_core.specs.WorkCauses.{TakesWorkLock, HasChosen, StoresCurrent}
 use Rattle.rht_core.specs.Refused.{StoresLast, IsWaysEnd, PutsPage, HasTaken}
 
 -- the operation changes one of the words that say something of the table in this slot
@@ -48,8 +49,20 @@ pub record ChangesState (g : Geometry) (slot : ℕ) (did : Did) : Type 0 where
   pub there : op_place did.op ≡ place_of g (Slot slot StateWord)
   pub other : word_after did.old did.op ≢ did.old
 
--- the operation retires the table of this slot, which by the words before isn't in force, and from which futures lead to the current one
-pub record RetiresTable (g : Geometry) (words : List ℕ) (slot : ℕ) (did : Did) : Type 0 where
+-- one of these operations made another table the current one in the place of that of this slot
+pub record HasGoneOn (g : Geometry) (slot : ℕ) (steps : List Did) : Type 0 where
+  pub before : List Did
+  pub at : Did
+  pub behind : List Did
+  pub split : steps ≡ before ++ at ∷ behind
+  pub next : ℕ
+  pub stores : StoresCurrent g next at
+  pub from : table_of at.old ≡ slot
+
+-- The operation retires the table of this slot, from which the call has gone on. By the words before it isn't in force, and futures lead from
+-- it to the current one.
+pub record RetiresTable (g : Geometry) (words : List ℕ) (slot : ℕ) (before : List Did) (did : Did) : Type 0 where
+  pub gone_on : HasGoneOn g slot before
   pub stores : did.op ≡ Store (place_of g (Slot slot StateWord)) 2
   pub apart : ¬ In slot (in_force g words)
   pub left : In (table_of (word_at g words CurrentTable)) (tables_from g words 8 (Some slot))
@@ -72,12 +85,32 @@ pub record MovesOn (g : Geometry) (words : List ℕ) (did : Did) : Type 0 where
   pub becomes : word_after did.old did.op ≡ table
   pub followed : slot_of (word_at g words (Slot (table_of did.old) FutureWord)) ≡ Some table
 
--- the operation changes this entry, which by the words before is a way's end of a table in force, and so leads to no page
-pub record ChangesMissing (g : Geometry) (words : List ℕ) (entry : ℕ) (did : Did) : Type 0 where
+-- the operation changes the word of the work lock
+pub record ChangesWorkLock (g : Geometry) (did : Did) : Type 0 where
+  pub there : op_place did.op ≡ place_of g WorkLock
+  pub other : word_after did.old did.op ≢ did.old
+
+-- one of these operations took the work lock, which was free, and none behind it changed its word
+pub record HasWorkLock (g : Geometry) (steps : List Did) : Type 0 where
+  pub before : List Did
+  pub at : Did
+  pub behind : List Did
+  pub split : steps ≡ before ++ at ∷ behind
+  pub takes : TakesWorkLock g at
+  pub kept : AllByRecursion (λ did. ¬ ChangesWorkLock g did) behind
+
+-- Only a resizing changes it: it takes the lock, which was free, or gives it back, which it had taken and has had since.
+abbrev pub WorkLockCause : Geometry → Call → List Did → Did → Type 0
+WorkLockCause g call before did =
+    (call ≡ Work) × (TakesWorkLock g did ⊎ (HasWorkLock g before × (did.op ≡ Store (place_of g WorkLock) 0)))
+
+-- The operation changes this entry, which by the words before is a way's end of a table, and so leads to no page. That table is in force by
+-- these words; or the call's operations before had come to it, whether it has been left behind since or not.
+pub record ChangesMissing (g : Geometry) (words : List ℕ) (before : List Did) (entry : ℕ) (did : Did) : Type 0 where
   pub entry_in : entry < 64 * g.pages
   pub table : ℕ
   pub table_in : table < 8
-  pub stands : In table (in_force g words)
+  pub stands : In table (in_force g words) ⊎ CameTo g table before
   pub way : IsWaysEnd g words table entry
   pub there : op_place did.op ≡ place_of g (PageWord entry)
   pub other : word_after did.old did.op ≢ did.old
@@ -118,10 +151,6 @@ pub record SawNoRun (g : Geometry) (pages : ℕ) (steps : List Performed) : Type
   pub behind : List Performed
   pub are : steps ≡ first ++ behind
   pub runs : AreRunsTaken g pages 0 [] first
-
--- a table has at most 2^17 buckets, however many are wanted
-abbrev pub size_made : ℕ → ℕ
-size_made wanted = min wanted (2 ^ 17)
 
 -- A resizing attaches a table behind this one. It had chosen that one of this size is due behind this one, which was the last. Behind that it
 -- stored this shape in the slot last, that of a flat table of this size, and a serial that it had drawn.
@@ -175,7 +204,7 @@ module _ (M : Type 0) (mix : ℕ → ℕ → ℕ → ℕ) (env : Env) (events : 
         ⊎ Any (LoadsCurrent env.geometry table) sooner
     pub stored : StoresLast env.geometry slot shape making
     pub numbered : StoresDrawn env.geometry slot making
-    pub sized : size_of (unpacked shape) ≡ size_made (wanted_size env full.shape count)
+    pub sized : size_of (unpacked shape) ≡ wanted_size env full.shape count
     pub nested : is_nested shape ≡ true → 128 ≤ size_of (unpacked shape)
     pub no_run :
         is_nested shape ≡ true
@@ -193,7 +222,7 @@ module _ (M : Type 0) (mix : ℕ → ℕ → ℕ → ℕ) (env : Env) (events : 
     pub apart : ¬ In slot (in_force env.geometry (words_before M mix env events did.index))
 
   -- The operation attaches a table of the call's own behind this one, and has a cause for it. By the words before, the slot of that table has
-  -- the shape that the cause names, and no table behind it.
+  -- the shape that the cause names, and no table behind it. Each page of a table of that shape the call has taken, and still has.
   pub record AttachesRightly (call : Call) (table : ℕ) (before : List Did) (did : Did) : Type 0 where
     pub slot : ℕ
     pub attaches : Attaches env.geometry table slot did
@@ -201,18 +230,21 @@ module _ (M : Type 0) (mix : ℕ → ℕ → ℕ → ℕ) (env : Env) (events : 
     pub shape : ℕ
     pub shape_is : word_at env.geometry (words_before M mix env events did.index) (Slot slot ShapeWord) ≡ shape
     pub none_behind : word_at env.geometry (words_before M mix env events did.index) (Slot slot FutureWord) ≡ 0
+    pub pages : (page : ℕ) → In page (pages_of_shape shape) → HasTaken env.geometry page before
     pub cause : AttachCause call table slot shape before did
 
-  -- A bind or a resizing takes the slot, which was free; or the call gives back its own; or a resizing retires the slot's table.
+  -- A bind or a resizing takes the slot, which was free; or the call gives back its own; or a resizing retires the slot's
+  -- table, from which it has gone on.
   abbrev pub StateCause : Call → ℕ → List Did → Did → Type 0
   StateCause call slot before did =
       (MakesTables call × TakesSlot env.geometry slot (performed_of did))
       ⊎ (IsOwnTable slot before did × (did.op ≡ Store (place_of env.geometry (Slot slot StateWord)) 0))
-      ⊎ ((call ≡ Work) × RetiresTable env.geometry (words_before M mix env events did.index) slot did)
+      ⊎ ((call ≡ Work) × RetiresTable env.geometry (words_before M mix env events did.index) slot before did)
 
   -- Where the operation changes what a slot's words say of a table, that is the call's own, or it attaches another one behind it. And where it
   -- changes which table is the current one, the call is a resizing, and goes on to the next table. Where it changes an entry that leads to no
-  -- page, the call is a bind, and enters a page there. And where it changes whether a slot is free there is a cause for that.
+  -- page, the call is a bind, and enters a page there. Where it changes whether a slot is free there is a cause for that. And where it changes
+  -- the work lock, the call is a resizing, which takes it or gives it back.
   pub record ChangesRightly (call : Call) (before : List Did) (did : Did) : Type 0 where
     pub tables : (slot : ℕ) → ChangesTable env.geometry slot did → IsOwnTable slot before did ⊎ AttachesRightly call slot before did
     pub current :
@@ -220,8 +252,9 @@ module _ (M : Type 0) (mix : ℕ → ℕ → ℕ → ℕ) (env : Env) (events : 
         → (call ≡ Work) × MovesOn env.geometry (words_before M mix env events did.index) did
     pub states : (slot : ℕ) → ChangesState env.geometry slot did → StateCause call slot before did
     pub entries :
-        (entry : ℕ) → ChangesMissing env.geometry (words_before M mix env events did.index) entry did
+        (entry : ℕ) → ChangesMissing env.geometry (words_before M mix env events did.index) before entry did
         → EnterCause env.geometry (words_before M mix env events) mix call entry before did
+    pub work : ChangesWorkLock env.geometry did → WorkLockCause env.geometry call before did
 
   -- so do all calls of the caller, those that have ended and the one in progress
   pub record HasAttachedRightly (r : Traced M) : Type 0 where

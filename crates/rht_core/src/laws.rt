@@ -13,7 +13,7 @@ ghost use Rattle.rht_core.specs.NodesUsed.{Nodes};
 ghost use Rattle.rht_core.specs.Refused.{Refused};
 ghost use Rattle.rht_core.specs.Tables.{Tables, NeverAgain};
 ghost use Rattle.rht_core.specs.RunHistories.{HasFittingHistory};
-ghost use Rattle.rht_core.specs.Sections.{Sections};
+ghost use Rattle.rht_core.specs.Sections.{Sections, OwnSections};
 ghost use Rattle.rht_core.specs.ToldHistories.{HasToldHistory};
 ghost use Rattle.rht_core.specs.Worked.{Worked};
 ghost use Rattle.rht_core.specs.Laws.{Extends, InRange, Enrolled, NotEnrolled, Replies, Remembers, AtEvents, AllStepsTraced, TakenAlone, WordsFit};
@@ -73,23 +73,23 @@ pub fn remembers<M: Mix>()
 
 /// In every run each step of a trace is one of the run's events: a step of that caller, whose
 /// operation it planned there, and which found its old value in the words that the events before it
-/// leave. Each call began at a `Begin` of it, its steps come behind that in the order of their events,
-/// the last one answered it, and no two calls of one caller overlap. It says nothing of how the events
+/// leave. Each call began at a `Begin` of it, and its steps come behind that in the order of their events.
+/// The last one answered it, and no two calls of one caller overlap. It says nothing of how the events
 /// of two callers lie.
 pub fn at_events<M: Mix>()
     ensures { AtEvents M M.mix_of }
 {}
 
 /// In every run each operation that a caller performs stands in the trace of the call that it has in
-/// progress there, at its event, with the word that it found: no step is left out of a trace, and
+/// progress there, at its event, with the word that it found. So no step is left out of a trace, and
 /// none stands in the trace of another call. It says nothing of `Enroll`s, which are in no call.
 pub fn all_steps_traced<M: Mix>()
     ensures { AllStepsTraced M M.mix_of }
 {}
 
 /// In every run a bind or a rebind that has ended took exactly one of the nodes, and none where it was
-/// answered `NoNode`; any other call took none. To take a node is to clear its bit, which was set: no
-/// other operation of the call, whichever it is, clears a bit of any node that it finds set, and the one
+/// answered `NoNode`; any other call took none. To take a node is to clear its bit, which was set. No
+/// other operation of the call, whichever it is, clears a bit of any node that it finds set; and the one
 /// that does leaves all other bits of its word. It doesn't say that nobody else has that node, nor that
 /// it was given back.
 pub fn taken_alone<M: Mix>()
@@ -107,33 +107,39 @@ pub fn taken_alone<M: Mix>()
 /// `Exists` only in a table of one owner each. The kick of a `Bound` or a `Released` is as `kicks` says.
 ///
 /// `Again`, `Busy` and `NoTable` of a bind have as their cause first that the last table that it walked is
-/// full. It came to that table along the futures, from its last load of the current one before, and counted
-/// 16 nodes or more in its port's bucket there, by the table's seed as it then was, with so many ports bound
-/// at the last one. None of the keys that it loaded for this is the port. Or it loaded a count above the
-/// table's size, while its port had no owner, and the table may grow. In either case it loaded that table's
-/// future as none, while its port had no owner. `Again` names the table that the bind then attached behind
-/// that one, or found there as its future. For `Busy` and `NoTable` it then loaded that future as none.
-/// Before, for `Busy`, it had found that another table is the current one, and that by the count the full one
-/// isn't due to grow; for `NoTable`, that there is no slot, or no pages for the size that is wanted: twice the
-/// full table's where that is due to grow by the count, and else its own, where it is the current one. No slot:
-/// each is taken, by each of its operations on the state of one. No pages: each run is taken in its turn, by a
-/// page that it hadn't taken since the count. Where a table of 128 buckets or more is wanted, it had then given
-/// back each page that it took since the count, and behind that each page is taken in its turn, which it hadn't
-/// taken since. Or `NoTable`
-/// has another cause: the last table that the bind walked is nested and has the size that is named, the bind
-/// loaded its future as none, while its port had no owner, then an entry of it that led to no page, at which
-/// the way to the port's bucket ends, and behind that each page was seen taken in its turn.
+/// full. It came to that table along the futures, from its last load of the current one before. Then it
+/// counted 16 nodes or more in its port's bucket there, by the table's seed as it then was. At the last of
+/// them so many ports were bound, and none of the keys that it loaded for this is the port. Or it loaded a
+/// count above the table's size, while its port had no owner, and the table may grow. In either case it
+/// loaded that table's future as none, while its port had no owner.
+///
+/// `Again` names the table that the bind then attached behind that one, or found there as its future. For
+/// `Busy` and `NoTable` it then loaded that future as none. Before, for `Busy`, it had found that another
+/// table is the current one, and that by the count the full one isn't due to grow. For `NoTable` it had
+/// found that there is no slot, or no pages for the size that is wanted. That is twice the full table's
+/// where this is due to grow by the count, and else its own, where it is the current one. No slot: each is
+/// taken, by each of its operations on the state of one. No pages: each run is taken in its turn, by a page
+/// that it hadn't taken since the count. Where a table of 128 buckets or more is wanted, it had then given
+/// back each page that it took since the count. Behind that each page is taken in its turn, which it hadn't
+/// taken since.
+///
+/// Or `NoTable` has another cause. The last table that the bind walked is nested and has the size that is
+/// named, and the bind loaded its future as none, while its port had no owner. Then it loaded an entry of it
+/// that led to no page, at which the way to the port's bucket ends. Behind that each page was seen taken in
+/// its turn.
 ///
 /// A `Work` that was answered `Elsewhere` found the work lock taken. Any other one took it, looked for
 /// the last table from the current one on and chose by its shape and by the count what is due:
 /// for `NoTable` a table that wasn't to be had, while the last one is the current one or nested; for
 /// `Idle` nothing, and the current table had no future. `Moved` stored another current table and then
 /// loaded its future; there is more to do exactly where it found one, or attached no flat table of the
-/// size that was due. Or `Moved` stopped, and there is more to do: it looked for the last table anew, found
-/// another one than the current one, loaded that this is nested, and behind that stored words alone, none
-/// of them that of the current table. At that load the current table was still the one that it had chosen
-/// from; and where a table was due while the last one was the current one or nested, it had tried to attach
-/// a flat one of the size that was due behind that.
+/// size that was due.
+///
+/// Or `Moved` stopped, and there is more to do. It looked for the last table anew, found another one than
+/// the current one, and loaded that this is nested. Behind that it stored words alone, none of them that of
+/// the current table. At that load the current table was still the one that it had chosen from. Where a
+/// table was due while the last one was the current one or nested, it had tried to attach a flat one of the
+/// size that was due behind that.
 ///
 /// `Found` and `Missing` of a look-up, `Listed` of a listing, `Absent` of a release, `Rebound` and
 /// `Absent` of a rebind have nothing to show here. No other reply of these calls comes, and a call of
@@ -143,13 +149,14 @@ pub fn causes<M: Mix>()
     ensures { Causes M M.mix_of }
 {}
 
-/// In every run a bind that has ended says that there is something to do for `work` exactly where it
-/// attached a table, or, behind the last table that it walked, raised the count of ports and by this has
-/// that table more ports than three quarters of its buckets, and may grow. It has raised none before, and
-/// in a table of one owner each it did raise the count. A release says so exactly where, behind the last
-/// table that it walked, it lowered the count, shrinking is on, and by this that table has fewer ports
-/// than three tenths of its buckets, rounded down, and more buckets than the least size. It has lowered
-/// none before.
+/// In every run a bind that has ended says that there is something to do for `work` exactly in two cases.
+/// It attached a table. Or, behind the last table that it walked, it raised the count of ports; and by this
+/// that table has more ports than three quarters of its buckets, and may grow. It has raised none before, and
+/// in a table of one owner each it did raise the count.
+///
+/// A release says so exactly where, behind the last table that it walked, it lowered the count, and shrinking
+/// is on. By this count that table has fewer ports than three tenths of its buckets, rounded down, and more
+/// buckets than the least size. It has lowered none before.
 ///
 /// The last table that a call walked is the one whose shape it loaded last, and to which it had come from
 /// its last load of the current one before: it loaded it as that, or as the future of one to which it had
@@ -204,19 +211,25 @@ pub fn counted<M: Mix>()
     ensures { Counted M M.mix_of }
 {}
 
-/// In every run, while nobody is in a call, no bucket is locked of a table that is in force or stands in a
-/// slot that isn't free, and the word of each bucket of a retired table is 0; each node is free, in the list
-/// of a port, or out, and never two of these; those that are out are as many as the calls that were answered
-/// `Released` or `Rebound`; in a table of one owner for each port no list has a second node; the count is the
-/// number of ports that are bound; the work lock is free; each page is free, or one of a table whose slot
-/// isn't, in the run of a flat one, or the top page or one to which an entry leads in a nested one; each slot
-/// that isn't free is retired, or has a table in force; and each caller's section word is even, so none is in
-/// a read section. So no node is lost: a bind that is refused, or finds its port bound, has given its node
-/// back, and so has a rebind that is answered `Absent`. And no slot or page is lost: each that isn't free is
-/// a table's that is in force or retired, so what was taken for a table that wasn't attached, or for an entry
-/// behind which another page was entered, has been given back, or stands in a slot that was retired; and each
-/// table that was left behind is retired. It doesn't say which nodes are out or which call took one, that no table in force is retired, nor
-/// that such a moment comes.
+/// In every run, while nobody is in a call, all of this is so.
+///
+/// Locks: no bucket is locked of a table that is in force or stands in a slot that isn't free; the word of
+/// each bucket of a retired table is 0; and the work lock is free. Each caller's section word is even, so none
+/// is in a read section.
+///
+/// Nodes: each is free, in the list of a port, or out, and never two of these. Those that are out are as many
+/// as the calls that were answered `Released` or `Rebound`. In a table of one owner for each port no list has a
+/// second node. The count is the number of ports that are bound. So no node is lost: a bind that is refused, or
+/// finds its port bound, has given its node back, and so has a rebind that is answered `Absent`.
+///
+/// Slots: each that isn't free is retired, or has a table in force; and each table that was left behind is
+/// retired. Pages: each is free, or one of a table whose slot isn't free. It is in the run of a flat table; of a
+/// nested one it is the top page, or one to which an entry leads. So no slot or page is lost. What was taken for
+/// a table that wasn't attached has been given back; and so has what was taken for an entry behind which another
+/// page was entered. Or it stands in a slot that was retired.
+///
+/// It doesn't say which nodes are out or which call took one, that no table in force is retired, nor that such a
+/// moment comes.
 pub fn at_rest<M: Mix>()
     ensures { AtRest M M.mix_of }
 {}
@@ -249,42 +262,48 @@ pub fn let_go<M: Mix>()
 {}
 
 /// In every run a caller that is in no call is in no read section: its section word is even. That is so
-/// whether it is enrolled or not. It says nothing of a caller in a call, and not that calls read inside of
-/// sections.
+/// whether it is enrolled or not. An operation of a call leaves each section word as it was, but for one
+/// that adds 1 to its own caller's. It doesn't say that any call opens a section, and not that calls read
+/// inside of sections.
 pub fn sections<M: Mix>()
-    ensures { Sections M M.mix_of }
+    ensures idle { Sections M M.mix_of }
+    ensures own { OwnSections M M.mix_of }
 {}
 
 /// In every run, of each call, ended or in progress, no operation changes what the words of a slot say of a
 /// table, but for two cases. The table is the call's own: its operations took the slot, which was free, and
 /// have neither given it back nor attached the table since. By the words before, it isn't in force. Or the
 /// operation attaches a table of the call's own behind this one, by an exchange that finds its future to be
-/// none. By the words before, that table has no future, and the shape that is told next.
+/// none. By the words before, that table has no future, and the shape that is told next. Each page of a table of
+/// that shape the call has taken, and has neither given it back nor entered it since.
 ///
 /// The call is then a bind or a `Work`. A bind saw the table full up to this operation, by its port's bucket or
 /// by the count. In between it loaded a count, and no other behind that. By that count a table is wanted of
 /// twice the size, or of the same where the bind had loaded this one as the current one. Behind the count it
-/// stored in the slot, last of all shapes, that of a table of the wanted size, or of 2^17 buckets where more
-/// are wanted. Where that table is nested it has 128 buckets or more. Then the bind saw, behind the count, each
-/// run of pages for a flat one taken, and not by operations behind the count. A `Work` had chosen, by what it loaded
-/// under the work lock, that a table of this size is due behind this one, which was the last. Behind that it
-/// stored, last of all shapes, that of a flat table of this size. Either had drawn the serial that it stored last.
+/// stored in the slot, last of all shapes, that of a table of the wanted size. Where that table is nested it has
+/// 128 buckets or more. Then the bind saw, behind the count, each run of pages for a flat one taken, and not by
+/// operations behind the count. A `Work` had chosen, by what it loaded under the work lock, that a table of this
+/// size is due behind this one, which was the last. Behind that it stored, last of all shapes, that of a flat table
+/// of this size. Either had drawn the serial that it stored last.
 ///
 /// No operation changes which table is the current one, but for one of a `Work`, which makes that table
 /// current that was the future of the one before.
 ///
-/// An entry leads to no page where the way to a bucket of a nested table in force ends. No operation changes
-/// such an entry, but for one of a bind that enters a page there. The bind had taken the page, and by the words
-/// before, the way to its own port's bucket ends there, in the table that it walked last. Of entries of a table
-/// that is left behind nothing is said.
+/// An entry leads to no page where the way to a bucket of a nested table ends. Where that table is in force, or the
+/// call's operations before had come to it, no operation changes such an entry, but for one of a bind that enters a
+/// page there. The bind had taken the page, and by the words before, the way to its own port's bucket ends there, in
+/// the table that it walked last. Of the entries of a table that was left behind it says nothing where the call
+/// hadn't come to that table from its last load of the current one on.
 ///
 /// Nor does it change the word that says whether a slot is free, but in three cases. A bind or a `Work` takes a
 /// slot that was free. A call gives back a slot of its own, in which by the words before no table is in force.
-/// Or a `Work` retires a slot, whose table isn't in force by the words before, and from which futures lead to
-/// the current one.
+/// Or a `Work` retires a slot, in the place of whose table its own operations have made another one current. By the
+/// words before, that table isn't in force, and from it futures lead to the current one.
+///
+/// Nor does it change the word of the work lock, but for one of a `Work`. That takes the lock, by an exchange of 0
+/// for 1, or stores 0, where its own operations took it and left that word alone since.
 ///
 /// It doesn't say that a slot which was taken is given back, or that a table is ever attached, or a page entered.
-/// Nor does it say that who attaches a table has taken its pages, or that a retired one ever was in force.
 pub fn attached<M: Mix>()
     ensures { Attached M M.mix_of }
 {}
@@ -313,8 +332,8 @@ pub fn tables<M: Mix>()
     ensures never_again { NeverAgain M M.mix_of }
 {}
 
-/// In a run of a table that begins with 64 buckets or more and doesn't shrink, and whose binds, those that
-/// have ended and those in progress, have 15 ports at most, no table is made: the first one stays the
+/// In some runs no table is made. The table begins with 64 buckets or more and doesn't shrink; and the binds,
+/// those that have ended and those in progress, have 15 ports at most. Then the first table stays the
 /// current one, no serial is given to another, and each word of each slot is as it was at opening. No bind
 /// is refused but for want of a node, and no `Work` but because another caller is at work. It holds after
 /// each event, since the first events of such a run are one. It says nothing of runs in which more ports
@@ -323,9 +342,9 @@ pub fn few_ports<M: Mix>()
     ensures { FewPorts M M.mix_of }
 {}
 
-/// In a run of a table that has one caller, begins with 16 buckets or more and doesn't shrink, and in
-/// which fewer than 16 ports are bound after each event, no bind is refused but for want of a node. The
-/// ports may be any, bound and released one after another, and a `Work` may make tables. It says nothing
+/// In a run of a table with one caller no bind is refused but for want of a node, under two conditions. The
+/// table begins with 16 buckets or more and doesn't shrink; and fewer than 16 ports are bound after each event.
+/// The ports may be any, bound and released one after another, and a `Work` may make tables. It says nothing
 /// of how a `Work` is answered, and nothing of a table with more callers, of whom others may be about to
 /// bind a port.
 pub fn one_caller<M: Mix>()
@@ -336,23 +355,26 @@ pub fn one_caller<M: Mix>()
 /// legal history of what its calls were answered: each worker's finished calls serve its commands, and
 /// its entries are those of these calls about bindings, with their replies and lists, in their order;
 /// nobody else has any. What was closed is what the history leaves. It fits the run: it puts the calls of
-/// all workers in an order of moments between each one's beginning and its end, and after each event its
-/// entries so far leave what the words stand for. A call was answered `NoNode` only where more commands
-/// need a node than there are nodes, and `TooBig` only where its count is as many ports as the table may
-/// hold, or more, and some first entries leave so many bound, but for one for each other worker. It
-/// doesn't say that there is such a run, and nothing of what calls that aren't about bindings answer.
+/// all workers in an order of moments, each between its call's beginning and its end. After each event its
+/// entries so far leave what the words stand for.
+///
+/// A call was answered `NoNode` only where more commands need a node than there are nodes. It was answered
+/// `TooBig` only where its count is as many ports as the table may hold, or more; and some first entries leave
+/// so many bound, but for one for each other worker. It doesn't say that there is such a run, and nothing of
+/// what calls that aren't about bindings answer.
 pub fn told<M: Mix>()
     ensures { HasToldHistory M M.mix_of }
 {}
 
-/// Where a run serves the commands of workers, and the table begins with 64 buckets or more, doesn't
-/// shrink, has as many nodes as there are commands that bind or rebind, or more, and these binds have 15
-/// ports at most, no command about bindings is refused, and the table is closed with the size with which
-/// it began. Where there is one worker, 16 buckets are enough, and the ports may be any, if by the model
-/// fewer than 16 are bound after each command: then each command about bindings is answered as the model
-/// answers it, in the order of the script, and what was closed is what the model leaves. A kick isn't
-/// looked at. It doesn't say that there is such a run, and nothing of how commands end that aren't about
-/// bindings.
+/// Where a run serves the commands of workers, no command about bindings is refused, if three things are so.
+/// The table begins with 64 buckets or more and doesn't shrink. It has as many nodes as there are commands that
+/// bind or rebind, or more. And these binds have 15 ports at most. The table is then closed with the size with
+/// which it began.
+///
+/// Where there is one worker, 16 buckets are enough, and the ports may be any, if by the model fewer than 16 are
+/// bound after each command. Then each command about bindings is answered as the model answers it, in the order
+/// of the script, and what was closed is what the model leaves. A kick isn't looked at. It doesn't say that there
+/// is such a run, and nothing of how commands end that aren't about bindings.
 pub fn never_refused<M: Mix>()
     ensures workers { RoomyTakesAll M M.mix_of }
     ensures one_worker { OneWorkerAsModel M M.mix_of }

@@ -30,6 +30,8 @@ pub mod Working
 pub mod WorkHoldings
 -- slots are taken and given back, and their words are written
 pub mod Slots
+-- a caller opens its read section and closes it
+pub mod Sections
 -- pages are taken and given back
 pub mod Pages
 -- a table is attached behind the last one

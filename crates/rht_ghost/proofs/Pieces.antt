@@ -1,11 +1,17 @@
 -- taking a node, giving it back, and writing its words
 pub mod NewNodes
+-- what loads of a table's words and entries tell
+pub mod TableLoads
 -- the way to a port's bucket
 pub mod Locates
+-- the same for a look-up that knows nothing of the tables before
+pub mod Reaches
 -- the lock of a bucket is dropped
 pub mod Locks
 -- the operations in a bucket: it is locked and walked
 pub mod Probes
+-- the caller's read section is opened and closed
+pub mod OwnSections
 -- the count of ports is raised
 pub mod PortCounts
 -- along the list of a port's nodes

@@ -10,6 +10,8 @@ pub mod PlacesRead
 pub mod MissingEntries
 -- the finding of a bucket stays in its table, and works on the slot's words
 pub mod Locates
+-- and so does that of a call that knows nothing of the tables before
+pub mod Reaches
 -- the growing of a nested table stays in range
 pub mod Grows
 -- what comes of a machine that holds another one

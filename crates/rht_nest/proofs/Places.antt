@@ -14,8 +14,10 @@ use Rattle.rht_words.specs.Planned.{IsPlannedIn}
 use Rattle.rht_words.specs.Shapes.{unpacked}
 use Rattle.rht_words.proofs.PlannedWords.{planned_load}
 use Rattle.rht_words.proofs.Rounding.{powers-rise}
-use Rattle.rht_nest.specs.Place.{PlaceModel, top_page, top_entries, nested_place, place_plan, entered, went_behind, entry_seen, place_after, IsPlaceIn, IsPlaceEndIn, IsEnteredIn}
+use Rattle.rht_nest.specs.Place.{PlaceModel, top_page, top_entries, nested_place, place_new, place_plan, entered, went_behind, entry_seen, place_after, IsPlaceIn, IsPlaceStartIn, IsPlaceEndIn, IsEnteredIn}
+use Rattle.rht_nest.specs.Tables.{is_nested}
 use Rattle.rht_nest.specs.declared.place.Bucket.{Bucket}
+use Rattle.rht_nest.proofs.BucketsApart.{flat_place_in}
 
 -- a page has no more than 64 entries
 pub few_entries : (shape : ℕ) → top_entries shape ≤ 64
@@ -36,6 +38,12 @@ top_entry_in g shape bucket =
 pub nested_place_in : (g : Geometry) (shape bucket : ℕ) → IsPlaceIn g (nested_place g shape bucket)
 nested_place_in g shape bucket =
     record { geometry_same = refl; entry_in = top_entry_in g shape bucket }
+
+-- and in a flat table the bucket's word is one of the pages'
+pub place_new_in : (g : Geometry) (shape bucket : ℕ) → IsPlaceStartIn g (place_new g shape bucket)
+place_new_in g shape bucket =
+    cond_both (is_nested shape) _ _ (IsPlaceStartIn g) (λ t. nested_place_in g shape bucket)
+    (λ f. flat_place_in g shape bucket)
 
 module _ (g : Geometry) where
   -- behind an entry the way is in the page that it leads to

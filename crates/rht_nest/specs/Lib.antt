@@ -2,6 +2,8 @@
 pub mod Place
 -- finding the word of a port's bucket
 pub mod Locate
+-- the same for a call that knows nothing of the tables before
+pub mod Reach
 -- what a call knows early of its answer
 pub mod Early
 -- entering a page that is missing on the way to one

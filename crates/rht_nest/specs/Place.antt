@@ -108,7 +108,12 @@ abbrev pub IsPlaceEndIn : Geometry → Next Bucket → Type 0
 IsPlaceEndIn g Go = Unit {0}
 IsPlaceEndIn g (Done bucket) = IsBucketIn g bucket
 
--- and so it is behind an entry that leads to a page
+-- and so it is at the beginning
+abbrev pub IsPlaceStartIn : Geometry → Start PlaceModel Bucket → Type 0
+IsPlaceStartIn g (starts.Running next) = IsPlaceIn g next
+IsPlaceStartIn g (starts.Done bucket) = IsBucketIn g bucket
+
+-- and behind an entry that leads to a page
 abbrev pub IsEnteredIn : Geometry → Start PlaceModel ℕ → Type 0
 IsEnteredIn g (starts.Running next) = IsPlaceIn g next
 IsEnteredIn g (starts.Done place) = IsBucketPlace g place

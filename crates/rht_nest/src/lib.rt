@@ -12,6 +12,7 @@ pub mod laws;
 mod locate;
 mod make;
 mod place;
+mod reach;
 mod tables;
 mod unmake;
 
@@ -19,5 +20,6 @@ pub use grow::{Grow, GrowAt};
 pub use locate::{Locate, LocateAt, Located, LocatedBucket};
 pub use make::{Make, MakeAt};
 pub use place::{Bucket, Place, flat_place};
+pub use reach::{Reach, ReachAt};
 pub use tables::{is_nested, run_of};
 pub use unmake::{Unmake, UnmakeAt};

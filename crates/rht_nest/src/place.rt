@@ -4,7 +4,7 @@
 ghost use Rattle.std.specs.Prelude.{◌≡◌, ◌<◌};
 ghost use Rattle.rht_words.specs.Operations.{op_place};
 ghost use Rattle.rht_words.specs.Places.{words_in, IsBucketPlace};
-ghost use Rattle.rht_nest.specs.Place.{flat_place, nested_place, place_new, place_plan, entry_place, entered, place_after, IsPlaceEndIn, IsEnteredIn};
+ghost use Rattle.rht_nest.specs.Place.{flat_place, nested_place, place_new, place_plan, entry_place, entered, place_after, IsPlaceStartIn, IsPlaceEndIn, IsEnteredIn};
 
 use crate::tables::is_nested;
 use rht_words::{Geometry, Next, Op, Shape, Start, page_of};
@@ -53,7 +53,8 @@ impl Place {
     /// bucket is known at once.
     #[inline(always)]
     pub fn new(geometry: Geometry, shape: u64, bucket: u32) -> Start<Place, Bucket>
-        ensures { result ≡ place_new geometry shape bucket }
+        ensures begins { result ≡ place_new geometry shape bucket }
+        ensures found { IsPlaceStartIn geometry result }
     {
         if is_nested(shape) {
             Start::Running(Place::nested(geometry, shape, bucket))

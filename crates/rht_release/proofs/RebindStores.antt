@@ -309,6 +309,7 @@ module _ (env : Env) (mix : ℕ → ℕ → ℕ → ℕ) (c : ℕ) (port owner n
         left_lock = relink_left_lock env mix place word (link_of n) before words all lock.bucket within (place_at env mix j)
             (G.bucket j) (front ++ ((n ∷ []) ++ rear));
         left_second = refl;
+        left_section = refl;
         left_worker = refl;
         left_node = inr refl;
         raised_is = sym k.only.raising;

@@ -214,6 +214,7 @@ module _ (env : Env) (mix : ℕ → ℕ → ℕ → ℕ) (c : ℕ) (port owner :
             lock = ap Some (sym takes.there);
             left_lock = takes.left;
             left_second = refl;
+            left_section = refl;
             left_worker = refl;
             left_node = inl refl;
             raised_is = same;

@@ -1,27 +1,31 @@
 -- From one operation to a call: an operation ends the call exactly where it has a reply, and a finished call has a reply of its
 -- kind with the lists that come with it.
-use Rattle.std.proofs.Common.{◌≡◌, ℕ, ◌+◌, ◌^◌, ◌<◌, true, cond, List, [], ◌∷◌, ◌++◌, sym, ap, ◌∙◌, subst}
+use Rattle.std.proofs.Common.{◌≡◌, ℕ, ◌+◌, ◌^◌, ◌<◌, true, cond, List, [], ◌∷◌, ◌++◌, refl, sym, ap, ◌∙◌, subst}
 use Rattle.std.specs.Prelude.{Option, Some, None}
 use Rattle.std.specs.List.{AllByRecursion, last_or}
+use Rattle.atomic_table.specs.declared.shared.Seat.{Seat}
 use Rattle.rht_words.specs.declared.env.Env.{Env}
 use Rattle.rht_words.specs.declared.config.Kind.TheVariants.{Single}
 use Rattle.rht_release.specs.Rebind.{rebind_new}
 use Rattle.rht_model.specs.declared.history.Call.{Call}
 use Rattle.rht_model.specs.declared.history.Call.TheVariants.{Rebind}
 use Rattle.rht_model.specs.declared.history.Reply.{Reply}
+use Rattle.rht_model.specs.declared.history.Reply.TheVariants.{Found, Missing}
 use Rattle.rht_model.specs.declared.finished.Finished.{Finished}
 use Rattle.rht_core.specs.declared.book.Book.{Book}
 use Rattle.rht_callers.specs.declared.local.Local.{Local}
-use Rattle.rht_callers.specs.declared.local.Doing.TheVariants.{Rebinding}
+use Rattle.rht_callers.specs.declared.local.Doing.TheVariants.{Idle, Rebinding}
 use Rattle.rht_core.specs.Locals.{is_idle, rebinding_of, local_after, ending_of}
 use Rattle.rht_core.specs.Runs.{View, book_after}
-use Rattle.rht_core.specs.Replies.{IsRightlyAnswered, AnswersIn, owners_with}
+use Rattle.rht_core.specs.Replies.{IsRightlyAnswered, IsFindReply, AnswersIn, owners_with}
 use Rattle.rht_core.proofs.Events.BusyCallers.{goes_on, ends}
 use Rattle.rht_core.proofs.Tracing.RepliesInRuns.{replies}
 use Rattle.rht_run.specs.declared.table.Table.{Table}
 use Rattle.rht_run.specs.declared.pass.Pass.{Pass}
 use Rattle.rht_run.specs.Rule.{MayBegin, CanGo, book_then, local_then}
+use Rattle.rht_run.specs.declared.seats.SeatView.{SeatView}
 use Rattle.rht_run.specs.Passes.{IsPassOf, IsSamePass, HasGone, HasCalled, Turned, book_of}
+use Rattle.rht_run.specs.Rides.{Riding, riding_pass, HasEnded, looked_up, owner_in}
 use Rattle.rht_run.proofs.Performed.{busy_then, of_run}
 
 -- the last of some calls, each of which was answered
@@ -29,6 +33,12 @@ last_answered : (finished : List Finished) (done : Finished) → AllByRecursion 
     → IsRightlyAnswered done
 last_answered [] done all = all.0
 last_answered (other ∷ finished) done all = last_answered finished done all.1
+
+-- a look-up's reply is what it has come to
+pub looked_up-owner_in : (reply : Reply) → IsFindReply reply → looked_up (owner_in reply) ≡ reply
+looked_up-owner_in (Found owner) is = refl
+looked_up-owner_in Missing is = refl
+looked_up-owner_in _ is = absurd (is)
 
 module _ {M : Type 0} where
   module _ (mix : ℕ → ℕ → ℕ → ℕ) (t : Table M) (before p after : Pass M) (begins : Option Call) (call : Call) (steps : ℕ)
@@ -92,6 +102,14 @@ module _ {M : Type 0} where
       last_answered (book_of before).finished
       record { call = call; reply = reply; owners = now.local.owners.items; pairs = now.local.pairs.items }
       (subst (AllByRecursion IsRightlyAnswered) has.finished (answers mix t now has.pass).finished)
+
+  -- and so was a call that was driven
+  pub drive_answered : (mix : ℕ → ℕ → ℕ → ℕ) (t : Table M) (r : Riding) (reply : Reply) (seat : Seat (Unit {0}) (SeatView M))
+      → HasEnded mix t r reply seat
+      → IsRightlyAnswered record { call = r.call; reply = reply; owners = r.owners.items; pairs = r.pairs.items }
+  drive_answered mix t r reply seat ended =
+      last_answered r.finished record { call = r.call; reply = reply; owners = r.owners.items; pairs = r.pairs.items }
+      (subst (AllByRecursion IsRightlyAnswered) ended.finished (answers mix t (riding_pass r Idle seat) ended.pass).finished)
 
   -- the owners in the room of a pass in no call are those of its last finished call
   pub last_owners : (mix : ℕ → ℕ → ℕ → ℕ) (t : Table M) (p : Pass M) → IsPassOf mix t p → is_idle p.local ≡ true

@@ -20,3 +20,5 @@ pub mod PieceFrames
 pub mod Pieces
 -- the way to a port as a piece, and the machines that go it
 pub mod Seeks
+-- a resizing: its states that hold a piece
+pub mod WorkPieces

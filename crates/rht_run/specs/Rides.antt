@@ -6,6 +6,7 @@ use Rattle.rht_words.specs.declared.machine.Next.TheVariants.{Go, Done}
 use Rattle.rht_model.specs.declared.history.Call.{Call}
 use Rattle.rht_model.specs.declared.history.Call.TheVariants.{Count}
 use Rattle.rht_model.specs.declared.history.Reply.{Reply}
+use Rattle.rht_model.specs.declared.history.Reply.TheVariants.{Found, Missing}
 use Rattle.rht_model.specs.declared.finished.Finished.{Finished}
 use Rattle.rht_model.specs.Rooms.{Kept, emptied, no_room}
 use Rattle.rht_callers.specs.declared.local.Local.{Local}
@@ -89,6 +90,16 @@ pub record IsEnded {M : Type 0} (mix : ℕ → ℕ → ℕ → ℕ) (t : Table M
 -- the call has ended with this reply, and the caller is in no call
 abbrev pub HasEnded : {M : Type 0} → (ℕ → ℕ → ℕ → ℕ) → Table M → Riding → Reply → Seat (Unit {0}) (SeatView M) → Type 0
 HasEnded mix t r reply seat = IsEnded mix t r Idle reply seat
+
+-- the reply of a look-up that has come to this
+abbrev pub looked_up : Option ℕ → Reply
+looked_up None = Missing
+looked_up (Some owner) = Found owner
+
+-- and what it has come to, in its reply; no other reply is one
+abbrev pub owner_in : Reply → Option ℕ
+owner_in (Found owner) = Some owner
+owner_in _ = None
 
 -- after an operation: what the caller does, with a reply where the call has ended
 abbrev pub Stepped : {M : Type 0} → (ℕ → ℕ → ℕ → ℕ) → Table M → Riding → Doing M × Option Reply

@@ -56,8 +56,13 @@ impl<M: Mix> Table<M> {
             owner,
             once,
         };
-        let Some(node) = self.begin_with_node::<R, K, BindFilling>(rt, seat, &frame, port, owner)
-        else {
+        let geometry = env.geometry;
+        let begun = self.begin_with_node::<K, BindFilling>(seat, &frame, geometry, port, owner);
+        let Some(taken) = begun else {
+            never(rt);
+            unreachable!()
+        };
+        let Some(node) = taken else {
             return Reply::NoNode;
         };
         let attempt = Attempt {
@@ -74,7 +79,6 @@ impl<M: Mix> Table<M> {
                 once,
                 attempt,
             };
-            let geometry = env.geometry;
             let way = self.find_way::<K, BindLocating>(seat, &frame, geometry, port, table);
             let (shape, place) = match way {
                 Way::Flat { shape, place } => (shape, place),
@@ -95,7 +99,7 @@ impl<M: Mix> Table<M> {
                 shape,
             };
             let key = word_of(port);
-            let Some(probed) = self.probe::<K, BindProbing>(seat, &frame, env.geometry, place, key)
+            let Some(probed) = self.probe::<K, BindProbing>(seat, &frame, geometry, place, key)
             else {
                 never(rt);
                 unreachable!()

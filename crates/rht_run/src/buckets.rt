@@ -1,9 +1,11 @@
 //! Locking the bucket of a port and walking its chain, in whatever machine does so.
 
-ghost use Rattle.std.specs.Prelude.{◌≡◌, ℕ, IfSome};
+ghost use Rattle.std.specs.Prelude.{◌≡◌, ◌<◌, ℕ, IfSome};
 ghost use Rattle.rht_words.specs.declared.machine.Next.TheVariants.{Done};
 ghost use Rattle.rht_chain.specs.Lock.{lock_new};
 ghost use Rattle.rht_chain.specs.Probe.{probe_new, probe_after, lock_taken};
+ghost use Rattle.rht_chain.specs.declared.lock.LockAt.TheVariants.{Exchange};
+ghost use Rattle.rht_chain.specs.declared.locked_walk.LockedWalkAt.TheVariants.{Key};
 ghost use Rattle.rht_chain.specs.declared.probe.ProbeAt.TheVariants as at;
 ghost use Rattle.rht_run.specs.Rides.{IsRiding, Stepped, piece_next};
 ghost use Rattle.rht_run.specs.Pieces.{probe_told};
@@ -15,7 +17,7 @@ use crate::table::Table;
 use atomic_table::Seat;
 use rht_chain::{Lock, Locked, LockedWalk, Probe, ProbeAt, Probed};
 use rht_policy::Mix;
-use rht_words::{Geometry, Next, Start, is_locked};
+use rht_words::{Geometry, Next, Start, head_of, is_locked, node_of};
 
 impl<M: Mix> Table<M> {
     /// Locks the bucket at this place, and walks its chain to the first node with the key. `None` comes
@@ -34,52 +36,53 @@ impl<M: Mix> Table<M> {
         ensures { IfSome result (λ end. Stepped M.mix_of self.now K.riding (F.behind frame.now end) seat.new) }
     {
         let probe = Probe::new(geometry, place, key);
-        let Some((lock, word)) = self.lock::<K, F>(seat, frame, &probe, Lock::new(place)) else {
+        let Some(word) = self.lock::<K, F>(seat, frame, &probe, place) else {
             return None;
         };
-        let place = lock.place();
         let bucket = Locked { place, word };
         match LockedWalk::new(geometry, place, word, key) {
-            Start::Running(walk) => self.walk::<K, F>(seat, frame, &probe, bucket, walk),
+            Start::Running(walk) => {
+                let nodes = geometry.nodes;
+                let Some(node) = node_of(nodes, head_of(place, word)) else {
+                    unreachable!()
+                };
+                self.walk::<K, F>(seat, frame, &probe, bucket, walk, nodes, node)
+            }
             Start::Done(seen) => Some(Probed { bucket, seen }),
         }
     }
 
-    /// Takes the lock of a bucket. A round ends without it where the word was found locked, or was
-    /// another one at the exchange.
+    /// Takes the lock of the bucket at this place, and answers the word before. A round ends without it
+    /// where the word was found locked, or was another one at the exchange. Each round begins with the
+    /// lock's first state, so the compiler keeps no state of it.
     #[inline(always)]
     fn lock<K: Ride, F: Frame<M, Probe, Probed>>(
         &self,
         seat: &mut Seat<(), SeatView<M>>,
         frame: &F,
         probe: &Probe,
-        lock: Lock,
-    ) -> Option<(Lock, u64)>
-        requires { IsRiding M.mix_of self.now K.riding (F.holding frame.now (record probe.now { at = at.Locking lock })) seat.old }
-        ensures { IfSome result (λ end. Stepped M.mix_of self.now K.riding (piece_next (λ p. F.holding frame.now p) (λ a. F.behind frame.now a) (probe_told probe.now (lock_taken probe.now.geometry probe.now.key end.0 (Done end.1)))) seat.new) }
+        place: usize,
+    ) -> Option<u64>
+        requires { IsRiding M.mix_of self.now K.riding (F.holding frame.now (record probe.now { at = at.Locking (lock_new place) })) seat.old }
+        ensures { IfSome result (λ word. Stepped M.mix_of self.now K.riding (piece_next (λ p. F.holding frame.now p) (λ a. F.behind frame.now a) (probe_told probe.now (lock_taken probe.now.geometry probe.now.key (record (lock_new place) { at = Exchange word }) (Done word)))) seat.new) }
     {
-        let mut lock = lock;
         for _ in 0..u64::MAX {
+            let lock = Lock::new(place);
             let word = self.probing::<K, F>(seat, frame, probe, ProbeAt::Locking { lock });
-            let (next, answer) = lock.after(word);
-            if let Next::Done(word) = answer {
-                return Some((next, word));
-            }
-            lock = next;
             if is_locked(word) {
                 continue;
             }
-            let word = self.probing::<K, F>(seat, frame, probe, ProbeAt::Locking { lock });
-            let (next, answer) = lock.after(word);
-            if let Next::Done(word) = answer {
-                return Some((next, word));
+            let (lock, _) = lock.after(word);
+            let found = self.probing::<K, F>(seat, frame, probe, ProbeAt::Locking { lock });
+            if found == word {
+                return Some(word);
             }
-            lock = next;
         }
         None
     }
 
-    /// Walks the chain of a bucket that is locked. A round loads a node's key and the link behind it.
+    /// Walks the chain of a bucket that is locked, from this node on. A round loads a node's key and the
+    /// link behind it. It begins with the walk before a key, so the compiler keeps no state of it.
     #[inline(always)]
     fn walk<K: Ride, F: Frame<M, Probe, Probed>>(
         &self,
@@ -88,12 +91,18 @@ impl<M: Mix> Table<M> {
         probe: &Probe,
         bucket: Locked,
         walk: LockedWalk,
+        nodes: u32,
+        node: u32,
     ) -> Option<Probed>
-        requires { IsRiding M.mix_of self.now K.riding (F.holding frame.now (record probe.now { at = at.Walking bucket walk })) seat.old }
+        requires nodes { walk.geometry.nodes ≡ nodes }
+        requires node { node < nodes }
+        requires riding { IsRiding M.mix_of self.now K.riding (F.holding frame.now (record probe.now { at = at.Walking bucket (record walk { at = Key node }) })) seat.old }
         ensures { IfSome result (λ end. Stepped M.mix_of self.now K.riding (F.behind frame.now end) seat.new) }
     {
         let mut walk = walk;
+        let mut node = node;
         for _ in 0..u64::MAX {
+            walk = walk.at_key(node);
             let key = self.probing::<K, F>(seat, frame, probe, ProbeAt::Walking { bucket, walk });
             let (next, answer) = walk.after(key);
             if let Next::Done(seen) = answer {
@@ -105,7 +114,11 @@ impl<M: Mix> Table<M> {
             if let Next::Done(seen) = answer {
                 return Some(Probed { bucket, seen });
             }
+            let Some(behind) = node_of(nodes, link) else {
+                unreachable!()
+            };
             walk = next;
+            node = behind;
         }
         None
     }

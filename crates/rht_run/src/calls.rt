@@ -12,6 +12,7 @@ ghost use Rattle.rht_run.specs.Rule.{MayBegin};
 ghost use Rattle.rht_run.specs.Passes.{IsPassOf, IsCalling, HasCalled, Turned, HasGone};
 ghost use Rattle.rht_run.specs.Caused.{IsCaused};
 
+use crate::finding::looked_up;
 use crate::pass::Pass;
 use crate::ride::clear_rooms;
 use crate::table::Table;
@@ -71,8 +72,9 @@ impl<M: Mix> Table<M> {
         ensures cause { IsCaused M.mix_of self.now (Find port) result pass.old pass.new }
     {
         clear_rooms(&mut pass.local);
-        self.drive_find::<R, Brand>(rt, &mut pass.seat, pass.number, port)
+        looked_up(self.drive_find::<R, Brand>(rt, &mut pass.seat, pass.number, port))
     }
+
     /// Binds a port to an owner, and is tried once alone: it may answer `Again`. The kernel's
     /// counterparts are `rhashtable_lookup_insert_key` and `rhltable_insert_key`.
     ///
@@ -187,7 +189,8 @@ impl<M: Mix> Table<M> {
         ensures reply { IsWorkReply result }
         ensures cause { IsCaused M.mix_of self.now Work result pass.old pass.new }
     {
-        self.call(rt, pass, Call::Work)
+        clear_rooms(&mut pass.local);
+        self.drive_work::<R, Brand>(rt, &mut pass.seat, pass.number)
     }
 
     /// Counts the bound ports: `Counted`. The ports bound where it loaded the count were at most so many,

@@ -3,7 +3,7 @@
 ghost use Rattle.std.specs.Prelude.{◌≡◌};
 ghost use Rattle.rht_model.specs.declared.history.Call.TheVariants.{Find as FindCall};
 ghost use Rattle.rht_core.specs.Locals.{doing_after};
-ghost use Rattle.rht_run.specs.Rides.{IsBefore, IsRiding, HasEnded, Stepped};
+ghost use Rattle.rht_run.specs.Rides.{IsBefore, IsRiding, HasEnded, Stepped, looked_up, owner_in};
 ghost use Rattle.rht_find.specs.declared.find.FindAt.TheVariants.{Locating};
 ghost use Rattle.rht_run.specs.Pieces.{nested_locate};
 ghost use Rattle.rht_run.specs.PieceFrames.{find_at};
@@ -22,7 +22,8 @@ use rht_words::{Env, Port, node_of, owner_of, slot_of, table_of, word_of};
 use std::sync::Wait;
 
 impl<M: Mix> Table<M> {
-    /// Looks the port up, from the first operation to the reply.
+    /// Looks the port up, from the first operation to the reply. It answers the port's first owner, which
+    /// goes back in registers where a reply would go through memory.
     #[inline(always)]
     pub(crate) fn drive_find<R: Wait, K: Ride>(
         &self,
@@ -30,11 +31,11 @@ impl<M: Mix> Table<M> {
         seat: &mut Seat<(), SeatView<M>>,
         number: u32,
         port: Port,
-    ) -> Reply
+    ) -> Option<u32>
         requires before { IsBefore M.mix_of self.now K.riding seat.old }
         requires number { K.riding.number ≡ number }
         requires call { K.riding.call ≡ FindCall port }
-        ensures { HasEnded M.mix_of self.now K.riding result seat.new }
+        ensures { HasEnded M.mix_of self.now K.riding (looked_up result) seat.new }
     {
         let env = self.env;
         let find = Find::<M>::new(env, number, port);
@@ -70,15 +71,14 @@ impl<M: Mix> Table<M> {
                 let at = FindAt::Future { table, bucket };
                 let future = slot_of(self.finding::<K>(seat, env, number, port, at));
                 let Some(next) = future else {
-                    let reply = Reply::Missing;
-                    let then = Then::Answer(reply);
+                    let then = Then::Answer(Reply::Missing);
                     let at = FindAt::Unlocking {
                         table,
                         unlock,
                         then,
                     };
                     self.finding::<K>(seat, env, number, port, at);
-                    return reply;
+                    return None;
                 };
                 let then = Then::Table(next);
                 let at = FindAt::Unlocking {
@@ -106,15 +106,14 @@ impl<M: Mix> Table<M> {
                 };
                 let link = self.finding::<K>(seat, env, number, port, at);
                 let Some(next) = node_of(env.geometry.nodes, link) else {
-                    let reply = Reply::Found { owner };
-                    let then = Then::Answer(reply);
+                    let then = Then::Answer(Reply::Found { owner });
                     let at = FindAt::Unlocking {
                         table,
                         unlock,
                         then,
                     };
                     self.finding::<K>(seat, env, number, port, at);
-                    return reply;
+                    return Some(owner);
                 };
                 let at = FindAt::LaterOwner {
                     table,
@@ -144,13 +143,14 @@ impl<M: Mix> Table<M> {
         table: u32,
         shape: u64,
         bucket: u32,
-    ) -> Reply
-        requires { IsRiding M.mix_of self.now K.riding (find_at self.now.env number port (Locating (nested_locate self.now.env.geometry table shape bucket))) seat.old }
-        ensures { HasEnded M.mix_of self.now K.riding result seat.new }
+    ) -> Option<u32>
+        requires call { K.riding.call ≡ FindCall port }
+        requires riding { IsRiding M.mix_of self.now K.riding (find_at self.now.env number port (Locating (nested_locate self.now.env.geometry table shape bucket))) seat.old }
+        ensures { HasEnded M.mix_of self.now K.riding (looked_up result) seat.new }
     {
         let locate = nested_locate(self.env.geometry, table, shape, bucket);
         let find = Find::<M>::new(self.env, number, port).with(FindAt::Locating { locate });
-        self.run_whole::<R, K, Find<M>, Whole>(rt, seat, &Whole, find)
+        owner_in(self.run_whole::<R, K, Find<M>, Whole>(rt, seat, &Whole, find))
     }
 
     /// The operation of the look-up in this state.
@@ -168,5 +168,26 @@ impl<M: Mix> Table<M> {
     {
         let find = Find::<M>::new(env, number, port).with(at);
         self.operate::<K, Reply, Find<M>, Whole>(seat, &Whole, &find)
+    }
+}
+
+/// The reply of a look-up: this is the port's first owner, or the port is missing.
+#[inline(always)]
+pub(crate) fn looked_up(owner: Option<u32>) -> Reply
+    ensures { result ≡ looked_up owner }
+{
+    match owner {
+        Some(owner) => Reply::Found { owner },
+        None => Reply::Missing,
+    }
+}
+
+/// The owner in the reply of a look-up.
+fn owner_in(reply: Reply) -> Option<u32>
+    ensures { result ≡ owner_in reply }
+{
+    match reply {
+        Reply::Found { owner } => Some(owner),
+        _ => None,
     }
 }

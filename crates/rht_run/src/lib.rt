@@ -15,6 +15,7 @@ mod closing;
 mod finding;
 mod layout;
 mod locating;
+mod moving;
 mod nodes;
 mod opening;
 mod pass;
@@ -29,6 +30,8 @@ mod seeks;
 mod serving;
 mod steps;
 mod table;
+mod work_pieces;
+mod working;
 
 pub use closing::NotClosed;
 pub use pass::Pass;

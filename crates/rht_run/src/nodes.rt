@@ -10,46 +10,48 @@ ghost use Rattle.rht_run.specs.Rides.{IsBefore, IsRiding, Stepped, piece_next};
 ghost use Rattle.rht_run.specs.Pieces.{new_node_told, node_then};
 
 use crate::pieces::Frame;
-use crate::ride::{Ride, never};
+use crate::ride::Ride;
 use crate::seats::SeatView;
 use crate::table::Table;
 use atomic_table::Seat;
 use rht_arena::{NewNode, NewNodeAt, TakeNode};
 use rht_policy::Mix;
-use rht_words::{Next, Port, word_of};
-use std::sync::Wait;
+use rht_words::{Geometry, Next, Port, word_of};
 
 impl<M: Mix> Table<M> {
-    /// Begins a call that takes a free node and fills it, and does so.
+    /// Begins a call that takes a free node and fills it, and does so. It answers that node, or that none
+    /// is free; `None` comes behind 2^64 - 1 rounds, which no run uses up.
     #[inline(always)]
-    pub(crate) fn begin_with_node<R: Wait, K: Ride, F: Frame<M, NewNode, Option<u32>>>(
+    pub(crate) fn begin_with_node<K: Ride, F: Frame<M, NewNode, Option<u32>>>(
         &self,
-        rt: &R,
         seat: &mut Seat<(), SeatView<M>>,
         frame: &F,
+        geometry: Geometry,
         port: Port,
         owner: u32,
-    ) -> Option<u32>
+    ) -> Option<Option<u32>>
         requires before { IsBefore M.mix_of self.now K.riding seat.old }
-        requires begins { machine_of self.now.env K.riding.number K.riding.call ≡ Some (F.holding frame.now (new_node_new self.now.env.geometry (word_of port) owner)) }
+        requires begins { machine_of self.now.env K.riding.number K.riding.call ≡ Some (F.holding frame.now (new_node_new geometry (word_of port) owner)) }
         requires admitted { IsAdmittedCall K.riding.call }
         requires built { IsBuiltFor self.now.env.config.kind K.riding.call }
-        ensures { Stepped M.mix_of self.now K.riding (F.behind frame.now result) seat.new }
+        ensures { IfSome result (λ taken. Stepped M.mix_of self.now K.riding (F.behind frame.now taken) seat.new) }
     {
-        let new = NewNode::new(self.env.geometry, word_of(port), owner);
+        let new = NewNode::new(geometry, word_of(port), owner);
         let word = self.begin::<K, Option<u32>, NewNode, F>(seat, frame, &new);
-        let take = TakeNode::new(self.env.geometry);
+        let take = TakeNode::new(geometry);
         let Some((take, answer)) = self.pass_over::<K, F>(seat, frame, &new, take, word) else {
-            never(rt);
-            unreachable!()
-        };
-        let Some(node) = self.take_node::<R, K, F>(rt, seat, frame, &new, take, answer) else {
             return None;
+        };
+        let Some(taken) = self.take_node::<K, F>(seat, frame, &new, take, answer) else {
+            return None;
+        };
+        let Some(node) = taken else {
+            return Some(None);
         };
         self.filling::<K, F>(seat, frame, &new, NewNodeAt::Key { node });
         self.filling::<K, F>(seat, frame, &new, NewNodeAt::Owner { node });
         self.filling::<K, F>(seat, frame, &new, NewNodeAt::ListLink { node });
-        Some(node)
+        Some(Some(node))
     }
 
     /// Goes over the words of the node map in which no bit is set, once the first word was looked at.
@@ -83,31 +85,29 @@ impl<M: Mix> Table<M> {
         None
     }
 
-    /// Takes a free node, once a word of the node map was looked at.
+    /// Takes a free node, once a word of the node map was looked at. It answers as `begin_with_node` does.
     #[inline(always)]
-    fn take_node<R: Wait, K: Ride, F: Frame<M, NewNode, Option<u32>>>(
+    fn take_node<K: Ride, F: Frame<M, NewNode, Option<u32>>>(
         &self,
-        rt: &R,
         seat: &mut Seat<(), SeatView<M>>,
         frame: &F,
         new: &NewNode,
         take: TakeNode,
         answer: Next<Option<u32>>,
-    ) -> Option<u32>
+    ) -> Option<Option<u32>>
         requires { Stepped M.mix_of self.now K.riding (piece_next (λ p. F.holding frame.now p) (λ a. F.behind frame.now a) (new_node_told new.now (node_taken take answer))) seat.old }
-        ensures { Stepped M.mix_of self.now K.riding (node_then (λ p. F.holding frame.now p) (λ a. F.behind frame.now a) new.now result) seat.new }
+        ensures { IfSome result (λ taken. Stepped M.mix_of self.now K.riding (node_then (λ p. F.holding frame.now p) (λ a. F.behind frame.now a) new.now taken) seat.new) }
     {
         let mut take = take;
         let mut answer = answer;
         for _ in 0..u64::MAX {
-            if let Next::Done(node) = answer {
-                return node;
+            if let Next::Done(taken) = answer {
+                return Some(taken);
             }
             let word = self.filling::<K, F>(seat, frame, new, NewNodeAt::Taking { take });
             (take, answer) = take.after(word);
         }
-        never(rt);
-        unreachable!()
+        None
     }
 
     /// The operation of a new node in this state.

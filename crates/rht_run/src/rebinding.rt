@@ -50,8 +50,13 @@ impl<M: Mix> Table<M> {
             owner,
             new,
         };
-        let Some(node) = self.begin_with_node::<R, K, RebindFilling>(rt, seat, &frame, port, new)
-        else {
+        let geometry = env.geometry;
+        let begun = self.begin_with_node::<K, RebindFilling>(seat, &frame, geometry, port, new);
+        let Some(taken) = begun else {
+            never(rt);
+            unreachable!()
+        };
+        let Some(node) = taken else {
             return Reply::NoNode;
         };
         let frame = RebindSeeking {
@@ -62,14 +67,8 @@ impl<M: Mix> Table<M> {
             node,
         };
         let at = SeekAt::CurrentTable;
-        let table = table_of(self.seeking::<K, RebindSeeking>(
-            seat,
-            &frame,
-            env.geometry,
-            port,
-            at,
-        ));
-        let Some(sought) = self.seek::<K, RebindSeeking>(seat, &frame, port, table) else {
+        let table = table_of(self.seeking::<K, RebindSeeking>(seat, &frame, geometry, port, at));
+        let Some(sought) = self.seek::<K, RebindSeeking>(seat, &frame, geometry, port, table) else {
             never(rt);
             unreachable!()
         };

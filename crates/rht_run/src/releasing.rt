@@ -48,7 +48,9 @@ impl<M: Mix> Table<M> {
             caller: number,
             owner,
         };
-        let Some(sought) = self.seek::<K, ReleaseSeeking>(seat, &frame, port, table) else {
+        let geometry = env.geometry;
+        let Some(sought) = self.seek::<K, ReleaseSeeking>(seat, &frame, geometry, port, table)
+        else {
             never(rt);
             unreachable!()
         };

@@ -36,13 +36,13 @@ impl<M: Mix> Table<M> {
         &self,
         seat: &mut Seat<(), SeatView<M>>,
         frame: &F,
+        geometry: Geometry,
         port: Port,
         table: u32,
     ) -> Option<Sought>
-        requires { IsRiding M.mix_of self.now K.riding (F.holding frame.now (port_seek self.now.env.geometry port (locating self.now.env.geometry table))) seat.old }
-        ensures { IfSome result (λ sought. Stepped M.mix_of self.now K.riding (sought_then (λ p. F.holding frame.now p) (λ a. F.behind frame.now a) self.now.env.geometry port sought) seat.new) }
+        requires { IsRiding M.mix_of self.now K.riding (F.holding frame.now (port_seek geometry port (locating geometry table))) seat.old }
+        ensures { IfSome result (λ sought. Stepped M.mix_of self.now K.riding (sought_then (λ p. F.holding frame.now p) (λ a. F.behind frame.now a) geometry port sought) seat.new) }
     {
-        let geometry = self.env.geometry;
         let mut table = table;
         for _ in 0..u64::MAX {
             let locating = SeekLocating {

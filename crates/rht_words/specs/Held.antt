@@ -8,6 +8,8 @@ pub record Held (Answer : Type 0) : Type 0 where
   -- the places of the bucket words that it has locked: of the first, and of a second one while it moves an entry
   pub lock : Option ℕ
   pub second : Option ℕ
+  -- it is in its read section
+  pub section : Bool
   -- it has raised the count of ports for a node that it hasn't linked yet, or has still to lower it
   pub raised : Bool
   -- it has the work lock, and has begun to move entries
@@ -27,6 +29,7 @@ holds_nothing = record {
   node = None;
   lock = None;
   second = None;
+  section = false;
   raised = false;
   worker = false;
   moving = false;

@@ -18,19 +18,3 @@ pub enum Start<T, R> {
     /// The answer, without an operation.
     Done(R),
 }
-
-/// Asserts that a machine performs these operations, list by list, which find these words, and that
-/// it is at its end, with this answer, behind the last one and not before.
-#[macro_export]
-macro_rules! assert_performs {
-    ($rt:expr; $machine:expr, $($steps:expr),+ => $answer:expr) => {{
-        let (mut machine, answer) = ($machine, $answer);
-        let mut next = $crate::Next::Go;
-        $(for (op, old) in $steps {
-            assert_eq!($rt; next, $crate::Next::Go, "before {op:?} to {answer:?}");
-            assert_eq!($rt; machine.plan(), *op, "to {answer:?}");
-            next = machine.take(*old);
-        })+
-        assert_eq!($rt; next, $crate::Next::Done(answer));
-    }};
-}

@@ -14,19 +14,14 @@ use Rattle.rht_words.proofs.Members.{count_below, In-AllByRecursion}
 use Rattle.rht_words.specs.declared.config.Kind.{Kind}
 use Rattle.rht_words.specs.declared.config.Kind.TheVariants.{Single, Listed}
 use Rattle.rht_words.specs.Operations.{applied}
+use Rattle.rht_words.specs.Held.{Held}
 use Rattle.rht_model.specs.Endings.{Ending}
 use Rattle.rht_model.specs.declared.history.Call.{Call}
-use Rattle.rht_model.specs.declared.history.Call.TheVariants.{Bind, Find, All, Release, Rebind, Work, Count}
-use Rattle.rht_find.specs.declared.find.FindAt.TheVariants.{CurrentTable}
-use Rattle.rht_bind.specs.Bind.{first_state}
-use Rattle.rht_release.specs.Seek.{seek_new, seek_plan_at}
-use Rattle.rht_release.specs.declared.all.AllAt.TheVariants as alls
+use Rattle.rht_model.specs.declared.history.Call.TheVariants.{Bind, Release}
+use Rattle.rht_release.specs.Seek.{seek_plan_at}
 use Rattle.rht_release.specs.declared.release.ReleaseAt.TheVariants.{Seeking}
-use Rattle.rht_release.specs.Rebind as rebind
-use Rattle.rht_move.specs.declared.work.WorkAt.TheVariants as works_at
-use Rattle.rht_callers.specs.Locals.{room_for_nodes}
 use Rattle.rht_core.specs.declared.event.Event.{Event}
-use Rattle.rht_core.specs.Jobs.{Job, finds, binds, releases, rebinds, lists, works, counts, job_of, call_of, first_job, first_rebind, job_after, held_of}
+use Rattle.rht_core.specs.Jobs.{Job, binds, releases, job_of, call_of, job_after, held_of}
 use Rattle.rht_core.specs.Runs.{World, IsAdmitted, local_of, run_of}
 use Rattle.rht_core.specs.Traces.{Did, traced_of}
 use Rattle.rht_core.specs.Seen.{words_before}
@@ -45,13 +40,13 @@ use Rattle.rht_release.specs.declared.seek.SeekAt.TheVariants as seeks
 use Rattle.rht_ghost.proofs.Theory.Answering.{Says}
 use Rattle.rht_ghost.proofs.Theory.Steps.{by_test}
 use Rattle.rht_core.proofs.Meaning.BoundPorts.{stands_for_bound}
-use Rattle.rht_core.proofs.Events.JobsOfCallers.{same_call}
+use Rattle.rht_core.proofs.Events.JobsOfCallers.{same_call, first_holds}
 use Rattle.rht_core.proofs.Reasons.UnraisedBinds.{locate-none, probe-none, relink-none}
 use Rattle.rht_stands.specs.StandsFor.{stands_for}
 use Rattle.rht_core.proofs.Machines.JobSteps.{JobStepOf}
+use Rattle.rht_core.proofs.Machines.NeverHeld.{IsUnraised, job-unraised}
 use Rattle.rht_core.proofs.Tracing.TracedJobs.{Performs, StandsIn, LeadsOn, IsAtJob, jobs_keep_standing}
 use Rattle.rht_core.proofs.Tracing.TracedRuns.{world-traced_of}
-use Rattle.rht_core.proofs.Counting.FullTables.{find-unraised, all-unraised, rebind-unraised, work-unraised}
 use Rattle.rht_core.proofs.Counting.NumbersBelow.{having, having-length, having-among, having-distinct, having-in, having-out}
 use Rattle.rht_core.proofs.Counting.RaisingCallers.{raised_by, is_raising}
 use Rattle.rht_core.proofs.Counting.StepsAhead.{Turns, turned}
@@ -186,21 +181,6 @@ module _ (M : Type 0) (mix : ℕ → ℕ → ℕ → ℕ) (env : Env) (events : 
   Keeps (Release port owner) did = IsRaise env.geometry did → ⊥
   Keeps _ did = Unit {0}
 
-  -- where a call is of neither kind, it raises nothing
-  abbrev MayLead : Call → Bool → Type 0
-  MayLead (Bind port owner once) raised = Unit {0}
-  MayLead (Release port owner) raised = Unit {0}
-  MayLead _ raised = raised ≡ false
-
-  may_lead : (job : Job) → MayLead (call_of job) (held_of job).raised
-  may_lead (finds port state) = find-unraised state
-  may_lead (binds port owner once state) = tt
-  may_lead (lists port room state) = all-unraised room.items state
-  may_lead (releases port owner state) = tt
-  may_lead (rebinds port owner new state) = rebind-unraised state
-  may_lead (works state) = work-unraised state
-  may_lead counts = refl
-
   job_keeps : (job : Job) (did : Did) (performs : Performs mix env job did) → StandsIn mix env words_at job did performs
       → Keeps (call_of job) did
   job_keeps (binds port owner once state) did performs stands = λ last.
@@ -212,11 +192,7 @@ module _ (M : Type 0) (mix : ℕ → ℕ → ℕ → ℕ) (env : Env) (events : 
       (sym after ∙ subst (λ ws. stands_for env.geometry ws p ≡ []) (sym stands.next) none)))
   job_keeps (releases port owner state) did performs stands = λ raise.
       release-none env.geometry env state (sym performs.planned ∙ raise)
-  job_keeps (finds port state) did performs stands = tt
-  job_keeps (lists port room state) did performs stands = tt
-  job_keeps (rebinds port owner new state) did performs stands = tt
-  job_keeps (works state) did performs stands = tt
-  job_keeps counts did performs stands = tt
+  job_keeps _ did performs stands = tt
 
   -- ---- jobs
 
@@ -260,29 +236,6 @@ module _ (M : Type 0) (mix : ℕ → ℕ → ℕ → ℕ) (env : Env) (events : 
                 (AllByRecursion-push (Keeps (call_of job)) steps did so_far.keeps (job_keeps job did performs stands));
           }
 
-  -- a call begins with nothing raised
-  first_unraised : (call : Call) (job : Job) → first_job env call ≡ Some job → (held_of job).raised ≡ false
-  first_unraised (Find port) job is = subst (λ j. (held_of j).raised ≡ false) (let here : finds port CurrentTable ≡ job = cc in here) refl
-  first_unraised (Bind port owner once) job is =
-      subst (λ j. (held_of j).raised ≡ false) (let here : binds port owner once (first_state env port owner) ≡ job = cc in here) refl
-  first_unraised (All port) job is =
-      subst (λ j. (held_of j).raised ≡ false)
-      (let here : lists port (room_for_nodes env) (alls.Seeking (seek_new env.geometry)) ≡ job = cc in here) refl
-  first_unraised (Release port owner) job is =
-      subst (λ j. (held_of j).raised ≡ false) (let here : releases port owner (Seeking (seek_new env.geometry)) ≡ job = cc in here) refl
-  first_unraised (Rebind port owner new) job is = go env.config.kind is
-    where
-      go : (kind : Kind) → first_rebind env port owner new kind ≡ Some job → (held_of job).raised ≡ false
-      go Single same =
-          subst (λ j. (held_of j).raised ≡ false)
-          (let here : rebinds port owner new (rebind.first_state env port new) ≡ job = cc in here)
-          (rebind-unraised (rebind.first_state env port new))
-      go Listed same = absurd (cc)
-  first_unraised Work job is =
-      subst (λ j. (held_of j).raised ≡ false) (let here : works works_at.WorkLock ≡ job = cc in here) refl
-  first_unraised Count job is = subst (λ j. (held_of j).raised ≡ false) (let here : counts ≡ job = cc in here) refl
-  first_unraised _ job is = absurd (cc)
-
   -- ---- callers
 
   module _ (admitted : IsAdmitted env.config.kind events) where
@@ -298,7 +251,7 @@ module _ (M : Type 0) (mix : ℕ → ℕ → ℕ → ℕ) (env : Env) (events : 
         (world-traced_of M mix env events)
         (jobs_keep_standing M mix env JobShows NothingOfEnded events record {
           begins = λ call job is.
-              record { shows = subst (λ b. Shows b []) (sym (first_unraised call job is)) none_ahead; keeps = tt };
+              record { shows = subst (λ (h : Held Answer). Shows h.raised []) (sym (first_holds env call job is)) none_ahead; keeps = tt };
           goes = job_goes;
         } c admitted).now
 
@@ -323,7 +276,7 @@ module _ (M : Type 0) (mix : ℕ → ℕ → ℕ → ℕ) (env : Env) (events : 
     raised-ahead c is = go (job_of (local_of w.core c).doing) is (at_job c)
       where
         led : (call : Call) → (w.books c).call ≡ Some call → Ahead (steps_of c) → AllByRecursion (Keeps call) (steps_of c)
-            → MayLead call true → IsAheadBy M mix env events c
+            → IsUnraised call true → IsAheadBy M mix env events c
         led (Bind port owner once) is_call is keeps may =
             inl (
               port,
@@ -354,7 +307,7 @@ module _ (M : Type 0) (mix : ℕ → ℕ → ℕ → ℕ) (env : Env) (events : 
         go None raised at = absurd (cc)
         go (Some job) raised at =
             led (call_of job) at.call (subst (λ b. Shows b (steps_of c)) raised at.now.shows) at.now.keeps
-            (subst (MayLead (call_of job)) raised (may_lead job))
+            (subst (IsUnraised (call_of job)) raised (job-unraised job))
 
     ahead-raised : (c : ℕ) → IsAheadBy M mix env events c → is_raising (local_of w.core c).doing ≡ true
     ahead-raised c by = go (job_of (local_of w.core c).doing) (at_job c)

@@ -1,25 +1,20 @@
 -- Which job attaches a table: a bind or a resizing that has the table's slot, and is at the exchange that does so. No other operation of
--- theirs is an exchange of a future, and no other job has one.
-use Rattle.std.proofs.Common.{◌≡◌, ℕ, ◌<◌, Bool, ap}
+-- theirs is an exchange of a future, and no other job has a slot.
+use Rattle.std.proofs.Common.{◌≡◌, ℕ, ◌<◌, Bool, refl, ap}
 use Rattle.std.specs.Prelude.{Some}
 use Rattle.rht_words.specs.declared.op.Op.{Op}
 use Rattle.rht_words.specs.declared.op.Op.TheVariants.{Exchange}
 use Rattle.rht_words.specs.declared.env.Env.{Env}
 use Rattle.rht_words.specs.Links.{future_of}
 use Rattle.rht_words.specs.Places.{Slot, FutureWord, place_of}
-use Rattle.rht_find.specs.Find as find
-use Rattle.rht_release.specs.All as all
-use Rattle.rht_release.specs.Release as release
-use Rattle.rht_release.specs.Rebind as rebind
 use Rattle.rht_bind.specs.declared.bind.growth.Growing.{Growing}
 use Rattle.rht_bind.specs.declared.bind.BindAt.{BindAt}
 use Rattle.rht_bind.specs.declared.bind.BindAt.TheVariants as bind_at
 use Rattle.rht_move.specs.declared.work.WorkAt.{WorkAt}
 use Rattle.rht_move.specs.declared.work.WorkAt.TheVariants as work_at
-use Rattle.rht_core.specs.Jobs.{Job, finds, binds, lists, releases, rebinds, works, counts, job_plan, held_of}
-use Rattle.rht_core.proofs.Machines.JobSteps.{JobIn}
+use Rattle.rht_core.specs.Jobs.{Job, binds, works, job_plan, held_of}
+use Rattle.rht_core.proofs.Machines.NeverHeld.{tableless, slotless}
 use Rattle.rht_core.proofs.Reasons.AttachedTables.{make-none, unmake-none, relink-none}
-use Rattle.rht_core.proofs.Counting.SparedSlots.{spares-none, find-spares, all-spares, release-spares, rebind-spares}
 
 -- the bind, or the resizing, is about to attach the table of this slot
 pub record IsBindAttaching (state : BindAt) (slot : ℕ) : Type 0 where
@@ -38,7 +33,7 @@ IsAttachingJob (binds port owner once state) slot = IsBindAttaching state slot
 IsAttachingJob (works state) slot = IsWorkAttaching state slot
 IsAttachingJob _ slot = ⊥
 
-module _ (env : Env) (mix : ℕ → ℕ → ℕ → ℕ) (last slot : ℕ) (low : last < 8) where
+module _ (env : Env) (last slot : ℕ) (low : last < 8) where
   -- the operation would attach the slot's table behind that of another
   abbrev pub attaching : Op
   attaching = Exchange (place_of env.geometry (Slot last FutureWord)) 0 (future_of slot)
@@ -67,16 +62,7 @@ module _ (env : Env) (mix : ℕ → ℕ → ℕ → ℕ) (last slot : ℕ) (low 
       absurd (unmake-none env.geometry unmake.geometry unmake.slot unmake.at last 0 (future_of slot) low plans)
   work-attaches _ has plans = absurd (cc)
 
-  pub job-attaches : (c : ℕ) (job : Job) → JobIn env mix c job → (held_of job).slot ≡ Some slot → job_plan env job ≡ attaching
-      → IsAttachingJob job slot
-  job-attaches c (binds port owner once state) within has plans = bind-attaches port owner once state has plans
-  job-attaches c (works state) within has plans = work-attaches state has plans
-  job-attaches c (finds port state) within has plans =
-      spares-none env (find.plan_at env state) last 0 (future_of slot) (find-spares env state within) low plans
-  job-attaches c (lists port room state) within has plans =
-      spares-none env (all.plan_at env state) last 0 (future_of slot) (all-spares env state within.at_in) low plans
-  job-attaches c (releases port owner state) within has plans =
-      spares-none env (release.plan_at env state) last 0 (future_of slot) (release-spares env state within) low plans
-  job-attaches c (rebinds port owner new state) within has plans =
-      spares-none env (rebind.plan_at env state) last 0 (future_of slot) (rebind-spares env state within.at_in) low plans
-  job-attaches c counts within has plans = absurd (cc)
+  pub job-attaches : (job : Job) → (held_of job).slot ≡ Some slot → job_plan env job ≡ attaching → IsAttachingJob job slot
+  job-attaches (binds port owner once state) has plans = bind-attaches port owner once state has plans
+  job-attaches (works state) has plans = work-attaches state has plans
+  job-attaches job has plans = absurd (slotless (tableless job refl) slot has)

@@ -5,6 +5,7 @@ use Rattle.std.proofs.Common.{◌≡◌, ℕ, ◌+◌, ◌%◌, ◌^◌, ◌≤�
 use Rattle.std.specs.Prelude.{Option, Some, None}
 use Rattle.std.specs.List.{AllByRecursion, slice_get}
 use Rattle.std.proofs.lemmas.Option.{slice_get_within, get_or_from_slice_get}
+use Rattle.std.proofs.lemmas.Bool.{both_ways}
 use Rattle.std.proofs.lemmas.List.Elements.{All-from_recursion}
 use Rattle.rht_words.specs.declared.op.Op.{Op}
 use Rattle.rht_words.specs.declared.op.Op.TheVariants.{Load, Add, Sub}
@@ -17,7 +18,7 @@ use Rattle.rht_chain.specs.Relink.{has_relinked}
 use Rattle.rht_bind.specs.BindHeld.{held_of_bind}
 use Rattle.rht_bind.specs.declared.bind.BindAt.{BindAt}
 use Rattle.rht_bind.specs.declared.bind.BindAt.TheVariants as at
-use Rattle.rht_core.specs.Jobs.{Job, finds, binds, releases, rebinds, lists, works, counts, job_of, held_of}
+use Rattle.rht_core.specs.Jobs.{Job, binds, releases, job_of, held_of}
 use Rattle.rht_release.specs.declared.found_port.FoundPort.{FoundPort}
 use Rattle.rht_release.specs.ReleaseHeld.{held_of_release, holds_relinking}
 use Rattle.rht_release.specs.declared.release.ReleaseAt.{ReleaseAt}
@@ -27,7 +28,7 @@ use Rattle.rht_core.specs.declared.event.Event.TheVariants.{Step}
 use Rattle.rht_core.specs.Runs.{Core, World, local_of, planned_in, run_of, IsAdmitted, IsAdmittedEvent}
 use Rattle.rht_core.specs.Traces.{Did}
 use Rattle.rht_core.specs.Laws.{IsRecorded}
-use Rattle.rht_core.proofs.Counting.FullTables.{find-unraised, front-unraised, relinking-unraised, rebind-unraised, all-unraised, work-unraised, taken}
+use Rattle.rht_core.proofs.Counting.FullTables.{front-unraised, relinking-unraised, taken}
 use Rattle.rht_core.proofs.Events.Worlds.{run_of-push, stepped_words}
 use Rattle.rht_ghost.proofs.Theory.Ghosts.{Ghost, taken_is}
 use Rattle.rht_ghost.proofs.Theory.Knowns.{KnownList, LeadsTo}
@@ -35,6 +36,7 @@ use Rattle.rht_ghost.proofs.Theory.Knowledge.{HasTakenOut, BucketMeans}
 use Rattle.rht_ghost.proofs.Theory.Steps.{mem}
 use Rattle.rht_release.proofs.ReleaseKnowledge.{known_relinking}
 use Rattle.rht_core.proofs.Machines.JobSteps.{JobKnows}
+use Rattle.rht_core.proofs.Machines.NeverHeld.{job-unraised}
 use Rattle.rht_core.proofs.Events.Invariants.{Knows, Inv}
 use Rattle.rht_core.proofs.Events.InvariantRuns.{has_inv}
 use Rattle.rht_core.proofs.Counting.RaisedNodes.{OwnNode, few_used}
@@ -77,13 +79,9 @@ module _ (env : Env) (mix : ℕ → ℕ → ℕ → ℕ) (c : ℕ) (M : Memory) 
   release-own port owner _ knows is = absurd (cc)
 
   job-own : (job : Job) → JobKnows env mix c job M G → (held_of job).raised ≡ true → OwnNode env G c
-  job-own (finds port state) knows is = let none = find-unraised state in absurd (cc)
   job-own (binds port owner once state) knows is = bind-own port owner once state knows is
-  job-own (lists port room state) knows is = let none = all-unraised room.items state in absurd (cc)
   job-own (releases port owner state) knows is = release-own port owner state knows is
-  job-own (rebinds port owner new state) knows is = let none = rebind-unraised state in absurd (cc)
-  job-own (works state) knows is = let none = work-unraised state in absurd (cc)
-  job-own counts knows is = absurd (cc)
+  job-own job knows is = absurd (both_ways _ (job-unraised job) is)
 
   -- who has raised the count has a node of its own
   raised-own : (job : Option Job) → Knows env mix c job M G → G.raised c ≡ true → OwnNode env G c

@@ -282,5 +282,5 @@ module _ (M : Type 0) (mix : ℕ → ℕ → ℕ → ℕ) where
             (λ c works. let none = (knows c).only.works works in cc)
             no_slot
             (λ c p is. (knows c).only.pages_in p is);
-        sections = in_no_section env mix M events admitted;
+        sections = λ c below. in_no_section env mix M events admitted c below (quiet c);
       }

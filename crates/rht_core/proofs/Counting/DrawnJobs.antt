@@ -1,6 +1,6 @@
 -- Which draw of a serial a job has: a making that has drawn one stores it in its slot, so that the table which it attaches has it.
 use Rattle.std.proofs.Common.{◌≡◌, ◌≢◌, ℕ, ◌+◌, ◌%◌, ◌^◌, Bool, true, false, List, length, cond, nat_lt, refl, sym, ap, ◌∙◌, subst}
-use Rattle.std.specs.Prelude.{Option, Some, None, IfSome, ◌==◌}
+use Rattle.std.specs.Prelude.{Option, Some, None, ◌==◌}
 use Rattle.rht_words.specs.declared.env.Env.{Env}
 use Rattle.rht_words.specs.declared.geometry.Geometry.{Geometry}
 use Rattle.rht_words.specs.declared.machine.Next.{Next}
@@ -10,6 +10,7 @@ use Rattle.rht_words.specs.declared.machine.Start.TheVariants as starts
 use Rattle.rht_words.specs.Operations.{old_of, applied}
 use Rattle.rht_words.specs.Places.{Slot, SerialWord, words_in}
 use Rattle.rht_words.proofs.Memory.{Memory, is_write}
+use Rattle.rht_model.specs.declared.history.Call.{Call}
 use Rattle.rht_model.specs.Endings.{Ending, plain_ending}
 use Rattle.rht_arena.specs.TakeRun.{TakeRunModel, take_run_new, take_run_after}
 use Rattle.rht_nest.specs.Make.{MakeModel, IsMakeIn, make_plan, make_plan_at, IsMakeAtIn, make_after, make_after_at, may_nest, made_pages, no_run, run_taken, run_started, top_taken, slot_seen}
@@ -21,18 +22,16 @@ use Rattle.rht_bind.specs.declared.bind.BindAt.TheVariants as bind_at
 use Rattle.rht_move.specs.Work as work
 use Rattle.rht_move.specs.declared.work.WorkAt.{WorkAt}
 use Rattle.rht_move.specs.declared.work.WorkAt.TheVariants as work_at
-use Rattle.rht_find.specs.Find as find
-use Rattle.rht_release.specs.All as all
-use Rattle.rht_release.specs.Release as release
-use Rattle.rht_release.specs.Rebind as rebind
-use Rattle.rht_core.specs.Jobs.{Job, finds, binds, lists, releases, rebinds, works, counts, listing_ending, node_ending, job_plan, job_next, job_after, told}
+use Rattle.rht_core.specs.Jobs.{Job, binds, works, call_of, first_job, job_plan, job_next, job_after, told}
 use Rattle.rht_ghost.proofs.Theory.Ghosts.{Ghost}
 use Rattle.rht_ghost.proofs.Theory.Reliance.{HoldingsStay}
 use Rattle.rht_ghost.proofs.Theory.Steps.{mem, by_test}
 use Rattle.rht_core.proofs.Machines.JobSteps.{JobIn, JobKnows}
+use Rattle.rht_core.proofs.Machines.NeverHeld.{may_make}
 use Rattle.rht_core.proofs.Counting.AttachingJobs.{IsAttachingJob}
 use Rattle.rht_core.proofs.Counting.MakingWorks.{MakeGoes, WorkMakes, work-leads}
 use Rattle.rht_core.proofs.Counting.MakingBinds.{BindMakes, bind-leads}
+use Rattle.rht_core.proofs.Counting.MakingJobs.{JobMakes, MakesLeft, told-makes, others-make, begins-making}
 use Rattle.rht_core.proofs.Counting.SerialDraws.{IsDrawing, DrawsBind, DrawsWork, DrawsJob}
 
 -- this word is the serial of the draw with this number; of no draw there is none
@@ -49,25 +48,38 @@ MakesOf has (makes.Serial slot nested page serial) = IsOfDraw has serial
 MakesOf has _ = Unit {0}
 
 -- so has the slot of a table that is about to be attached
-abbrev pub DrawnBind : Memory → Option ℕ → BindAt → Type 0
-DrawnBind M has state =
-    BindMakes (λ shape. Unit {0}) (λ make. MakesOf has make.at) (λ slot shape. IsOfDraw has (M (Slot slot SerialWord))) state
+module _ (M : Memory) (has : Option ℕ) where
+  abbrev Any : ℕ → Type 0
+  Any shape = Unit {0}
 
-abbrev pub DrawnWork : Memory → Option ℕ → WorkAt → Type 0
-DrawnWork M has state =
-    WorkMakes (λ shape. Unit {0}) (λ make. MakesOf has make.at) (λ slot shape. IsOfDraw has (M (Slot slot SerialWord))) state
+  abbrev Makes : MakeModel → Type 0
+  Makes make = MakesOf has make.at
 
-abbrev pub DrawnJob : Memory → Option ℕ → Job → Type 0
-DrawnJob M has (finds port state) = Unit {0}
-DrawnJob M has (binds port owner once state) = DrawnBind M has state
-DrawnJob M has (lists port room state) = Unit {0}
-DrawnJob M has (releases port owner state) = Unit {0}
-DrawnJob M has (rebinds port owner new state) = Unit {0}
-DrawnJob M has (works state) = DrawnWork M has state
-DrawnJob M has counts = Unit {0}
+  abbrev Has : ℕ → ℕ → Type 0
+  Has slot shape = IsOfDraw has (M (Slot slot SerialWord))
 
-abbrev pub DrawnLeft : Memory → Option ℕ → Option Job → Type 0
-DrawnLeft M has job = IfSome job (DrawnJob M has)
+  abbrev pub DrawnBind : BindAt → Type 0
+  DrawnBind state = BindMakes Any Makes Has state
+
+  abbrev pub DrawnWork : WorkAt → Type 0
+  DrawnWork state = WorkMakes Any Makes Has state
+
+  abbrev pub DrawnJob : Job → Type 0
+  DrawnJob job = JobMakes Any Makes Has job
+
+  abbrev pub DrawnLeft : Option Job → Type 0
+  DrawnLeft job = MakesLeft Any Makes Has job
+
+  told-of : {S A : Type 0} (job : S → Job) (ending : A → Ending) (next : S × Next A) → DrawnJob (job next.0)
+      → DrawnLeft (told (job_next job ending next)).0
+  told-of job ending next of = told-makes Any Makes Has job ending next of
+
+  other-of : (mix : ℕ → ℕ → ℕ → ℕ) (env : Env) (job : Job) (old : ℕ) → may_make (call_of job) ≡ false
+      → DrawnLeft (told (job_after mix env job old)).0
+  other-of mix env job old none = others-make Any Makes Has mix env job old none
+
+  pub begins-drawn : (env : Env) (call : Call) (job : Job) → first_job env call ≡ Some job → DrawnJob job
+  begins-drawn env call job is = begins-making Any Makes Has env call job is
 
 -- the job makes a table
 abbrev pub IsMakingBind : BindAt → Type 0
@@ -177,11 +189,6 @@ module _ (env : Env) (mix : ℕ → ℕ → ℕ → ℕ) (words : List ℕ) (all
             (is_write env.geometry words (Slot slot SerialWord) (make_plan_at env.geometry make.exponent make.seed (makes.Serial slot nested page serial))
             all_words (slot_in, tt) refl).same
 
-  told-of : {S A : Type 0} (M : Memory) (has : Option ℕ) (job : S → Job) (ending : A → Ending) (next : S × Next A)
-      → DrawnJob M has (job next.0) → DrawnLeft M has (told (job_next job ending next)).0
-  told-of M has job ending (state, Go) of = of
-  told-of M has job ending (state, Done end) of = tt
-
   module _ (was now : Option ℕ) where
     -- the words behind an operation of the job
     abbrev behind : Job → Memory
@@ -243,20 +250,7 @@ module _ (env : Env) (mix : ℕ → ℕ → ℕ → ℕ) (words : List ℕ) (all
     job-on c (works state) within draws same of =
         told-of (behind (works state)) now works plain_ending (work.after_at mix env state (old_of words (work.plan_at env state)))
         (work-on state within draws same of)
-    job-on c (finds port state) within draws same of =
-        told-of (behind (finds port state)) now (finds port) plain_ending
-        (find.after_at mix env port state (old_of words (find.plan_at env state))) tt
-    job-on c (lists port room state) within draws same of =
-        let old = old_of words (all.plan_at env state) in
-        told-of (behind (lists port room state)) now (lists port (all.room_after state room old))
-        (listing_ending (all.room_after state room old)) (all.after_at mix env port state old) tt
-    job-on c (releases port owner state) within draws same of =
-        told-of (behind (releases port owner state)) now (releases port owner) node_ending
-        (release.after_at mix env port owner state (old_of words (release.plan_at env state))) tt
-    job-on c (rebinds port owner new state) within draws same of =
-        told-of (behind (rebinds port owner new state)) now (rebinds port owner new) node_ending
-        (rebind.after_at mix env port owner state (old_of words (rebind.plan_at env state))) tt
-    job-on c counts within draws same of = tt
+    job-on c job within draws same of = other-of (behind job) now mix env job (old_of words (job_plan env job)) refl
 
 -- ---- another caller
 

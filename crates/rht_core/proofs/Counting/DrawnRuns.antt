@@ -3,23 +3,20 @@
 -- By induction over the events, with the ghost: an operation draws a serial for its caller, or attaches the caller's table, which has the
 -- caller's draw from then on, or leaves all draws.
 use Rattle.std.proofs.Common.{◌≡◌, ◌≢◌, ℕ, suc, ◌+◌, ◌%◌, ◌^◌, ◌<◌, ◌⊎◌, cond, List, [], ◌∷◌, refl, sym, ap, ◌∙◌, subst, inl, inr, arith}
-use Rattle.std.specs.Prelude.{Option, Some, None, IfSome, ◌==◌}
+use Rattle.std.specs.Prelude.{Option, Some, None, ◌==◌}
 use Rattle.std.proofs.lemmas.Bool.{cases_eq, eq-eqb, ne_eqb}
 use Rattle.rht_words.specs.declared.op.Op.{Op}
 use Rattle.rht_words.specs.declared.op.Op.TheVariants.{Add}
 use Rattle.rht_words.specs.declared.env.Env.{Env}
-use Rattle.rht_words.specs.declared.config.Kind.{Kind}
-use Rattle.rht_words.specs.declared.config.Kind.TheVariants.{Single, Listed}
 use Rattle.rht_words.specs.Operations.{op_place, old_of, word_after, applied}
 use Rattle.rht_words.specs.Places.{NextSerial, Slot, SerialWord, EnrolledCallers, word_at}
 use Rattle.rht_words.proofs.Memory.{Memory, is_write}
 use Rattle.rht_words.proofs.OpeningLaws.{stand_in_place}
 use Rattle.rht_model.specs.declared.history.Call.{Call}
-use Rattle.rht_model.specs.declared.history.Call.TheVariants.{Rebind}
 use Rattle.rht_callers.specs.declared.local.Doing.{Doing}
 use Rattle.rht_core.specs.declared.event.Event.{Event}
 use Rattle.rht_core.specs.declared.event.Event.TheVariants.{Enroll, Begin, Step}
-use Rattle.rht_core.specs.Jobs.{Job, first_job, first_rebind, job_of, job_plan, job_after, told, held_of, held_next}
+use Rattle.rht_core.specs.Jobs.{Job, job_of, job_plan, job_after, told, held_of, held_next}
 use Rattle.rht_core.specs.Runs.{World, View, enrolling, opening, local_of, planned_in, beginning_in, view_of, world_step, run_from, run_of, IsAdmitted, IsAdmittedEvent}
 use Rattle.rht_core.specs.Tables.{next_serial, drawn_from}
 use Rattle.rht_ghost.proofs.Theory.Ghosts.{Ghost, put, put-all, put-same, put-other, table_at, Table, made_table}
@@ -28,14 +25,14 @@ use Rattle.rht_ghost.proofs.Theory.Ways.{entered_table}
 use Rattle.rht_ghost.proofs.Theory.Steps.{Move, Attaches, Enters, ReadyFor, Does, ghost_after, mem}
 use Rattle.rht_core.proofs.Events.Invariants.{Knows, Inv, StepOf, kept, enrolled}
 use Rattle.rht_core.proofs.Events.InvariantRuns.{opening_ghost, opening_inv, idle_at_opening}
-use Rattle.rht_core.proofs.Events.JobsOfCallers.{first-so, first_job-machine, left-job}
+use Rattle.rht_core.proofs.Events.JobsOfCallers.{first_job-machine, left-job}
 use Rattle.rht_core.proofs.Events.RangesInRuns.{AllIn, opens-all, event-all}
 use Rattle.rht_core.proofs.Events.SoundRuns.{has_place, made_in}
 use Rattle.rht_core.proofs.Events.Worlds.{beginning-some, planned-some, begin_none, begin_self, begin_other, step_none, step_self, step_other, step_words}
 use Rattle.rht_core.proofs.Counting.AttachingJobs.{IsAttachingJob, job-attaches}
 use Rattle.rht_core.proofs.Counting.SerialDraws.{SparesSerial, spared_serial, DrawsJob, job-draws, job-adds, adds-not_spared}
 use Rattle.rht_core.proofs.Counting.TableDraws.{AreDrawn, SameSerials, AreGrown, still-drawn, more-drawn, attached-drawn, none-grown, grown-on}
-use Rattle.rht_core.proofs.Counting.DrawnJobs.{IsOfDraw, DrawnJob, DrawnLeft, IsMakingJob, attaching-makes, attaching-draws, attaching-has, job-on, job-still}
+use Rattle.rht_core.proofs.Counting.DrawnJobs.{IsOfDraw, DrawnLeft, IsMakingJob, begins-drawn, attaching-makes, attaching-draws, attaching-has, job-on, job-still}
 
 -- ---- moves of the ghost
 
@@ -97,15 +94,6 @@ module _ (env : Env) (mix : ℕ → ℕ → ℕ → ℕ) where
       pub now : HasDrawn v count
       pub grown : AreGrown has.ghost has.of_table now.ghost now.of_table
 
-    first_rebind-drawn : (M : Memory) (has : Option ℕ) (port owner new : ℕ) (kind : Kind)
-        → IfSome (first_rebind env port owner new kind) (DrawnJob M has)
-    first_rebind-drawn M has port owner new Single = tt
-    first_rebind-drawn M has port owner new Listed = tt
-
-    first-drawn : (M : Memory) (has : Option ℕ) (call : Call) → IfSome (first_job env call) (DrawnJob M has)
-    first-drawn M has (Rebind port owner new) = first_rebind-drawn M has port owner new env.config.kind
-    first-drawn M has _ = tt
-
     module _ (w : World L) (drawn : ℕ) (has : HasDrawn w drawn) where
       abbrev M : Memory
       M = memory_of w
@@ -166,7 +154,7 @@ module _ (env : Env) (mix : ℕ → ℕ → ℕ → ℕ) where
             let does = subst (λ m. Does env mix m op (old_of w.core.words op) (held_of of.job)
             (held_next (job_after mix env of.job (old_of w.core.words op)))) at.is of.step.does in
             let ready = subst (ReadyFor env mix c M has.ghost) at.is of.step.ready in
-            let there = job-attaches env mix does.last at.slot does.within c of.job of.within does.has (sym of.plan ∙ does.attaching) in
+            let there = job-attaches env does.last at.slot does.within of.job does.has (sym of.plan ∙ does.attaching) in
             let same : after NextSerial ≡ M NextSerial = elim (job-draws env mix c of.job of.within) [
               | inl spares ↦ spared_serial w.core.words op (subst SparesSerial (sym of.plan) spares)
               | inr draws_it ↦ absurd (attaching-draws at.slot of.job there draws_it)
@@ -339,7 +327,7 @@ module _ (env : Env) (mix : ℕ → ℕ → ℕ → ℕ) where
               subst (λ (view : View L). DrawnLeft M (has.of_caller c) (job_of view.local.doing))
               (sym (begin_self L mix w c call machine is place))
               (subst (DrawnLeft M (has.of_caller c)) (sym first.does)
-              (first-so (DrawnJob M (has.of_caller c)) (first_job env call) first.job (first-drawn M (has.of_caller c) call) first.first))
+              (begins-drawn M (has.of_caller c) env call first.job first.first))
 
       step-drawn : (c : ℕ) (plan : Option Op) → IsAdmittedEvent env.config.kind (Step c) → planned_in w.core c ≡ plan
           → Counted (world_step mix w (Step c))

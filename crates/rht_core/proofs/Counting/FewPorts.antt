@@ -2,15 +2,13 @@
 --
 -- By induction over the events: while the words of the slots are as at opening, each call is calm, so its next operation leaves them; and at
 -- the end each call was calm.
-use Rattle.std.proofs.Common.{◌≡◌, ◌≢◌, ℕ, Bool, true, false, zero, suc, ◌<◌, ◌≤◌, List, [], ◌∷◌, ◌++◌, length, take, map, get_or, refl, sym, ap, ◌∙◌, subst, inl, inr, arith}
+use Rattle.std.proofs.Common.{◌≡◌, ◌≢◌, ℕ, false, zero, suc, ◌<◌, ◌≤◌, List, [], ◌∷◌, ◌++◌, length, take, map, get_or, refl, sym, ap, ◌∙◌, subst, inl, inr, arith}
 use Rattle.std.specs.Prelude.{Option, Some, None, IfSome}
 use Rattle.std.specs.List.{AllByRecursion}
 use Rattle.std.proofs.lemmas.Bool.{cases_lt}
 use Rattle.std.proofs.lemmas.List.{take_all, length_push}
 use Rattle.rht_words.specs.declared.op.Op.{Op}
 use Rattle.rht_words.specs.declared.env.Env.{Env}
-use Rattle.rht_words.specs.declared.config.Kind.{Kind}
-use Rattle.rht_words.specs.declared.config.Kind.TheVariants.{Single, Listed}
 use Rattle.rht_words.specs.declared.machine.Next.{Next}
 use Rattle.rht_words.specs.declared.machine.Next.TheVariants.{Go, Done}
 use Rattle.rht_words.specs.Machines.{GoesOrEnds}
@@ -30,18 +28,19 @@ use Rattle.rht_move.specs.declared.work.WorkAt.TheVariants as work_at
 use Rattle.rht_model.specs.Endings.{Ending, ending_in, plain_ending}
 use Rattle.rht_model.specs.declared.finished.Finished.{Finished}
 use Rattle.rht_model.specs.declared.history.Call.{Call}
-use Rattle.rht_model.specs.declared.history.Call.TheVariants.{Bind, Find, All, Release, Rebind, Walk, Work, Tidy, Count}
+use Rattle.rht_model.specs.declared.history.Call.TheVariants.{Rebind}
 use Rattle.rht_core.specs.declared.event.Event.{Event}
 use Rattle.rht_core.specs.declared.event.Event.TheVariants.{Enroll, Begin, Step}
 use Rattle.rht_core.specs.FewPorts.{IsNoTableMade, IsCallTaken, StaysWithFirst, FewPorts}
-use Rattle.rht_core.specs.Jobs.{Job, finds, binds, releases, rebinds, lists, works, counts, first_job, first_rebind, call_of, job_of, job_plan, job_next, job_after}
+use Rattle.rht_core.specs.Jobs.{Job, binds, works, first_job, call_of, job_of, job_plan, job_next, job_after}
 use Rattle.rht_core.specs.Runs.{World, enrolling, local_of, planned_in, view_of, world_step, run_of, IsAdmitted, IsAdmittedEvent}
 use Rattle.rht_core.specs.Seen.{words_before}
 use Rattle.rht_core.specs.Traces.{Did, Past, Traced, traced_of}
 use Rattle.rht_core.proofs.Machines.JobSteps.{JobIn}
+use Rattle.rht_core.proofs.Machines.NeverHeld.{may_make}
 use Rattle.rht_core.proofs.Events.Invariants.{step_of}
 use Rattle.rht_core.proofs.Events.InvariantRuns.{has_inv}
-use Rattle.rht_core.proofs.Events.JobsOfCallers.{first-so, each_goes, same_call}
+use Rattle.rht_core.proofs.Events.JobsOfCallers.{first-so, first_rebind-so, each_goes, same_call}
 use Rattle.rht_core.proofs.Events.Worlds.{induct_by_last, take-push, take-push_all, run_of-push, step_none, step_words}
 use Rattle.rht_core.proofs.Tracing.TracedJobs.{Performs, LeadsOn, IsKeeping, IsAtJob, jobs_keep_standing}
 use Rattle.rht_core.proofs.Tracing.TracedRuns.{world-traced_of}
@@ -50,7 +49,7 @@ use Rattle.rht_core.proofs.Reasons.CausesInRuns.{JobSaw, EndsSeen, job-leads, fi
 use Rattle.rht_core.proofs.Reasons.CalmBinds.{calm-bind, bind-spares}
 use Rattle.rht_core.proofs.Reasons.CalmCalls.{HasFew, IsRoomy, IsFirst, IsZero, CalmWork, CalmJob, CalmEnd, few-calm, calm-work}
 use Rattle.rht_core.proofs.Counting.FullTables.{taken}
-use Rattle.rht_core.proofs.Counting.SparedSlots.{IsBesideSlots, SparesSlots, spared_slots, by_load, find-spares, all-spares, release-spares, rebind-spares}
+use Rattle.rht_core.proofs.Counting.SparedSlots.{IsBesideSlots, SparesSlots, spared_slots, by_load, other-spares}
 use Rattle.rht_core.proofs.Histories.BoundAmong.{few-bound, count-few}
 
 -- ---- the words of slots
@@ -106,13 +105,9 @@ module _ (env : Env) (mix : ℕ → ℕ → ℕ → ℕ) where
   work-spares _ within calm = absurd calm
 
   pub job-spares : (c : ℕ) (job : Job) → JobIn env mix c job → CalmJob env job → SparesSlots (job_plan env job)
-  job-spares c (finds port state) within calm = find-spares env state within
   job-spares c (binds port owner once state) within calm = bind-spares env (IsFirst env) (IsZero env) state within.at_in calm
-  job-spares c (lists port room state) within calm = all-spares env state within.at_in
-  job-spares c (releases port owner state) within calm = release-spares env state within
-  job-spares c (rebinds port owner new state) within calm = rebind-spares env state within.at_in
   job-spares c (works state) within calm = work-spares state within calm
-  job-spares c counts within calm = by_load _ _ refl
+  job-spares c job within calm = other-spares env mix c job within refl
 
 -- ---- what is kept of jobs
 
@@ -126,18 +121,6 @@ module _ (Now : Job → Type 0) (Ended : Call → Ending → Type 0) where
       → GoesOn start (job_next job ending next)
   next-goes start job ending (state, Go) kept = kept
   next-goes start job ending (state, Done end) kept = kept
-
--- the calls that may make a table
-abbrev pub may_make : Call → Bool
-may_make (Bind port owner once) = true
-may_make (Find port) = false
-may_make (All port) = false
-may_make (Release port owner) = false
-may_make (Rebind port owner new) = false
-may_make (Walk from limit) = false
-may_make Work = true
-may_make Tidy = false
-may_make Count = false
 
 -- ---- the words before each event
 
@@ -215,12 +198,8 @@ module _ (M : Type 0) (mix : ℕ → ℕ → ℕ → ℕ) (env : Env) (roomy : I
         each_goes (CalmJob env) (CalmEnd env (call_of job)) (call_of job) (job_after mix env job did.old) (same_call mix env job did.old)
         (λ other same. other-calm other (ap may_make same)) (λ ending. tt)
 
-    first_rebind-calm : (port owner new : ℕ) (kind : Kind) → IfSome (first_rebind env port owner new kind) (CalmJob env)
-    first_rebind-calm port owner new Single = tt
-    first_rebind-calm port owner new Listed = tt
-
     first-calm : (call : Call) → IfSome (first_job env call) (CalmJob env)
-    first-calm (Rebind port owner new) = first_rebind-calm port owner new env.config.kind
+    first-calm (Rebind port owner new) = first_rebind-so (CalmJob env) env port owner new tt
     first-calm _ = tt
 
     calls-calm : (c : ℕ) → IsAdmitted env.config.kind events

@@ -17,29 +17,20 @@ use Rattle.rht_words.proofs.Members.{count_below, count_below-le, count_by-range
 use Rattle.rht_chain.specs.Relink.{RelinkModel, relink_plan_at, has_relinked}
 use Rattle.rht_chain.specs.declared.relink.RelinkAt.{RelinkAt}
 use Rattle.rht_chain.specs.declared.relink.RelinkAt.TheVariants as relinks
-use Rattle.rht_find.specs.FindHeld.{held_of_find}
-use Rattle.rht_find.specs.declared.find.FindAt.{FindAt}
-use Rattle.rht_find.specs.declared.find.FindAt.TheVariants as find_at
 use Rattle.rht_bind.specs.Bind.{plan_at}
 use Rattle.rht_bind.specs.BindHeld.{held_of_bind, holds_replacing}
 use Rattle.rht_bind.specs.declared.bind.Claimed.{Claimed}
 use Rattle.rht_bind.specs.declared.bind.BindAt.{BindAt}
 use Rattle.rht_bind.specs.declared.bind.BindAt.TheVariants as at
-use Rattle.rht_release.specs.AllHeld.{held_of_all}
-use Rattle.rht_release.specs.declared.all.AllAt.{AllAt}
-use Rattle.rht_release.specs.declared.all.AllAt.TheVariants as all_at
 use Rattle.rht_core.specs.declared.event.Event.{Event}
 use Rattle.rht_callers.specs.Locals.{is_idle}
 use Rattle.rht_core.specs.Runs.{Core, local_of, planned_in, run_of, IsAdmitted, IsAdmittedEvent}
-use Rattle.rht_core.specs.Jobs.{Job, finds, binds, releases, rebinds, lists, works, counts, job_of, job_plan, held_of}
+use Rattle.rht_core.specs.Jobs.{Job, binds, releases, job_of, job_plan, held_of}
 use Rattle.rht_release.specs.declared.found_port.FoundPort.{FoundPort}
 use Rattle.rht_release.specs.Release.{plan_at as release_plan_at}
 use Rattle.rht_release.specs.ReleaseHeld.{held_of_release, holds_relinking}
 use Rattle.rht_release.specs.declared.release.ReleaseAt.{ReleaseAt}
 use Rattle.rht_release.specs.declared.release.ReleaseAt.TheVariants as release_at
-use Rattle.rht_release.specs.RebindHeld.{held_of_rebind, holds_replacing as holds_replacing_of}
-use Rattle.rht_release.specs.declared.rebind.RebindAt.{RebindAt}
-use Rattle.rht_release.specs.declared.rebind.RebindAt.TheVariants as rebind_at
 use Rattle.rht_core.specs.Traces.{Did}
 use Rattle.rht_core.specs.Laws.{IsRecorded}
 use Rattle.rht_core.specs.Seen.{others_in_call, CountedAt}
@@ -50,10 +41,8 @@ use Rattle.rht_ghost.proofs.Theory.Wholes.{firsts, raisers}
 use Rattle.rht_ghost.proofs.Theory.Steps.{mem}
 use Rattle.rht_core.proofs.Events.Invariants.{Knows, step_of}
 use Rattle.rht_core.proofs.Events.InvariantRuns.{has_inv}
-use Rattle.rht_move.specs.WorkHeld.{held_of_work}
-use Rattle.rht_move.specs.declared.work.WorkAt.{WorkAt}
-use Rattle.rht_move.specs.declared.work.WorkAt.TheVariants as work_at
 use Rattle.rht_core.proofs.Counting.CountedPorts.{firsts-AreAllBound}
+use Rattle.rht_core.proofs.Machines.NeverHeld.{job-unraised}
 
 -- what holds of each of a list holds of the first ones
 pub taken : {X : Type 0} (P : X → Type 0) (n : ℕ) (xs : List X) → AllByRecursion P xs
@@ -80,12 +69,7 @@ module _ (mix : ℕ → ℕ → ℕ → ℕ) (env : Env) where
 
 -- ---- who loads has raised none
 
--- a look-up raises none
-pub find-unraised : (state : FindAt) → (held_of_find state).raised ≡ false
-find-unraised find_at.CurrentTable = refl
-find-unraised _ = refl
-
--- nor does a bind that puts its node in front of a list
+-- a bind that puts its node in front of a list has raised none
 pub front-unraised : (claimed : Claimed) (stored : Bool) → (holds_replacing claimed stored).raised ≡ false
 front-unraised claimed false = refl
 front-unraised claimed true = refl
@@ -105,11 +89,6 @@ bind_loads-unraised e place (at.Publish node table relink kick) is = absurd
     (relink_stores relink relink.at place is)
 bind_loads-unraised e place _ is = refl
 
--- a listing raises none
-pub all-unraised : (owners : List ℕ) (state : AllAt) → (held_of_all owners state).raised ≡ false
-all-unraised owners (all_at.Seeking seek) = refl
-all-unraised owners _ = refl
-
 -- a release that has raised it, and is to lower it, loads nothing either
 pub relinking-unraised : (found : FoundPort) (stored : Bool) → (holds_relinking found false stored).raised ≡ false
 relinking-unraised found false = refl
@@ -124,31 +103,12 @@ release_loads-unraised e place (release_at.Unlinking found relink) is = absurd
 release_loads-unraised e place (release_at.Lowering node shape) is = absurd (cc)
 release_loads-unraised e place _ is = refl
 
--- a rebind raises none
-replacing-unraised : (node : ℕ) (found : FoundPort) (stored : Bool) → (holds_replacing_of node found stored).raised ≡ false
-replacing-unraised node found false = refl
-replacing-unraised node found true = refl
-
-pub rebind-unraised : (state : RebindAt) → (held_of_rebind state).raised ≡ false
-rebind-unraised (rebind_at.Replacing node found relink) =
-    replacing-unraised node found (has_relinked found.before relink.at)
-rebind-unraised _ = refl
-
--- nor does a resizing
-pub work-unraised : (state : WorkAt) → (held_of_work state).raised ≡ false
-work-unraised work_at.WorkLock = refl
-work-unraised _ = refl
-
 -- what loads has raised none
 load-unraised : (env : Env) (job : Job) (place : ℕ) → job_plan env job ≡ Load place
     → (held_of job).raised ≡ false
-load-unraised env (finds port state) place is = find-unraised state
 load-unraised env (binds port owner once state) place is = bind_loads-unraised env place state is
-load-unraised env (lists port room state) place is = all-unraised room.items state
 load-unraised env (releases port owner state) place is = release_loads-unraised env place state is
-load-unraised env (rebinds port owner new state) place is = rebind-unraised state
-load-unraised env (works state) place is = work-unraised state
-load-unraised env counts place is = refl
+load-unraised env job place is = job-unraised job
 
 module _ (M : Type 0) (mix : ℕ → ℕ → ℕ → ℕ) (env : Env) where
   -- the callers that have raised the count are others in mid-call

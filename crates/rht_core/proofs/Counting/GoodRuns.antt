@@ -2,39 +2,28 @@
 --
 -- By induction over the events, with the ghost: each job that makes a table has chosen it by the shape of one that was attached, which is good;
 -- so what it attaches is good, and no other move of the ghost attaches any.
-use Rattle.std.proofs.Common.{◌≡◌, ℕ, Bool, List, refl, sym, ap, ◌∙◌, subst, inl, inr}
-use Rattle.std.specs.Prelude.{Option, Some, None, IfSome}
-use Rattle.std.proofs.lemmas.Bool.{cases_eq}
+use Rattle.std.proofs.Common.{◌≡◌, ℕ, Bool, List, refl, sym, ap, ◌∙◌, subst}
+use Rattle.std.specs.Prelude.{Option, Some}
 use Rattle.rht_words.specs.declared.op.Op.{Op}
 use Rattle.rht_words.specs.declared.env.Env.{Env}
-use Rattle.rht_words.specs.declared.config.Kind.{Kind}
-use Rattle.rht_words.specs.declared.config.Kind.TheVariants.{Single, Listed}
-use Rattle.rht_words.specs.declared.machine.Next.{Next}
-use Rattle.rht_words.specs.declared.machine.Next.TheVariants.{Go, Done}
 use Rattle.rht_words.specs.Opening.{opening_word}
 use Rattle.rht_words.specs.Operations.{old_of}
 use Rattle.rht_words.specs.Places.{Slot, ShapeWord}
 use Rattle.rht_words.proofs.Memory.{Memory}
-use Rattle.rht_model.specs.Endings.{Ending, plain_ending}
-use Rattle.rht_model.specs.declared.history.Call.{Call}
-use Rattle.rht_model.specs.declared.history.Call.TheVariants.{Rebind}
+use Rattle.rht_model.specs.Endings.{plain_ending}
 use Rattle.rht_bind.specs.Bind as bind
-use Rattle.rht_release.specs.All as all
-use Rattle.rht_release.specs.Release as release
-use Rattle.rht_release.specs.Rebind as rebind
 use Rattle.rht_bind.specs.declared.bind.BindAt.{BindAt}
+use Rattle.rht_nest.specs.Make.{MakeModel}
 use Rattle.rht_move.specs.LastTable.{LastTableModel, last_table_plan_at}
 use Rattle.rht_move.specs.declared.last_table.LastTableAt.TheVariants as last_tables
 use Rattle.rht_move.specs.Work as work
 use Rattle.rht_move.specs.declared.work.WorkAt.{WorkAt}
 use Rattle.rht_move.specs.declared.work.WorkAt.TheVariants as work_at
 use Rattle.rht_move.proofs.WorkKnowledge.{last_aim}
-use Rattle.rht_callers.specs.declared.local.Doing.{Doing}
 use Rattle.rht_core.specs.declared.event.Event.{Event}
-use Rattle.rht_core.specs.declared.event.Event.TheVariants.{Enroll, Begin, Step}
-use Rattle.rht_core.specs.Jobs.{Job, finds, binds, lists, releases, rebinds, works, counts, first_job, first_rebind, listing_ending, node_ending, job_of, job_plan, job_next, job_after, told, held_of, held_next}
+use Rattle.rht_core.specs.Jobs.{Job, binds, works, job_of, job_plan, job_after, told, held_of, held_next}
 use Rattle.rht_core.specs.Laws.{view_stepped}
-use Rattle.rht_core.specs.Runs.{World, View, opening, local_of, planned_in, beginning_in, view_of, world_step, run_of, IsAdmitted, IsAdmittedEvent}
+use Rattle.rht_core.specs.Runs.{World, opening, local_of, planned_in, view_of, world_step, run_of, IsAdmitted, IsAdmittedEvent}
 use Rattle.rht_ghost.proofs.Theory.Ghosts.{Ghost}
 use Rattle.rht_ghost.proofs.Theory.Knowledge.{AimMeans}
 use Rattle.rht_ghost.proofs.Theory.Wholes.{Whole}
@@ -42,30 +31,28 @@ use Rattle.rht_ghost.proofs.Theory.Steps.{ReadyFor, Does, ghost_after, mem}
 use Rattle.rht_core.proofs.Machines.JobSteps.{JobIn, JobKnows}
 use Rattle.rht_core.proofs.Events.Invariants.{Inv, StepOf, step_of, kept}
 use Rattle.rht_core.proofs.Events.InvariantRuns.{opening_ghost, opening_inv, idle_at_opening}
-use Rattle.rht_core.proofs.Events.JobsOfCallers.{first-so, first_job-machine, left-job}
+use Rattle.rht_core.proofs.Events.KeptAtEvents.{views_kept, ghosts_kept}
+use Rattle.rht_core.proofs.Events.JobsOfCallers.{left-job}
 use Rattle.rht_core.proofs.Events.RangesInRuns.{AllIn, opens-all, event-all}
-use Rattle.rht_core.proofs.Events.SoundRuns.{has_place, made_in}
-use Rattle.rht_core.proofs.Events.Worlds.{run_keeps_admitted, beginning-some, planned-some, begin_none, begin_self, begin_other, step_none, step_self, step_other}
+use Rattle.rht_core.proofs.Events.Worlds.{run_keeps_admitted}
 use Rattle.rht_core.proofs.Counting.GoodShapes.{AreAll, AreMadeGood, AreGrownGood, GoodWork, GoodBind, IsSeenGood, good-work, good-bind, moved-good, slot-good}
+use Rattle.rht_core.proofs.Counting.MakingJobs.{JobMakes, MakesLeft, told-makes, others-make, begins-making}
 use Rattle.rht_core.proofs.Counting.AttachingJobs.{IsAttachingJob, job-attaches}
-
--- what it makes or attaches is good
-abbrev pub GoodJob : (ℕ → Type 0) → (ℕ → Type 0) → Job → Type 0
-GoodJob Good Fit (finds port state) = Unit {0}
-GoodJob Good Fit (binds port owner once state) = GoodBind Good Fit state
-GoodJob Good Fit (lists port room state) = Unit {0}
-GoodJob Good Fit (releases port owner state) = Unit {0}
-GoodJob Good Fit (rebinds port owner new state) = Unit {0}
-GoodJob Good Fit (works state) = GoodWork Good Fit state
-GoodJob Good Fit counts = Unit {0}
 
 module _ (env : Env) (Good Fit : ℕ → Type 0) (keeps_works : AreMadeGood env Good Fit) (keeps_binds : AreGrownGood env Good Fit)
     (mix : ℕ → ℕ → ℕ → ℕ) where
+  -- what it makes is of a fitting size, and what it attaches is good
+  abbrev Fits : MakeModel → Type 0
+  Fits make = Fit make.exponent
+
+  abbrev Has : ℕ → ℕ → Type 0
+  Has slot shape = Good shape
+
   abbrev Now : Job → Type 0
-  Now job = GoodJob Good Fit job
+  Now job = JobMakes Good Fits Has job
 
   abbrev Left : Option Job → Type 0
-  Left job = IfSome job Now
+  Left job = MakesLeft Good Fits Has job
 
   -- ---- an operation of a job
 
@@ -101,36 +88,20 @@ module _ (env : Env) (Good Fit : ℕ → Type 0) (keeps_works : AreMadeGood env 
         ∙ ap (λ s. old_of words (last_table_plan_at env.geometry s)) shape in
         subst Good (sym found) (slot-good env mix Good words G whole good slot aim.table)
 
-  -- what is left of a job after an operation
-  told-next : {S A : Type 0} (job : S → Job) (ending : A → Ending) (next : S × Next A) → Now (job next.0)
-      → Left (told (job_next job ending next)).0
-  told-next job ending (state, Go) now = now
-  told-next job ending (state, Done end) now = tt
-
   module _ (c : ℕ) (words : List ℕ) (G : Ghost) (whole : Whole env mix (mem env mix words) G) (good : AreAll Good G) where
     goes-good : (job : Job) → JobIn env mix c job → JobKnows env mix c job (mem env mix words) G → Now job
         → Left (told (job_after mix env job (old_of words (job_plan env job)))).0
-    goes-good (finds port state) within knows now = told-next (finds port) plain_ending _ tt
     goes-good (binds port owner once state) within knows now =
-        told-next (binds port owner once) plain_ending
+        told-makes Good Fits Has (binds port owner once) plain_ending
         (bind.after_at mix env port once state (old_of words (bind.plan_at env state)))
         (good-bind env Good Fit keeps_binds mix port once state (old_of words (bind.plan_at env state)) within.at_in now
         (bind-seen c words G whole good port owner once state knows))
-    goes-good (lists port room state) within knows now =
-        let old = old_of words (all.plan_at env state) in
-        told-next (lists port (all.room_after state room old)) (listing_ending (all.room_after state room old))
-        (all.after_at mix env port state old) tt
-    goes-good (releases port owner state) within knows now =
-        told-next (releases port owner) node_ending
-        (release.after_at mix env port owner state (old_of words (release.plan_at env state))) tt
-    goes-good (rebinds port owner new state) within knows now =
-        told-next (rebinds port owner new) node_ending
-        (rebind.after_at mix env port owner state (old_of words (rebind.plan_at env state))) tt
     goes-good (works state) within knows now =
-        told-next works plain_ending (work.after_at mix env state (old_of words (work.plan_at env state)))
+        told-makes Good Fits Has works plain_ending (work.after_at mix env state (old_of words (work.plan_at env state)))
         (good-work env Good Fit keeps_works mix state (old_of words (work.plan_at env state)) within now
         (λ root seek slot is shape. work-seen c words G whole good state knows root seek slot is shape within))
-    goes-good counts within knows now = tt
+    goes-good job within knows now =
+        others-make Good Fits Has mix env job (old_of words (job_plan env job)) refl
 
   -- the table that a good job attaches has a good shape
   attaches-good : (c : ℕ) (M : Memory) (G : Ghost) (slot shape : ℕ) → M (Slot slot ShapeWord) ≡ shape → (job : Job)
@@ -154,14 +125,6 @@ module _ (env : Env) (Good Fit : ℕ → Type 0) (keeps_works : AreMadeGood env 
       pub good : AreAll Good ghost
       pub jobs : (c : ℕ) → Left (job_of (view_of w c).local.doing)
 
-    first_rebind-good : (port owner new : ℕ) (kind : Kind) → IfSome (first_rebind env port owner new kind) Now
-    first_rebind-good port owner new Single = tt
-    first_rebind-good port owner new Listed = tt
-
-    first-good : (call : Call) → IfSome (first_job env call) Now
-    first-good (Rebind port owner new) = first_rebind-good port owner new env.config.kind
-    first-good _ = tt
-
     module _ (w : World L) (has : HasGood w) where
       module _ (c : ℕ) (op : Op) where
         -- the ghost behind an operation
@@ -174,7 +137,7 @@ module _ (env : Env) (Good Fit : ℕ → Type 0) (keeps_works : AreMadeGood env 
             (held_next (job_after mix env of.job (old_of w.core.words op)))) at of.step.does in
             let ready = subst (ReadyFor env mix c (mem env mix w.core.words) has.ghost) at of.step.ready in
             attaches-good c (mem env mix w.core.words) has.ghost slot shape ready.made.shape_is of.job of.knows now
-            (job-attaches env mix does.last slot does.within c of.job of.within does.has (sym of.plan ∙ does.attaching)))
+            (job-attaches env does.last slot does.within of.job does.has (sym of.plan ∙ does.attaching)))
 
         -- and the caller
         step-job : planned_in w.core c ≡ Some op → Left (job_of (view_stepped mix (old_of w.core.words op) (view_of w c)).local.doing)
@@ -187,53 +150,6 @@ module _ (env : Env) (Good Fit : ℕ → Type 0) (keeps_works : AreMadeGood env 
             (subst (λ o. Left (told (job_after mix env of.job (old_of w.core.words o))).0) (sym of.plan)
             (goes-good c w.core.words has.ghost has.inv.whole has.good of.job of.within of.knows (subst Left of.is (has.jobs c))))
 
-      abbrev after_event : (event : Event) → Ghost
-      after_event event = (kept env mix L w.core has.ghost event has.all has.inv).ghost
-
-      event-tables : (event : Event) → AreAll Good (after_event event)
-      event-tables Enroll = subst (AreAll Good) (sym (kept env mix L w.core has.ghost Enroll has.all has.inv).ghost_kept) has.good
-      event-tables (Begin c call) =
-          subst (AreAll Good) (sym (kept env mix L w.core has.ghost (Begin c call) has.all has.inv).ghost_kept) has.good
-      event-tables (Step c) = go (planned_in w.core c) refl
-        where
-          go : (plan : Option Op) → planned_in w.core c ≡ plan → AreAll Good (after_event (Step c))
-          go None is =
-              subst (AreAll Good) (sym ((kept env mix L w.core has.ghost (Step c) has.all has.inv).ghost_kept.none is)) has.good
-          go (Some op) is =
-              let moves = (kept env mix L w.core has.ghost (Step c) has.all has.inv).ghost_kept.some op is in
-              subst (AreAll Good) (sym moves.1) (step-tables c op moves.0)
-
-      abbrev JobOf : View L → Type 0
-      JobOf view = Left (job_of view.local.doing)
-
-      begun-job : (c : ℕ) (call : Call) (machine : Option (Doing L)) → beginning_in w.core c call ≡ machine
-          → JobOf (view_of (world_step mix w (Begin c call)) c)
-      begun-job c call None is = subst (λ (v : World L). JobOf (view_of v c)) (sym (begin_none L mix w c call is)) (has.jobs c)
-      begun-job c call (Some machine) is =
-          let can = beginning-some w.core.env w.core.enrolled w.core.locals c call machine is in
-          let place = has_place L mix env w.core c has.all.stays can.below in
-          let first = first_job-machine env c call machine (made_in L mix env w.core c call machine has.all.stays can) in
-          subst JobOf (sym (begin_self L mix w c call machine is place))
-          (subst Left (sym first.does) (first-so Now (first_job env call) first.job (first-good call) first.first))
-
-      stepped-job : (c : ℕ) (plan : Option Op) → planned_in w.core c ≡ plan → JobOf (view_of (world_step mix w (Step c)) c)
-      stepped-job c None is = subst (λ (v : World L). JobOf (view_of v c)) (sym (step_none L mix w c is)) (has.jobs c)
-      stepped-job c (Some op) is =
-          let can = planned-some w.core.env w.core.enrolled w.core.locals c op is in
-          let place = has_place L mix env w.core c has.all.stays can.below in
-          subst JobOf (sym (step_self L mix w c op is place)) (step-job c op is)
-
-      event-jobs : (event : Event) (k : ℕ) → JobOf (view_of (world_step mix w event) k)
-      event-jobs Enroll k = has.jobs k
-      event-jobs (Begin c call) k = elim (cases_eq k c) [
-        | inl e ↦ subst (λ d. JobOf (view_of (world_step mix w (Begin c call)) d)) (sym e) (begun-job c call (beginning_in w.core c call) refl)
-        | inr ne ↦ subst JobOf (sym (begin_other L mix w c call k ne)) (has.jobs k)
-      ]
-      event-jobs (Step c) k = elim (cases_eq k c) [
-        | inl e ↦ subst (λ d. JobOf (view_of (world_step mix w (Step c)) d)) (sym e) (stepped-job c (planned_in w.core c) refl)
-        | inr ne ↦ subst JobOf (sym (step_other L mix w c k ne)) (has.jobs k)
-      ]
-
       event-good : (event : Event) → IsAdmittedEvent env.config.kind event → HasGood (world_step mix w event)
       event-good event may =
           let k = kept env mix L w.core has.ghost event has.all has.inv in
@@ -241,8 +157,11 @@ module _ (env : Env) (Good Fit : ℕ → Type 0) (keeps_works : AreMadeGood env 
             ghost = k.ghost;
             inv = k.inv;
             all = event-all L mix env w event may has.all;
-            good = event-tables event;
-            jobs = event-jobs event;
+            good =
+                ghosts_kept L mix env w (AreAll Good) has.ghost has.all has.inv has.good (λ c op of. step-tables c op of) event;
+            jobs = views_kept L mix env w (λ view. Left (job_of view.local.doing)) has.all.stays has.jobs
+                (λ c call machine first. subst Left (sym first.does) (begins-making Good Fits Has env call first.job first.first))
+                (λ c op is. step-job c op is) event;
           }
 
     opening-good : HasGood (opening env)

@@ -15,7 +15,7 @@ use Rattle.rht_words.specs.declared.machine.Next.{Next}
 use Rattle.rht_words.specs.declared.machine.Next.TheVariants.{Go, Done}
 use Rattle.rht_words.specs.Maps.{bit_of}
 use Rattle.rht_words.specs.Operations.{op_place, word_after}
-use Rattle.rht_words.specs.Places.{Slot, SlotWord, FutureWord, StateWord, LoadedSection, PageMap, Node, ChainLink, nodes_at, slot_offset, place_of}
+use Rattle.rht_words.specs.Places.{Section, Slot, SlotWord, FutureWord, StateWord, LoadedSection, PageMap, Node, ChainLink, nodes_at, slot_offset, place_of}
 use Rattle.rht_words.proofs.BitChanges.{bit_at-set, bit_at-set_other}
 use Rattle.rht_words.proofs.EachElement.{AllByRecursion-push}
 use Rattle.rht_words.proofs.PlacesApart.{parts_in_order}
@@ -34,7 +34,7 @@ use Rattle.rht_core.specs.Laws.{IsNoTake, IsTakeOf, TakesNone, TakesOne, IsTaken
 use Rattle.rht_core.specs.Refused.{IsTableWord}
 use Rattle.rht_ghost.proofs.Theory.Wholes.{place_at}
 use Rattle.rht_ghost.proofs.Theory.Answering.{TellsNode, TellsNode-same, known_so, unknown_before}
-use Rattle.rht_ghost.proofs.Theory.Steps.{bare, Holding, Move, Quiet, TakesNode, GivesNode, TakesLock, DropsLock, Raises, Links, Lowers, Rebinds, LinksBehind, Arms, TakesSlot, GivesSlot, TakesPages, GivesPages, Attaches, Enters, TakesWork, GivesWork, BeginsMoving, TakesSecond, Leaves, Arrives, CutsOff, Publishes, Retires, Does, IsAside, DoesQuiet}
+use Rattle.rht_ghost.proofs.Theory.Steps.{bare, Holding, Move, Quiet, TakesNode, GivesNode, TakesLock, DropsLock, Raises, Links, Lowers, Rebinds, LinksBehind, Arms, TakesSlot, GivesSlot, TakesPages, GivesPages, Attaches, Enters, TakesWork, GivesWork, BeginsMoving, TakesSecond, Leaves, Arrives, CutsOff, Publishes, Retires, Opens, Closes, Does, IsAside, DoesQuiet}
 use Rattle.rht_core.proofs.Events.JobsOfCallers.{same_call, first_unknown, first_without}
 use Rattle.rht_core.proofs.Tracing.TracedJobs.{Performs, LeadsOn, IsKeeping, jobs_keep}
 
@@ -90,6 +90,10 @@ offset-less _ of_table = omega arith
 on_slot : (g : Geometry) (did : Did) (slot : ℕ) (word : SlotWord) → slot < 8 → slot_offset word < 8
     → op_place did.op ≡ place_of g (Slot slot word) → IsNoTake g did
 on_slot g did slot word within few on = off_map g did (inl (omega (arith, on, within, few)))
+
+-- and so does one on the section word of a caller
+on_section : (g : Geometry) (did : Did) (caller : ℕ) → caller < 16 → op_place did.op ≡ place_of g (Section caller) → IsNoTake g did
+on_section g did caller low on = off_map g did (inl (omega (arith, on, low)))
 
 -- and so does one on the word of a bucket
 on_bucket : (env : Env) (mix : ℕ → ℕ → ℕ → ℕ) (did : Did) (j : ℕ) → op_place did.op ≡ place_at env mix j
@@ -253,6 +257,14 @@ took env mix Publishes did h h' does = inl record {
 }
 took env mix (Retires s) did h h' does = inl record {
   none = on_slot env.geometry did s StateWord does.within (omega arith) (ap op_place does.retiring);
+  left = inl (ap (λ (h : Holding). h.node) does.holds);
+}
+took env mix (Opens d) did h h' does = inl record {
+  none = on_section env.geometry did d does.within (ap op_place does.turns);
+  left = inl (ap (λ (h : Holding). h.node) does.holds);
+}
+took env mix (Closes d) did h h' does = inl record {
+  none = on_section env.geometry did d does.within (ap op_place does.turns);
   left = inl (ap (λ (h : Holding). h.node) does.holds);
 }
 

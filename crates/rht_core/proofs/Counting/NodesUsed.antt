@@ -24,19 +24,13 @@ use Rattle.rht_model.specs.declared.history.Reply.{Reply}
 use Rattle.rht_model.specs.declared.history.Reply.TheVariants.{NoNode}
 use Rattle.rht_model.specs.Answers.{Answer}
 use Rattle.rht_arena.specs.Laws.{map_place, map_bit, SeesTaken}
-use Rattle.rht_find.specs.FindHeld.{held_of_find}
-use Rattle.rht_find.specs.declared.find.FindAt.{FindAt}
-use Rattle.rht_find.specs.declared.find.FindAt.TheVariants as finding
-use Rattle.rht_release.specs.AllHeld.{held_of_all}
-use Rattle.rht_release.specs.declared.all.AllAt.{AllAt}
-use Rattle.rht_release.specs.declared.all.AllAt.TheVariants as listing
 use Rattle.rht_release.specs.declared.found_port.FoundPort.{FoundPort}
 use Rattle.rht_chain.specs.Relink.{has_relinked}
 use Rattle.rht_release.specs.ReleaseHeld.{held_of_release, holds_relinking}
 use Rattle.rht_release.specs.declared.release.ReleaseAt.{ReleaseAt}
 use Rattle.rht_release.specs.declared.release.ReleaseAt.TheVariants as releasing
 use Rattle.rht_core.specs.declared.book.Book.{Book}
-use Rattle.rht_core.specs.Jobs.{Job, finds, binds, lists, releases, rebinds, works, counts, call_of, held_of, job_of}
+use Rattle.rht_core.specs.Jobs.{Job, finds, binds, lists, releases, rebinds, works, call_of, held_of, job_of}
 use Rattle.rht_core.specs.declared.event.Event.{Event}
 use Rattle.rht_core.specs.declared.event.Event.TheVariants.{Enroll, Begin, Step}
 use Rattle.rht_core.specs.Runs.{Core, World, local_of, run_of, planned_in, with_step, enrolling, core_step, world_step, IsAdmitted, IsAdmittedEvent}
@@ -46,6 +40,7 @@ use Rattle.rht_core.specs.Causes.{CauseOf, HasCause}
 use Rattle.rht_core.specs.NodesUsed.{needs_node, may_take_node, took_node, takers_of, takers, IsForWant, Nodes}
 use Rattle.rht_ghost.proofs.Theory.Answering.{TellsNode}
 use Rattle.rht_ghost.proofs.Theory.Steps.{Holding, by_test}
+use Rattle.rht_core.proofs.Machines.NeverHeld.{find-alone, all-alone}
 use Rattle.rht_core.proofs.Tracing.TracedJobs.{IsAtJob}
 use Rattle.rht_move.specs.WorkHeld.{held_of_work}
 use Rattle.rht_move.specs.declared.work.WorkAt.{WorkAt}
@@ -64,14 +59,6 @@ use Rattle.rht_core.proofs.Reasons.CausesInRuns.{causes}
 
 -- ---- a call that needs no node has none
 
-find_has_none : (state : FindAt) → (held_of_find state).node ≡ None
-find_has_none finding.CurrentTable = refl
-find_has_none _ = refl
-
-all_has_none : (owners : List ℕ) (state : AllAt) → (held_of_all owners state).node ≡ None
-all_has_none owners (listing.Seeking seek) = refl
-all_has_none owners _ = refl
-
 relinking_has_none : (found : FoundPort) (raised stored : Bool) → (holds_relinking found raised stored).node ≡ None
 relinking_has_none found raised false = refl
 relinking_has_none found raised true = refl
@@ -86,13 +73,13 @@ work_has_none working.WorkLock = refl
 work_has_none _ = refl
 
 job_has_none : (job : Job) → needs_node (call_of job) ≡ false → (held_of job).node ≡ None
-job_has_none (finds port state) needs = find_has_none state
+job_has_none (finds port state) needs = (find-alone state).node
 job_has_none (binds port owner once state) needs = absurd (cc)
-job_has_none (lists port room state) needs = all_has_none room.items state
+job_has_none (lists port room state) needs = (all-alone room.items state).node
 job_has_none (releases port owner state) needs = release_has_none state
 job_has_none (rebinds port owner new state) needs = absurd (cc)
 job_has_none (works state) needs = work_has_none state
-job_has_none counts needs = refl
+job_has_none _ needs = refl
 
 -- nor does its answer tell of one
 tells_none : (call : Call) (node : Option ℕ) (reply : Reply) → needs_node call ≡ false → TellsNode call node reply

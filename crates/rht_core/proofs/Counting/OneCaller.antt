@@ -5,15 +5,13 @@
 -- loads the count, that is at most the 15 ports and the one caller, and the table has 16 buckets or more. So it finds no table full and attaches
 -- none; and a resizing attaches none that is smaller, or nested.
 use Rattle.std.proofs.Common.{◌≡◌, ℕ, ◌<◌, ◌≤◌, Bool, false, nat_lt, List, [], ◌∷◌, ◌++◌, length, take, refl, sym, ap, ◌∙◌, subst, inl, inr, arith}
-use Rattle.std.specs.Prelude.{Option, Some, None, IfSome, option_map}
+use Rattle.std.specs.Prelude.{Option, Some, IfSome, option_map}
 use Rattle.std.specs.List.{AllByRecursion}
-use Rattle.std.proofs.lemmas.Bool.{cases_lt, cases_eq}
+use Rattle.std.proofs.lemmas.Bool.{cases_lt}
 use Rattle.std.proofs.lemmas.List.{take_all}
 use Rattle.rht_words.specs.declared.op.Op.{Op}
 use Rattle.rht_words.specs.declared.op.Op.TheVariants.{Exchange}
 use Rattle.rht_words.specs.declared.env.Env.{Env}
-use Rattle.rht_words.specs.declared.config.Kind.{Kind}
-use Rattle.rht_words.specs.declared.config.Kind.TheVariants.{Single, Listed}
 use Rattle.rht_words.specs.declared.machine.Next.{Next}
 use Rattle.rht_words.specs.declared.machine.Next.TheVariants.{Go, Done}
 use Rattle.rht_words.specs.Links.{future_of}
@@ -45,14 +43,12 @@ use Rattle.rht_move.specs.declared.work.WorkAt.{WorkAt}
 use Rattle.rht_move.specs.declared.work.WorkAt.TheVariants as work_at
 use Rattle.rht_core.specs.declared.book.Book.{Book}
 use Rattle.rht_core.specs.declared.event.Event.{Event}
-use Rattle.rht_core.specs.declared.event.Event.TheVariants.{Enroll, Begin, Step}
 use Rattle.rht_callers.specs.declared.local.Local.{Local}
-use Rattle.rht_callers.specs.declared.local.Doing.{Doing}
 use Rattle.rht_core.specs.FewPorts.{IsBindTaken, OneCaller}
-use Rattle.rht_core.specs.Jobs.{Job, binds, works, first_job, first_rebind, call_of, job_of, job_plan, job_after, told, held_of, held_next}
+use Rattle.rht_core.specs.Jobs.{Job, binds, works, first_job, call_of, job_of, job_plan, job_after, told, held_of, held_next}
 use Rattle.rht_core.specs.Laws.{view_stepped}
 use Rattle.rht_callers.specs.Locals.{local_after, ending_of}
-use Rattle.rht_core.specs.Runs.{World, View, opening, local_of, planned_in, beginning_in, view_of, world_step, run_of, book_after, finished_with, IsAdmitted, IsAdmittedEvent}
+use Rattle.rht_core.specs.Runs.{World, View, opening, local_of, planned_in, view_of, world_step, run_of, book_after, finished_with, IsAdmitted, IsAdmittedEvent}
 use Rattle.rht_core.specs.Seen.{words_before}
 use Rattle.rht_stands.specs.StandsFor.{stands_for, AreBound}
 use Rattle.rht_core.specs.Traces.{Did, Traced, traced_of}
@@ -63,21 +59,22 @@ use Rattle.rht_ghost.proofs.Theory.Wholes.{outs}
 use Rattle.rht_ghost.proofs.Theory.Steps.{ReadyFor, Does, ghost_after, mem}
 use Rattle.rht_ghost.proofs.Pieces.Locates.{known_locate}
 use Rattle.rht_core.proofs.Machines.JobSteps.{JobIn, JobKnows}
+use Rattle.rht_core.proofs.Machines.NeverHeld.{may_make}
 use Rattle.rht_move.proofs.WorkKnowledge.{last_aim}
 use Rattle.rht_core.proofs.Events.BooksInRuns.{BookSays, has_books}
 use Rattle.rht_core.proofs.Events.Invariants.{Inv, StepOf, step_of, kept}
 use Rattle.rht_core.proofs.Events.InvariantRuns.{opening_ghost, opening_inv, idle_at_opening}
-use Rattle.rht_core.proofs.Events.JobsOfCallers.{first-so, each_goes, same_call, first_job-machine, left-job, doing_after-reply}
+use Rattle.rht_core.proofs.Events.KeptAtEvents.{views_kept, ghosts_kept}
+use Rattle.rht_core.proofs.Events.JobsOfCallers.{first-so, first_rebind-so, each_goes, same_call, left-job, doing_after-reply}
 use Rattle.rht_core.proofs.Events.RangesInRuns.{AllIn, opens-all, event-all}
-use Rattle.rht_core.proofs.Events.SoundRuns.{has_place, made_in}
-use Rattle.rht_core.proofs.Events.Worlds.{induct_by_last, beginning-some, planned-some, run_of-push, begin_none, begin_self, begin_other, step_none, step_self, step_other}
+use Rattle.rht_core.proofs.Events.Worlds.{induct_by_last, run_of-push}
 use Rattle.rht_core.proofs.Tracing.TracedJobs.{Performs, IsAtJob, jobs_keep_standing}
 use Rattle.rht_core.proofs.Tracing.TracedRuns.{world-traced_of}
 use Rattle.rht_core.proofs.Reasons.CausesInRuns.{JobSaw, EndsSeen, job-leads, first_job-saw}
 use Rattle.rht_core.proofs.Reasons.CalmCalls.{below-max, below-size}
 use Rattle.rht_core.proofs.Reasons.CalmBinds.{CalmBind, IsCalmAt, calm-bind, bind-spares}
 use Rattle.rht_core.proofs.Counting.CountedPorts.{fewer-AreBound}
-use Rattle.rht_core.proofs.Counting.FewPorts.{before-push, GoesOn, next-goes, may_make, job-spares}
+use Rattle.rht_core.proofs.Counting.FewPorts.{before-push, GoesOn, next-goes, job-spares}
 use Rattle.rht_core.proofs.Counting.FullTables.{taken}
 use Rattle.rht_core.proofs.Counting.GoodShapes.{moved-good, slot-good}
 use Rattle.rht_core.proofs.Counting.SizedTables.{IsSized, AreSized, SizedWork, sized-work}
@@ -121,12 +118,8 @@ module _ (env : Env) where
     other-one (works state) other = absurd (cc)
     other-one _ other = tt
 
-    first_rebind-one : (port owner new : ℕ) (kind : Kind) → IfSome (first_rebind env port owner new kind) OneJob
-    first_rebind-one port owner new Single = tt
-    first_rebind-one port owner new Listed = tt
-
     first-one : (call : Call) → IfSome (first_job env call) OneJob
-    first-one (Rebind port owner new) = first_rebind-one port owner new env.config.kind
+    first-one (Rebind port owner new) = first_rebind-so OneJob env port owner new tt
     first-one _ = tt
 
     module _ (first : 16 ≤ first_size env.config) (mix : ℕ → ℕ → ℕ → ℕ) (words_at : ℕ → List ℕ)
@@ -213,7 +206,7 @@ module _ (env : Env) where
       attach-sized (binds port owner once state) within knows one last slot shape l has e is =
           absurd (spares-none env _ last 0 (future_of slot) (bind-spares env Any Any state within.at_in one) l e)
       attach-sized (works state) within knows one last slot shape l has e is =
-          let at = work-attaches env mix last slot l state has e in
+          let at = work-attaches env last slot l state has e in
           let known = subst (λ s. JobKnows env mix c (works s) M G) at.is knows in
           let sized : IsSized at.shape = subst SizedWork at.is one in
           subst IsSized (sym known.knowing.means.making.shape_is ∙ is) sized
@@ -343,54 +336,6 @@ module _ (L : Type 0) (mix : ℕ → ℕ → ℕ → ℕ) (env : Env) (keeps : e
 
     -- ---- one event
 
-    abbrev after_event : (event : Event) → Ghost
-    after_event event = (kept env mix L w.core has.ghost event has.all has.inv).ghost
-
-    event-sized : (event : Event) → AreSized (after_event event)
-    event-sized Enroll = subst AreSized (sym (kept env mix L w.core has.ghost Enroll has.all has.inv).ghost_kept) has.sized
-    event-sized (Begin c call) =
-        subst AreSized (sym (kept env mix L w.core has.ghost (Begin c call) has.all has.inv).ghost_kept) has.sized
-    event-sized (Step c) = go (planned_in w.core c) refl
-      where
-        go : (plan : Option Op) → planned_in w.core c ≡ plan → AreSized (after_event (Step c))
-        go None is =
-            subst AreSized (sym ((kept env mix L w.core has.ghost (Step c) has.all has.inv).ghost_kept.none is)) has.sized
-        go (Some op) is =
-            let moves = (kept env mix L w.core has.ghost (Step c) has.all has.inv).ghost_kept.some op is in
-            subst AreSized (sym moves.1) (step-sized c op moves.0)
-
-    begun-one : (c : ℕ) (call : Call) (machine : Option (Doing L)) → beginning_in w.core c call ≡ machine
-        → ViewOne (view_of (world_step mix w (Begin c call)) c)
-    begun-one c call None is = subst (λ (v : World L). ViewOne (view_of v c)) (sym (begin_none L mix w c call is)) (has.ones c)
-    begun-one c call (Some machine) is =
-        let can = beginning-some w.core.env w.core.enrolled w.core.locals c call machine is in
-        let place = has_place L mix env w.core c has.all.stays can.below in
-        let first = first_job-machine env c call machine (made_in L mix env w.core c call machine has.all.stays can) in
-        subst ViewOne (sym (begin_self L mix w c call machine is place)) (
-          subst (λ (j : Option Job). IfSome j (OneJob env keeps)) (sym first.does)
-              (first-so (OneJob env keeps) (first_job env call) first.job (first-one env keeps call) first.first),
-          (has.ones c).1,
-        )
-
-    stepped-one : (c : ℕ) (plan : Option Op) → planned_in w.core c ≡ plan → ViewOne (view_of (world_step mix w (Step c)) c)
-    stepped-one c None is = subst (λ (v : World L). ViewOne (view_of v c)) (sym (step_none L mix w c is)) (has.ones c)
-    stepped-one c (Some op) is =
-        let can = planned-some w.core.env w.core.enrolled w.core.locals c op is in
-        let place = has_place L mix env w.core c has.all.stays can.below in
-        subst ViewOne (sym (step_self L mix w c op is place)) (step-one c op is)
-
-    event-ones : (event : Event) (k : ℕ) → ViewOne (view_of (world_step mix w event) k)
-    event-ones Enroll k = has.ones k
-    event-ones (Begin c call) k = elim (cases_eq k c) [
-      | inl e ↦
-          subst (λ d. ViewOne (view_of (world_step mix w (Begin c call)) d)) (sym e) (begun-one c call (beginning_in w.core c call) refl)
-      | inr ne ↦ subst ViewOne (sym (begin_other L mix w c call k ne)) (has.ones k)
-    ]
-    event-ones (Step c) k = elim (cases_eq k c) [
-      | inl e ↦ subst (λ d. ViewOne (view_of (world_step mix w (Step c)) d)) (sym e) (stepped-one c (planned_in w.core c) refl)
-      | inr ne ↦ subst ViewOne (sym (step_other L mix w c k ne)) (has.ones k)
-    ]
-
     event-has : (event : Event) → IsAdmittedEvent env.config.kind event → HasOne (world_step mix w event)
     event-has event may =
         let k = kept env mix L w.core has.ghost event has.all has.inv in
@@ -398,8 +343,14 @@ module _ (L : Type 0) (mix : ℕ → ℕ → ℕ → ℕ) (env : Env) (keeps : e
           ghost = k.ghost;
           inv = k.inv;
           all = event-all L mix env w event may has.all;
-          sized = event-sized event;
-          ones = event-ones event;
+          sized = ghosts_kept L mix env w AreSized has.ghost has.all has.inv has.sized step-sized event;
+          ones = views_kept L mix env w ViewOne has.all.stays has.ones
+              (λ c call machine first. (
+                subst (λ (j : Option Job). IfSome j (OneJob env keeps)) (sym first.does)
+                    (first-so (OneJob env keeps) (first_job env call) first.job (first-one env keeps call) first.first),
+                (has.ones c).1,
+              ))
+              step-one event;
         }
 
   -- ---- all events

@@ -32,10 +32,10 @@ use Rattle.rht_move.specs.declared.last_table.LastTableAt.TheVariants as last_ta
 use Rattle.rht_move.specs.Work as work
 use Rattle.rht_move.specs.declared.work.WorkAt.{WorkAt}
 use Rattle.rht_move.specs.declared.work.WorkAt.TheVariants as work_at
-use Rattle.rht_core.specs.Jobs.{Job, finds, binds, lists, releases, rebinds, works, counts, job_plan}
+use Rattle.rht_core.specs.Jobs.{Job, binds, works, job_plan}
 use Rattle.rht_ghost.proofs.Theory.Steps.{unchanged}
 use Rattle.rht_core.proofs.Machines.JobSteps.{JobIn}
-use Rattle.rht_core.proofs.Counting.SparedSlots.{SparesSlots, at_node, lock-spares, new_node-spares, give_node-spares, locate-spares, probe-spares, relink-spares, unlock-spares, find-spares, all-spares, release-spares, rebind-spares}
+use Rattle.rht_core.proofs.Counting.SparedSlots.{SparesSlots, at_node, lock-spares, new_node-spares, give_node-spares, locate-spares, probe-spares, relink-spares, unlock-spares, other-spares}
 
 -- the operation is a load, or on another word than the next serial
 abbrev pub SparesSerial : Op → Type 0
@@ -175,11 +175,7 @@ module _ (env : Env) where
   pub job-draws : (mix : ℕ → ℕ → ℕ → ℕ) (c : ℕ) (job : Job) → JobIn env mix c job → SparesSerial (job_plan env job) ⊎ DrawsJob job
   job-draws mix c (binds port owner once state) within = bind-draws state within.at_in
   job-draws mix c (works state) within = work-draws state within
-  job-draws mix c (finds port state) within = inl (by_slots _ (find-spares env state within))
-  job-draws mix c (lists port room state) within = inl (by_slots _ (all-spares env state within.at_in))
-  job-draws mix c (releases port owner state) within = inl (by_slots _ (release-spares env state within))
-  job-draws mix c (rebinds port owner new state) within = inl (by_slots _ (rebind-spares env state within.at_in))
-  job-draws mix c counts within = inl (inl (_, refl))
+  job-draws mix c job within = inl (by_slots _ (other-spares env mix c job within refl))
 
   -- its operation adds one to the next serial
   make-adds : (make : MakeModel) → IsDrawing make → make_plan_at make.geometry make.exponent make.seed make.at ≡ Add 3 1

@@ -1,7 +1,7 @@
 -- Which operations leave the words of all slots, of the current table and of the next serial: loads, and those on the work lock, on the
 -- count of ports, and on words behind the slots. Look-ups, listings, releases and rebinds have no other; nor have the pieces of a bind but
 -- the making of a table.
-use Rattle.std.proofs.Common.{◌≡◌, ◌⊎◌, ℕ, ◌<◌, ◌≤◌, List, get_or, refl, sym, ap, subst, inl, inr, arith}
+use Rattle.std.proofs.Common.{◌≡◌, ◌⊎◌, ℕ, false, ◌<◌, ◌≤◌, List, get_or, refl, sym, ap, subst, inl, inr, arith}
 use Rattle.rht_words.specs.declared.op.Op.{Op}
 use Rattle.rht_words.specs.declared.op.Op.TheVariants.{Load, Exchange}
 use Rattle.rht_words.specs.declared.env.Env.{Env}
@@ -49,7 +49,11 @@ use Rattle.rht_release.specs.declared.release.ReleaseAt.TheVariants as releases
 use Rattle.rht_release.specs.Rebind as rebind
 use Rattle.rht_release.specs.declared.rebind.RebindAt.{RebindAt}
 use Rattle.rht_release.specs.declared.rebind.RebindAt.TheVariants as rebinds
+use Rattle.rht_core.specs.Jobs as jobs
+use Rattle.rht_core.specs.Jobs.{Job, call_of, job_plan}
 use Rattle.rht_ghost.proofs.Theory.Steps.{unchanged}
+use Rattle.rht_core.proofs.Machines.JobSteps.{JobIn}
+use Rattle.rht_core.proofs.Machines.NeverHeld.{may_make}
 
 -- the place is that of the work lock, of the count of ports, or of a word behind the slots
 abbrev pub IsBesideSlots : ℕ → Type 0
@@ -141,19 +145,19 @@ module _ (env : Env) where
   abbrev g : Geometry
   g = env.geometry
 
-  pub find-spares : (state : FindAt) → IsFindAtIn env state → SparesSlots (find_plan_at env state)
+  find-spares : (state : FindAt) → IsFindAtIn env state → SparesSlots (find_plan_at env state)
   find-spares (finds.Locating locate) within = locate-spares locate.geometry locate.table locate.at
   find-spares (finds.Probing table probe) within = probe-spares g probe.at within.probe_in.at_in
   find-spares (finds.Unlocking table unlock next) within = unlock-spares g unlock within.unlock_in
   find-spares _ within = by_load _ _ refl
 
-  pub all-spares : (state : AllAt) → all.IsAllAtIn env state → SparesSlots (all.plan_at env state)
+  all-spares : (state : AllAt) → all.IsAllAtIn env state → SparesSlots (all.plan_at env state)
   all-spares (alls.Seeking seek) within = seek-spares g seek.geometry seek.at within.at_in
   all-spares (alls.Owner found node) within = by_load _ _ refl
   all-spares (alls.ListLink found node) within = by_load _ _ refl
   all-spares (alls.Unlocking table unlock) within = unlock-spares g unlock within.unlock_in
 
-  pub release-spares : (state : ReleaseAt) → release.IsReleaseAtIn env state → SparesSlots (release.plan_at env state)
+  release-spares : (state : ReleaseAt) → release.IsReleaseAtIn env state → SparesSlots (release.plan_at env state)
   release-spares (releases.Seeking seek) within = seek-spares g seek.geometry seek.at within.at_in
   release-spares (releases.CuttingOut found node before link) within = at_node g before ListLink _ refl
   release-spares (releases.SecondLink found second link) within = at_node g second ChainLink _ refl
@@ -163,7 +167,7 @@ module _ (env : Env) where
   release-spares (releases.Unlocking table unlock removed) within = unlock-spares g unlock within.unlock_in
   release-spares _ within = by_load _ _ refl
 
-  pub rebind-spares : (state : RebindAt) → rebind.IsRebindAtIn env state → SparesSlots (rebind.plan_at env state)
+  rebind-spares : (state : RebindAt) → rebind.IsRebindAtIn env state → SparesSlots (rebind.plan_at env state)
   rebind-spares (rebinds.Filling new) within = new_node-spares new.geometry new.key new.owner new.at
   rebind-spares (rebinds.Seeking node seek) within = seek-spares g seek.geometry seek.at within.seek_in.at_in
   rebind-spares (rebinds.Owner node found) within = by_load _ _ refl
@@ -172,6 +176,17 @@ module _ (env : Env) where
   rebind-spares (rebinds.Replacing node found relink) within = relink-spares g relink relink.at within.relink_in.place_in
   rebind-spares (rebinds.Unlocking node table unlock) within = unlock-spares g unlock within.unlock_in
   rebind-spares (rebinds.Giving give) within = give_node-spares give
+
+-- nor has any job of a call that makes no table
+pub other-spares : (env : Env) (mix : ℕ → ℕ → ℕ → ℕ) (c : ℕ) (job : Job) → JobIn env mix c job → may_make (call_of job) ≡ false
+    → SparesSlots (job_plan env job)
+other-spares env mix c (jobs.finds port state) within none = find-spares env state within
+other-spares env mix c (jobs.binds port owner once state) within none = absurd (cc)
+other-spares env mix c (jobs.lists port room state) within none = all-spares env state within.at_in
+other-spares env mix c (jobs.releases port owner state) within none = release-spares env state within
+other-spares env mix c (jobs.rebinds port owner new state) within none = rebind-spares env state within.at_in
+other-spares env mix c (jobs.works state) within none = absurd (cc)
+other-spares env mix c _ within none = by_load _ _ refl
 
 -- an operation that leaves the words of slots attaches no table
 pub spares-none : (env : Env) (op : Op) (last old new : ℕ) → SparesSlots op → last < 8

@@ -81,7 +81,7 @@ module _ (env : Env) (mix : ℕ → ℕ → ℕ → ℕ) where
         (same_grow env mix G G
         (record { table = refl; attached = refl; current = refl; slot = refl; page = refl; worker = refl }))
 
-    event-grows : (core : Core L) (G G' : Ghost) (event : Event) → GhostKept env mix L core G G' event → TablesGrow env mix G G'
+    pub event-grows : (core : Core L) (G G' : Ghost) (event : Event) → GhostKept env mix L core G G' event → TablesGrow env mix G G'
     event-grows core G G' Enroll moves = same-grows G G' moves
     event-grows core G G' (Begin c call) moves = same-grows G G' moves
     event-grows core G G' (Step c) moves = go (planned_in core c) refl

@@ -14,21 +14,18 @@ use Rattle.rht_words.proofs.Memory.{Memory, is_write}
 use Rattle.rht_words.proofs.EachElement.{each_set}
 use Rattle.rht_words.proofs.Members.{count_below-same}
 use Rattle.rht_model.specs.declared.history.Call.{Call}
-use Rattle.rht_model.specs.Rooms as rooms
 use Rattle.rht_model.specs.Endings.{Ending}
 use Rattle.rht_core.specs.declared.event.Event.{Event}
 use Rattle.rht_core.specs.declared.event.Event.TheVariants.{Enroll, Begin}
 use Rattle.rht_core.specs.declared.event.Event.TheVariants as events
 use Rattle.rht_callers.specs.declared.local.Doing.{Doing}
-use Rattle.rht_callers.specs.declared.local.Doing.TheVariants.{Idle, Finding, Binding, Releasing, Rebinding, Listing, Working, Counting}
-use Rattle.rht_callers.specs.Locals.{fresh, owners_room, does_nothing, machine_of, begin_with, local_after}
+use Rattle.rht_callers.specs.Locals.{fresh, does_nothing, machine_of, begin_with, local_after}
 use Rattle.rht_core.specs.Runs.{Core, local_of, beginning_in, planned_in, enrolling, core_step}
-use Rattle.rht_core.specs.Jobs.{Job, finds, binds, releases, rebinds, lists, works, counts, job_plan, job_after, job_of, told, held_of, held_next}
-use Rattle.rht_core.specs.Laws.{IsDoingIn}
+use Rattle.rht_core.specs.Jobs.{Job, job_plan, job_after, job_of, told, held_of, held_next}
 use Rattle.rht_callers.proofs.CallBeginnings.{begins_so}
 use Rattle.rht_core.proofs.Events.Worlds.{beginning-some, planned-some}
 use Rattle.rht_core.proofs.Events.SoundRuns.{has_place, made_in}
-use Rattle.rht_core.proofs.Events.RangesInRuns.{AllIn}
+use Rattle.rht_core.proofs.Events.RangesInRuns.{AllIn, job-in}
 use Rattle.rht_core.proofs.Events.JobsOfCallers.{plan-job, left-job, nothing-job, is_no_job}
 use Rattle.rht_ghost.proofs.Theory.Ghosts.{Ghost, is_taken_by}
 use Rattle.rht_ghost.proofs.Theory.Wholes.{outs, Whole}
@@ -67,32 +64,6 @@ module _ (env : Env) (mix : ℕ → ℕ → ℕ → ℕ) where
       pub same_env : core.env ≡ env
       pub whole : Whole env mix (mem env mix core.words) G
       pub each : (c : ℕ) → Knows c (job_of (local_of core c).doing) (mem env mix core.words) G
-
-    -- what a caller does that is in range is a job that is
-    pub job-in : (c : ℕ) (doing : Doing L) (job : Job) (room : rooms.Kept ℕ) → job_of doing ≡ Some job
-        → IsDoingIn env c doing → (owners_room doing room).limit ≡ env.geometry.nodes
-        → JobIn env mix c job
-    job-in c Idle job room is within roomy = absurd (cc)
-    job-in c (Finding m) job room is within roomy =
-        let here : finds m.port m.at ≡ job = cc in subst (JobIn env mix c) here within.at_in
-    job-in c (Binding m) job room is within roomy =
-        let here : binds m.port m.owner m.once m.at ≡ job = cc in
-        subst (JobIn env mix c) here (record {
-          port_in = within.port_in;
-          owner_in = within.owner_in;
-          at_in = within.at_in;
-        })
-    job-in c (Listing m) job room is within roomy =
-        let here : lists m.port m.room m.at ≡ job = cc in
-        subst (JobIn env mix c) here (record { at_in = within.at_in; roomy = roomy })
-    job-in c (Releasing m) job room is within roomy =
-        let here : releases m.port m.owner m.at ≡ job = cc in subst (JobIn env mix c) here within.at_in
-    job-in c (Rebinding m) job room is within roomy =
-        let here : rebinds m.port m.owner m.new_owner m.at ≡ job = cc in
-        subst (JobIn env mix c) here (record { new_in = within.new_owner_in; at_in = within.at_in })
-    job-in c (Working m) job room is within roomy =
-        let here : works m.at ≡ job = cc in subst (JobIn env mix c) here within.at_in
-    job-in c (Counting m) job room is within roomy = let here : counts ≡ job = cc in subst (JobIn env mix c) here tt
 
     -- a caller that is given a call knows what the first state of its machine says
     begun_knows : (c : ℕ) (call : Call) (machine : Doing L) (M : Memory) (G : Ghost)
@@ -147,7 +118,7 @@ module _ (env : Env) (mix : ℕ → ℕ → ℕ → ℕ) where
         let knows = subst (λ j. Knows c j (mem env mix core.words) G) plans.does (inv.each c) in
         let low : c < env.geometry.callers = omega (arith, can.below, sound.stays.few_enrolled) in
         let local = sound.locals c in
-        let within = job-in c doing job (local_of core c).owners plans.does local.doing local.owners in
+        let within = job-in L env mix c doing job (local_of core c).owners plans.does local.doing local.owners in
         record {
           job = job;
           is = plans.does;

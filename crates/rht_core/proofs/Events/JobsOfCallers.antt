@@ -15,16 +15,13 @@ use Rattle.rht_model.specs.declared.history.Reply.{Reply}
 use Rattle.rht_model.specs.Answers.{Answer}
 use Rattle.rht_model.specs.Endings.{Ending, plain_ending}
 use Rattle.rht_find.specs.Find as find
-use Rattle.rht_find.specs.Find.{FindModel}
 use Rattle.rht_bind.specs.Bind as bind
-use Rattle.rht_bind.specs.Bind.{BindModel}
 use Rattle.rht_model.specs.declared.history.Reply.TheVariants.{Counted}
 use Rattle.rht_model.specs.Rooms.{Kept}
 use Rattle.rht_release.specs.All as all
 use Rattle.rht_release.specs.All.{AllModel, moved}
 use Rattle.rht_release.specs.AllHeld.{listing_of}
 use Rattle.rht_release.specs.declared.all.AllAt.{AllAt}
-use Rattle.rht_callers.specs.PortCounts.{count_plan_in}
 use Rattle.rht_callers.specs.declared.local.Local.{Local}
 use Rattle.rht_callers.specs.declared.local.Doing.{Doing}
 use Rattle.rht_callers.specs.declared.local.Doing.TheVariants.{Idle, Finding, Binding, Releasing, Rebinding, Listing, Working, Counting}
@@ -33,11 +30,8 @@ use Rattle.rht_core.specs.Jobs.{listing_ending, node_ending, Job, finds, binds, 
 use Rattle.rht_words.specs.declared.config.Kind.{Kind}
 use Rattle.rht_words.specs.declared.config.Kind.TheVariants.{Single, Listed}
 use Rattle.rht_release.specs.Release as release
-use Rattle.rht_release.specs.Release.{ReleaseModel}
 use Rattle.rht_release.specs.Rebind as rebind
-use Rattle.rht_release.specs.Rebind.{RebindModel}
 use Rattle.rht_move.specs.Work as work
-use Rattle.rht_move.specs.Work.{WorkModel}
 use Rattle.rht_callers.proofs.CallBeginnings.{begins_so}
 
 -- there is no job
@@ -55,33 +49,37 @@ pub record HasNoLists {M : Type 0} (local : Local M) : Type 0 where
   pub owners : local.owners.items ≡ []
   pub pairs : local.pairs.items ≡ []
 
--- no operation makes a job one of another call
-job_next-call : {S A : Type 0} (job : S → Job) (ending : A → Ending) (call : Call)
-    → ((state : S) → call_of (job state) ≡ call) → (next : S × Next A)
-    → call_of (job_next job ending next).0 ≡ call
-job_next-call job ending call same (state, Go) = same state
-job_next-call job ending call same (state, Done end) = same state
+-- an operation leaves the job one of its call, or ends the call, and no call ends with pairs yet
+pub record GoesSo (asked : Call) (next : Job × Next Ending) : Type 0 where
+  pub same : call_of next.0 ≡ asked
+  pub alone : GoesOrEnds (λ job. Unit {0}) (λ ending. ending.pairs ≡ []) next
 
-pub same_call : (mix : ℕ → ℕ → ℕ → ℕ) (env : Env) (job : Job) (old : ℕ)
-    → call_of (job_after mix env job old).0 ≡ call_of job
-same_call mix env (finds port state) old =
-    job_next-call (finds port) plain_ending (Find port) (λ s. refl) (find.after_at mix env port state old)
-same_call mix env (binds port owner once state) old =
-    job_next-call (binds port owner once) plain_ending (Bind port owner once) (λ s. refl)
+job_next-so : {S A : Type 0} (job : S → Job) (ending : A → Ending) (call : Call) → ((state : S) → call_of (job state) ≡ call)
+    → ((end : A) → (ending end).pairs ≡ []) → (next : S × Next A) → GoesSo call (job_next job ending next)
+job_next-so job ending call same alone (state, Go) = record { same = same state; alone = tt }
+job_next-so job ending call same alone (state, Done end) = record { same = same state; alone = alone end }
+
+pub goes_so : (mix : ℕ → ℕ → ℕ → ℕ) (env : Env) (job : Job) (old : ℕ) → GoesSo (call_of job) (job_after mix env job old)
+goes_so mix env (finds port state) old =
+    job_next-so (finds port) plain_ending (Find port) (λ s. refl) (λ e. refl) (find.after_at mix env port state old)
+goes_so mix env (binds port owner once state) old =
+    job_next-so (binds port owner once) plain_ending (Bind port owner once) (λ s. refl) (λ e. refl)
     (bind.after_at mix env port once state old)
-same_call mix env (lists port room state) old =
+goes_so mix env (lists port room state) old =
     let after = all.room_after state room old in
-    job_next-call (lists port after) (listing_ending after) (All port) (λ s. refl)
-    (all.after_at mix env port state old)
-same_call mix env (releases port owner state) old =
-    job_next-call (releases port owner) node_ending (Release port owner) (λ s. refl)
+    job_next-so (lists port after) (listing_ending after) (All port) (λ s. refl) (λ e. refl) (all.after_at mix env port state old)
+goes_so mix env (releases port owner state) old =
+    job_next-so (releases port owner) node_ending (Release port owner) (λ s. refl) (λ e. refl)
     (release.after_at mix env port owner state old)
-same_call mix env (rebinds port owner new state) old =
-    job_next-call (rebinds port owner new) node_ending (Rebind port owner new) (λ s. refl)
+goes_so mix env (rebinds port owner new state) old =
+    job_next-so (rebinds port owner new) node_ending (Rebind port owner new) (λ s. refl) (λ e. refl)
     (rebind.after_at mix env port owner state old)
-same_call mix env (works state) old =
-    job_next-call works plain_ending Work (λ s. refl) (work.after_at mix env state old)
-same_call mix env counts old = refl
+goes_so mix env (works state) old =
+    job_next-so works plain_ending Work (λ s. refl) (λ e. refl) (work.after_at mix env state old)
+goes_so mix env counts old = record { same = refl; alone = refl }
+
+pub same_call : (mix : ℕ → ℕ → ℕ → ℕ) (env : Env) (job : Job) (old : ℕ) → call_of (job_after mix env job old).0 ≡ call_of job
+same_call mix env job old = (goes_so mix env job old).same
 
 -- what is so of each job of a call and of each way in which the call may end is so behind an operation
 pub each_goes : (Now : Job → Type 0) (Ended : Ending → Type 0) (call : Call) (next : Job × Next Ending) → call_of next.0 ≡ call
@@ -99,16 +97,21 @@ pub first-so : (Now : Job → Type 0) (first : Option Job) (job : Job) → IfSom
 first-so Now None job kept is = absurd (cc)
 first-so Now (Some first) job kept is = let same : first ≡ job = cc in subst Now same kept
 
+-- a rebind begins where the table has one owner for each port
+pub first_rebind-so : (Now : Job → Type 0) (env : Env) (port owner new : ℕ)
+    → Now (rebinds port owner new (rebind.first_state env port new)) → IfSome (first_rebind env port owner new env.config.kind) Now
+first_rebind-so Now env port owner new so = go env.config.kind
+  where
+    go : (kind : Kind) → IfSome (first_rebind env port owner new kind) Now
+    go Single = so
+    go Listed = tt
+
 -- a call holds nothing at its beginning
 abbrev HoldsNothing : Job → Type 0
 HoldsNothing job = held_of job ≡ held.holds_nothing
 
-first_rebind-holds : (env : Env) (port owner new : ℕ) (kind : Kind) → IfSome (first_rebind env port owner new kind) HoldsNothing
-first_rebind-holds env port owner new Single = refl
-first_rebind-holds env port owner new Listed = tt
-
 first_job-holds : (env : Env) (call : Call) → IfSome (first_job env call) HoldsNothing
-first_job-holds env (Rebind port owner new) = first_rebind-holds env port owner new env.config.kind
+first_job-holds env (Rebind port owner new) = first_rebind-so HoldsNothing env port owner new refl
 first_job-holds env (Walk from limit) = tt
 first_job-holds env Tidy = tt
 first_job-holds env _ = refl
@@ -166,50 +169,23 @@ module _ {M : Type 0} where
     pub does : job_of doing ≡ Some job
     pub plan : op ≡ job_plan env job
 
+  plans-so : (env : Env) (doing : Doing M) (op : Op) (job : Job) (own : Env) → job_of doing ≡ Some job
+      → doing_plan doing ≡ Some (job_plan own job) → own ≡ env → doing_plan doing ≡ Some op → PlansJob env doing op
+  plans-so env doing op job own does planned of plan =
+      let here : op ≡ job_plan own job = let both = sym plan ∙ planned in cc in
+      record { job = job; does = does; plan = subst (λ (e : Env). op ≡ job_plan e job) of here }
+
   pub plan-job : (env : Env) (doing : Doing M) (op : Op) → IsDoingOf env doing → doing_plan doing ≡ Some op
       → PlansJob env doing op
   plan-job env Idle op of plan = absurd (cc)
-  plan-job env (Finding m) op of plan =
-      let here : op ≡ find.plan_at m.env m.at = cc in
-      record {
-        job = finds m.port m.at;
-        does = refl;
-        plan = subst (λ (e : Env). op ≡ find.plan_at e m.at) of here;
-      }
-  plan-job env (Binding m) op of plan =
-      let here : op ≡ bind.plan_at m.env m.at = cc in
-      record {
-        job = binds m.port m.owner m.once m.at;
-        does = refl;
-        plan = subst (λ (e : Env). op ≡ bind.plan_at e m.at) of here;
-      }
-  plan-job env (Listing m) op of plan =
-      let here : op ≡ all.plan_at m.env m.at = cc in
-      record {
-        job = lists m.port m.room m.at;
-        does = refl;
-        plan = subst (λ (e : Env). op ≡ all.plan_at e m.at) of here;
-      }
-  plan-job env (Releasing m) op of plan =
-      let here : op ≡ release.plan_at m.env m.at = cc in
-      record {
-        job = releases m.port m.owner m.at;
-        does = refl;
-        plan = subst (λ (e : Env). op ≡ release.plan_at e m.at) of here;
-      }
+  plan-job env (Finding m) op of plan = plans-so env (Finding m) op (finds m.port m.at) m.env refl refl of plan
+  plan-job env (Binding m) op of plan = plans-so env (Binding m) op (binds m.port m.owner m.once m.at) m.env refl refl of plan
+  plan-job env (Listing m) op of plan = plans-so env (Listing m) op (lists m.port m.room m.at) m.env refl refl of plan
+  plan-job env (Releasing m) op of plan = plans-so env (Releasing m) op (releases m.port m.owner m.at) m.env refl refl of plan
   plan-job env (Rebinding m) op of plan =
-      let here : op ≡ rebind.plan_at m.env m.at = cc in
-      record {
-        job = rebinds m.port m.owner m.new_owner m.at;
-        does = refl;
-        plan = subst (λ (e : Env). op ≡ rebind.plan_at e m.at) of here;
-      }
-  plan-job env (Working m) op of plan =
-      let here : op ≡ work.plan_at m.env m.at = cc in
-      record { job = works m.at; does = refl; plan = subst (λ (e : Env). op ≡ work.plan_at e m.at) of here }
-  plan-job env (Counting m) op of plan =
-      let here : op ≡ count_plan_in m.env = cc in
-      record { job = counts; does = refl; plan = subst (λ (e : Env). op ≡ count_plan_in e) of here }
+      plans-so env (Rebinding m) op (rebinds m.port m.owner m.new_owner m.at) m.env refl refl of plan
+  plan-job env (Working m) op of plan = plans-so env (Working m) op (works m.at) m.env refl refl of plan
+  plan-job env (Counting m) op of plan = plans-so env (Counting m) op counts m.env refl refl of plan
 
   module _ (local : Local M) (none : HasNoLists local) where
     -- the job that a caller has after this has become of what it does and of its room of owners, and how its
@@ -245,49 +221,42 @@ module _ {M : Type 0} where
     listed-told m after (state, Done done) =
         (λ i. (None, Some record { answer = listing_of after.items; pairs = none.pairs i }))
 
+    -- what is left of a job is the same in its own table as in the run's, which is that one
+    told-same : (mix : ℕ → ℕ → ℕ → ℕ) (own env : Env) (first job : Job) (old : ℕ) → own ≡ env → Some first ≡ Some job
+        → told (job_after mix own first old) ≡ told (job_after mix env job old)
+    told-same mix own env first job old of is =
+        let here : first ≡ job = cc in
+        ap (λ (e : Env). told (job_after mix e first old)) of ∙ ap (λ (j : Job). told (job_after mix env j old)) here
+
     doing_after-job : (mix : ℕ → ℕ → ℕ → ℕ) (env : Env) (doing : Doing M) (job : Job) (old : ℕ)
         → IsDoingOf env doing → job_of doing ≡ Some job
         → job_left_with (doing_after mix doing old) (owners_after mix doing local.owners old)
         ≡ told (job_after mix env job old)
     doing_after-job mix env Idle job old of is = absurd (cc)
     doing_after-job mix env (Finding m) job old of is =
-        let here : finds m.port m.at ≡ job = cc in
         next-told Finding (λ state. record m { at = state }) (finds m.port) (λ state. refl)
         (find.after_at mix m.env m.port m.at old)
-        ∙ ap (λ (e : Env). told (job_after mix e (finds m.port m.at) old)) of
-        ∙ ap (λ (j : Job). told (job_after mix env j old)) here
+        ∙ told-same mix m.env env (finds m.port m.at) job old of is
     doing_after-job mix env (Binding m) job old of is =
-        let here : binds m.port m.owner m.once m.at ≡ job = cc in
         next-told Binding (λ state. record m { at = state }) (binds m.port m.owner m.once) (λ state. refl)
         (bind.after_at mix m.env m.port m.once m.at old)
-        ∙ ap (λ (e : Env). told (job_after mix e (binds m.port m.owner m.once m.at) old)) of
-        ∙ ap (λ (j : Job). told (job_after mix env j old)) here
+        ∙ told-same mix m.env env (binds m.port m.owner m.once m.at) job old of is
     doing_after-job mix env (Listing m) job old of is =
-        let here : lists m.port m.room m.at ≡ job = cc in
         listed-told m (all.room_after m.at m.room old) (all.after_at mix m.env m.port m.at old)
-        ∙ ap (λ (e : Env). told (job_after mix e (lists m.port m.room m.at) old)) of
-        ∙ ap (λ (j : Job). told (job_after mix env j old)) here
+        ∙ told-same mix m.env env (lists m.port m.room m.at) job old of is
     doing_after-job mix env (Releasing m) job old of is =
-        let here : releases m.port m.owner m.at ≡ job = cc in
         node-told Releasing (λ state. record m { at = state }) (releases m.port m.owner) (λ state. refl)
         (release.after_at mix m.env m.port m.owner m.at old)
-        ∙ ap (λ (e : Env). told (job_after mix e (releases m.port m.owner m.at) old)) of
-        ∙ ap (λ (j : Job). told (job_after mix env j old)) here
+        ∙ told-same mix m.env env (releases m.port m.owner m.at) job old of is
     doing_after-job mix env (Rebinding m) job old of is =
-        let here : rebinds m.port m.owner m.new_owner m.at ≡ job = cc in
         node-told Rebinding (λ state. record m { at = state }) (rebinds m.port m.owner m.new_owner) (λ state. refl)
         (rebind.after_at mix m.env m.port m.owner m.at old)
-        ∙ ap (λ (e : Env). told (job_after mix e (rebinds m.port m.owner m.new_owner m.at) old)) of
-        ∙ ap (λ (j : Job). told (job_after mix env j old)) here
+        ∙ told-same mix m.env env (rebinds m.port m.owner m.new_owner m.at) job old of is
     doing_after-job mix env (Working m) job old of is =
-        let here : works m.at ≡ job = cc in
         next-told Working (λ state. record m { at = state }) works (λ state. refl) (work.after_at mix m.env m.at old)
-        ∙ ap (λ (e : Env). told (job_after mix e (works m.at) old)) of
-        ∙ ap (λ (j : Job). told (job_after mix env j old)) here
+        ∙ told-same mix m.env env (works m.at) job old of is
     doing_after-job mix env (Counting m) job old of is =
-        let here : counts ≡ job = cc in
-        (λ i. (None, Some record { answer = record { reply = Counted old; owners = none.owners i }; pairs = none.pairs i }))
-        ∙ ap (λ (j : Job). told (job_after mix env j old)) here
+        ap (λ e. (None, e)) (plain (Counted old)) ∙ told-same mix m.env env counts job old of is
 
   -- the reply is that with which its call has ended, whatever is in its rooms
   pub doing_after-reply : (mix : ℕ → ℕ → ℕ → ℕ) (env : Env) (doing : Doing M) (job : Job) (old : ℕ)

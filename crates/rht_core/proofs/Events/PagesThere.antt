@@ -13,7 +13,7 @@ use Rattle.rht_ghost.proofs.Theory.Passed.{home-stays}
 use Rattle.rht_model.specs.Answers.{Answer}
 use Rattle.rht_ghost.proofs.Theory.Knowns.{KnownTable, OnWay}
 use Rattle.rht_ghost.proofs.Theory.Knowledge.{TableMeans}
-use Rattle.rht_ghost.proofs.Theory.KnowledgeStays.{TableMeans-stay}
+use Rattle.rht_ghost.proofs.Theory.WaysStay.{IsWayTo-stay}
 use Rattle.rht_ghost.proofs.Theory.WaysRead.{placed-stays}
 use Rattle.rht_ghost.proofs.Theory.Reliance.{Rely}
 use Rattle.rht_ghost.proofs.Theory.Steps.{mem}
@@ -31,10 +31,11 @@ module _ (env : Env) (mix : ℕ → ℕ → ℕ → ℕ) where
     there-stays None known means there = there
     there-stays (Some answer) (OnWay port slot shape place further) means there =
         let passing = means.shaped.passing in
-        placed-stays env mix M M' G G' whole whole' port slot shape place further means
-        (TableMeans-stay env mix c M M' G G' rely.tables (OnWay port slot shape place further) means)
-        (λ j here. ap (home env mix G' port) (rely.tables.grow.indices slot passing.table)
-        ∙ home-stays env mix G G' rely.tables.grow port (index_at G slot) j passing.passed.attached here) there
+        let grow = rely.tables.grow in
+        placed-stays env mix M M' G G' whole whole' port slot place passing.table (grow.slots slot passing.table) means.to
+        (IsWayTo-stay env mix G G' grow port slot place passing.table passing.passed.attached means.to)
+        (λ j here. ap (home env mix G' port) (grow.indices slot passing.table)
+        ∙ home-stays env mix G G' grow port (index_at G slot) j passing.passed.attached here) there
     there-stays (Some answer) _ means there = there
 
     pub IsThere-rely : (job : Job) → JobKnows env mix c job M G → IsThere job M → IsThere job M'

@@ -22,23 +22,24 @@ use Rattle.rht_words.proofs.WordChanges.{applied-other}
 use Rattle.rht_words.proofs.PlannedWords.{applied-fit, old_of-fits}
 use Rattle.rht_words.proofs.EachElement.{AllByRecursion-map, each_set, each_replicate}
 use Rattle.rht_model.specs.declared.history.Call.{Call}
-use Rattle.rht_find.specs.Find.{find_after, plan_at as find_plan_at, IsFindAtIn}
+use Rattle.rht_model.specs.Rooms.{Kept}
+use Rattle.rht_find.specs.Find.{find_after, IsFindAtIn}
 use Rattle.rht_find.proofs.FindStays.{find_stays}
 use Rattle.rht_find.proofs.FindPlanned.{planned_find}
-use Rattle.rht_bind.specs.Bind.{bind_after, plan_at as bind_plan_at, IsBindAtIn}
+use Rattle.rht_bind.specs.Bind.{bind_after, IsBindAtIn}
 use Rattle.rht_bind.proofs.BindStays.{bind_stays}
 use Rattle.rht_bind.proofs.BindPlanned.{planned_bind}
-use Rattle.rht_release.specs.All.{all_after, plan_at as all_plan_at, IsAllAtIn}
+use Rattle.rht_release.specs.All.{all_after, IsAllAtIn}
 use Rattle.rht_release.proofs.AllStays.{all_stays, room_stays}
 use Rattle.rht_release.proofs.AllPlanned.{planned_all}
 use Rattle.rht_release.specs.Seek.{seek_new, IsSeekIn}
-use Rattle.rht_release.specs.Release.{release_after, plan_at as release_plan_at, IsReleaseAtIn}
+use Rattle.rht_release.specs.Release.{release_after, IsReleaseAtIn}
 use Rattle.rht_release.proofs.ReleaseStays.{release_stays}
 use Rattle.rht_release.proofs.ReleasePlanned.{planned_release}
-use Rattle.rht_release.specs.Rebind.{rebind_after, plan_at as rebind_plan_at, IsRebindAtIn}
+use Rattle.rht_release.specs.Rebind.{rebind_after, IsRebindAtIn}
 use Rattle.rht_release.proofs.RebindStays.{rebind_stays}
 use Rattle.rht_release.proofs.RebindPlanned.{planned_rebind}
-use Rattle.rht_move.specs.Work.{work_after, plan_at as work_plan_at, IsWorkAtIn}
+use Rattle.rht_move.specs.Work.{work_after, IsWorkAtIn}
 use Rattle.rht_move.proofs.WorkStays.{work_stays}
 use Rattle.rht_move.proofs.WorkPlanned.{planned_work}
 use Rattle.rht_core.specs.declared.event.Event.{Event}
@@ -47,13 +48,16 @@ use Rattle.rht_callers.specs.PortCounts.{count_plan_in}
 use Rattle.rht_callers.specs.declared.local.Local.{Local}
 use Rattle.rht_callers.specs.declared.local.Doing.{Doing}
 use Rattle.rht_callers.specs.declared.local.Doing.TheVariants.{Idle, Finding, Binding, Releasing, Rebinding, Listing, Working, Counting}
-use Rattle.rht_callers.specs.Locals.{fresh, machine_of, begin_with, doing_plan, plan_of, doing_after, local_after, without_node}
+use Rattle.rht_callers.specs.Locals.{fresh, machine_of, begin_with, plan_of, doing_after, local_after, owners_room, without_node, IsDoingOf}
 use Rattle.rht_core.specs.Runs.{Core, World, local_of, beginning_in, with_machine, planned_in, with_step, enrolling, world_step, run_of, opening, IsAdmitted, IsAdmittedCall, IsAdmittedEvent}
 use Rattle.rht_core.specs.Laws.{IsDoingIn, IsLocalIn, InRange, WordsFit, IsOfCaller, IsEnrolledKept, Enrolled}
+use Rattle.rht_core.specs.Jobs.{Job, finds, binds, lists, releases, rebinds, works, counts, job_plan, job_of}
+use Rattle.rht_core.proofs.Machines.JobSteps.{JobIn}
 use Rattle.rht_callers.proofs.CallBeginnings.{begins_so}
 use Rattle.rht_callers.proofs.NextDoings.{next_so}
 use Rattle.rht_callers.proofs.RoomsOfCallers.{idle-limit, begun-limit, owners_after-limit}
 use Rattle.rht_core.proofs.Events.Worlds.{beginning-some, planned-some, run_of-push, run_keeps_admitted}
+use Rattle.rht_core.proofs.Events.JobsOfCallers.{first-so, plan-job}
 use Rattle.rht_core.proofs.Events.SoundRuns.{StaysIn, opens-in, stays-in, has_place, made_in, step-count, IsSound-stays}
 
 -- ---- at opening
@@ -78,7 +82,7 @@ opening_word-fits env _ = omega arith
 -- ---- what a caller does
 
 -- the reading of the count is on one of the words
-pub planned_count : (env : Env) → IsPlannedIn env.geometry (count_plan_in env)
+planned_count : (env : Env) → IsPlannedIn env.geometry (count_plan_in env)
 planned_count env = record { within = omega arith; apart = λ same. absurd (omega arith); fits = omega arith }
 
 -- the way to a port begins in range
@@ -89,10 +93,16 @@ seek_begins-in g = record { geometry_same = refl; at_in = tt }
 first_map_word : (g : Geometry) → 0 < map_words g.nodes
 first_map_word g = let within = g.within.nodes_within in omega arith
 
--- the operation, where there is one, is in range
-abbrev PlanIn : Env → Option Op → Type 0
-PlanIn env None = Unit {0}
-PlanIn env (Some op) = IsPlannedIn env.geometry op
+-- the operation of a job in range is on a word
+pub planned_job : (env : Env) (mix : ℕ → ℕ → ℕ → ℕ) (c : ℕ) (job : Job) → JobIn env mix c job
+    → IsPlannedIn env.geometry (job_plan env job)
+planned_job env mix c (finds port state) within = planned_find env state within
+planned_job env mix c (binds port owner once state) within = planned_bind env state within.at_in
+planned_job env mix c (lists port room state) within = planned_all env state within.at_in
+planned_job env mix c (releases port owner state) within = planned_release env state within
+planned_job env mix c (rebinds port owner new state) within = planned_rebind env state within.at_in
+planned_job env mix c (works state) within = planned_work env state within
+planned_job env mix c counts within = planned_count env
 
 module _ (M : Type 0) where
   -- a caller that begins an admitted call begins in range
@@ -208,32 +218,31 @@ module _ (M : Type 0) where
       }
   doing_after-in mix env c (Counting m) old within told = tt
 
-  plan_of-in : (env : Env) (c : ℕ) (doing : Doing M) → IsDoingIn env c doing → PlanIn env (doing_plan doing)
-  plan_of-in env c Idle within = tt
-  plan_of-in env c (Finding m) within =
-      subst (λ (e : Env). IsPlannedIn env.geometry (find_plan_at e m.at)) (sym within.same_env)
-      (planned_find env m.at within.at_in)
-  plan_of-in env c (Binding m) within =
-      subst (λ (e : Env). IsPlannedIn env.geometry (bind_plan_at e m.at)) (sym within.same_env)
-      (planned_bind env m.at within.at_in)
-  plan_of-in env c (Listing m) within =
-      subst (λ (e : Env). IsPlannedIn env.geometry (all_plan_at e m.at)) (sym within.same_env)
-      (planned_all env m.at within.at_in)
-  plan_of-in env c (Releasing m) within =
-      subst (λ (e : Env). IsPlannedIn env.geometry (release_plan_at e m.at)) (sym within.same_env)
-      (planned_release env m.at within.at_in)
-  plan_of-in env c (Rebinding m) within =
-      subst (λ (e : Env). IsPlannedIn env.geometry (rebind_plan_at e m.at)) (sym within.same_env)
-      (planned_rebind env m.at within.at_in)
-  plan_of-in env c (Working m) within =
-      subst (λ (e : Env). IsPlannedIn env.geometry (work_plan_at e m.at)) (sym within.same_env)
-      (planned_work env m.at within.at_in)
-  plan_of-in env c (Counting m) within =
-      subst (λ (e : Env). IsPlannedIn env.geometry (count_plan_in e)) (sym within) (planned_count env)
+  module _ (env : Env) (mix : ℕ → ℕ → ℕ → ℕ) (c : ℕ) where
+    -- what a caller does that is in range is a job that is
+    pub job-in : (doing : Doing M) (job : Job) (room : Kept ℕ) → job_of doing ≡ Some job → IsDoingIn env c doing
+        → (owners_room doing room).limit ≡ env.geometry.nodes → JobIn env mix c job
+    job-in Idle job room is within roomy = absurd (cc)
+    job-in (Finding m) job room is within roomy = first-so (JobIn env mix c) (Some (finds m.port m.at)) job within.at_in is
+    job-in (Binding m) job room is within roomy =
+        first-so (JobIn env mix c) (Some (binds m.port m.owner m.once m.at)) job
+        (record { port_in = within.port_in; owner_in = within.owner_in; at_in = within.at_in }) is
+    job-in (Listing m) job room is within roomy =
+        first-so (JobIn env mix c) (Some (lists m.port m.room m.at)) job (record { at_in = within.at_in; roomy = roomy }) is
+    job-in (Releasing m) job room is within roomy = first-so (JobIn env mix c) (Some (releases m.port m.owner m.at)) job within.at_in is
+    job-in (Rebinding m) job room is within roomy =
+        first-so (JobIn env mix c) (Some (rebinds m.port m.owner m.new_owner m.at)) job
+        (record { new_in = within.new_owner_in; at_in = within.at_in }) is
+    job-in (Working m) job room is within roomy = first-so (JobIn env mix c) (Some (works m.at)) job within.at_in is
+    job-in (Counting m) job room is within roomy = first-so (JobIn env mix c) (Some counts) job tt is
 
-  plans-in : (env : Env) (c : ℕ) (local : Local M) (op : Op) → IsLocalIn env c local
-      → plan_of local ≡ Some op → IsPlannedIn env.geometry op
-  plans-in env c local op within is = subst (PlanIn env) is (plan_of-in env c local.doing within.doing)
+    -- so the operation that it plans is on a word
+    plans-in : (local : Local M) (op : Op) → IsDoingOf env local.doing → IsLocalIn env c local → plan_of local ≡ Some op
+        → IsPlannedIn env.geometry op
+    plans-in local op of within is =
+        let plans = plan-job env local.doing op of is in
+        subst (IsPlannedIn env.geometry) (sym plans.plan)
+        (planned_job env mix c plans.job (job-in local.doing plans.job local.owners plans.does within.doing within.owners))
 
 -- ---- runs
 
@@ -286,7 +295,7 @@ module _ (M : Type 0) (mix : ℕ → ℕ → ℕ → ℕ) (env : Env) where
   step-all core c (Some op) is all =
       let can = planned-some core.env core.enrolled core.locals c op is in
       let here = all.locals c in
-      let plan = plans-in M env c (local_of core c) op here can.plan in
+      let plan = plans-in M env mix c (local_of core c) op (all.stays.locals_of c).doing here can.plan in
       let old = old_of core.words op in
       let next = local_after mix (local_of core c) old in
       record {
@@ -336,7 +345,7 @@ module _ (M : Type 0) (mix : ℕ → ℕ → ℕ → ℕ) (env : Env) where
   step-kept core c None is all = refl
   step-kept core c (Some op) is all =
       let can = planned-some core.env core.enrolled core.locals c op is in
-      let plan = plans-in M env c (local_of core c) op (all.locals c) can.plan in
+      let plan = plans-in M env mix c (local_of core c) op (all.stays.locals_of c).doing (all.locals c) can.plan in
       applied-other core.words op (place_of env.geometry EnrolledCallers) (λ e. plan.apart (sym e))
 
   -- an event of a caller leaves the word of the enrolled callers and how many there are
@@ -358,7 +367,7 @@ module _ (M : Type 0) (mix : ℕ → ℕ → ℕ → ℕ) where
         same_env = all.stays.same_env;
         sound = IsSound-stays M mix env core all.stays;
         locals = all.locals;
-        plans = λ c op is. plans-in M env c (local_of core c) op (all.locals c) is;
+        plans = λ c op is. plans-in M env mix c (local_of core c) op (all.stays.locals_of c).doing (all.locals c) is;
       }
 
   pub words_fit : WordsFit M mix

@@ -1,34 +1,57 @@
--- In every run each section word is even: no operation changes one, neither a call's nor an enrolling.
--- Of each move it is enough to see on which word its operation is.
-use Rattle.std.proofs.Common.{◌≡◌, ◌⊎◌, ℕ, ◌+◌, ◌*◌, ◌/◌, ◌%◌, ◌<◌, ◌≤◌, List, Some, None, length, slice_index, refl, sym, ap, ◌∙◌, subst, inl, inr, arith}
+-- In every run a caller's section word is odd just where the call that it is in has opened its read section and not closed it.
+-- An operation is on no section word, or leaves the word that it finds, or it opens or closes the section of its own caller, and adds 1 to
+-- that word. Of each move it is enough to see on which word its operation is. Nothing here rests on which machines open sections.
+use Rattle.std.proofs.Common.{◌≡◌, ◌≢◌, ◌⊎◌, ℕ, ◌+◌, ◌*◌, ◌/◌, ◌%◌, ◌<◌, ◌≤◌, Bool, true, false, List, Some, None, length, slice_index, take, drop, refl, sym, ap, ◌∙◌, subst, inl, inr, arith}
 use Rattle.std.specs.Prelude.{Option}
 use Rattle.std.specs.Int.{bit_at}
 use Rattle.std.proofs.lemmas.Bool.{cases_eq}
-use Rattle.std.proofs.lemmas.Nat.Bits.{bit_at_lowest}
+use Rattle.std.proofs.lemmas.List.{get_or-set_same, get_or-set_other, take-append-drop}
+use Rattle.std.proofs.lemmas.Nat.Bits.{bit_at_lowest, same_from_bits_below}
 use Rattle.rht_words.specs.declared.op.Op.{Op}
+use Rattle.rht_words.specs.declared.op.Op.TheVariants.{Add}
 use Rattle.rht_words.specs.declared.env.Env.{Env}
 use Rattle.rht_words.specs.declared.geometry.Geometry.{Geometry}
+use Rattle.rht_words.specs.declared.machine.Next.{Next}
+use Rattle.rht_words.specs.declared.machine.Next.TheVariants.{Go, Done}
 use Rattle.rht_words.specs.Operations.{op_place, old_of, word_after, applied}
 use Rattle.rht_words.specs.Places.{Section, FutureWord, StateWord, PageMap, Node, NodeWord, ChainLink, PageWord, nodes_at, slot_offset, place_of, word_at, words_in}
-use Rattle.rht_words.proofs.Memory.{is_write}
+use Rattle.rht_words.proofs.Memory.{Memory, is_write}
 use Rattle.rht_words.proofs.OpeningLaws.{stand_in_place}
 use Rattle.rht_words.proofs.PlacesApart.{parts_in_order}
+use Rattle.rht_words.proofs.PlannedWords.{old_of-fits, word_after-fits}
+use Rattle.rht_words.proofs.EachElement.{AllByRecursion-cut, each_set}
 use Rattle.rht_words.proofs.WordChanges.{applied-other}
+use Rattle.rht_model.specs.declared.history.Call.{Call}
+use Rattle.rht_model.specs.Endings.{Ending}
+use Rattle.rht_callers.specs.declared.local.Local.{Local}
+use Rattle.rht_callers.specs.declared.local.Doing.{Doing}
+use Rattle.rht_callers.specs.Locals.{fresh, is_idle, does_nothing, begin_with, local_after}
 use Rattle.rht_core.specs.declared.event.Event.{Event}
 use Rattle.rht_core.specs.declared.event.Event.TheVariants.{Enroll, Begin, Step}
-use Rattle.rht_core.specs.Jobs.{job_after, held_of, held_next}
-use Rattle.rht_core.specs.Runs.{Core, World, core_step, with_step, run_of, opening, planned_in, enrolling, IsAdmitted}
-use Rattle.rht_core.specs.Sections.{IsInNoSection, Sections}
-use Rattle.rht_ghost.proofs.Theory.Steps.{Holding, LeavesBits, IsAside, Move, Quiet, TakesNode, GivesNode, TakesLock, DropsLock, Raises, Links, Lowers, Rebinds, LinksBehind, Arms, TakesSlot, GivesSlot, TakesPages, GivesPages, Enters, TakesWork, GivesWork, BeginsMoving, TakesSecond, Leaves, Arrives, CutsOff, Publishes, Retires, Does}
+use Rattle.rht_core.specs.Jobs.{Job, job_after, job_of, told, held_of, held_next}
+use Rattle.rht_core.specs.Runs.{Core, World, core_step, with_step, with_machine, local_of, beginning_in, run_of, opening, planned_in, enrolling, IsAdmitted, IsAdmittedEvent}
+use Rattle.rht_core.specs.Sections.{IsInNoSection, Sections, AddsToOwn, OwnSections}
+use Rattle.rht_ghost.proofs.Theory.Ghosts.{Ghost}
+use Rattle.rht_ghost.proofs.Theory.Steps.{bare, Holding, mem, LeavesBits, IsAside, Move, Quiet, TakesNode, GivesNode, TakesLock, DropsLock, Raises, Links, Lowers, Rebinds, LinksBehind, Arms, TakesSlot, GivesSlot, TakesPages, GivesPages, TakesWork, GivesWork, BeginsMoving, TakesSecond, Leaves, Arrives, CutsOff, Publishes, Retires, Opens, Closes, ReadyFor, Does}
 use Rattle.rht_ghost.proofs.Theory.Steps as moves
-use Rattle.rht_core.proofs.Events.Worlds.{run_keeps_admitted}
-use Rattle.rht_core.proofs.Events.RangesInRuns.{event-all, opens-all}
+use Rattle.rht_core.proofs.Events.Worlds.{beginning-some, planned-some, run_keeps_admitted}
+use Rattle.rht_core.proofs.Events.SoundRuns.{has_place, made_in}
+use Rattle.rht_core.proofs.Events.RangesInRuns.{event-all, opens-all, in_range}
+use Rattle.rht_core.proofs.Events.JobsOfCallers.{is_no_job, nothing-job, left-job, first_job-machine, first_holds}
 use Rattle.rht_core.proofs.Events.Invariants.{kept, step_of}
-use Rattle.rht_core.proofs.Events.InvariantRuns.{HasInv, opening_ghost, opening_inv}
+use Rattle.rht_core.proofs.Events.InvariantRuns.{HasInv, has_inv, idle_at_opening, opening_ghost, opening_inv}
 
 -- The operation is on no section word, or leaves each bit of its word.
 abbrev pub SparesSections : Op → ℕ → Type 0
 SparesSections op old = (op_place op < 8) ⊎ (24 ≤ op_place op) ⊎ LeavesBits op old
+
+-- what a section word is odd by, while the section is open and while it isn't
+abbrev pub odd_by : Bool → ℕ
+odd_by true = 1
+odd_by false = 0
+
+sum_is : (a b : ℕ) {x y : ℕ} → a ≡ x → b ≡ y → a + b ≡ x + y
+sum_is a b first second = omega (arith, first, second)
 
 -- ---- each move
 
@@ -61,54 +84,88 @@ module _ (g : Geometry) (op : Op) (old : ℕ) where
   aside h (inr (inr (inl own))) = at_slot own.slot (slot_offset own.word) own.place
   aside h (inr (inr (inr serial))) = first_word 3 (omega arith) (ap op_place serial)
 
-module _ (env : Env) (mix : ℕ → ℕ → ℕ → ℕ) (op : Op) (old : ℕ) (h h' : Holding) where
+module _ (env : Env) (mix : ℕ → ℕ → ℕ → ℕ) (c : ℕ) (M : Memory) (G : Ghost) (op : Op) (old : ℕ) (h h' : Holding) where
   abbrev g : Geometry
   g = env.geometry
 
-  pub spares : (move : Move) → Does env mix move op old h h' → SparesSections op old
-  spares Quiet does = aside g op old h does.leaves
-  spares (Arms j) does = aside g op old h does.leaves
-  spares (TakesNode n) does = behind_slots g op old (n / 64) does.taking.clears.place
-  spares (GivesNode n) does = behind_slots g op old (n / 64) (ap op_place does.giving)
-  spares (TakesLock j) does = in_pages g op old j does.on
-  spares (DropsLock j) does = in_pages g op old j does.on
-  spares Raises does = first_word g op old 2 (omega arith) (ap op_place does.adds)
-  spares (Links n port j) does = in_pages g op old j does.on
-  spares Lowers does = first_word g op old 2 (omega arith) (ap op_place does.subtracts)
-  spares (Rebinds change) does = behind_maps g op old does.behind_maps
-  spares (LinksBehind n) does = at_node g op old n ChainLink does.on
-  spares (TakesSlot s) does = at_slot g op old s (slot_offset StateWord) (ap op_place does.taking)
-  spares (GivesSlot s) does = at_slot g op old s (slot_offset StateWord) (ap op_place does.giving)
-  spares (TakesPages index bits) does = in_page_map g op old index does.clears.on
-  spares (GivesPages index bits) does = in_page_map g op old index does.sets.on
-  spares (moves.Attaches slot shape seed serial) does =
-      at_slot g op old does.last (slot_offset FutureWord) (ap op_place does.attaching)
-  spares (moves.Enters j p) does = in_pages g op old j (ap op_place does.entering)
-  spares TakesWork does = first_word g op old 1 (omega arith) (ap op_place does.taking)
-  spares GivesWork does = first_word g op old 1 (omega arith) (ap op_place does.giving)
-  spares BeginsMoving does = inr (inr (λ bit low. ap (λ w. bit_at w bit) does.leaves))
-  spares (TakesSecond j) does = in_pages g op old j does.on
-  spares (Leaves j i entry nodes) does = at_node g op old entry ChainLink does.on
-  spares (Arrives j i entry) does = in_pages g op old i does.on
-  spares (CutsOff j entry None) does = in_pages g op old j does.on
-  spares (CutsOff j entry (Some before)) does = at_node g op old before ChainLink does.on
-  spares Publishes does = first_word g op old 0 (omega arith) does.on
-  spares (Retires s) does = at_slot g op old s (slot_offset StateWord) (ap op_place does.retiring)
+  -- the operation spares the section words, and the call's section is open behind it where it was before
+  pub record KeepsSections : Type 0 where
+    pub spares : SparesSections op old
+    pub same : h'.section ≡ h.section
+
+  -- or it adds 1 to the word of this caller, whose section is open before it or behind it, and not both
+  pub record TurnsSection (d : ℕ) : Type 0 where
+    pub adds : op ≡ Add (place_of g (Section d)) 1
+    pub turns : odd_by h.section + odd_by h'.section ≡ 1
+
+  keeps : {then : Holding} → SparesSections op old → bare h' ≡ then → then.section ≡ h.section → KeepsSections ⊎ TurnsSection c
+  keeps spares holds same = inl (record { spares = spares; same = ap (λ (x : Holding). x.section) holds ∙ same })
+
+  pub by_move : (move : Move) → ReadyFor env mix c M G move → Does env mix move op old h h' → KeepsSections ⊎ TurnsSection c
+  by_move Quiet ready does = keeps (aside g op old h does.leaves) does.holds refl
+  by_move (Arms j) ready does = keeps (aside g op old h does.leaves) does.holds refl
+  by_move (TakesNode n) ready does = keeps (behind_slots g op old (n / 64) does.taking.clears.place) does.holds refl
+  by_move (GivesNode n) ready does = keeps (behind_slots g op old (n / 64) (ap op_place does.giving)) does.holds refl
+  by_move (TakesLock j) ready does = keeps (in_pages g op old j does.on) does.holds refl
+  by_move (DropsLock j) ready does = keeps (in_pages g op old j does.on) does.holds refl
+  by_move Raises ready does = keeps (first_word g op old 2 (omega arith) (ap op_place does.adds)) does.holds refl
+  by_move (Links n port j) ready does = keeps (in_pages g op old j does.on) does.holds refl
+  by_move Lowers ready does = keeps (first_word g op old 2 (omega arith) (ap op_place does.subtracts)) does.holds refl
+  by_move (Rebinds change) ready does = inl (record { spares = behind_maps g op old does.behind_maps; same = does.left_section })
+  by_move (LinksBehind n) ready does = keeps (at_node g op old n ChainLink does.on) does.holds refl
+  by_move (TakesSlot s) ready does = keeps (at_slot g op old s (slot_offset StateWord) (ap op_place does.taking)) does.holds refl
+  by_move (GivesSlot s) ready does = keeps (at_slot g op old s (slot_offset StateWord) (ap op_place does.giving)) does.holds refl
+  by_move (TakesPages index bits) ready does = keeps (in_page_map g op old index does.clears.on) does.holds refl
+  by_move (GivesPages index bits) ready does = keeps (in_page_map g op old index does.sets.on) does.holds refl
+  by_move (moves.Attaches slot shape seed serial) ready does = keeps (at_slot g op old does.last (slot_offset FutureWord) (ap op_place does.attaching)) does.holds refl
+  by_move (moves.Enters j p) ready does = keeps (in_pages g op old j (ap op_place does.entering)) does.holds refl
+  by_move TakesWork ready does = keeps (first_word g op old 1 (omega arith) (ap op_place does.taking)) does.holds refl
+  by_move GivesWork ready does = keeps (first_word g op old 1 (omega arith) (ap op_place does.giving)) does.holds refl
+  by_move BeginsMoving ready does = keeps (inr (inr (λ bit low. ap (λ w. bit_at w bit) does.leaves))) does.holds refl
+  by_move (TakesSecond j) ready does = keeps (in_pages g op old j does.on) does.holds refl
+  by_move (Leaves j i entry nodes) ready does = keeps (at_node g op old entry ChainLink does.on) does.holds refl
+  by_move (Arrives j i entry) ready does = keeps (in_pages g op old i does.on) does.holds refl
+  by_move (CutsOff j entry None) ready does = keeps (in_pages g op old j does.on) does.holds refl
+  by_move (CutsOff j entry (Some before)) ready does = keeps (at_node g op old before ChainLink does.on) does.holds refl
+  by_move Publishes ready does = keeps (first_word g op old 0 (omega arith) does.on) does.holds refl
+  by_move (Retires s) ready does = keeps (at_slot g op old s (slot_offset StateWord) (ap op_place does.retiring)) does.holds refl
+  by_move (Opens d) ready does = inr (subst TurnsSection ready (record {
+    adds = does.turns;
+    turns = sum_is _ _ (ap odd_by does.outside) (ap (λ (x : Holding). odd_by x.section) does.holds);
+  }))
+  by_move (Closes d) ready does = inr (subst TurnsSection ready (record {
+    adds = does.turns;
+    turns = sum_is _ _ (ap odd_by does.inside) (ap (λ (x : Holding). odd_by x.section) does.holds);
+  }))
 
 -- ---- each event
 
-module _ (env : Env) (mix : ℕ → ℕ → ℕ → ℕ) where
-  abbrev AreEven : List ℕ → Type 0
-  AreEven words = (c : ℕ) → c < 16 → IsInNoSection env.geometry words c
+-- whether the caller's call has its section open; in no call it has none open
+abbrev pub in_section : Option Job → Bool
+in_section None = false
+in_section (Some job) = (held_of job).section
 
+-- once the call has ended it holds none
+in_section-told : (next : Job × Next Ending) → in_section (told next).0 ≡ (held_next next).section
+in_section-told (job, Go) = refl
+in_section-told (job, Done ending) = refl
+
+idle_outside : {M : Type 0} (doing : Doing M) → does_nothing doing ≡ true → in_section (job_of doing) ≡ false
+idle_outside doing idle = go (job_of doing) (sym (nothing-job doing) ∙ idle)
+  where
+    go : (job : Option Job) → is_no_job job ≡ true → in_section job ≡ false
+    go None none = refl
+    go (Some job) none = absurd (cc)
+
+module _ (env : Env) (mix : ℕ → ℕ → ℕ → ℕ) where
   same_rest : (word word' : ℕ) → bit_at word' 0 ≡ bit_at word 0 → word' % 2 ≡ word % 2
   same_rest word word' same = omega (arith, same, bit_at_lowest word, bit_at_lowest word')
 
-  -- an operation that spares the section words leaves each one even
-  spared : (words : List ℕ) (op : Op) → length words ≡ words_in env.geometry → SparesSections op (old_of words op)
-      → AreEven words → AreEven (applied words op)
-  spared words op all spares even c low = elim (cases_eq (8 + c) (op_place op)) [
-    | inr other ↦ ap (λ w. w % 2) (applied-other words op (8 + c) other) ∙ even c low
+  -- an operation that spares the section words leaves each one odd or even
+  spared : (words : List ℕ) (op : Op) → length words ≡ words_in env.geometry → SparesSections op (old_of words op) → (c : ℕ) → c < 16
+      → word_at env.geometry (applied words op) (Section c) % 2 ≡ word_at env.geometry words (Section c) % 2
+  spared words op all spares c low = elim (cases_eq (8 + c) (op_place op)) [
+    | inr other ↦ ap (λ w. w % 2) (applied-other words op (8 + c) other)
     | inl at ↦ elim spares [
       | inl before ↦ absurd (omega (arith, at, before))
       | inr (inl behind) ↦ absurd (omega (arith, at, low, behind))
@@ -119,54 +176,147 @@ module _ (env : Env) (mix : ℕ → ℕ → ℕ → ℕ) where
           ap (λ w. w % 2) write.same
           ∙ same_rest word (word_after word op)
           (subst (λ old. bit_at (word_after old op) 0 ≡ bit_at old 0) here (leaves 0 (omega arith)))
-          ∙ even c low
     ]
   ]
 
+  -- an addition of 1 turns the lowest bit
+  turned : (words : List ℕ) (op : Op) → length words ≡ words_in env.geometry → (c : ℕ) → c < 16
+      → op ≡ Add (place_of env.geometry (Section c)) 1 → (was now : ℕ) → was + now ≡ 1
+      → word_at env.geometry words (Section c) % 2 ≡ was → word_at env.geometry (applied words op) (Section c) % 2 ≡ now
+  turned words op all c low adds was now one is =
+      let write = is_write env.geometry words (Section c) op all low (ap op_place adds) in
+      let then = write.same ∙ ap (word_after (word_at env.geometry words (Section c))) adds in
+      omega (arith, one, is, then)
+
   module _ (L : Type 0) where
-    record HasEven (core : Core L) : Type 0 where
+    -- each section word is odd where its caller's section is open, and even where it isn't
+    abbrev AreRight : Core L → Type 0
+    AreRight core =
+        (c : ℕ) → c < 16
+        → word_at env.geometry core.words (Section c) % 2 ≡ odd_by (in_section (job_of (local_of core c).doing))
+
+    record HasRight (core : Core L) : Type 0 where
       has : HasInv env mix L core
-      even : AreEven core.words
+      right : AreRight core
 
-    step_even : (core : Core L) (c : ℕ) (has : HasInv env mix L core) (plan : Option Op) → planned_in core c ≡ plan
-        → AreEven core.words → AreEven (core_step mix core (Step c)).0.words
-    step_even core c has None is even =
-        subst AreEven (sym (ap (λ o. (with_step mix core c o).0.words) is)) even
-    step_even core c has (Some op) is even =
+    step_right : (core : Core L) (c : ℕ) (has : HasInv env mix L core) (plan : Option Op) → planned_in core c ≡ plan
+        → AreRight core → AreRight (core_step mix core (Step c)).0
+    step_right core c has None is right =
+        subst AreRight (sym (ap (λ o. (with_step mix core c o).0) is)) right
+    step_right core c has (Some op) is right =
+        let can = planned-some core.env core.enrolled core.locals c op is in
+        let place = has_place L mix env core c has.all.stays can.below in
         let of = step_of env mix L core has.ghost c op has.all has.inv is in
-        subst AreEven (sym (ap (λ o. (with_step mix core c o).0.words) is))
-        (spared core.words op of.all
-        (spares env mix op (old_of core.words op) (held_of of.job) (held_next (job_after mix env of.job (old_of core.words op)))
-        of.step.move of.step.does) even)
+        let old = old_of core.words op in
+        let next = (local_after mix (local_of core c) old).0 in
+        let after = job_after mix env of.job old in
+        let left = left-job mix env (local_of core c).doing of.job old (has.all.stays.locals_of c).doing of.is in
+        let kind = by_move env mix c (mem env mix core.words) has.ghost op old (held_of of.job) (held_next after)
+        of.step.move of.step.ready of.step.does in
+        let own : c < 16 → word_at env.geometry (applied core.words op) (Section c) % 2 ≡ odd_by (in_section (job_of next.doing)) =
+        λ low. elim kind [
+          | inl kept_so ↦
+              spared core.words op of.all kept_so.spares c low ∙ right c low
+              ∙ ap (λ job. odd_by (in_section job)) of.is ∙ ap odd_by (sym kept_so.same)
+              ∙ ap odd_by (sym (ap in_section left ∙ in_section-told after))
+          | inr turns ↦
+              turned core.words op of.all c low turns.adds _ _ turns.turns
+              (right c low ∙ ap (λ job. odd_by (in_section job)) of.is)
+              ∙ ap odd_by (sym (ap in_section left ∙ in_section-told after))
+        ] in
+        let other : (d : ℕ) → d ≢ c → d < 16
+        → word_at env.geometry (applied core.words op) (Section d) % 2 ≡ odd_by (in_section (job_of (local_of core d).doing)) =
+        λ d ne low. elim kind [
+          | inl kept_so ↦ spared core.words op of.all kept_so.spares d low ∙ right d low
+          | inr turns ↦
+              ap (λ w. w % 2) (applied-other core.words op (8 + d)
+              (λ at. ne (let on : op_place op ≡ 8 + c = ap op_place turns.adds in omega (arith, at, on))))
+              ∙ right d low
+        ] in
+        subst AreRight (sym (ap (λ o. (with_step mix core c o).0) is)) (λ d low. elim (cases_eq d c) [
+          | inl e ↦ rw e (rw (get_or-set_same core.locals c next (fresh core.env) place) (own (subst (λ k. k < 16) e low)))
+          | inr ne ↦ rw (get_or-set_other core.locals c d next (fresh core.env) ne) (other d ne low)
+        ])
 
-    event_even : (core : Core L) (event : Event) → HasInv env mix L core
-        → AreEven core.words → AreEven (core_step mix core event).0.words
-    event_even core Enroll has even =
-        spared core.words (enrolling core.env) has.all.stays.all_words (inl (omega arith)) even
-    event_even core (Begin c call) has even = even
-    event_even core (Step c) has even = step_even core c has (planned_in core c) refl even
+    begin_right : (core : Core L) (c : ℕ) (call : Call) (machine : Option (Doing L)) → HasInv env mix L core
+        → beginning_in core c call ≡ machine → AreRight core
+        → AreRight record core { locals = with_machine core.env core.locals c machine }
+    begin_right core c call None has is right = right
+    begin_right core c call (Some machine) has is right =
+        let can = beginning-some core.env core.enrolled core.locals c call machine is in
+        let place = has_place L mix env core c has.all.stays can.below in
+        let first = first_job-machine env c call machine (made_in L mix env core c call machine has.all.stays can) in
+        let begun : in_section (job_of machine) ≡ false =
+        ap in_section first.does ∙ ap (λ (h : Holding). h.section) (first_holds env call first.job first.first) in
+        let idle = idle_outside (local_of core c).doing can.idle in
+        each_set
+        (λ k local. k < 16 → word_at env.geometry core.words (Section k) % 2 ≡ odd_by (in_section (job_of local.doing)))
+        (fresh core.env) core.locals c (begin_with (local_of core c) machine) place
+        (λ low. right c low ∙ ap odd_by (idle ∙ sym begun)) right
 
-    has_even : (events : List Event) → IsAdmitted env.config.kind events → HasEven (run_of {M = L} mix env events).core
-    has_even events admitted =
-        run_keeps_admitted L mix env.config.kind (λ (w : World L). HasEven w.core)
+    event_right : (core : Core L) (event : Event) → HasInv env mix L core
+        → AreRight core → AreRight (core_step mix core event).0
+    event_right core Enroll has right =
+        λ c low. spared core.words (enrolling core.env) has.all.stays.all_words (inl (omega arith)) c low ∙ right c low
+    event_right core (Begin c call) has right = begin_right core c call (beginning_in core c call) has refl right
+    event_right core (Step c) has right = step_right core c has (planned_in core c) refl right
+
+    has_right : (events : List Event) → IsAdmitted env.config.kind events → HasRight (run_of {M = L} mix env events).core
+    has_right events admitted =
+        run_keeps_admitted L mix env.config.kind (λ (w : World L). HasRight w.core)
         (λ w event may before.
         let k = kept env mix L w.core before.has.ghost event before.has.all before.has.inv in
         record {
           has = record { ghost = k.ghost; inv = k.inv; all = event-all L mix env w event may before.has.all };
-          even = event_even w.core event before.has before.even;
+          right = event_right w.core event before.has before.right;
         })
         (opening env) events admitted
         (record {
           has = record { ghost = opening_ghost env; inv = opening_inv env mix L; all = opens-all L mix env };
-          even = λ c low. ap (λ w. w % 2) ((stand_in_place env).each (Section c) low);
+          right = λ c low.
+              ap (λ w. w % 2) ((stand_in_place env).each (Section c) low)
+              ∙ sym (ap (λ (local : Local L). odd_by (in_section (job_of local.doing))) (idle_at_opening env mix L c));
         })
 
-    -- the section word of each caller is even
+    -- the section word of each caller is odd where its call has its section open, and even where it hasn't, or in no call
+    pub section_parity : (events : List Event) → IsAdmitted env.config.kind events → AreRight (run_of {M = L} mix env events).core
+    section_parity events admitted = (has_right events admitted).right
+
+    -- so that of a caller in no call is even
     pub in_no_section : (events : List Event) → IsAdmitted env.config.kind events → (c : ℕ) → c < env.geometry.callers
+        → is_idle (local_of (run_of {M = L} mix env events).core c) ≡ true
         → IsInNoSection env.geometry (run_of {M = L} mix env events).core.words c
-    in_no_section events admitted c below =
+    in_no_section events admitted c below idle =
         let within = env.geometry.within.callers_within in
-        (has_even events admitted).even c (omega (arith, below, within.1))
+        section_parity events admitted c (omega (arith, below, within.1))
+        ∙ ap odd_by (idle_outside (local_of (run_of {M = L} mix env events).core c).doing idle)
 
 pub sections : (M : Type 0) (mix : ℕ → ℕ → ℕ → ℕ) → Sections M mix
-sections M mix env events c admitted below idle = in_no_section env mix M events admitted c below
+sections M mix env events c admitted below idle = in_no_section env mix M events admitted c below idle
+
+-- ---- each operation
+
+pub own_sections : (M : Type 0) (mix : ℕ → ℕ → ℕ → ℕ) → OwnSections M mix
+own_sections M mix env events c d did admitted low recorded on =
+    let before = take did.index events in
+    let first = (AllByRecursion-cut (IsAdmittedEvent env.config.kind) before (drop did.index events)
+    (subst (IsAdmitted env.config.kind) (sym (take-append-drop did.index events)) admitted)).0 in
+    let core : Core M = (run_of mix env before).core in
+    let has = has_inv env mix M before first in
+    let of = step_of env mix M core has.ghost c did.op has.all has.inv recorded.plan in
+    let old = old_of core.words did.op in
+    let fits = (in_range M mix env before first).plans c did.op
+    (planned-some core.env core.enrolled core.locals c did.op recorded.plan).plan in
+    let found = old_of-fits core.words did.op has.all.words in
+    subst (λ word. (word_after word did.op ≡ word) ⊎ AddsToOwn env.geometry c d did.op) recorded.found
+    (elim (by_move env mix c (mem env mix core.words) has.ghost did.op old (held_of of.job)
+    (held_next (job_after mix env of.job old)) of.step.move of.step.ready of.step.does) [
+      | inl kept_so ↦ elim kept_so.spares [
+        | inl before ↦ absurd (omega (arith, on, before))
+        | inr (inl behind) ↦ absurd (omega (arith, on, low, behind))
+        | inr (inr leaves) ↦
+            inl (same_from_bits_below 64 (word_after old did.op) old (word_after-fits old did.op found fits.fits) found leaves)
+      ]
+      | inr turns ↦
+          inr ((let there : op_place did.op ≡ 8 + c = ap op_place turns.adds in omega (arith, on, there)), turns.adds)
+    ])

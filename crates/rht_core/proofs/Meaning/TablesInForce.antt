@@ -11,7 +11,7 @@ use Rattle.rht_words.proofs.LinksRead.{entries_come_back}
 use Rattle.rht_words.specs.Members.{In, IsDistinct, NotIn}
 use Rattle.rht_words.proofs.Members.{count_below-most, length-count_below}
 use Rattle.rht_stands.specs.StandsFor.{in_force, tables_from}
-use Rattle.rht_ghost.proofs.Theory.Ghosts.{Ghost, index_at}
+use Rattle.rht_ghost.proofs.Theory.Ghosts.{Ghost, has_table, index_at}
 use Rattle.rht_ghost.proofs.Theory.Wholes.{Whole}
 use Rattle.rht_ghost.proofs.Theory.Steps.{mem}
 
@@ -42,6 +42,22 @@ module _ (env : Env) (mix : ℕ → ℕ → ℕ → ℕ) (words : List ℕ) (G :
       ap slot_of ((whole.tables.each τ (omega (arith, all))).future_is
       ∙ ap (λ t. cond t (future_of (G.table (τ + 1)).slot) 0) (lt-ltb (τ + 1) G.attached (omega (arith, all))))
       ∙ entries_come_back.future_names (G.table (τ + 1)).slot next.slot_in
+
+  -- so where the future of a table names a slot, that is the next table's
+  pub record IsNextTable (τ slot : ℕ) : Type 0 where
+    pub attached : τ + 1 < G.attached
+    pub slot_is : (G.table (τ + 1)).slot ≡ slot
+
+  pub next_named : (τ slot : ℕ) → τ < G.attached → slot_of (M (Slot (G.table τ).slot FutureWord)) ≡ Some slot → IsNextTable τ slot
+  next_named τ slot l named = go (G.attached - (τ + 1)) refl
+    where
+      go : (count : ℕ) → G.attached - (τ + 1) ≡ count → IsNextTable τ slot
+      go zero is =
+          let none : ◌≡◌ {A = Option ℕ} None (Some slot) = sym (future-leads τ zero (omega (arith, is, l))) ∙ named in absurd (cc)
+      go (suc count) is =
+          let same : ◌≡◌ {A = Option ℕ} (Some (G.table (τ + 1)).slot) (Some slot) =
+          sym (future-leads τ (suc count) (omega (arith, is, l))) ∙ named in
+          record { attached = omega (arith, is); slot_is = cc }
 
   tables_met : (left τ count : ℕ) → count ≤ left → τ + count ≡ G.attached
       → tables_from g words left (next_slot τ count) ≡ slots_from τ count
@@ -174,6 +190,25 @@ module _ (env : Env) (mix : ℕ → ℕ → ℕ → ℕ) (words : List ℕ) (G :
   pub table_in_force : (τ : ℕ) → G.current ≤ τ → τ < G.attached → In (G.table τ).slot (in_force g words)
   table_in_force τ low high =
       subst (In (G.table τ).slot) (sym tables_in_force) (in_slots τ G.current in_use low (omega (arith, low, high)))
+
+  -- so is one that has no future
+  pub last_stands : (slot : ℕ) → has_table (G.slot slot) ≡ true → M (Slot slot FutureWord) ≡ 0 → In slot (in_force g words)
+  last_stands slot has none = go (G.attached - (τ + 1)) refl
+    where
+      τ : ℕ
+      τ = index_at G slot
+
+      go : (count : ℕ) → G.attached - (τ + 1) ≡ count → In slot (in_force g words)
+      go zero is =
+          let of = whole.tables.slots slot has in
+          let here = whole.tables.current_in in
+          subst (λ s. In s (in_force g words)) of.slot (table_in_force τ (omega (arith, is, here)) of.attached)
+      go (suc count) is =
+          let of = whole.tables.slots slot has in
+          let l = of.attached in
+          let named : ◌≡◌ {A = Option ℕ} None (Some (G.table (τ + 1)).slot) =
+          ap slot_of (sym none ∙ ap (λ s. M (Slot s FutureWord)) (sym of.slot)) ∙ future-leads τ (suc count) (omega (arith, is, l)) in
+          absurd (cc)
 
   -- from a table that is no more in force they lead to the current one
   pub leads_to_current : (τ : ℕ) → τ ≤ G.current → In (table_of (M CurrentTable)) (tables_from g words 8 (Some (G.table τ).slot))

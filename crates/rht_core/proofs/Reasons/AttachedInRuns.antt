@@ -2,7 +2,7 @@
 -- changes the words of a table but its maker, and a missing page is entered by a bind on its way.
 --
 -- What is kept of each operation says so, since each was recorded at its event; and so it does of calls in progress.
-use Rattle.std.proofs.Common.{◌≡◌, ℕ, true, List, [], ◌∷◌, ◌++◌, Option, Some, None, inl, inr, refl, sym, ap, ◌∙◌, subst, map}
+use Rattle.std.proofs.Common.{◌≡◌, ℕ, ◌+◌, ◌^◌, arith, true, List, [], ◌∷◌, ◌++◌, Option, Some, None, inl, inr, refl, sym, ap, ◌∙◌, subst, map}
 use Rattle.std.specs.Prelude.{IfSome, min, ◌≤◌}
 use Rattle.std.specs.List.{AllByRecursion}
 use Rattle.rht_words.specs.declared.env.Env.{Env}
@@ -18,21 +18,22 @@ use Rattle.rht_core.specs.declared.event.Event.{Event}
 use Rattle.rht_core.specs.Jobs.{Job, job_of, call_of}
 use Rattle.rht_core.specs.declared.book.Book.{Book}
 use Rattle.rht_core.specs.Runs.{IsAdmitted, local_of}
-use Rattle.rht_core.specs.Traces.{Did, Past, traced_of, performed_of}
-use Rattle.rht_core.specs.Laws.{IsRecorded, IsPastCall}
+use Rattle.rht_core.specs.Traces.{Did, Past, Trace, traced_of, performed_of, behind_call, AreInOrder}
+use Rattle.rht_core.specs.Laws.{IsRecorded, IsPastCall, IsInProgress}
 use Rattle.rht_core.specs.Seen.{words_before}
 use Rattle.rht_core.specs.ResizeCauses.{Attaches, wanted_size}
-use Rattle.rht_core.specs.Attached.{EachBehind, size_made, AttachesFull, AttachCause, ChangesRightly, Attached, SawNoRun}
+use Rattle.rht_core.specs.Attached.{EachBehind, AttachesFull, AttachCause, ChangesRightly, Attached, SawNoRun}
 use Rattle.rht_core.proofs.Tracing.TracesAtEvents.{at_events}
 use Rattle.rht_core.proofs.Tracing.TracedJobs.{IsEndedSo, IsAtJob, jobs_keep_standing}
 use Rattle.rht_core.proofs.Reasons.SlotsTaken.{each-map}
-use Rattle.rht_core.proofs.Reasons.MadeSizes.{pages-wanted}
+use Rattle.rht_core.proofs.Reasons.MadeSizes.{pages-wanted, wanted-most}
+use Rattle.rht_core.proofs.Reasons.TablesCome.{AreTraced, traced-front, missing_had, walked_size}
 use Rattle.rht_core.proofs.Reasons.TablesWalked.{no_load, LastWalked-push}
 use Rattle.rht_core.proofs.Reasons.RefusedBinds.{Behind, SawWhy, SawToAttach, Settled}
 use Rattle.rht_core.proofs.Reasons.BindCauses.{walked_full, unclamped}
 use Rattle.rht_core.proofs.Undoing.RefusedCalls as refusals
 use Rattle.rht_core.proofs.Reasons.CausesInRuns.{first_job-saw}
-use Rattle.rht_core.proofs.Reasons.ChangesSeen.{SeenFull, SeenCause, ChangesSeen, Now, Ended, goes}
+use Rattle.rht_core.proofs.Reasons.ChangesSeen.{SeenFull, SeenCause, ChangesSeen, Now, Ended, begins, goes}
 use Rattle.rht_nest.specs.MakeLaws.{pages_for}
 
 module _ (M : Type 0) (mix : ℕ → ℕ → ℕ → ℕ) (env : Env) (events : List Event) (c : ℕ) where
@@ -48,13 +49,17 @@ module _ (M : Type 0) (mix : ℕ → ℕ → ℕ → ℕ) (env : Env) (events : 
     abbrev IsRecordedHere : Did → Type 0
     IsRecordedHere did = IsRecorded M mix env events c did
 
-    by_growing : (port slot shape : ℕ) (before : List Did) (did : Did) → AllByRecursion IsRecordedHere (before ++ did ∷ [])
+    abbrev AreTracedHere : List Did → Type 0
+    AreTracedHere steps = AreTraced M mix env events c steps
+
+    by_growing : (port slot shape : ℕ) (before : List Did) (did : Did) → AreTracedHere (before ++ did ∷ [])
         → (is_nested shape ≡ true → 128 ≤ size_of (unpacked shape))
         → (growing : Growing) → Attaches g growing.table slot did
         → Behind g growing.table growing.shape (SawToAttach env words_at mix port growing slot shape) before
         → AttachesFull M mix env events c port growing.table slot shape before did
     unfolding LastWalked-push
-    by_growing port slot shape before did recorded nested growing attaches seen =
+    by_growing port slot shape before did traced nested growing attaches seen =
+        let recorded = traced.recorded in
         let walked = seen.walked in
         let saw = seen.saw in
         let wanted = saw.wanted in
@@ -79,6 +84,7 @@ module _ (M : Type 0) (mix : ℕ → ℕ → ℕ → ℕ) (env : Env) (events : 
         let same : min wanted.count 65536 ≡ wanted.count =
         subst (λ n. min n 65536 ≡ n) wanted.counted.found
         (unclamped M mix env events c admitted wanted.counting counting wanted.counted.word.loads) in
+        let most = walked_size M mix env events c before did traced admitted growing.table growing.shape slot walked attaches in
         record {
           full =
               walked_full M mix env events c admitted port growing.table (SawWhy env words_at mix port growing.table)
@@ -101,30 +107,31 @@ module _ (M : Type 0) (mix : ℕ → ℕ → ℕ → ℕ) (env : Env) (events : 
           no_run = λ is. subst (λ pages. SawNoRun g pages (map performed_of wanted.making))
               (ap pages_for (wanted.wanted ∙ ap (wanted_size env growing.shape) same) ∙ pages-wanted env growing.shape wanted.count)
               (saw.no_run is);
-          sized = saw.sized ∙ ap size_made (wanted.wanted ∙ ap (wanted_size env growing.shape) same);
+          sized = saw.sized ∙ ap (λ size. min size (2 ^ 17)) (wanted.wanted ∙ ap (wanted_size env growing.shape) same)
+              ∙ wanted-most env growing.shape wanted.count (omega (arith, same)) most;
         }
 
-    full-cause : (port table slot shape : ℕ) (before : List Did) (did : Did) → AllByRecursion IsRecordedHere (before ++ did ∷ [])
+    full-cause : (port table slot shape : ℕ) (before : List Did) (did : Did) → AreTracedHere (before ++ did ∷ [])
         → (is_nested shape ≡ true → 128 ≤ size_of (unpacked shape)) → Attaches g table slot did
         → SeenFull M mix env events c port table slot shape before
         → AttachesFull M mix env events c port table slot shape before did
-    full-cause port table slot shape before did recorded nested attaches seen =
+    full-cause port table slot shape before did traced nested attaches seen =
         subst (λ t. AttachesFull M mix env events c port t slot shape before did) seen.table_is
-        (by_growing port slot shape before did recorded nested seen.growing
+        (by_growing port slot shape before did traced nested seen.growing
         (subst (λ t. Attaches g t slot did) (sym seen.table_is) attaches) seen.seen)
 
     cause_of : (call : Call) (table slot shape : ℕ) (before : List Did) (did : Did)
-        → AllByRecursion IsRecordedHere (before ++ did ∷ []) → (is_nested shape ≡ true → 128 ≤ size_of (unpacked shape))
+        → AreTracedHere (before ++ did ∷ []) → (is_nested shape ≡ true → 128 ≤ size_of (unpacked shape))
         → Attaches g table slot did → SeenCause M mix env events c call table slot shape before
         → AttachCause M mix env events c call table slot shape before did
-    cause_of (Bind port owner once) table slot shape before did recorded nested attaches seen =
-        full-cause port table slot shape before did recorded nested attaches seen
-    cause_of Work table slot shape before did recorded nested attaches seen = seen
-    cause_of _ table slot shape before did recorded nested attaches seen = absurd seen
+    cause_of (Bind port owner once) table slot shape before did traced nested attaches seen =
+        full-cause port table slot shape before did traced nested attaches seen
+    cause_of Work table slot shape before did traced nested attaches seen = seen
+    cause_of _ table slot shape before did traced nested attaches seen = absurd seen
 
-    rightly : (call : Call) (before : List Did) (did : Did) → AllByRecursion IsRecordedHere (before ++ did ∷ [])
+    rightly : (call : Call) (before : List Did) (did : Did) → AreTracedHere (before ++ did ∷ [])
         → ChangesSeen M mix env events c call before did → ChangesRightly M mix env events c call before did
-    rightly call before did recorded seen = record {
+    rightly call before did traced seen = record {
       tables = λ slot changed. elim (seen.tables slot changed) [
         | inl own ↦ inl own
         | inr attached ↦ inr (record {
@@ -134,35 +141,42 @@ module _ (M : Type 0) (mix : ℕ → ℕ → ℕ → ℕ) (env : Env) (events : 
           shape = attached.shape;
           shape_is = attached.shape_is;
           none_behind = attached.none_behind;
-          cause = cause_of call slot attached.slot attached.shape before did recorded attached.nested attached.attaches attached.cause;
+          pages = attached.pages;
+          cause = cause_of call slot attached.slot attached.shape before did traced attached.nested attached.attaches attached.cause;
         })
       ];
       current = seen.current;
       states = seen.states;
-      entries = seen.entries;
+      work = seen.work;
+      entries = λ entry changed. seen.entries entry changed (missing_had M mix env events c before did traced entry changed);
     }
 
-    all_rightly : (call : Call) (steps : List Did) → AllByRecursion IsRecordedHere steps → EachBehind (ChangesSeen M mix env events c call) [] steps
+    all_rightly : (call : Call) (steps : List Did) → AreTracedHere steps → EachBehind (ChangesSeen M mix env events c call) [] steps
         → EachBehind (ChangesRightly M mix env events c call) [] steps
-    all_rightly call steps recorded each =
-        each-map (ChangesSeen M mix env events c call) (ChangesRightly M mix env events c call) IsRecordedHere
-        (λ before did were seen. rightly call before did were seen) [] steps tt recorded each
+    all_rightly call steps traced each =
+        each-map (ChangesSeen M mix env events c call) (ChangesRightly M mix env events c call) AreTracedHere
+        (traced-front M mix env events c) (λ before did were seen. rightly call before did were seen) [] steps traced each
 
-    past_rightly : (calls : List Past) → AllByRecursion (IsEndedSo M mix env (Now M mix env events c) (Ended M mix env events c)) calls
-        → AllByRecursion (IsPastCall M mix env events c) calls
+    past_rightly : (from : ℕ) (calls : List Past) → AllByRecursion (IsEndedSo M mix env (Now M mix env events c) (Ended M mix env events c)) calls
+        → AllByRecursion (IsPastCall M mix env events c) calls → AreInOrder from calls
         → AllByRecursion (λ past. EachBehind (ChangesRightly M mix env events c past.done.call) [] past.steps) calls
-    past_rightly [] ended were = tt
-    past_rightly (past ∷ calls) ended were =
-        (all_rightly past.done.call past.steps were.0.steps ended.0.1, past_rightly calls ended.1 were.1)
+    past_rightly from [] ended were order = tt
+    past_rightly from (past ∷ calls) ended were order =
+        let traced : AreTracedHere past.steps = record { from = past.begin + 1; recorded = were.0.steps; rising = order.1 } in (
+          all_rightly past.done.call past.steps traced ended.0.1,
+          past_rightly (behind_call past) calls ended.1 were.1 order.2,
+        )
 
-    now_rightly : (job : Option Job) (book : Book) (steps : List Did) → AllByRecursion IsRecordedHere steps
-        → IsAtJob M mix env (Now M mix env events c) (Ended M mix env events c) job book steps
-        → IfSome book.call (λ call. EachBehind (ChangesRightly M mix env events c call) [] steps)
-    now_rightly None book steps recorded idle =
-        subst (λ call. IfSome call (λ call. EachBehind (ChangesRightly M mix env events c call) [] steps)) (sym idle.call) tt
-    now_rightly (Some job) book steps recorded work =
-        subst (λ call. IfSome call (λ call. EachBehind (ChangesRightly M mix env events c call) [] steps)) (sym work.call)
-        (all_rightly (call_of job) steps recorded work.now.2)
+    now_rightly : (job : Option Job) (book : Book) (trace : Trace) → AllByRecursion IsRecordedHere trace.steps
+        → IfSome book.call (IsInProgress events c trace)
+        → IsAtJob M mix env (Now M mix env events c) (Ended M mix env events c) job book trace.steps
+        → IfSome book.call (λ call. EachBehind (ChangesRightly M mix env events c call) [] trace.steps)
+    now_rightly None book trace recorded progress idle =
+        subst (λ call. IfSome call (λ call. EachBehind (ChangesRightly M mix env events c call) [] trace.steps)) (sym idle.call) tt
+    now_rightly (Some job) book trace recorded progress work =
+        let rising = (subst (λ call. IfSome call (IsInProgress events c trace)) work.call progress).rising in
+        subst (λ call. IfSome call (λ call. EachBehind (ChangesRightly M mix env events c call) [] trace.steps)) (sym work.call)
+        (all_rightly (call_of job) trace.steps (record { from = trace.begin + 1; recorded = recorded; rising = rising }) work.now.2)
 
 pub attached : (M : Type 0) (mix : ℕ → ℕ → ℕ → ℕ) → Attached M mix
 attached M mix env events c admitted =
@@ -170,13 +184,15 @@ attached M mix env events c admitted =
     let keeping =
     jobs_keep_standing M mix env (Now M mix env events c) (Ended M mix env events c) events
     (record {
-      begins = λ call job is. (first_job-saw M mix env events call job is, refusals.begins M mix env events call job is, tt);
+      begins = λ call job is.
+          let none = begins M mix env events c call job is in
+          (first_job-saw M mix env events call job is, refusals.begins M mix env events call job is, tt, none.0, none.1);
       goes = λ job steps did performs stands kept. goes M mix env events c admitted steps did job performs stands kept;
     }) c admitted in
     let were = at_events M mix env events admitted c in
     record {
-      past = past_rightly M mix env events c admitted (r.traces c).past keeping.past were.past;
+      past = past_rightly M mix env events c admitted 0 (r.traces c).past keeping.past were.past were.in_order;
       progress =
-          now_rightly M mix env events c admitted (job_of (local_of r.world.core c).doing) (r.world.books c) (r.traces c).steps
-          were.steps keeping.now;
+          now_rightly M mix env events c admitted (job_of (local_of r.world.core c).doing) (r.world.books c) (r.traces c)
+          were.steps were.progress keeping.now;
     }

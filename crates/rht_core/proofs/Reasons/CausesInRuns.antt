@@ -4,13 +4,11 @@
 -- has raised no count, a release and a resizing what they need, and a rebind what it sees while it takes a
 -- node. So when a call answers, all that its reply has to show was seen; and each of its operations was
 -- recorded at its event.
-use Rattle.std.proofs.Common.{◌≡◌, ℕ, ◌+◌, List, [], ◌∷◌, ◌++◌, refl, subst, arith}
-use Rattle.std.specs.Prelude.{Some}
+use Rattle.std.proofs.Common.{◌≡◌, ℕ, ◌+◌, List, [], ◌∷◌, ◌++◌, refl, arith}
+use Rattle.std.specs.Prelude.{Some, IfSome}
 use Rattle.std.specs.List.{AllByRecursion}
 use Rattle.std.proofs.lemmas.List.Quantifiers.{Any-push}
 use Rattle.rht_words.specs.declared.env.Env.{Env}
-use Rattle.rht_words.specs.declared.config.Kind.{Kind}
-use Rattle.rht_words.specs.declared.config.Kind.TheVariants.{Single, Listed}
 use Rattle.rht_words.specs.declared.machine.Next.{Next}
 use Rattle.rht_words.specs.declared.machine.Next.TheVariants.{Go, Done}
 use Rattle.rht_model.specs.declared.history.Call.{Call}
@@ -18,14 +16,10 @@ use Rattle.rht_model.specs.declared.history.Call.TheVariants.{Bind, Find, All, R
 use Rattle.rht_model.specs.declared.history.Reply.{Reply}
 use Rattle.rht_model.specs.Endings.{Ending, plain_ending}
 use Rattle.rht_find.specs.Find.{after_at as find_after_at}
-use Rattle.rht_find.specs.declared.find.FindAt.TheVariants.{CurrentTable}
-use Rattle.rht_bind.specs.Bind.{first_state, after_at}
-use Rattle.rht_release.specs.Seek.{seek_new}
+use Rattle.rht_bind.specs.Bind.{after_at}
 use Rattle.rht_release.specs.All as all
-use Rattle.rht_release.specs.declared.all.AllAt.TheVariants as alls
 use Rattle.rht_core.specs.declared.event.Event.{Event}
-use Rattle.rht_callers.specs.Locals.{room_for_nodes}
-use Rattle.rht_core.specs.Jobs.{listing_ending, node_ending, call_of, Job, finds, binds, releases, rebinds, lists, works, counts, first_job, first_rebind, job_next, job_after}
+use Rattle.rht_core.specs.Jobs.{listing_ending, node_ending, call_of, Job, finds, binds, releases, rebinds, lists, works, counts, first_job, job_next, job_after}
 use Rattle.rht_core.specs.Replies.{IsReplyTo}
 use Rattle.rht_core.specs.Traces.{Did, Past, traced_of, behind_call, IsRising, AreInOrder}
 use Rattle.rht_core.specs.Runs.{IsAdmitted}
@@ -33,14 +27,13 @@ use Rattle.rht_core.specs.Laws.{IsRecorded, IsPastCall}
 use Rattle.rht_core.specs.Seen.{words_before}
 use Rattle.rht_core.specs.Causes.{CauseOf, HasCause, Causes}
 use Rattle.rht_release.specs.Release as release
-use Rattle.rht_release.specs.declared.release.ReleaseAt.TheVariants.{Seeking}
 use Rattle.rht_release.specs.Rebind as rebind
 use Rattle.rht_words.specs.Machines.{GoesOrEnds}
 use Rattle.rht_core.proofs.Tracing.RepliesInRuns.{Holds, Answered, runs-right}
 use Rattle.rht_core.proofs.Tracing.TracesAtEvents.{at_events}
+use Rattle.rht_core.proofs.Events.JobsOfCallers.{first-so, first_rebind-so}
 use Rattle.rht_core.proofs.Tracing.TracedJobs.{Performs, StandsIn, LeadsOn, IsEndedSo, jobs_keep_standing}
 use Rattle.rht_move.specs.Work as work
-use Rattle.rht_move.specs.declared.work.WorkAt.TheVariants as works_at
 use Rattle.rht_core.proofs.Reasons.WorksSeen.{SawForWork, SawAtWork}
 use Rattle.rht_core.proofs.Reasons.WorkStepsSeen.{work-saw}
 use Rattle.rht_core.proofs.Reasons.AttachedTables.{SawAttached, attached-saw}
@@ -139,34 +132,17 @@ module _ (M : Type 0) (mix : ℕ → ℕ → ℕ → ℕ) (env : Env) (events : 
       Any-push (LoadedCount env did.old) steps did (record { loaded = performs.planned; found = refl })
 
   -- below the first node there is none
-  first_rebind-saw : (port owner new : ℕ) (kind : Kind) (job : Job)
-      → first_rebind env port owner new kind ≡ Some job
-      → JobSaw env words_at mix job []
-  first_rebind-saw port owner new Single job is =
-      let here : rebinds port owner new (rebind.first_state env port new) ≡ job = cc in
-      subst (λ j. JobSaw env words_at mix j []) here (λ node l. absurd (omega arith))
-  first_rebind-saw port owner new Listed job is = absurd (cc)
+  first-saw : (call : Call) → IfSome (first_job env call) (λ job. JobSaw env words_at mix job [])
+  first-saw (Bind port owner once) = (λ node l. absurd (omega arith), (tt, tt))
+  first-saw (Release port owner) = (tt, tt)
+  first-saw (Rebind port owner new) =
+      first_rebind-so (λ job. JobSaw env words_at mix job []) env port owner new (λ node l. absurd (omega arith))
+  first-saw Work = refl
+  first-saw _ = tt
 
   pub first_job-saw : (call : Call) (job : Job) → first_job env call ≡ Some job
       → JobSaw env words_at mix job []
-  first_job-saw (Find port) job is =
-      subst (λ j. JobSaw env words_at mix j []) (let here : finds port CurrentTable ≡ job = cc in here) tt
-  first_job-saw (Bind port owner once) job is =
-      let here : binds port owner once (first_state env port owner) ≡ job = cc in
-      subst (λ j. JobSaw env words_at mix j []) here (λ node l. absurd (omega arith), (tt, tt))
-  first_job-saw (All port) job is =
-      subst (λ j. JobSaw env words_at mix j [])
-      (let here : lists port (room_for_nodes env) (alls.Seeking (seek_new env.geometry)) ≡ job = cc in
-      here) tt
-  first_job-saw (Release port owner) job is =
-      subst (λ j. JobSaw env words_at mix j [])
-      (let here : releases port owner (Seeking (seek_new env.geometry)) ≡ job = cc in here) (tt, tt)
-  first_job-saw (Rebind port owner new) job is = first_rebind-saw port owner new env.config.kind job is
-  first_job-saw Work job is =
-      subst (λ j. JobSaw env words_at mix j []) (let here : works works_at.WorkLock ≡ job = cc in here) refl
-  first_job-saw Count job is =
-      subst (λ j. JobSaw env words_at mix j []) (let here : counts ≡ job = cc in here) tt
-  first_job-saw _ job is = absurd (cc)
+  first_job-saw call job is = first-so (λ j. JobSaw env words_at mix j []) (first_job env call) job (first-saw call) is
 
   -- what the operations of each call that has ended have seen
   pub past-saw : (c : ℕ) → IsAdmitted env.config.kind events

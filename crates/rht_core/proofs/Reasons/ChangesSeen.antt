@@ -1,70 +1,72 @@
 -- What is kept of each operation of a call, with those before it: where it changes a word of a slot's table the call has the slot, or attaches
 -- the table that it has made. It makes another table the current one only as a resizing, takes, gives back and retires slots as it may, and
 -- enters a missing page only on its way.
-use Rattle.std.proofs.Common.{◌≡◌, ◌⊎◌, ℕ, true, false, List, [], ◌∷◌, ◌++◌, Some, inl, inr, refl, sym, ap, ◌∙◌, subst, arith}
+use Rattle.std.proofs.Common.{◌≡◌, ◌⊎◌, ◌*◌, ◌<◌, ℕ, true, false, List, [], ◌∷◌, ◌++◌, Some, inl, inr, refl, sym, ap, ◌∙◌, subst, arith}
 use Rattle.std.specs.Prelude.{min, max, ◌≤◌, take, drop}
 use Rattle.std.specs.List.{AllByRecursion}
 use Rattle.rht_words.specs.declared.env.Env.{Env}
 use Rattle.rht_words.specs.declared.geometry.Geometry.{Geometry}
 use Rattle.rht_words.specs.declared.machine.Next.{Next}
 use Rattle.rht_words.specs.declared.machine.Next.TheVariants.{Go, Done}
+use Rattle.rht_words.specs.Machines.{GoesOrEnds}
 use Rattle.rht_words.specs.Members.{In}
 use Rattle.rht_words.specs.Places.{Slot, ShapeWord, FutureWord, PageWord, place_of, word_at, CurrentTable, StateWord}
 use Rattle.rht_words.specs.Shapes.{unpacked, size_of}
-use Rattle.rht_words.proofs.EachElement.{AllByRecursion-cut}
-use Rattle.rht_nest.specs.Tables.{is_nested}
+use Rattle.rht_words.proofs.EachElement.{AllByRecursion-cut, AllByRecursion-push}
+use Rattle.rht_nest.specs.Tables.{is_nested, pages_of_shape}
 use Rattle.rht_model.specs.declared.history.Call.{Call}
 use Rattle.rht_model.specs.declared.history.Call.TheVariants.{Bind, Work}
 use Rattle.rht_model.specs.Endings.{Ending}
 use Rattle.rht_bind.specs.declared.bind.growth.Growing.{Growing}
 use Rattle.rht_stands.specs.StandsFor.{in_force, tables_from}
 use Rattle.rht_core.specs.declared.event.Event.{Event}
-use Rattle.rht_core.specs.Jobs.{Job, finds, binds, lists, releases, rebinds, works, counts, job_plan, call_of, job_after, held_of, held_next}
+use Rattle.rht_core.specs.Jobs.{Job, call_of, job_after, held_of, held_next, first_job}
 use Rattle.rht_core.specs.Runs.{IsAdmitted, IsAdmittedEvent}
-use Rattle.rht_core.specs.Traces.{Did}
+use Rattle.rht_core.specs.Traces.{Did, performed_of}
 use Rattle.rht_core.specs.Seen.{words_before}
 use Rattle.rht_core.specs.ResizeCauses.{Attaches}
-use Rattle.rht_core.specs.Attached.{ChangesMissing, EnterCause, ChangesTable, ChangesCurrent, MovesOn, HasTakenSlot, EachBehind, AttachesDue, IsOwnTable, ChangesState, StateCause, MakesTables, RetiresTable}
-use Rattle.rht_ghost.proofs.Theory.Ghosts.{Ghost, has_table, SlotHeld, index_at}
+use Rattle.rht_core.specs.Attached.{ChangesMissing, EnterCause, HasGoneOn, ChangesWorkLock, HasWorkLock, WorkLockCause, ChangesTable, ChangesCurrent, MovesOn, HasTakenSlot, EachBehind, AttachesDue, IsOwnTable, ChangesState, StateCause, MakesTables, RetiresTable}
+use Rattle.rht_ghost.proofs.Theory.Ghosts.{Ghost, PageHeld, has_table, SlotHeld, index_at}
 use Rattle.rht_ghost.proofs.Theory.Wholes.{Whole}
-use Rattle.rht_ghost.proofs.Theory.Steps.{mem, Does}
+use Rattle.rht_ghost.proofs.Theory.Steps.{mem, ghost_after, Holding, Does}
 use Rattle.rht_words.specs.Operations.{op_value}
-use Rattle.rht_words.specs.Planned.{IsWord, IsPlannedIn}
+use Rattle.rht_words.specs.Planned.{IsWord}
 use Rattle.rht_words.proofs.PlannedWords.{old_of-fits, word_after-fits}
 use Rattle.rht_words.proofs.Memory.{Memory}
 use Rattle.rht_words.proofs.Rounding.{powers-rise}
 use Rattle.std.proofs.lemmas.Bool.{le-ltb, both_ways}
-use Rattle.std.proofs.lemmas.List.{take-append-drop}
-use Rattle.rht_find.proofs.FindPlanned.{planned_find}
-use Rattle.rht_bind.proofs.BindPlanned.{planned_bind}
-use Rattle.rht_release.proofs.AllPlanned.{planned_all}
-use Rattle.rht_release.proofs.ReleasePlanned.{planned_release}
-use Rattle.rht_release.proofs.RebindPlanned.{planned_rebind}
-use Rattle.rht_move.proofs.WorkPlanned.{planned_work}
+use Rattle.std.proofs.lemmas.List.{append_assoc, take-append-drop}
 use Rattle.rht_ghost.proofs.Theory.Knowledge.{IsMade}
-use Rattle.rht_core.proofs.Machines.JobSteps.{JobIn}
-use Rattle.rht_core.proofs.Events.RangesInRuns.{planned_count, words_fit}
-use Rattle.rht_core.proofs.Events.JobsOfCallers.{same_call}
+use Rattle.rht_core.proofs.Machines.JobSteps.{JobNext}
+use Rattle.rht_core.proofs.Machines.NeverHeld.{worker_works}
+use Rattle.rht_core.proofs.Events.RangesInRuns.{planned_job, words_fit}
+use Rattle.rht_core.proofs.Events.JobsOfCallers.{same_call, first_holds}
 use Rattle.rht_core.proofs.Meaning.TablesInForce.{in_force_is, leads_to_current}
 use Rattle.rht_core.proofs.Tracing.TracedJobs.{Performs, StandsIn, LeadsOn}
 use Rattle.rht_core.proofs.Reasons.MadeSizes.{made_flat}
 use Rattle.rht_core.proofs.Reasons.SlotsTaken.{each-push}
-use Rattle.rht_core.proofs.Reasons.TableWordsKept.{FitBefore, by_move, current_by_move, StateHere, state_by_move}
+use Rattle.rht_core.proofs.Reasons.TableWordsKept.{FitBefore, by_move, current_by_move, StateHere, state_by_move, TakesWorkHere, GivesWorkHere, lock_by_move, worker_by_move}
 use Rattle.rht_core.proofs.Reasons.RefusedBinds.{Behind, SawToAttach, attach-taken}
 use Rattle.rht_core.proofs.Reasons.OwnTables.{own_slot, moving_works, AttachesNow, attaches_now, by_bind, by_work, slot_makes}
 use Rattle.rht_words.specs.declared.op.Op.TheVariants.{Load, Store}
-use Rattle.rht_words.specs.Operations.{old_of}
+use Rattle.rht_words.specs.Operations.{old_of, applied}
 use Rattle.rht_words.specs.Links.{page_of, table_of}
-use Rattle.rht_core.specs.Refused.{PutsPage, HasTaken}
+use Rattle.rht_core.specs.Refused.{PutsPage, HasTaken, IsWaysEnd}
+use Rattle.rht_core.proofs.Events.TablesThere.{HadTable}
+use Rattle.rht_core.proofs.Undoing.EnteredWords.{missing_is_entry}
 use Rattle.rht_ghost.proofs.Theory.Knowledge.{TableMeans}
 use Rattle.rht_ghost.proofs.Pieces.OpenEntries.{known_growing}
 use Rattle.rht_core.proofs.Reasons.PagesMissed.{misses-page}
-use Rattle.rht_core.proofs.Undoing.LocksLetGo.{early}
+use Rattle.rht_core.proofs.Undoing.LocksLetGo.{IsEarly, early}
+use Rattle.rht_core.proofs.Undoing.PastRefusal.{is_past}
 use Rattle.rht_core.proofs.Undoing.EnteringBinds.{saw-came}
 use Rattle.rht_core.proofs.Undoing.MissingKept.{EntersThere, EntersNow, by_entering, entered_by_move, enters_now}
 use Rattle.rht_core.proofs.Undoing.RefusedCalls as refusals
 use Rattle.rht_core.proofs.Reasons.CausesInRuns.{JobSaw, EndsSeen, job-leads}
 use Rattle.rht_core.proofs.Reasons.WorksSeen.{to_attach-taken}
+use Rattle.rht_core.proofs.Reasons.TablesLeft.{gone_on}
+use Rattle.rht_core.proofs.Reasons.WorksPages.{HadOrTakes, held_by_move, pages-mine, unless_given, enters-binds}
+use Rattle.rht_arena.specs.RunLaws.{GivesPage}
 use Rattle.rht_ghost.proofs.Theory.Departures.{CanRetire}
 
 module _ (M : Type 0) (mix : ℕ → ℕ → ℕ → ℕ) (env : Env) (events : List Event) (c : ℕ) where
@@ -75,6 +77,10 @@ module _ (M : Type 0) (mix : ℕ → ℕ → ℕ → ℕ) (env : Env) (events : 
   words_at = words_before M mix env events
 
   -- ---- what is kept
+
+  -- where the call goes on this is so of its next job
+  abbrev IfGoes : Job × Next Ending → (Job → Type 0) → Type 0
+  IfGoes next So = GoesOrEnds So (λ ending. Unit {0}) next
 
   -- a bind of this port attaches the table of this slot, with this shape, behind this one
   pub record SeenFull (port table slot shape : ℕ) (before : List Did) : Type 0 where
@@ -95,6 +101,7 @@ module _ (M : Type 0) (mix : ℕ → ℕ → ℕ → ℕ) (env : Env) (events : 
     pub shape_is : word_at g (words_at did.index) (Slot slot ShapeWord) ≡ shape
     pub none_behind : word_at g (words_at did.index) (Slot slot FutureWord) ≡ 0
     pub nested : is_nested shape ≡ true → 128 ≤ size_of (unpacked shape)
+    pub pages : (page : ℕ) → In page (pages_of_shape shape) → HasTaken g page before
     pub cause : SeenCause call table slot shape before
 
   pub record ChangesSeen (call : Call) (before : List Did) (did : Did) : Type 0 where
@@ -102,10 +109,23 @@ module _ (M : Type 0) (mix : ℕ → ℕ → ℕ → ℕ) (env : Env) (events : 
         → IsOwnTable M mix env events c slot before did ⊎ AttachesSeen call slot before did
     pub current : ChangesCurrent g did → (call ≡ Work) × MovesOn g (words_at did.index) did
     pub states : (slot : ℕ) → ChangesState g slot did → StateCause M mix env events c call slot before did
-    pub entries : (entry : ℕ) → ChangesMissing g (words_at did.index) entry did → EnterCause g words_at mix call entry before did
+    pub entries : (entry : ℕ) (changed : ChangesMissing g (words_at did.index) before entry did)
+        → HadTable g words_at did.index changed.table → EnterCause g words_at mix call entry before did
+    pub work : ChangesWorkLock g did → WorkLockCause g call before did
+
+  -- a call that has the work lock has taken it by an operation of its own
+  abbrev pub HasTakenWork : Job → List Did → Type 0
+  HasTakenWork job steps = (held_of job).worker ≡ true → HasWorkLock g steps
+
+  -- and a resizing each page that it has
+  abbrev pub HasTakenPages : Job → List Did → Type 0
+  HasTakenPages job steps =
+      call_of job ≡ Work → (page : ℕ) → In page (held_of job).pages → (page < g.pages) × HasTaken g page steps
 
   abbrev pub Now : Job → List Did → Type 0
-  Now job steps = JobSaw env words_at mix job steps × refusals.Going M mix env events job steps × EachBehind (ChangesSeen (call_of job)) [] steps
+  Now job steps =
+      JobSaw env words_at mix job steps × refusals.Going M mix env events job steps × EachBehind (ChangesSeen (call_of job)) [] steps
+      × HasTakenWork job steps × HasTakenPages job steps
 
   abbrev pub Ended : Call → Ending → List Did → Type 0
   Ended call ending steps = EndsSeen M mix env events call ending steps × EachBehind (ChangesSeen call) [] steps
@@ -132,22 +152,13 @@ module _ (M : Type 0) (mix : ℕ → ℕ → ℕ → ℕ) (env : Env) (events : 
   ]
 
   -- the words that an operation finds and leaves have 64 bits
-  planned_job : (caller : ℕ) (job : Job) → JobIn env mix caller job → IsPlannedIn g (job_plan env job)
-  planned_job caller (finds port state) within = planned_find env state within
-  planned_job caller (binds port owner once state) within = planned_bind env state within.at_in
-  planned_job caller (lists port room state) within = planned_all env state within.at_in
-  planned_job caller (releases port owner state) within = planned_release env state within
-  planned_job caller (rebinds port owner new state) within = planned_rebind env state within.at_in
-  planned_job caller (works state) within = planned_work env state within
-  planned_job caller counts within = planned_count env
-
   fit_before : (job : Job) (did : Did) (performs : Performs mix env job did) → AllByRecursion IsWord performs.words → FitBefore did
   fit_before job did performs words =
       let old : IsWord did.old = subst IsWord (sym performs.found) (old_of-fits performs.words did.op words) in
       record {
         found = old;
         left = word_after-fits did.old did.op old
-            (subst (λ op. IsWord (op_value op)) (sym performs.planned) (planned_job performs.caller job performs.within).fits);
+            (subst (λ op. IsWord (op_value op)) (sym performs.planned) (planned_job env mix performs.caller job performs.within).fits);
       }
 
   -- the words before each event do
@@ -165,10 +176,21 @@ module _ (M : Type 0) (mix : ℕ → ℕ → ℕ → ℕ) (env : Env) (events : 
       apart = subst (λ ws. ¬ In slot (in_force g ws)) now (held_apart words G whole caller slot held);
     }
 
+    -- a call that may still be refused, and has told no answer, has taken the pages that it has
+    has_taken : (job : Job) → IsEarly job → refusals.Going M mix env events job steps → (page : ℕ) → In page (held_of job).pages
+        → HasTaken g page steps
+    has_taken job is_early going page has = elim going [
+      | inl past ↦ absurd (both_ways (is_past job) is_early.not_past past)
+      | inr goes_on ↦ elim goes_on [
+        | inl says ↦ absurd (is_early.untold says)
+        | inr may ↦ may.undoes.took page has
+      ]
+    ]
+
     attaching : (job : Job) (table slot : ℕ) → AttachesNow env did slot table job → Attaches g table slot did
         → (performs : Performs mix env job did) → performs.words ≡ words_at did.index → JobSaw env words_at mix job steps
-        → AttachesSeen (call_of job) table steps did
-    attaching job table slot (by_bind port owner once growing shape same) attaches performs now saw =
+        → refusals.Going M mix env events job steps → HasTakenPages job steps → AttachesSeen (call_of job) table steps did
+    attaching job table slot (by_bind port owner once growing shape same) attaches performs now saw going paged =
         let made = performs.knows.knowing.means.making in
         record {
           slot = slot;
@@ -180,9 +202,10 @@ module _ (M : Type 0) (mix : ℕ → ℕ → ℕ → ℕ) (env : Env) (events : 
           shape_is = subst (λ ws. word_at g ws (Slot slot ShapeWord) ≡ shape) now made.shape_is;
           none_behind = subst (λ ws. word_at g ws (Slot slot FutureWord) ≡ 0) now made.future_is;
           nested = nested_many slot shape performs.caller (mem env mix performs.words) performs.ghost made;
+          pages = has_taken _ (record { not_past = refl; untold = λ says. says }) going;
           cause = record { growing = growing; table_is = same; seen = saw.0 };
         }
-    attaching job table slot (by_work root last shape same) attaches performs now saw =
+    attaching job table slot (by_work root last shape same) attaches performs now saw going paged =
         let made = performs.knows.knowing.means.making in
         let within = performs.within.made_in in
         let since = saw.1 in
@@ -196,6 +219,7 @@ module _ (M : Type 0) (mix : ℕ → ℕ → ℕ → ℕ) (env : Env) (events : 
           shape_is = subst (λ ws. word_at g ws (Slot slot ShapeWord) ≡ shape) now made.shape_is;
           none_behind = subst (λ ws. word_at g ws (Slot slot FutureWord) ≡ 0) now made.future_is;
           nested = nested_many slot shape performs.caller (mem env mix performs.words) performs.ghost made;
+          pages = λ page i. (paged refl page i).1;
           cause = record {
             size = saw.0;
             chose = since.chose;
@@ -239,26 +263,20 @@ module _ (M : Type 0) (mix : ℕ → ℕ → ℕ → ℕ) (env : Env) (events : 
         }
 
     entered : (job : Job) (entry : ℕ) (performs : Performs mix env job did) → performs.words ≡ words_at did.index
-        → JobSaw env words_at mix job steps → refusals.Going M mix env events job steps → ChangesMissing g (words_at did.index) entry did
+        → JobSaw env words_at mix job steps → refusals.Going M mix env events job steps → entry < 64 * g.pages
         → (there : EntersThere env mix performs.caller performs.ghost did (held_of job) (held_next (job_after mix env job did.old)) entry)
         → EnterCause g words_at mix (call_of job) entry steps did
-    entered job entry performs now saw going changed there =
+    entered job entry performs now saw going low there =
         let page = there.page in
         let is_early = early env mix performs.caller (mem env mix performs.words) performs.ghost did entry page there.does.entering job
         performs.within performs.planned there.does.had in
-        let took : HasTaken g page steps = elim going [
-          | inl past ↦ absurd (let both = sym is_early.not_past ∙ past in cc)
-          | inr goes_on ↦ elim goes_on [
-            | inl says ↦ absurd (is_early.untold says)
-            | inr may ↦ may.undoes.took page there.does.had
-          ]
-        ] in
+        let took = has_taken job is_early going page there.does.had in
         entering job entry page
         (enters_now env mix performs.caller (mem env mix performs.words) performs.ghost did entry page there.does.entering job performs.within
         performs.planned there.does.had) performs now saw took
         (record {
           page_in = there.ready.among;
-          entry_in = changed.entry_in;
+          entry_in = low;
           exchanges = there.does.entering;
           found = there.does.found;
         })
@@ -270,12 +288,13 @@ module _ (M : Type 0) (mix : ℕ → ℕ → ℕ → ℕ) (env : Env) (events : 
     makes_then job slot (after, Done ending) same has = absurd (cc)
 
     retires : (words : List ℕ) (G : Ghost) (caller slot : ℕ) → Whole env mix (mem env mix words) G → words ≡ words_at did.index
-        → CanRetire env mix caller slot G → did.op ≡ Store (place_of g (Slot slot StateWord)) 2
-        → RetiresTable g (words_at did.index) slot did
-    retires words G caller slot whole now can stores =
+        → CanRetire env mix caller slot G → did.op ≡ Store (place_of g (Slot slot StateWord)) 2 → HasGoneOn g slot steps
+        → RetiresTable g (words_at did.index) slot steps did
+    retires words G caller slot whole now can stores gone =
         let of = whole.tables.slots slot can.table in
         let τ = index_at G slot in
-        subst (λ ws. RetiresTable g ws slot did) now (record {
+        subst (λ ws. RetiresTable g ws slot steps did) now (record {
+          gone_on = gone;
           stores = stores;
           apart = λ i.
               let table = in_force_is env mix words G whole slot i in
@@ -289,29 +308,117 @@ module _ (M : Type 0) (mix : ℕ → ℕ → ℕ → ℕ) (env : Env) (events : 
         })
 
     stated : (job : Job) (slot : ℕ) (performs : Performs mix env job did) → performs.words ≡ words_at did.index
-        → JobSaw env words_at mix job steps
+        → JobSaw env words_at mix job steps → ChangesState g slot did
         → StateHere env mix performs.caller (mem env mix performs.words) performs.ghost did (held_of job) (held_next (job_after mix env job did.old)) slot
         → StateCause M mix env events c (call_of job) slot steps did
-    stated job slot performs now saw (inl takes) =
+    stated job slot performs now saw changed (inl takes) =
         inl (makes_then job slot (job_after mix env job did.old) (same_call mix env job did.old) takes.has, takes.takes)
-    stated job slot performs now saw (inr (inl gives)) =
+    stated job slot performs now saw changed (inr (inl gives)) =
         let is = own_slot env words_at mix performs.caller (mem env mix performs.words) performs.ghost steps slot job performs.knows saw gives.has in
         inr (inl (own_table slot performs.caller performs.words performs.ghost performs.whole now is.held is.taken, gives.gives))
-    stated job slot performs now saw (inr (inr here)) =
+    stated job slot performs now saw changed (inr (inr here)) =
+        let gone =
+        gone_on env words_at mix performs.caller performs.words performs.ghost performs.whole did performs.found slot changed.slot_in here.can
+        here.stores changed.other steps job performs.planned here.moves performs.knows saw in
         inr (inr (
           moving_works job here.moves,
-          retires performs.words performs.ghost performs.caller slot performs.whole now here.can here.stores,
+          retires performs.words performs.ghost performs.caller slot performs.whole now here.can here.stores gone,
         ))
 
-    changes : (job : Job) (performs : Performs mix env job did) → performs.words ≡ words_at did.index
-        → JobSaw env words_at mix job steps → refusals.Going M mix env events job steps → ChangesSeen (call_of job) steps did
-    changes job performs now saw going =
+    -- a call whose job has the work lock behind the operation is a resizing
+    works_then : (job : Job) (next : Job × Next Ending) → call_of next.0 ≡ call_of job → (held_next next).worker ≡ true → call_of job ≡ Work
+    works_then job (after, Go) same has = sym same ∙ worker_works after has
+    works_then job (after, Done ending) same has = absurd (cc)
+
+    -- what the operation does to what the call has
+    does_now : (job : Job) (performs : Performs mix env job did)
+        → Does env mix performs.step.move did.op did.old (held_of job) (held_next (job_after mix env job did.old))
+    does_now job performs =
+        subst (λ old. Does env mix performs.step.move did.op old (held_of job) (held_next (job_after mix env job did.old)))
+        (sym performs.found) performs.step.does
+
+    fits_now : (job : Job) (performs : Performs mix env job did) → performs.words ≡ words_at did.index → FitBefore did
+    fits_now job performs now = fit_before job did performs (subst (AllByRecursion IsWord) (sym now) (words_fit_at admitted did.index))
+
+    work_lock : (job : Job) (performs : Performs mix env job did) → performs.words ≡ words_at did.index → ChangesWorkLock g did
+        → TakesWorkHere env mix performs.caller (mem env mix performs.words) performs.ghost did (held_of job) (held_next (job_after mix env job did.old))
+        ⊎ GivesWorkHere env mix performs.caller (mem env mix performs.words) performs.ghost did (held_of job) (held_next (job_after mix env job did.old))
+    work_lock job performs now changed =
+        lock_by_move env mix performs.caller (mem env mix performs.words) performs.ghost did (held_of job)
+        (held_next (job_after mix env job did.old)) (fits_now job performs now) changed performs.step.move performs.step.ready
+        (does_now job performs)
+
+    -- it has taken the work lock still, or has done so now
+    worked : (job : Job) (performs : Performs mix env job did) → performs.words ≡ words_at did.index → HasTakenWork job steps
+        → (held_next (job_after mix env job did.old)).worker ≡ true → HasWorkLock g (steps ++ did ∷ [])
+    worked job performs now taken has =
+        let next = held_next (job_after mix env job did.old) in
+        elim (worker_by_move env mix performs.caller (mem env mix performs.words) performs.ghost did (held_of job) next performs.step.move
+        (does_now job performs) has) [
+          | inr takes ↦ record { before = steps; at = did; behind = []; split = refl; takes = takes; kept = tt }
+          | inl had ↦
+              let was = taken had in
+              record {
+                before = was.before;
+                at = was.at;
+                behind = was.behind ++ did ∷ [];
+                split = ap (λ s. s ++ did ∷ []) was.split ∙ append_assoc was.before (was.at ∷ was.behind) (did ∷ []);
+                takes = was.takes;
+                kept =
+                    AllByRecursion-push (λ other. ¬ ChangesWorkLock g other) was.behind did was.kept
+                    (λ changed. elim (work_lock job performs now changed) [
+                      | inl here ↦ both_ways (held_of job).worker here.idle had
+                      | inr here ↦ both_ways next.worker here.idle has
+                    ]);
+              }
+        ]
+
+    -- so it has behind the operation, by which no page of its own is given back or entered
+    pages_then : (job : Job) (performs : Performs mix env job did) (next : Job × Next Ending) (G : Ghost)
+        → Whole env mix (mem env mix (applied performs.words did.op)) G
+        → JobNext env mix performs.caller next (mem env mix (applied performs.words did.op)) G
+        → ((page : ℕ) → G.page page ≡ PageHeld performs.caller → HadOrTakes env mix performs.caller performs.words performs.ghost did page)
+        → call_of next.0 ≡ call_of job → HasTakenPages job steps → IfGoes next (λ after. HasTakenPages after (steps ++ did ∷ []))
+    pages_then job performs (after, Done ending) G then knows by same paged = tt
+    pages_then job performs (after, Go) G then knows by same paged = λ is page i.
+        let held = pages-mine env mix performs.caller (mem env mix (applied performs.words did.op)) G after is knows page i in
+        elim (by page held) [
+          | inr taken ↦ (taken.0, record { before = steps; at = did; behind = []; split = refl; takes = taken.1; kept = tt; unentered = tt })
+          | inl had ↦
+              let i_before = performs.knows.knowing.only.pages_in page had in
+              let was = paged (sym same ∙ is) page i_before in
+              let has = was.1 in (
+                was.0,
+                record {
+                  before = has.before;
+                  at = has.at;
+                  behind = has.behind ++ did ∷ [];
+                  split = ap (λ s. s ++ did ∷ []) has.split ∙ append_assoc has.before (has.at ∷ has.behind) (did ∷ []);
+                  takes = has.takes;
+                  kept =
+                      AllByRecursion-push (λ other. ¬ GivesPage g page (performed_of other)) has.behind did has.kept
+                      (unless_given env mix performs.caller performs.words performs.ghost did page G then performs.all performs.found was.0
+                      held);
+                  unentered =
+                      AllByRecursion-push (λ other. (entry : ℕ) → ¬ PutsPage g entry page other) has.behind did has.unentered
+                      (λ entry puts.
+                      enters-binds env entry page job (sym same ∙ is)
+                      (enters_now env mix performs.caller (mem env mix performs.words) performs.ghost did entry page puts.exchanges job
+                      performs.within performs.planned i_before));
+                },
+              )
+        ]
+
+    changes : (job : Job) (performs : Performs mix env job did) → StandsIn mix env words_at job did performs
+        → JobSaw env words_at mix job steps → refusals.Going M mix env events job steps → HasTakenWork job steps
+        → HasTakenPages job steps → ChangesSeen (call_of job) steps did
+    changes job performs stands saw going taken paged =
+        let now = stands.now in
         let next = job_after mix env job did.old in
         let step = performs.step in
         let there = mem env mix performs.words in
-        let fits = fit_before job did performs (subst (AllByRecursion IsWord) (sym now) (words_fit_at admitted did.index)) in
-        let does : Does env mix step.move did.op did.old (held_of job) (held_next next) =
-        subst (λ old. Does env mix step.move did.op old (held_of job) (held_next next)) (sym performs.found) step.does in
+        let fits = fits_now job performs now in
+        let does = does_now job performs in
         record {
           tables = λ slot changed. elim (by_move env mix performs.caller there performs.ghost did (held_of job) (held_next next) slot fits
               changed step.move step.ready does) [
@@ -320,21 +427,28 @@ module _ (M : Type 0) (mix : ℕ → ℕ → ℕ → ℕ) (env : Env) (events : 
                     inl (own_table slot performs.caller performs.words performs.ghost performs.whole now is.held is.taken)
                 | inr here ↦
                     inr (attaching job slot here.made_slot
-                    (attaches_now env did here.made_slot slot here.attaches job performs.planned here.has) here.attaches performs now saw)
+                    (attaches_now env did here.made_slot slot here.attaches job performs.planned here.has) here.attaches performs now saw going paged)
               ];
           current = λ changed.
               let publishing = current_by_move env mix performs.caller performs.words performs.ghost did (held_of job) (held_next next)
               performs.whole performs.all performs.found fits changed step.move step.ready step.made.whole does in
               (moving_works job publishing.moves, subst (λ ws. MovesOn g ws did) now publishing.on);
           states = λ slot changed.
-              stated job slot performs now saw
+              stated job slot performs now saw changed
               (state_by_move env mix performs.caller there performs.ghost did (held_of job) (held_next next) slot fits changed step.move
               step.ready does);
-          entries = λ entry changed.
-              entered job entry performs now saw going changed
+          entries = λ entry changed had.
+              let has = stands.stayed did.index changed.table (omega arith) had in
+              let way = subst (λ ws. IsWaysEnd g ws changed.table entry) (sym now) changed.way in
+              entered job entry performs now saw going changed.entry_in
               (entered_by_move env mix performs.caller performs.words performs.ghost did (held_of job) (held_next next) performs.whole
-              performs.all performs.found entry (subst (λ ws. ChangesMissing g ws entry did) (sym now) changed) step.move step.ready
-              step.made.whole does);
+              performs.all performs.found entry changed.entry_in
+              (missing_is_entry env mix performs.words performs.ghost performs.whole entry changed.table way has.has) changed.there
+              changed.other step.move step.ready step.made.whole does);
+          work = λ changed. elim (work_lock job performs now changed) [
+            | inl here ↦ (works_then job next (same_call mix env job did.old) here.has, inl here.takes)
+            | inr here ↦ (worker_works job here.had, inr (taken here.had, here.gives))
+          ];
         }
 
     -- an operation leads on with this too
@@ -342,15 +456,32 @@ module _ (M : Type 0) (mix : ℕ → ℕ → ℕ → ℕ) (env : Env) (events : 
         → EachBehind (ChangesSeen (call_of job)) [] (steps ++ did ∷ [])
         → LeadsOn M mix env (JobSaw env words_at mix) (EndsSeen M mix env events) job (steps ++ did ∷ []) next
         → LeadsOn M mix env (refusals.Going M mix env events) (refusals.Undone M mix env events) job (steps ++ did ∷ []) next
+        → ((held_next next).worker ≡ true → HasWorkLock g (steps ++ did ∷ []))
+        → IfGoes next (λ after. HasTakenPages after (steps ++ did ∷ []))
         → LeadsOn M mix env Now Ended job (steps ++ did ∷ []) next
-    by_next job (after, Go) same each leads going =
-        (leads, going, subst (λ call. EachBehind (ChangesSeen call) [] (steps ++ did ∷ [])) (sym same) each)
-    by_next job (after, Done ending) same each leads going = (leads, each)
+    by_next job (after, Go) same each leads going taken paged =
+        (leads, going, subst (λ call. EachBehind (ChangesSeen call) [] (steps ++ did ∷ [])) (sym same) each, taken, paged)
+    by_next job (after, Done ending) same each leads going taken paged = (leads, each)
 
     pub goes : (job : Job) (performs : Performs mix env job did) → StandsIn mix env words_at job did performs → Now job steps
         → LeadsOn M mix env Now Ended job (steps ++ did ∷ []) (job_after mix env job did.old)
-    goes job performs stands (saw, going, each) =
+    goes job performs stands (saw, going, each, taken, paged) =
         by_next job (job_after mix env job did.old) (same_call mix env job did.old)
-        (each-push (ChangesSeen (call_of job)) [] steps did each (changes job performs stands.now saw going))
+        (each-push (ChangesSeen (call_of job)) [] steps did each (changes job performs stands saw going taken paged))
         (job-leads M mix env events job steps did performs stands saw)
         (refusals.goes M mix env events job steps did performs stands.now (saw-came env words_at mix job steps saw) going)
+        (worked job performs stands.now taken)
+        (pages_then job performs (job_after mix env job did.old) (ghost_after env mix performs.caller performs.step.move performs.ghost)
+        performs.step.made.whole performs.step.knows
+        (λ page held.
+        held_by_move env mix performs.caller performs.words performs.ghost did page performs.step.move (held_of job)
+        (held_next (job_after mix env job did.old)) performs.step.ready (does_now job performs) held)
+        (same_call mix env job did.old) paged)
+
+  -- a call has no work lock and no pages at its beginning
+  pub begins : (call : Call) (job : Job) → first_job env call ≡ Some job → HasTakenWork job [] × HasTakenPages job []
+  begins call job is =
+      let holds = first_holds env call job is in (
+        λ has. absurd (both_ways _ (ap (λ (h : Holding). h.worker) holds) has),
+        λ works page i. absurd (subst (λ (h : Holding). In page h.pages) holds i),
+      )

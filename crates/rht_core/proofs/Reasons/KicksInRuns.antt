@@ -1,6 +1,6 @@
 -- In every run a call says rightly whether there is something to do for `work`, since that is part of its cause. No other call has a reply
 -- that says so.
-use Rattle.std.proofs.Common.{◌≡◌, ℕ, List, [], ◌∷◌, Bool, subst}
+use Rattle.std.proofs.Common.{ℕ, List, [], ◌∷◌, Bool, subst}
 use Rattle.std.specs.List.{AllByRecursion}
 use Rattle.rht_words.specs.declared.env.Env.{Env}
 use Rattle.rht_model.specs.declared.history.Call.{Call}

@@ -40,15 +40,13 @@ use Rattle.rht_release.specs.All.{after_at, room_after}
 use Rattle.rht_release.specs.declared.all.AllAt.{AllAt}
 use Rattle.rht_release.specs.declared.all.AllAt.TheVariants as listing
 use Rattle.rht_release.specs.declared.found_port.FoundPort.{FoundPort}
-use Rattle.rht_words.specs.declared.config.Kind.{Kind}
-use Rattle.rht_words.specs.declared.config.Kind.TheVariants.{Single, Listed}
 use Rattle.rht_nest.specs.Place.{PlaceModel, place_plan, IsPlaceIn}
-use Rattle.rht_core.specs.Jobs.{Job, finds, binds, lists, releases, rebinds, works, counts, call_of, first_rebind, first_job, job_next, job_after, listing_ending}
+use Rattle.rht_core.specs.Jobs.{Job, finds, binds, lists, releases, rebinds, works, counts, call_of, first_job, job_next, job_after, listing_ending}
 use Rattle.rht_core.specs.Traces.{Did}
 use Rattle.rht_core.specs.ListedOwners.{is_owner_word, loads_owner, owner_loaded, owners_loaded, ListedOwners}
 use Rattle.rht_ghost.proofs.Theory.Steps.{mem}
 use Rattle.rht_release.proofs.AllSteps.{AllKnows, kept}
-use Rattle.rht_core.proofs.Events.JobsOfCallers.{first-so, each_goes, same_call}
+use Rattle.rht_core.proofs.Events.JobsOfCallers.{first-so, first_rebind-so, each_goes, same_call}
 use Rattle.rht_core.proofs.Tracing.TracedJobs.{Performs, LeadsOn, jobs_keep}
 
 -- ---- one operation more
@@ -202,13 +200,9 @@ module _ (mix : ℕ → ℕ → ℕ → ℕ) (env : Env) where
   -- ---- jobs
 
   -- at its beginning a listing has loaded none, and its room is empty
-  first_rebind-keeps : (port owner new : ℕ) (kind : Kind) → IfSome (first_rebind env port owner new kind) (λ job. Keeps job [])
-  first_rebind-keeps port owner new Single = tt
-  first_rebind-keeps port owner new Listed = tt
-
   first-keeps : (call : Call) → IfSome (first_job env call) (λ job. Keeps job [])
   first-keeps (All port) = refl
-  first-keeps (Rebind port owner new) = first_rebind-keeps port owner new env.config.kind
+  first-keeps (Rebind port owner new) = first_rebind-so (λ job. Keeps job []) env port owner new tt
   first-keeps _ = tt
 
   begins : (call : Call) (job : Job) → first_job env call ≡ Some job → Keeps job []

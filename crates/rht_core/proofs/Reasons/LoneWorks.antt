@@ -426,7 +426,7 @@ module _ (env : Env) (words_at : ℕ → List ℕ) (mix : ℕ → ℕ → ℕ �
   calm-work (at.Retiring root again) steps did does now still saw calm = λ answered is.
       let same : again ≡ answered = cc in
       subst (λ a. SawReplaced env a (steps ++ did ∷ [])) same
-      (stored-saw env again (Slot root StateWord) 2 steps did (does.within, tt) (λ e. cc) does.planned saw)
+      (stored-saw env again (Slot root StateWord) 2 steps did (does.within, tt) (λ e. cc) does.planned saw.0)
   calm-work (at.LettingGo outcome) steps did does now still saw calm = λ again is.
       let moved : outcome ≡ outcomes.Moved again = moved-outcome outcome again is in
       stored-saw env again WorkLock 0 steps did tt (λ e. cc) does.planned (calm again moved)

@@ -22,7 +22,6 @@ use Rattle.rht_move.specs.Choice.{choice_of, is_sparse}
 use Rattle.rht_move.specs.Laws.{IsOfASize}
 use Rattle.rht_move.specs.declared.work.choice.Choice.TheVariants.{Attach, Later, Nothing}
 use Rattle.rht_move.proofs.DueSizes.{tables_due_have_sizes}
-use Rattle.rht_core.specs.Attached.{size_made}
 
 -- the greatest table that a shape can have is never too full
 pub due_size : (env : Env) (count shape : ℕ) (alone : Bool)
@@ -150,7 +149,7 @@ size_of-made size page nested is =
 
 -- and so has the table that is made for a wanted size, or the greatest one
 size_of-pow : (e page : ℕ) (nested : Bool) → 2 ≤ e → e < 32
-    → size_of (unpacked (made_shape (exponent_made (2 ^ e)) nested page)) ≡ size_made (2 ^ e)
+    → size_of (unpacked (made_shape (exponent_made (2 ^ e)) nested page)) ≡ min (2 ^ e) (2 ^ 17)
 size_of-pow e page nested low few =
     let made : exponent_made (2 ^ e) ≡ min e 17 = omega (arith, exponent_of-pow e few, low) in
     let read = exponent_read (exponent_made (2 ^ e)) page nested (omega (arith, made)) in
@@ -166,13 +165,31 @@ size_of-pow e page nested low few =
     ]
 
 pub size_of-wanted : (env : Env) (shape count page : ℕ) (nested : Bool)
-    → size_of (unpacked (made_shape (exponent_made (wanted_size env shape count)) nested page)) ≡ size_made (wanted_size env shape count)
+    → size_of (unpacked (made_shape (exponent_made (wanted_size env shape count)) nested page))
+    ≡ min (wanted_size env shape count) (2 ^ 17)
 size_of-wanted env shape count page nested =
     let e = max 2 (min (unpacked shape).exponent 18) in
-    let So : ℕ → Type 0 = λ size. size_of (unpacked (made_shape (exponent_made size) nested page)) ≡ size_made size in
+    let So : ℕ → Type 0 = λ size. size_of (unpacked (made_shape (exponent_made size) nested page)) ≡ min size (2 ^ 17) in
     cond_both (is_above_75 count (size_of (unpacked shape)) env.config.max) (2 * size_of (unpacked shape)) (size_of (unpacked shape)) So
     (λ t. subst So (pow-add 2 1 e) (size_of-pow (1 + e) page nested (omega arith) (omega arith)))
     (λ f. size_of-pow e page nested (omega arith) (omega arith))
+
+-- By a count that ports can have, behind a table that isn't too large no larger one is wanted: a table of 2^17 buckets is never above three
+-- quarters.
+pub wanted-most : (env : Env) (shape count : ℕ) → count ≤ 65536 → size_of (unpacked shape) ≤ 2 ^ 17
+    → min (wanted_size env shape count) (2 ^ 17) ≡ wanted_size env shape count
+wanted-most env shape count few most =
+    let size = size_of (unpacked shape) in
+    let e = max 2 (min (unpacked shape).exponent 18) in
+    cond_both (is_above_75 count size env.config.max) (2 * size) size (λ wanted. min wanted (2 ^ 17) ≡ wanted)
+    (λ t.
+    let parts = and_parts (nat_lt (size / 4 * 3) count) (may_grow size env.config.max) t in
+    let crowded : size / 4 * 3 < count = ltb-true (size / 4 * 3) count parts.0 in
+    elim (cases_lt e 17) [
+      | inl small ↦ omega (arith, powers-rise e 16 (omega (arith, small)))
+      | inr large ↦ absurd (omega (arith, few, crowded, powers-rise 17 e large))
+    ])
+    (λ f. omega (arith, most))
 
 -- one whose shape is nested was made so
 pub made_nested : (exponent page : ℕ) (nested : Bool) → exponent ≤ 17 → is_nested (made_shape exponent nested page) ≡ true → nested ≡ true

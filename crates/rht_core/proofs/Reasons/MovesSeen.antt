@@ -41,6 +41,7 @@ use Rattle.rht_core.specs.ResizeCauses.{Loaded}
 use Rattle.rht_core.specs.WorkCauses.{ReadsFuture, StoresOther, SawStopped}
 use Rattle.rht_ghost.proofs.Theory.Steps.{by_test}
 use Rattle.rht_core.proofs.Tracing.LoneCalls.{Spares}
+use Rattle.rht_core.specs.Attached.{HasGoneOn}
 use Rattle.rht_core.proofs.Reasons.AttachedTables.{IsNoFutureExchange, IsNoAttach, no_attach}
 use Rattle.rht_core.proofs.Reasons.ChoicesMade.{Chosen, futures_next, chosen_by, HasChosen-push, SinceSome-push}
 use Rattle.rht_core.proofs.Reasons.WorksSeen.{IsPublished, HasMoved, FindsFurther, FindsNoneFurther, SawReplaced, RehashSaw, LooksAnew, AnewSaw, SaysMissing-push, IsTried-push, IsMoving-push, Moves-push, UnlockingSaw, SawAtWork}
@@ -327,7 +328,7 @@ module _ (env : Env) (words_at : ℕ → List ℕ) where
   -- ---- another table is the current one
 
   pub retiring-saw : (rehash : Rehash) (next : Option ℕ) (steps : List Did) (did : Did) → rehash.future < 8
-      → did.op ≡ plan_at env (at.NewFuture rehash) → slot_of did.old ≡ next → HasMoved env rehash steps
+      → did.op ≡ plan_at env (at.NewFuture rehash) → slot_of did.old ≡ next → Sees (at.NewFuture rehash) steps
       → Sees (retiring rehash next) (steps ++ did ∷ [])
   unfolding IsPublished-push
   retiring-saw rehash next steps did l is finds saw = go next finds
@@ -343,6 +344,17 @@ module _ (env : Env) (words_at : ℕ → List ℕ) where
           subst (λ s. Loaded env.geometry (Slot s FutureWord) did.old did) (sym same)
           (reads env (Slot rehash.future FutureWord) did (l, tt) is)
 
+      gone : HasGoneOn env.geometry rehash.root (steps ++ did ∷ [])
+      gone = record {
+        before = saw.1.before;
+        at = saw.1.at;
+        behind = saw.1.behind ++ did ∷ [];
+        split = ap (λ s. s ++ did ∷ []) saw.1.split ∙ append_assoc saw.1.before (saw.1.at ∷ saw.1.behind) (did ∷ []);
+        next = saw.1.next;
+        stores = saw.1.stores;
+        from = saw.1.from;
+      }
+
       looked : (table : ℕ) (later : List Did) → table ≡ rehash.future
           → Any (LoadsWord env.geometry (Slot table FutureWord)) (later ++ did ∷ [])
       looked table later same =
@@ -350,26 +362,32 @@ module _ (env : Env) (words_at : ℕ → List ℕ) where
 
       go : (next : Option ℕ) → slot_of did.old ≡ next
           → Sees (retiring rehash next) (steps ++ did ∷ [])
-      go None finds = SinceSome-push env steps did saw (λ choice of behind moved.
-          let table = moved.published.table in
-          record {
-            published = IsPublished-push env of behind did spares moved.published;
-            looked = looked table moved.published.later moved.same;
-            says = inr (
-              SaysMissing-push env rehash.again of.last choice behind did quiet moved.says,
-              subst (λ later. AllByRecursion (FindsNoneFurther env table) (later ++ did ∷ []))
-                  (sym moved.last)
-                  ((λ further. let one = further.1.1 in let none = finds in cc), tt),
-            );
-          })
-      go (Some next) finds = SinceSome-push env steps did saw (λ choice of behind moved.
-          let table = moved.published.table in
-          record {
-            published = IsPublished-push env of behind did spares moved.published;
-            looked = looked table moved.published.later moved.same;
-            says = inl (
-              refl,
-              Any-push (FindsFurther env table) moved.published.later did
-                  (next, (loaded table moved.same, finds)),
-            );
-          })
+      go None finds = (
+        SinceSome-push env steps did saw.0 (λ choice of behind moved.
+            let table = moved.published.table in
+            record {
+              published = IsPublished-push env of behind did spares moved.published;
+              looked = looked table moved.published.later moved.same;
+              says = inr (
+                SaysMissing-push env rehash.again of.last choice behind did quiet moved.says,
+                subst (λ later. AllByRecursion (FindsNoneFurther env table) (later ++ did ∷ []))
+                    (sym moved.last)
+                    ((λ further. let one = further.1.1 in let none = finds in cc), tt),
+              );
+            }),
+        gone,
+      )
+      go (Some next) finds = (
+        SinceSome-push env steps did saw.0 (λ choice of behind moved.
+            let table = moved.published.table in
+            record {
+              published = IsPublished-push env of behind did spares moved.published;
+              looked = looked table moved.published.later moved.same;
+              says = inl (
+                refl,
+                Any-push (FindsFurther env table) moved.published.later did
+                    (next, (loaded table moved.same, finds)),
+              );
+            }),
+        gone,
+      )

@@ -1,6 +1,7 @@
 -- A call that has a slot has taken it by an operation of its own, and has not let it go since; and an exchange that attaches a table from
 -- this slot is that of a bind or a resizing which has made the table.
-use Rattle.std.proofs.Common.{◌≡◌, ℕ, Bool, true, false, List, [], ◌∷◌, Some, refl, sym, ap, ◌∙◌, subst, arith}
+use Rattle.std.proofs.Common.{◌≡◌, ℕ, Bool, true, List, [], ◌∷◌, Some, refl, sym, ap, ◌∙◌, subst, arith}
+use Rattle.std.proofs.lemmas.Bool.{both_ways}
 use Rattle.rht_words.specs.declared.op.Op.TheVariants.{Exchange}
 use Rattle.rht_words.specs.declared.env.Env.{Env}
 use Rattle.rht_words.specs.declared.geometry.Geometry.{Geometry}
@@ -11,31 +12,16 @@ use Rattle.rht_words.proofs.Memory.{Memory}
 use Rattle.rht_nest.specs.Make.{slot_of_make}
 use Rattle.rht_nest.specs.declared.make.MakeAt.{MakeAt}
 use Rattle.rht_nest.specs.declared.make.MakeAt.TheVariants as makes
-use Rattle.rht_find.specs.FindHeld.{held_of_find}
-use Rattle.rht_find.specs.declared.find.FindAt.{FindAt}
-use Rattle.rht_find.specs.declared.find.FindAt.TheVariants as finding
-use Rattle.rht_bind.specs.BindHeld.{held_of_bind, holds_replacing}
-use Rattle.rht_bind.specs.declared.bind.Claimed.{Claimed}
+use Rattle.rht_bind.specs.BindHeld.{held_of_bind}
 use Rattle.rht_bind.specs.declared.bind.growth.Growing.{Growing}
 use Rattle.rht_bind.specs.declared.bind.BindAt.{BindAt}
 use Rattle.rht_bind.specs.declared.bind.BindAt.TheVariants as binding
 use Rattle.rht_chain.specs.Relink.{has_relinked}
-use Rattle.rht_release.specs.declared.found_port.FoundPort.{FoundPort}
-use Rattle.rht_release.specs.AllHeld.{held_of_all}
-use Rattle.rht_release.specs.declared.all.AllAt.{AllAt}
-use Rattle.rht_release.specs.declared.all.AllAt.TheVariants as listing
-use Rattle.rht_release.specs.ReleaseHeld.{held_of_release, holds_relinking}
-use Rattle.rht_release.specs.declared.release.ReleaseAt.{ReleaseAt}
-use Rattle.rht_release.specs.declared.release.ReleaseAt.TheVariants as releasing
-use Rattle.rht_release.specs.RebindHeld as rebind_held
-use Rattle.rht_release.specs.RebindHeld.{held_of_rebind}
-use Rattle.rht_release.specs.declared.rebind.RebindAt.{RebindAt}
-use Rattle.rht_release.specs.declared.rebind.RebindAt.TheVariants as rebinding
 use Rattle.rht_move.specs.WorkHeld.{held_of_work}
 use Rattle.rht_move.specs.declared.work.WorkAt.{WorkAt}
 use Rattle.rht_move.specs.declared.work.WorkAt.TheVariants as working
 use Rattle.rht_model.specs.declared.history.Call.TheVariants.{Work}
-use Rattle.rht_core.specs.Jobs.{Job, finds, binds, lists, releases, rebinds, works, counts, call_of, job_plan, held_of}
+use Rattle.rht_core.specs.Jobs.{Job, binds, works, call_of, job_plan, held_of}
 use Rattle.rht_core.specs.Traces.{Did}
 use Rattle.rht_core.specs.ResizeCauses.{Attaches}
 use Rattle.rht_core.specs.Attached.{HasTakenSlot, MakesTables}
@@ -43,48 +29,13 @@ use Rattle.rht_ghost.proofs.Theory.Ghosts.{Ghost, SlotHeld}
 use Rattle.rht_ghost.proofs.Theory.Knowledge.{MakingMeans}
 use Rattle.rht_ghost.proofs.Pieces.Makes.{known_of_make}
 use Rattle.rht_core.proofs.Machines.JobSteps.{JobKnows}
+use Rattle.rht_core.proofs.Machines.NeverHeld.{tableless, front-tableless, slotless}
 use Rattle.rht_core.proofs.Reasons.AttachedTables.{make-none, unmake-none}
 use Rattle.rht_core.proofs.Reasons.SlotsTaken.{OwnAt, slot_taken-behind}
 use Rattle.rht_core.proofs.Reasons.RefusedBinds.{attach-taken}
 use Rattle.rht_core.proofs.Reasons.BindsSeen.{SawAt}
 use Rattle.rht_core.proofs.Reasons.WorksSeen.{SawAtWork, to_attach-taken}
 use Rattle.rht_core.proofs.Reasons.CausesInRuns.{JobSaw}
-
--- ---- jobs without a slot
-
-module _ (slot : ℕ) where
-  find-slotless : (state : FindAt) → (held_of_find state).slot ≡ Some slot → ⊥
-  find-slotless finding.CurrentTable has = cc
-  find-slotless _ has = cc
-
-  all-slotless : (owners : List ℕ) (state : AllAt) → (held_of_all owners state).slot ≡ Some slot → ⊥
-  all-slotless owners (listing.Seeking seek) has = cc
-  all-slotless owners _ has = cc
-
-  front-slotless : (claimed : Claimed) (stored : Bool) → (holds_replacing claimed stored).slot ≡ Some slot → ⊥
-  front-slotless claimed true has = cc
-  front-slotless claimed false has = cc
-
-  replacing-slotless : (node : ℕ) (found : FoundPort) (stored : Bool)
-      → (rebind_held.holds_replacing node found stored).slot ≡ Some slot → ⊥
-  replacing-slotless node found true has = cc
-  replacing-slotless node found false has = cc
-
-  relinking-slotless : (found : FoundPort) (raised stored : Bool) → (holds_relinking found raised stored).slot ≡ Some slot → ⊥
-  relinking-slotless found raised true has = cc
-  relinking-slotless found raised false has = cc
-
-  release-slotless : (state : ReleaseAt) → (held_of_release state).slot ≡ Some slot → ⊥
-  release-slotless (releasing.Promoting found relink) has =
-      relinking-slotless found false (has_relinked found.before relink.at) has
-  release-slotless (releasing.Unlinking found relink) has =
-      relinking-slotless found true (has_relinked found.before relink.at) has
-  release-slotless _ has = cc
-
-  rebind-slotless : (state : RebindAt) → (held_of_rebind state).slot ≡ Some slot → ⊥
-  rebind-slotless (rebinding.Replacing node found relink) has =
-      replacing-slotless node found (has_relinked found.before relink.at) has
-  rebind-slotless _ has = cc
 
 module _ (env : Env) (words_at : ℕ → List ℕ) (mix : ℕ → ℕ → ℕ → ℕ) (c : ℕ) (M : Memory) (G : Ghost) (steps : List Did)
     (slot : ℕ) where
@@ -167,7 +118,7 @@ module _ (env : Env) (words_at : ℕ → List ℕ) (mix : ℕ → ℕ → ℕ �
         held = subst (λ x. G.slot x ≡ SlotHeld c) same knows.knowing.means.making.slot.has.mine;
       }
   bind-own port owner once (binding.Replacing list relink) knows saw has =
-      absurd (front-slotless slot list.claimed (has_relinked list.before relink.at) has)
+      absurd (slotless (front-tableless list.claimed (has_relinked list.before relink.at)) slot has)
   bind-own port owner once _ knows saw has = absurd (cc)
 
   work-own : (state : WorkAt) → JobKnows env mix c (works state) M G → SawAtWork env words_at state steps
@@ -200,13 +151,9 @@ module _ (env : Env) (words_at : ℕ → List ℕ) (mix : ℕ → ℕ → ℕ �
 
   pub own_slot : (job : Job) → JobKnows env mix c job M G → JobSaw env words_at mix job steps
       → (held_of job).slot ≡ Some slot → IsOwnSlot
-  own_slot (finds port state) knows saw has = absurd (find-slotless slot state has)
   own_slot (binds port owner once state) knows saw has = bind-own port owner once state knows saw.0 has
-  own_slot (lists port room state) knows saw has = absurd (all-slotless slot room.items state has)
-  own_slot (releases port owner state) knows saw has = absurd (release-slotless slot state has)
-  own_slot (rebinds port owner new state) knows saw has = absurd (rebind-slotless slot state has)
   own_slot (works state) knows saw has = work-own state knows saw has
-  own_slot counts knows saw has = absurd (cc)
+  own_slot job knows saw has = absurd (slotless (tableless job refl) slot has)
 
 -- ---- an exchange that attaches its table
 
@@ -243,7 +190,7 @@ module _ (env : Env) (did : Did) (slot table : ℕ) (attaches : Attaches env.geo
       absurd (unmake-none h unmake.geometry unmake.slot unmake.at table 0 (future_of slot) attaches.table_in
       (sym is ∙ attaches.exchanges))
   bind-attaches port owner once (binding.Replacing list relink) is has =
-      absurd (front-slotless slot list.claimed (has_relinked list.before relink.at) has)
+      absurd (slotless (front-tableless list.claimed (has_relinked list.before relink.at)) slot has)
   bind-attaches port owner once _ is has = absurd (cc)
 
   work-attaches : (state : WorkAt) → did.op ≡ job_plan env (works state) → (held_of_work state).slot ≡ Some slot
@@ -261,71 +208,27 @@ module _ (env : Env) (did : Did) (slot table : ℕ) (attaches : Attaches env.geo
   work-attaches _ is has = absurd (cc)
 
   pub attaches_now : (job : Job) → did.op ≡ job_plan env job → (held_of job).slot ≡ Some slot → Now job
-  attaches_now (finds port state) is has = absurd (find-slotless slot state has)
   attaches_now (binds port owner once state) is has = bind-attaches port owner once state is has
-  attaches_now (lists port room state) is has = absurd (all-slotless slot room.items state has)
-  attaches_now (releases port owner state) is has = absurd (release-slotless slot state has)
-  attaches_now (rebinds port owner new state) is has = absurd (rebind-slotless slot state has)
   attaches_now (works state) is has = work-attaches state is has
-  attaches_now counts is has = absurd (cc)
+  attaches_now job is has = absurd (slotless (tableless job refl) slot has)
 
 -- ---- a call that moves tables
 
-front-unmoving : (claimed : Claimed) (stored : Bool) → (holds_replacing claimed stored).moving ≡ true → ⊥
-front-unmoving claimed true moves = cc
-front-unmoving claimed false moves = cc
-
 bind-unmoving : (state : BindAt) → (held_of_bind state).moving ≡ true → ⊥
-bind-unmoving (binding.Replacing list relink) moves = front-unmoving list.claimed (has_relinked list.before relink.at) moves
+bind-unmoving (binding.Replacing list relink) moves =
+    both_ways _ (front-tableless list.claimed (has_relinked list.before relink.at)).still moves
 bind-unmoving _ moves = cc
-
-find-unmoving : (state : FindAt) → (held_of_find state).moving ≡ true → ⊥
-find-unmoving finding.CurrentTable moves = cc
-find-unmoving _ moves = cc
-
-all-unmoving : (owners : List ℕ) (state : AllAt) → (held_of_all owners state).moving ≡ true → ⊥
-all-unmoving owners (listing.Seeking seek) moves = cc
-all-unmoving owners _ moves = cc
-
-replacing-unmoving : (node : ℕ) (found : FoundPort) (stored : Bool)
-    → (rebind_held.holds_replacing node found stored).moving ≡ true → ⊥
-replacing-unmoving node found true moves = cc
-replacing-unmoving node found false moves = cc
-
-relinking-unmoving : (found : FoundPort) (raised stored : Bool) → (holds_relinking found raised stored).moving ≡ true → ⊥
-relinking-unmoving found raised true moves = cc
-relinking-unmoving found raised false moves = cc
-
-release-unmoving : (state : ReleaseAt) → (held_of_release state).moving ≡ true → ⊥
-release-unmoving (releasing.Promoting found relink) moves =
-    relinking-unmoving found false (has_relinked found.before relink.at) moves
-release-unmoving (releasing.Unlinking found relink) moves =
-    relinking-unmoving found true (has_relinked found.before relink.at) moves
-release-unmoving _ moves = cc
-
-rebind-unmoving : (state : RebindAt) → (held_of_rebind state).moving ≡ true → ⊥
-rebind-unmoving (rebinding.Replacing node found relink) moves =
-    replacing-unmoving node found (has_relinked found.before relink.at) moves
-rebind-unmoving _ moves = cc
 
 -- is a resizing
 pub moving_works : (job : Job) → (held_of job).moving ≡ true → call_of job ≡ Work
-moving_works (finds port state) moves = absurd (find-unmoving state moves)
 moving_works (binds port owner once state) moves = absurd (bind-unmoving state moves)
-moving_works (lists port room state) moves = absurd (all-unmoving room.items state moves)
-moving_works (releases port owner state) moves = absurd (release-unmoving state moves)
-moving_works (rebinds port owner new state) moves = absurd (rebind-unmoving state moves)
 moving_works (works state) moves = refl
-moving_works counts moves = absurd (cc)
+moving_works job moves = absurd (both_ways _ (tableless job refl).still moves)
 
 -- ---- a call that has a slot
 
 -- makes tables
 pub slot_makes : (job : Job) (slot : ℕ) → (held_of job).slot ≡ Some slot → MakesTables (call_of job)
-slot_makes (finds port state) slot has = absurd (find-slotless slot state has)
 slot_makes (binds port owner once state) slot has = tt
-slot_makes (lists port room state) slot has = absurd (all-slotless slot room.items state has)
-slot_makes (releases port owner state) slot has = absurd (release-slotless slot state has)
-slot_makes (rebinds port owner new state) slot has = absurd (rebind-slotless slot state has)
 slot_makes (works state) slot has = tt
-slot_makes counts slot has = absurd (cc)
+slot_makes job slot has = absurd (slotless (tableless job refl) slot has)

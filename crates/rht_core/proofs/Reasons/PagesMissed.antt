@@ -266,8 +266,7 @@ module _ (env : Env) (words_at : ℕ → List ℕ) where
         let here = whole.tables.slots slot on.shaped.passing.table in
         let shape_is = on.shaped.shape_is in
         let number_is = hash_in-words env mix words G whole port slot shape on.shaped.passing.table shape_is in
-        let ends = way_ends τ number here.attached (ap is_nested shape_is ∙ on.nested) place same
-        (subst (λ s. IsWay env mix G number τ s place) (sym shape_is) on.way) none in
+        let ends = way_ends τ number here.attached on.to.nested place same on.to.way none in
         record {
           entry_in = (open_on_way env mix M G whole port slot shape place on).within;
           loads = is;

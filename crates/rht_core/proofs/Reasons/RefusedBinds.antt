@@ -4,7 +4,7 @@
 -- All of it lies behind the load of that table's shape: that the table is full, the load of the current table, that of the
 -- count of ports, what the making of a table has seen, and the operation that comes last, the load of the future or the exchange
 -- that attaches a table.
-use Rattle.std.proofs.Common.{◌≤◌, ◌≡◌, ◌≢◌, ◌⊎◌, ℕ, ◌<◌, Bool, true, false, nat_le, List, [], ◌∷◌, ◌++◌, map, min, refl, sym, ap, ◌∙◌, subst, inl, inr, append_assoc, arith}
+use Rattle.std.proofs.Common.{◌≤◌, ◌≡◌, ◌≢◌, ◌⊎◌, ◌^◌, ℕ, ◌<◌, Bool, true, false, nat_le, List, [], ◌∷◌, ◌++◌, map, min, refl, sym, ap, ◌∙◌, subst, inl, inr, append_assoc, arith}
 use Rattle.std.specs.Prelude.{Option, None, Some}
 use Rattle.std.specs.List.{Any, AllByRecursion}
 use Rattle.std.proofs.lemmas.List.{map-append}
@@ -41,7 +41,7 @@ use Rattle.rht_core.proofs.Reasons.MakesSeen.{SawMade, saw_nothing, make-saw}
 use Rattle.rht_core.proofs.Reasons.MadeSizes.{nests-wanted, pages-wanted, size_of-wanted, made_nested}
 use Rattle.rht_core.specs.Due.{pages_due}
 use Rattle.rht_core.specs.Refused.{StoresLast}
-use Rattle.rht_core.specs.Attached.{HasTakenSlot, StoresDrawn, size_made, SawNoRun}
+use Rattle.rht_core.specs.Attached.{HasTakenSlot, StoresDrawn, SawNoRun}
 use Rattle.rht_core.proofs.Reasons.SlotsTaken.{IsNoCount, Owns, make-own, slot_taken-behind}
 
 module _ (g : Geometry) where
@@ -150,7 +150,7 @@ module _ (env : Env) (words_at : ℕ → List ℕ) (mix : ℕ → ℕ → ℕ �
     pub taken : HasTakenSlot g slot wanted.making
     pub stored : StoresLast g slot shape wanted.making
     pub numbered : StoresDrawn g slot wanted.making
-    pub sized : size_of (unpacked shape) ≡ size_made size
+    pub sized : size_of (unpacked shape) ≡ min size (2 ^ 17)
     pub no_run : is_nested shape ≡ true → SawNoRun g (pages_for size) (map performed_of wanted.making)
 
   -- its slot was taken
@@ -398,7 +398,7 @@ module _ (env : Env) (words_at : ℕ → List ℕ) (mix : ℕ → ℕ → ℕ �
         sized =
             ap (λ word. size_of (unpacked word)) made.shape_is
             ∙ ap (λ e. size_of (unpacked (made_shape e made.nested made.page))) saw.exponent_is
-            ∙ subst (λ s. size_of (unpacked (made_shape (exponent_made s) made.nested made.page)) ≡ size_made s) (sym saw.wanted.wanted)
+            ∙ subst (λ s. size_of (unpacked (made_shape (exponent_made s) made.nested made.page)) ≡ min s (2 ^ 17)) (sym saw.wanted.wanted)
             (size_of-wanted env growing.shape (min saw.wanted.count 65536) made.page made.nested);
       }
 

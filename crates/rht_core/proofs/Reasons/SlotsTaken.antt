@@ -41,15 +41,17 @@ each-push So before (first ∷ steps) did all here = (
       (subst (λ b. So b did) (sym (append_assoc before (first ∷ []) steps)) here),
 )
 
--- where something holds of each operation besides
-pub each-map : (So To : List Did → Did → Type 0) (Holds : Did → Type 0)
-    → ((before : List Did) (did : Did) → AllByRecursion Holds (before ++ did ∷ []) → So before did → To before did)
-    → (before steps : List Did) → AllByRecursion Holds before → AllByRecursion Holds steps → EachBehind So before steps
-    → EachBehind To before steps
-each-map So To Holds leads before [] had have all = tt
-each-map So To Holds leads before (did ∷ steps) had have all =
-    let both = AllByRecursion-push Holds before did had have.0 in
-    (leads before did both all.0, each-map So To Holds leads (before ++ did ∷ []) steps both have.1 all.1)
+-- where something holds of all operations besides, and so of the first ones
+pub each-map : (So To : List Did → Did → Type 0) (Hold : List Did → Type 0)
+    → ((front rest : List Did) → Hold (front ++ rest) → Hold front)
+    → ((before : List Did) (did : Did) → Hold (before ++ did ∷ []) → So before did → To before did)
+    → (before steps : List Did) → Hold (before ++ steps) → EachBehind So before steps → EachBehind To before steps
+each-map So To Hold cut leads before [] hold all = tt
+each-map So To Hold cut leads before (did ∷ steps) hold all =
+    let joined = subst Hold (sym (append_assoc before (did ∷ []) steps)) hold in (
+      leads before did (cut (before ++ did ∷ []) steps joined) all.0,
+      each-map So To Hold cut leads (before ++ did ∷ []) steps joined all.1,
+    )
 
 module _ (g : Geometry) where
   -- ---- a slot that was taken

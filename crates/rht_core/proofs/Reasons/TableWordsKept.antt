@@ -1,8 +1,9 @@
 -- An operation that changes a word which says something of a table is on a slot that the call has, or attaches a table. One that changes
--- which table is the current one makes it the next. And one that changes whether a slot is free takes it, gives it back or retires it.
+-- which table is the current one makes it the next. One that changes whether a slot is free takes it, gives it back or retires it. And one
+-- that changes the work lock takes or gives back that.
 --
--- Each move is one of a few kinds, by the word on which its operation is (`kind_of_move`). The three facts are told of these.
-use Rattle.std.proofs.Common.{◌≡◌, ◌⊎◌, ℕ, ◌+◌, ◌<◌, ◌≤◌, Some, None, inl, inr, refl, sym, ap, ◌∙◌, subst, arith, true}
+-- Each move is one of a few kinds, by the word on which its operation is (`kind_of_move`). The four facts are told of these.
+use Rattle.std.proofs.Common.{◌≡◌, ◌≢◌, ◌⊎◌, ℕ, ◌+◌, ◌<◌, ◌≤◌, Some, None, inl, inr, refl, sym, ap, ◌∙◌, subst, arith, true, false}
 use Rattle.std.specs.Prelude.{suc, ◌-◌, List, length}
 use Rattle.std.proofs.lemmas.Nat.Bits.{same_from_bits_below}
 use Rattle.rht_words.specs.declared.op.Op.TheVariants.{Store}
@@ -11,18 +12,19 @@ use Rattle.rht_words.specs.Planned.{IsWord}
 use Rattle.rht_words.specs.declared.env.Env.{Env}
 use Rattle.rht_words.specs.declared.geometry.Geometry.{Geometry}
 use Rattle.rht_words.specs.Operations.{op_place, old_of, word_after, applied}
-use Rattle.rht_words.specs.Places.{SlotWord, ShapeWord, SeedWord, FutureWord, SerialWord, StateWord, LoadedSection, CurrentTable, Slot, place_of, nodes_at, pages_at, words_in}
+use Rattle.rht_words.specs.Places.{SlotWord, ShapeWord, SeedWord, FutureWord, SerialWord, StateWord, LoadedSection, CurrentTable, WorkLock, Slot, place_of, nodes_at, pages_at, words_in}
 use Rattle.rht_words.specs.TableWords.{IsTableWord}
 use Rattle.rht_words.proofs.Memory.{Memory, is_write}
 use Rattle.rht_words.proofs.PlacesApart.{parts_in_order}
 use Rattle.rht_core.specs.Traces.{Did, performed_of}
 use Rattle.rht_core.specs.ResizeCauses.{Attaches}
-use Rattle.rht_core.specs.Attached.{ChangesTable, ChangesCurrent, MovesOn, ChangesState}
+use Rattle.rht_core.specs.Attached.{ChangesTable, ChangesCurrent, MovesOn, ChangesState, ChangesWorkLock}
+use Rattle.rht_core.specs.WorkCauses.{TakesWorkLock}
 use Rattle.rht_ghost.proofs.Theory.Ghosts.{Ghost}
 use Rattle.rht_ghost.proofs.Theory.Wholes.{Whole}
 use Rattle.rht_ghost.proofs.Theory.Departures.{CanPublish, published, CanRetire}
 use Rattle.rht_ghost.proofs.Theory.Steps as steps
-use Rattle.rht_ghost.proofs.Theory.Steps.{mem, ghost_after, LeavesBits, DoesPublish, Holding, Does, ReadyFor, DoesQuiet, IsAside, Move, Quiet, TakesNode, GivesNode, TakesLock, DropsLock, Raises, Links, Lowers, Rebinds, LinksBehind, Arms, TakesSlot, GivesSlot, TakesPages, GivesPages, Enters, TakesWork, GivesWork, BeginsMoving, TakesSecond, Leaves, Arrives, CutsOff, Publishes, Retires, IsOnOwnSlot, DoesAttach, DoesTakeSlot, DoesGiveSlot, DoesRetire}
+use Rattle.rht_ghost.proofs.Theory.Steps.{mem, ghost_after, LeavesBits, DoesPublish, Holding, Does, ReadyFor, DoesQuiet, IsAside, Move, Quiet, TakesNode, GivesNode, TakesLock, DropsLock, Raises, Links, Lowers, Rebinds, LinksBehind, Arms, TakesSlot, GivesSlot, TakesPages, GivesPages, Enters, TakesWork, GivesWork, BeginsMoving, TakesSecond, Leaves, Arrives, CutsOff, Publishes, Retires, Opens, Closes, IsOnOwnSlot, DoesAttach, DoesTakeSlot, DoesGiveSlot, DoesRetire, DoesTakeWork, DoesGiveWork}
 use Rattle.rht_core.proofs.Meaning.TablesInForce.{current_slot, future-leads}
 use Rattle.rht_nest.specs.MakeLaws.{slot_taking, TakesSlot as TakesSlotNow}
 use Rattle.rht_ghost.proofs.Theory.Readiness.{IsAttaching}
@@ -82,15 +84,16 @@ same_word did fits leaves = same_from_bits_below 64 (word_after did.old did.op) 
 
 -- ---- of which kind a move is
 
--- The operation leaves each bit. Or it is on a word that is neither a slot's nor that of the current table; or on one that says something of
--- the table in the slot that the call has. Or it attaches a table, takes a slot, gives it back or retires it, or publishes the next table.
+-- The operation leaves each bit. Or it is on a word that is neither a slot's, nor that of the current table, nor the work lock; or on one that
+-- says something of the table in the slot that the call has. Or it attaches a table, takes a slot, gives it back or retires it, publishes the
+-- next table, or takes the work lock or gives it back.
 module _ (env : Env) (mix : ℕ → ℕ → ℕ → ℕ) (c : ℕ) (M : Memory) (G : Ghost) (did : Did) (before after : Holding) where
   abbrev g : Geometry
   g = env.geometry
 
   pub data IsOfKind : Move → Type 0 where
     leaves : (move : Move) → LeavesBits did.op did.old → IsOfKind move
-    elsewhere : (move : Move) → 0 < op_place did.op → (op_place did.op < 24) ⊎ (280 ≤ op_place did.op) → IsOfKind move
+    elsewhere : (move : Move) → 1 < op_place did.op → (op_place did.op < 24) ⊎ (280 ≤ op_place did.op) → IsOfKind move
     on_own : (move : Move) → IsOnOwnSlot env.geometry did.op before → IsOfKind move
     attaching : (slot shape seed serial : ℕ) → IsAttaching env mix c slot shape seed serial M G
         → DoesAttach env.geometry slot did.op did.old before (steps.bare after) → IsOfKind (steps.Attaches slot shape seed serial)
@@ -99,9 +102,11 @@ module _ (env : Env) (mix : ℕ → ℕ → ℕ → ℕ) (c : ℕ) (M : Memory) 
     retiring : (slot : ℕ) → CanRetire env mix c slot G → DoesRetire env.geometry slot did.op before (steps.bare after)
         → IsOfKind (Retires slot)
     publishing : CanPublish env mix c G → DoesPublish env.geometry did.op before (steps.bare after) → IsOfKind Publishes
+    taking_work : DoesTakeWork env.geometry did.op did.old before (steps.bare after) → IsOfKind TakesWork
+    giving_work : DoesGiveWork env.geometry did.op before (steps.bare after) → IsOfKind GivesWork
 
   -- it is on this place, which comes before the slots, or behind them
-  low : (move : Move) (place : ℕ) → op_place did.op ≡ place → 0 < place → place < 24 → IsOfKind move
+  low : (move : Move) (place : ℕ) → op_place did.op ≡ place → 1 < place → place < 24 → IsOfKind move
   low move place on some is = elsewhere move (omega (arith, on, some)) (inl (omega (arith, on, is)))
 
   high : (move : Move) (place : ℕ) → op_place did.op ≡ place → 280 ≤ place → IsOfKind move
@@ -144,8 +149,8 @@ module _ (env : Env) (mix : ℕ → ℕ → ℕ → ℕ) (c : ℕ) (M : Memory) 
       let order = parts_in_order g in high _ _ does.sets.on (omega (arith, order.page_map))
   kind_of_move (steps.Attaches slot shape seed serial) ready does = attaching slot shape seed serial ready does
   kind_of_move (Enters j p) ready does = pages _ j (ap op_place does.entering)
-  kind_of_move TakesWork ready does = low _ 1 (ap op_place does.taking) (omega arith) (omega arith)
-  kind_of_move GivesWork ready does = low _ 1 (ap op_place does.giving) (omega arith) (omega arith)
+  kind_of_move TakesWork ready does = taking_work does
+  kind_of_move GivesWork ready does = giving_work does
   kind_of_move BeginsMoving ready does = leaves _ (λ bit low_bit. ap (λ w. bit_at w bit) does.leaves)
   kind_of_move (TakesSecond j) ready does = pages _ j does.on
   kind_of_move (Leaves j i entry nodes_there) ready does = nodes _ _ does.on (omega arith)
@@ -154,6 +159,8 @@ module _ (env : Env) (mix : ℕ → ℕ → ℕ → ℕ) (c : ℕ) (M : Memory) 
   kind_of_move (CutsOff j entry (Some b)) ready does = nodes _ _ does.on (omega arith)
   kind_of_move Publishes ready does = publishing ready does
   kind_of_move (Retires s) ready does = retiring s ready does
+  kind_of_move (Opens d) ready does = low _ (8 + d) (ap op_place does.turns) (omega arith) (omega (arith, does.within))
+  kind_of_move (Closes d) ready does = low _ (8 + d) (ap op_place does.turns) (omega arith) (omega (arith, does.within))
 
   -- ---- the words that say something of a table
 
@@ -199,6 +206,10 @@ module _ (env : Env) (mix : ℕ → ℕ → ℕ → ℕ) (c : ℕ) (M : Memory) 
     by_kind move (retiring s ready does) = far_state s (ap op_place does.retiring)
     by_kind move (publishing ready does) =
         absurd (low_far g slot changes.slot_in 0 (omega arith) (changes.word, changes.of_table, sym does.on ∙ changes.there))
+    by_kind move (taking_work does) =
+        absurd (low_far g slot changes.slot_in 1 (omega arith) (changes.word, changes.of_table, sym (ap op_place does.taking) ∙ changes.there))
+    by_kind move (giving_work does) =
+        absurd (low_far g slot changes.slot_in 1 (omega arith) (changes.word, changes.of_table, sym (ap op_place does.giving) ∙ changes.there))
 
     pub by_move : (move : Move) → ReadyFor env mix c M G move → Does env mix move did.op did.old before after → Here
     by_move move ready does = by_kind move (kind_of_move move ready does)
@@ -256,9 +267,62 @@ module _ (env : Env) (mix : ℕ → ℕ → ℕ → ℕ) (c : ℕ) (M : Memory) 
           can = subst (λ x. CanRetire env mix c x G) same ready;
         }))
     state_by_kind move (publishing ready does) = absurd (let at = sym does.on ∙ changes.there in omega (arith, at))
+    state_by_kind move (taking_work does) = absurd (let at = sym (ap op_place does.taking) ∙ changes.there in omega (arith, at))
+    state_by_kind move (giving_work does) = absurd (let at = sym (ap op_place does.giving) ∙ changes.there in omega (arith, at))
 
     pub state_by_move : (move : Move) → ReadyFor env mix c M G move → Does env mix move did.op did.old before after → StateHere slot
     state_by_move move ready does = state_by_kind move (kind_of_move move ready does)
+
+-- ---- the work lock
+
+module _ (env : Env) (mix : ℕ → ℕ → ℕ → ℕ) (c : ℕ) (M : Memory) (G : Ghost) (did : Did) (before after : Holding) where
+  abbrev h : Geometry
+  h = env.geometry
+
+  -- the operation takes the work lock, which the call hadn't; or gives back the one that it had
+  pub record TakesWorkHere : Type 0 where
+    pub takes : TakesWorkLock env.geometry did
+    pub idle : before.worker ≡ false
+    pub has : after.worker ≡ true
+
+  pub record GivesWorkHere : Type 0 where
+    pub gives : did.op ≡ Store (place_of env.geometry WorkLock) 0
+    pub had : before.worker ≡ true
+    pub idle : after.worker ≡ false
+
+  module _ (fits : FitBefore did) (changes : ChangesWorkLock h did) where
+    off_lock : (place : ℕ) → op_place did.op ≡ place → place ≢ 1 → TakesWorkHere ⊎ GivesWorkHere
+    off_lock place on other = absurd (let at : place ≡ 1 = sym on ∙ changes.there in other at)
+
+    lock_by_kind : (move : Move) → IsOfKind env mix c M G did before after move → TakesWorkHere ⊎ GivesWorkHere
+    lock_by_kind move (leaves _ all) = absurd (changes.other (same_word did fits all))
+    lock_by_kind move (elsewhere _ some is) = off_lock (op_place did.op) refl (omega (arith, some))
+    lock_by_kind move (on_own _ own) = off_lock _ own.place (omega arith)
+    lock_by_kind move (attaching made shape seed serial ready does) = off_lock _ (ap op_place does.attaching) (omega arith)
+    lock_by_kind move (taking s does) = off_lock _ (ap op_place does.taking) (omega arith)
+    lock_by_kind move (giving s does) = off_lock _ (ap op_place does.giving) (omega arith)
+    lock_by_kind move (retiring s ready does) = off_lock _ (ap op_place does.retiring) (omega arith)
+    lock_by_kind move (publishing ready does) = off_lock _ does.on (omega arith)
+    lock_by_kind move (taking_work does) = inl (record {
+      takes = record { tries = does.taking; free = does.free };
+      idle = does.idle;
+      has = ap (λ (x : Holding). x.worker) does.holds;
+    })
+    lock_by_kind move (giving_work does) =
+        inr (record { gives = does.giving; had = does.has; idle = ap (λ (x : Holding). x.worker) does.holds })
+
+    pub lock_by_move : (move : Move) → ReadyFor env mix c M G move → Does env mix move did.op did.old before after
+        → TakesWorkHere ⊎ GivesWorkHere
+    lock_by_move move ready does = lock_by_kind move (kind_of_move env mix c M G did before after move ready does)
+
+  -- who has it behind an operation had it before, or took it
+  pub worker_by_move : (move : Move) → Does env mix move did.op did.old before after → after.worker ≡ true
+      → (before.worker ≡ true) ⊎ TakesWorkLock h did
+  worker_by_move TakesWork does has = inr (record { tries = does.taking; free = does.free })
+  worker_by_move GivesWork does has =
+      absurd (let none : after.worker ≡ false = ap (λ (x : Holding). x.worker) does.holds in let both = sym none ∙ has in cc)
+  worker_by_move (Rebinds change) does has = inl (sym does.left_worker ∙ has)
+  worker_by_move _ does has = inl (sym (ap (λ (x : Holding). x.worker) does.holds) ∙ has)
 
 -- ---- the word of the current table
 
@@ -300,13 +364,15 @@ module _ (env : Env) (mix : ℕ → ℕ → ℕ → ℕ) (c : ℕ) (words : List
   current_by_kind : (move : Move) → Kind move → Whole env mix (mem env mix (applied words did.op)) (ghost_after env mix c move G)
       → Publishing
   current_by_kind move (leaves _ same) then = absurd (changes.other (same_word did fits same))
-  current_by_kind move (elsewhere _ some is) then = far (op_place did.op) refl some
+  current_by_kind move (elsewhere _ some is) then = far (op_place did.op) refl (omega (arith, some))
   current_by_kind move (on_own _ own) then = far _ own.place (omega arith)
   current_by_kind move (attaching made shape seed serial ready does) then = far _ (ap op_place does.attaching) (omega arith)
   current_by_kind move (taking s does) then = far _ (ap op_place does.taking) (omega arith)
   current_by_kind move (giving s does) then = far _ (ap op_place does.giving) (omega arith)
   current_by_kind move (retiring s ready does) then = far _ (ap op_place does.retiring) (omega arith)
   current_by_kind move (publishing ready does) then = publishes ready then does
+  current_by_kind move (taking_work does) then = far _ (ap op_place does.taking) (omega arith)
+  current_by_kind move (giving_work does) then = far _ (ap op_place does.giving) (omega arith)
 
   pub current_by_move : (move : Move) → ReadyFor env mix c (mem env mix words) G move
       → Whole env mix (mem env mix (applied words did.op)) (ghost_after env mix c move G)

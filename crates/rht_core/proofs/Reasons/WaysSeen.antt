@@ -127,7 +127,8 @@ module _ (env : Env) (words_at : ℕ → List ℕ) (mix : ℕ → ℕ → ℕ �
         (elsewhere env.geometry did there loads
         (λ first. absurd (omega (arith, first, order.page_map, order.nodes, order.pages)))
         (λ table below same. absurd (omega (arith, below, same, order.page_map, order.nodes, order.pages))))
-        (λ behind seen. begins-missing env words_at mix port m.table shape place.entry behind did on.nested
+        (λ behind seen. begins-missing env words_at mix port m.table shape place.entry behind did
+        (ap is_nested (sym on.shaped.shape_is) ∙ on.to.nested)
         missing
         (no_key-behind env.geometry did there loads (omega arith)) seen) walked
 

@@ -45,6 +45,7 @@ use Rattle.rht_ghost.proofs.Theory.Knowns.{Onward, Rooted}
 use Rattle.rht_ghost.proofs.Theory.Knowledge.{WorkMeans}
 use Rattle.rht_ghost.proofs.Pieces.WorkLoads.{has_future, future_seen, nested_size}
 use Rattle.rht_core.proofs.Tracing.TracedJobs.{Performs}
+use Rattle.rht_core.proofs.Meaning.TablesInForce.{current_slot}
 use Rattle.rht_core.proofs.Reasons.AttachedTables.{no_attach, lock-none, unmake-none}
 use Rattle.rht_core.proofs.Reasons.MakesSeen.{runs_taken-stay}
 use Rattle.rht_core.proofs.Reasons.ChoicesMade.{HasChosen-push, Since-push}
@@ -288,12 +289,23 @@ module _ (env : Env) (words_at : ℕ → List ℕ) where
       unlocked-saw env words_at rehash number stop steps did
       (unlocking-stores env unlock did does.within.unlock_in does.planned)
       (no_attach env.geometry did _ does.planned (λ table old new l e. cc)) saw
-  work-saw mix (at.Publishing rehash) steps did does here saw =
-      publish-saw env rehash steps did does.within.tables_in.future_in does.planned saw
+  work-saw mix (at.Publishing rehash) steps did does here saw = (
+    publish-saw env rehash steps did does.within.tables_in.future_in does.planned saw,
+    record {
+      before = steps;
+      at = did;
+      behind = [];
+      split = refl;
+      next = rehash.future;
+      stores = record { table_in = does.within.tables_in.future_in; stores = does.planned };
+      from = ap table_of (does.found ∙ ap (old_of does.words) does.planned)
+          ∙ current_slot env mix does.words does.ghost does.whole ∙ does.knows.knowing.means.work.more.followed.root_is;
+    },
+  )
   work-saw mix (at.NewFuture rehash) steps did does here saw =
       retiring-saw env words_at rehash (slot_of did.old) steps did does.within.tables_in.future_in
       does.planned refl saw
   work-saw mix (at.Retiring root again) steps did does here saw =
       inl
-      (stored-saw env again (Slot root StateWord) 2 steps did (does.within, tt) (λ e. cc) does.planned saw)
+      (stored-saw env again (Slot root StateWord) 2 steps did (does.within, tt) (λ e. cc) does.planned saw.0)
   work-saw mix (at.LettingGo outcome) steps did does here saw = ended-saw outcome steps did does.planned saw

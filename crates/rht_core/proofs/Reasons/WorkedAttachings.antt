@@ -1,31 +1,38 @@
 -- Operations that attach a table or enter a page wrongly, whatever the call did before: a look-up that attaches a table behind one in
--- force; a bind that attaches one of 4 buckets where each shape that it loaded was that of 64; a bind that makes another table the current
--- one; a look-up that enters a page; a bind that enters one where no way to its port's bucket ends; a look-up that takes a slot; and a bind
--- that frees a slot which it never took.
-use Rattle.std.proofs.Common.{◌≡◌, ◌≢◌, ℕ, ◌*◌, ◌<◌, Bool, List, ◌∷◌, refl, sym, ap, ◌∙◌, subst, inl, inr, arith, Some}
+-- force; whoever attaches one of which a page was never taken; a bind that attaches one of 4 buckets where each shape that it loaded was that
+-- of 64; a bind that makes another table the current one; a look-up that enters a page; a resizing that does so, in the table from which it has gone on, or in one in force; a bind that enters one
+-- where no way to its port's bucket ends; a look-up that takes a slot; a bind that frees a slot which it never took; a look-up that takes the
+-- work lock; a resizing that gives it back and never took it; one that leaves another value there than 0 or 1; and one that retires a table
+-- in whose place it made no other one the current one.
+use Rattle.std.proofs.Common.{◌≡◌, ◌≢◌, ◌⊎◌, ℕ, ◌*◌, ◌<◌, Bool, List, ◌∷◌, refl, sym, ap, ◌∙◌, subst, inl, inr, arith, Some}
 use Rattle.std.specs.List.{AllByRecursion}
 use Rattle.std.proofs.lemmas.Bool.{cond_both}
 use Rattle.rht_words.specs.declared.env.Env.{Env}
 use Rattle.rht_words.specs.declared.geometry.Geometry.{Geometry}
+use Rattle.rht_words.specs.declared.op.Op.{Op}
 use Rattle.rht_words.specs.declared.op.Op.TheVariants.{Load, Store, Exchange}
-use Rattle.rht_words.specs.Links.{future_of, entry_of}
+use Rattle.rht_words.specs.Operations.{op_place, word_after}
+use Rattle.rht_words.specs.Links.{table_of, future_of, entry_of}
 use Rattle.rht_words.specs.Members.{In}
-use Rattle.rht_words.specs.Places.{CurrentTable, Slot, ShapeWord, SeedWord, FutureWord, StateWord, PageWord, place_of, word_at}
+use Rattle.rht_words.specs.Places.{CurrentTable, WorkLock, Slot, ShapeWord, SeedWord, FutureWord, StateWord, PageWord, place_of, word_at}
 use Rattle.rht_words.specs.Shapes.{unpacked, size_of}
 use Rattle.rht_words.proofs.EachElement.{AllByRecursion-cut, AllByRecursion-push}
 use Rattle.rht_policy.specs.Thresholds.{is_above_75}
 use Rattle.rht_policy.specs.Mix.{bucket_of}
 use Rattle.rht_nest.specs.Place.{nested_place, missing_at}
 use Rattle.rht_stands.specs.StandsFor.{in_force, page_word}
-use Rattle.rht_core.specs.Refused.{IsWaysEnd}
+use Rattle.rht_core.specs.Refused.{IsWaysEnd, HasTaken}
 use Rattle.rht_model.specs.declared.history.Call.{Call}
-use Rattle.rht_model.specs.declared.history.Call.TheVariants.{Bind, Find}
+use Rattle.rht_model.specs.declared.history.Call.TheVariants.{Bind, Find, Work}
 use Rattle.rht_core.specs.declared.event.Event.{Event}
 use Rattle.rht_core.specs.Traces.{Did, performed_of}
 use Rattle.rht_nest.specs.MakeLaws.{TakesSlot}
-use Rattle.rht_core.specs.Seen.{words_before}
+use Rattle.rht_nest.specs.Tables.{pages_of_shape}
+use Rattle.rht_arena.specs.RunLaws.{TakesPage}
+use Rattle.rht_core.specs.Seen.{CameTo, words_before}
 use Rattle.rht_core.specs.ResizeCauses.{wanted_size}
-use Rattle.rht_core.specs.Attached.{ChangesTable, size_made, AttachesFull, AttachesRightly, ChangesRightly, ChangesMissing}
+use Rattle.rht_core.specs.Attached.{ChangesTable, AttachesFull, AttachesRightly, ChangesRightly, ChangesMissing, ChangesWorkLock}
+use Rattle.rht_core.specs.WorkCauses.{TakesWorkLock, StoresCurrent}
 
 -- where it loads the shape of a table, that is one of so many buckets
 abbrev pub FindsSize : Geometry → ℕ → Did → Type 0
@@ -68,13 +75,28 @@ module _ (M : Type 0) (mix : ℕ → ℕ → ℕ → ℕ) (env : Env) (events : 
     pub look_up_attaches : (port : ℕ) → Rightly (Find port) attaches → ⊥
     look_up_attaches port right = (attached_so (Find port) right).cause
 
+    -- of which a page was never taken, whoever does so
+    untaken : (page : ℕ) → AllByRecursion (λ did. ¬ TakesPage g page (performed_of did)) before → HasTaken g page before → ⊥
+    untaken page none taken =
+        (AllByRecursion-cut (λ did. ¬ TakesPage g page (performed_of did)) taken.before (taken.at ∷ taken.behind)
+        (subst (AllByRecursion (λ did. ¬ TakesPage g page (performed_of did))) taken.split none)).1.0 taken.takes
+
+    pub attaches_untaken : (call : Call) (page : ℕ) → In page (pages_of_shape (word_at g words (Slot slot ShapeWord)))
+        → AllByRecursion (λ did. ¬ TakesPage g page (performed_of did)) before → Rightly call attaches → ⊥
+    attaches_untaken call page has none right =
+        let so = attached_so call right in
+        let same : future_of slot ≡ future_of so.slot = let is = so.attaches.exchanges in cc in
+        let one : slot ≡ so.slot = omega (arith, same) in
+        let shape : word_at g words (Slot slot ShapeWord) ≡ so.shape = ap (λ s. word_at g words (Slot s ShapeWord)) one ∙ so.shape_is in
+        untaken page none (so.pages page (subst (λ s. In page (pages_of_shape s)) shape has))
+
     -- by a bind that saw tables of 64 buckets alone, where the one that it attaches has 4
     module _ (few : size_of (unpacked (word_at g words (Slot slot ShapeWord))) ≡ 4) (seen : AllByRecursion (FindsSize g 64) before) where
       -- what is wanted behind a table of 64 buckets has so many, or twice as many
-      wanted : (shape count : ℕ) → size_of (unpacked shape) ≡ 64 → 4 ≢ size_made (wanted_size env shape count)
+      wanted : (shape count : ℕ) → size_of (unpacked shape) ≡ 64 → 4 ≢ wanted_size env shape count
       wanted shape count is =
           cond_both (is_above_75 count (size_of (unpacked shape)) env.config.max) (2 * size_of (unpacked shape))
-          (size_of (unpacked shape)) (λ size. 4 ≢ size_made size)
+          (size_of (unpacked shape)) (λ size. 4 ≢ size)
           (λ t same. absurd (omega (arith, is, same))) (λ f same. absurd (omega (arith, is, same)))
 
       other_size : (port made shape : ℕ) → size_of (unpacked shape) ≡ 4
@@ -103,14 +125,14 @@ module _ (M : Type 0) (mix : ℕ → ℕ → ℕ → ℕ) (env : Env) (events : 
   bind_moves_on port owner old table once other right =
       let works = (right.current (record { there = refl; other = other })).0 in absurd (cc)
 
-  -- ---- an exchange that enters a page at an entry which leads to none
+  -- ---- an exchange that enters a page at an entry which leads to none, of a table in force or of one that was left behind
 
   module _ (entry page : ℕ) (entry_in : entry < 64 * g.pages) (slot : ℕ) (low : slot < 8)
-      (way : IsWaysEnd g words slot entry) (stands : In slot (in_force g words)) where
+      (way : IsWaysEnd g words slot entry) (stands : In slot (in_force g words) ⊎ CameTo g slot before) where
     abbrev enters : Did
     enters = record { index = index; op = Exchange (place_of g (PageWord entry)) 0 (entry_of page); old = 0 }
 
-    changes_missing : ChangesMissing g words entry enters
+    changes_missing : ChangesMissing g words before entry enters
     changes_missing = record {
       entry_in = entry_in;
       table = slot;
@@ -124,6 +146,10 @@ module _ (M : Type 0) (mix : ℕ → ℕ → ℕ → ℕ) (env : Env) (events : 
     -- by a look-up
     pub look_up_enters : (port : ℕ) → Rightly (Find port) enters → ⊥
     look_up_enters port right = right.entries entry changes_missing
+
+    -- by a resizing, as one in the table from which it has gone on
+    pub resizing_enters : Rightly Work enters → ⊥
+    resizing_enters right = right.entries entry changes_missing
 
     -- by a bind, where the way to its port's bucket ends elsewhere in each table, whichever shape it loaded
     pub bind_enters_elsewhere : (port owner : ℕ) (once : Bool)
@@ -160,4 +186,51 @@ module _ (M : Type 0) (mix : ℕ → ℕ → ℕ → ℕ) (env : Env) (events : 
             (subst (AllByRecursion (λ did. ¬ TakesSlot g slot (performed_of did))) taken.split none) in
             parts.1.0 taken.takes
         | inr (inr retired) ↦ let same = retired.0 in absurd (cc)
+      ]
+
+  -- a resizing that retires a table which it never replaced, as a second one that it took and attached nowhere
+  pub resizing_retires : (slot : ℕ) → slot < 8
+      → AllByRecursion (λ did. (next : ℕ) → StoresCurrent g next did → table_of did.old ≢ slot) before
+      → Rightly Work (record { index = index; op = Store (place_of g (Slot slot StateWord)) 2; old = 1 }) → ⊥
+  resizing_retires slot low none right =
+      elim (right.states slot (record { slot_in = low; there = refl; other = λ same. cc })) [
+        | inl taken ↦ let same = taken.1.taking in absurd (cc)
+        | inr (inl given) ↦ let same = given.1 in absurd (cc)
+        | inr (inr retired) ↦
+            let gone = retired.1.gone_on in
+            (AllByRecursion-cut (λ did. (next : ℕ) → StoresCurrent g next did → table_of did.old ≢ slot) gone.before (gone.at ∷ gone.behind)
+            (subst (AllByRecursion (λ did. (next : ℕ) → StoresCurrent g next did → table_of did.old ≢ slot)) gone.split none)).1.0 gone.next
+            gone.stores gone.from
+      ]
+
+  -- ---- the work lock
+
+  changes_lock : (op : Op) (old : ℕ) → op_place op ≡ place_of g WorkLock → word_after old op ≢ old
+      → ChangesWorkLock g (record { index = index; op = op; old = old })
+  changes_lock op old there other = record { there = there; other = other }
+
+  -- a look-up that takes it
+  pub look_up_takes_lock : (port : ℕ)
+      → Rightly (Find port) (record { index = index; op = Exchange (place_of g WorkLock) 0 1; old = 0 }) → ⊥
+  look_up_takes_lock port right =
+      let works = (right.work (changes_lock (Exchange (place_of g WorkLock) 0 1) 0 refl (λ same. cc))).0 in absurd (cc)
+
+  -- a resizing that gives it back, of which it took none
+  pub resizing_frees_lock : AllByRecursion (λ did. ¬ TakesWorkLock g did) before
+      → Rightly Work (record { index = index; op = Store (place_of g WorkLock) 0; old = 1 }) → ⊥
+  resizing_frees_lock none right =
+      elim (right.work (changes_lock (Store (place_of g WorkLock) 0) 1 refl (λ same. cc))).1 [
+        | inl takes ↦ let same = takes.tries in absurd (cc)
+        | inr gives ↦
+            let had = gives.0 in
+            (AllByRecursion-cut (λ did. ¬ TakesWorkLock g did) had.before (had.at ∷ had.behind)
+            (subst (AllByRecursion (λ did. ¬ TakesWorkLock g did)) had.split none)).1.0 had.takes
+      ]
+
+  -- a resizing that leaves 2 there
+  pub resizing_leaves_two : Rightly Work (record { index = index; op = Store (place_of g WorkLock) 2; old = 1 }) → ⊥
+  resizing_leaves_two right =
+      elim (right.work (changes_lock (Store (place_of g WorkLock) 2) 1 refl (λ same. cc))).1 [
+        | inl takes ↦ let same = takes.tries in absurd (cc)
+        | inr gives ↦ let same = gives.1 in absurd (cc)
       ]

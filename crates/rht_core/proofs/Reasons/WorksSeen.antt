@@ -39,7 +39,7 @@ use Rattle.rht_core.proofs.Reasons.AttachedTables.{IsNoAttach}
 use Rattle.rht_core.proofs.Reasons.MakesSeen.{SawMade}
 use Rattle.rht_core.proofs.Reasons.ChoicesMade.{AreFuturesAt, Chosen, HasLock, SeekSaw, Measures, Since, SinceSome, SinceSome-push}
 use Rattle.rht_core.specs.Refused.{StoresLast}
-use Rattle.rht_core.specs.Attached.{HasTakenSlot, StoresDrawn}
+use Rattle.rht_core.specs.Attached.{HasTakenSlot, StoresDrawn, HasGoneOn}
 use Rattle.rht_core.proofs.Reasons.SlotsTaken.{Owns, slot_taken-behind}
 use Rattle.rht_words.specs.Shapes.{unpacked, size_of}
 
@@ -330,8 +330,8 @@ module _ (env : Env) (words_at : ℕ → List ℕ) where
   SawAtWork (at.CuttingOff emptying entry) steps = RehashSaw env emptying.rehash steps
   SawAtWork (at.Unlocking rehash number unlock stop) steps = UnlockingSaw rehash stop steps
   SawAtWork (at.Publishing rehash) steps = RehashSaw env rehash steps
-  SawAtWork (at.NewFuture rehash) steps = HasMoved env rehash steps
-  SawAtWork (at.Retiring root again) steps = SawReplaced env again steps
+  SawAtWork (at.NewFuture rehash) steps = HasMoved env rehash steps × HasGoneOn env.geometry rehash.root steps
+  SawAtWork (at.Retiring root again) steps = SawReplaced env again steps × HasGoneOn env.geometry root steps
   SawAtWork (at.LettingGo outcome) steps = SawForWork (reply_of outcome) steps
 
   abbrev pub SawNextWork : List Did → WorkAt × Next Reply → Type 0

@@ -1,5 +1,5 @@
 -- What a caller in a read section could reach, by the words, it may still meet.
-use Rattle.std.proofs.Common.{◌≡◌, ℕ, ◌+◌, ◌<◌, ◌≤◌, List, Some, None, Option, zero, suc, ◌-◌, true, false, refl, sym, ◌∙◌, ap, subst, arith, slice_index}
+use Rattle.std.proofs.Common.{◌≡◌, ℕ, ◌+◌, ◌<◌, ◌≤◌, List, Some, true, false, sym, ◌∙◌, ap, subst, arith, slice_index}
 use Rattle.std.proofs.lemmas.Bool.{both_ways}
 use Rattle.rht_words.specs.declared.env.Env.{Env}
 use Rattle.rht_words.specs.Links.{head_of, slot_of}
@@ -14,7 +14,7 @@ use Rattle.rht_ghost.proofs.Theory.Ghosts.{Ghost, NodeHeld, PageOf, has_table, i
 use Rattle.rht_ghost.proofs.Theory.Wholes.{place_at, Whole}
 use Rattle.rht_ghost.proofs.Theory.SeatedLinks.{next_of, link-next_of, head-seated}
 use Rattle.rht_ghost.proofs.Theory.Steps.{mem}
-use Rattle.rht_core.proofs.Meaning.TablesInForce.{current_slot, future-leads}
+use Rattle.rht_core.proofs.Meaning.TablesInForce.{current_slot, next_named}
 use Rattle.rht_core.proofs.Meaning.BoundPorts.{bucket-within, first_link}
 use Rattle.rht_core.proofs.Returning.Readers.{Reader, IsOpen, ReaderRight}
 
@@ -40,27 +40,16 @@ module _ (env : Env) (mix : ℕ → ℕ → ℕ → ℕ) (words : List ℕ) (G :
     next_table : (slot next : ℕ) → MeetsTable slot
         → slot_of (mem env mix words (Slot slot FutureWord)) ≡ Some next
         → MeetsTable next
-    next_table slot next meets leads = go (G.attached - (meets.table + 1)) refl
-      where
-        is_word : slot_of (mem env mix words (Slot (G.table meets.table).slot FutureWord)) ≡ Some next
-        is_word = subst (λ s. slot_of (mem env mix words (Slot s FutureWord)) ≡ Some next) meets.slot_is leads
-
-        go : (count : ℕ) → G.attached - (meets.table + 1) ≡ count → MeetsTable next
-        go zero is =
-            let l = meets.attached in
-            let last = future-leads env mix words G whole meets.table zero (omega (arith, is, l)) in
-            let none : ◌≡◌ {A = Option ℕ} None (Some next) = sym last ∙ is_word in absurd (cc)
-        go (suc count) is =
-            let l = meets.attached in
-            let more = future-leads env mix words G whole meets.table (suc count) (omega (arith, is, l)) in
-            let named : ◌≡◌ {A = Option ℕ} (Some (G.table (meets.table + 1)).slot) (Some next) = sym more
-            ∙ is_word in
-            record {
-              table = meets.table + 1;
-              attached = omega (arith, is);
-              slot_is = let same : (G.table (meets.table + 1)).slot ≡ next = cc in sym same;
-              since = λ τ from. let before = meets.since τ from in omega (arith, before);
-            }
+    next_table slot next meets leads =
+        let named =
+        next_named env mix words G whole meets.table next meets.attached
+        (subst (λ s. slot_of (mem env mix words (Slot s FutureWord)) ≡ Some next) meets.slot_is leads) in
+        record {
+          table = meets.table + 1;
+          attached = named.attached;
+          slot_is = sym named.slot_is;
+          since = λ τ from. let before = meets.since τ from in omega (arith, before);
+        }
 
     -- each table that it could reach is one that it may come to
     pub reaches-table : (slot : ℕ) → ReachesTable env.geometry words at slot → MeetsTable slot

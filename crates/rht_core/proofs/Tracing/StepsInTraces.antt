@@ -364,6 +364,11 @@ rising-within from (did ∷ steps) rising =
           (rising-within (did.index + 1) steps rising.1),
     )
 
+-- the first ones rise too
+pub rising-before : (from : ℕ) (before rest : List Did) → IsRising from (before ++ rest) → IsRising from before
+rising-before from [] rest rising = tt
+rising-before from (did ∷ before) rest rising = (rising.0, rising-before (did.index + 1) before rest rising.1)
+
 -- those behind one of them rise from there on
 pub rising-behind : (from : ℕ) (before : List Did) (at : Did) (behind : List Did) → IsRising from (before ++ at ∷ behind)
     → IsRising (at.index + 1) behind

@@ -20,11 +20,14 @@ use Rattle.rht_callers.specs.Locals.{fresh, is_idle, machine_of, plan_of, local_
 use Rattle.rht_core.specs.Runs.{Core, World, View, IsAdmitted, IsAdmittedEvent, view_of, local_of, new_book, beginning_in, planned_in, with_step, core_step, world_step, run_of}
 use Rattle.rht_core.specs.Traces.{Did, Trace, Traced, trace_begun, trace_did, traces_after, traced_step, traced_of}
 use Rattle.rht_core.specs.Laws.{IsRecorded, view_begun, view_stepped}
+use Rattle.rht_core.specs.Seen.{words_before}
 use Rattle.rht_core.proofs.Events.Worlds.{induct_by_last, take-push_all, beginning-some, planned-some, begin_none, begin_self, begin_other, step_none, step_self, step_other}
 use Rattle.rht_core.proofs.Events.SoundRuns.{StaysIn, runs-in, made_in, has_place}
 use Rattle.rht_ghost.proofs.Theory.Ghosts.{Ghost}
 use Rattle.rht_core.proofs.Events.Invariants.{Inv, StepOf, step_of}
 use Rattle.rht_core.proofs.Events.InvariantRuns.{HasInv, has_inv}
+use Rattle.rht_core.proofs.Events.RangesInRuns.{AllIn}
+use Rattle.rht_core.proofs.Events.TablesThere.{TablesStayed, has_tables}
 use Rattle.rht_core.proofs.Tracing.TracedRuns.{no_trace, traced_of-push, world-traced_of, count-traced_of, trace_with, trace_begin_none, trace_begin_self, trace_begin_other, trace_step_none, trace_step_self, trace_step_other}
 
 module _ (M : Type 0) (mix : ℕ → ℕ → ℕ → ℕ) (env : Env) where
@@ -61,6 +64,8 @@ module _ (M : Type 0) (mix : ℕ → ℕ → ℕ → ℕ) (env : Env) where
     pub reply :
         reply_of c (run_of mix env (take did.index (events ++ Step c ∷ []))) ≡ (local_after mix local
         did.old).1
+    -- each slot that had a table has it
+    pub stayed : TablesStayed env mix (words_before M mix env events) known.ghost (length events)
 
   -- before the last event the world is the one that the events before it leave
   world_now : (events : List Event) (event : Event)
@@ -94,7 +99,10 @@ module _ (M : Type 0) (mix : ℕ → ℕ → ℕ → ℕ) (env : Env) where
       → IsMade events c (local_of (R events).world.core c) (did_next events op)
   did_next-made events c op admitted is =
       let core = (R events).world.core in
-      let has = inv_now events admitted in
+      let has = has_tables env mix M events admitted in
+      let same = sym (world-traced_of M mix env events) in
+      let inv = subst (λ (w : World M). Inv env mix M w.core has.ghost) same has.inv in
+      let all = subst (λ (w : World M). AllIn M mix env w.core) same has.all in
       record {
         plan = (planned-some core.env core.enrolled core.locals c op is).plan;
         table = (stays_in events).locals_of c;
@@ -102,8 +110,8 @@ module _ (M : Type 0) (mix : ℕ → ℕ → ℕ → ℕ) (env : Env) where
           core = core;
           here = refl;
           ghost = has.ghost;
-          inv = has.inv;
-          step = step_of env mix M core has.ghost c op has.all has.inv is;
+          inv = inv;
+          step = step_of env mix M core has.ghost c op all inv is;
           found = refl;
         };
         now = ap (λ (w : World M). w.core) (world-traced_of M mix env events);
@@ -118,6 +126,7 @@ module _ (M : Type 0) (mix : ℕ → ℕ → ℕ → ℕ) (env : Env) where
         reply =
             ap (reply_of c) (world_now events (Step c))
             ∙ ap (λ (o : Option Op). (with_step mix core c o).1.reply) is;
+        stayed = has.stayed;
       }
 
   -- ---- what callers keep

@@ -4,12 +4,13 @@
 -- It is enough to look at jobs, one operation at a time. A call begins as its first job with no operations; an operation
 -- leads to one more of them, and where it ends the call, to what is kept of an ended one. What callers keep besides is
 -- shown here once for all: that the call of a book is that of the job, and what the rooms have. So is how an operation stands in its run:
--- the words in which it is performed are those before its event, and the buckets that there are then stay where they are.
+-- the words in which it is performed are those before its event, the buckets that there are then stay where they are, and each slot that had
+-- a table has one.
 use Rattle.std.proofs.Common.{◌≡◌, ℕ, Bool, true, false, cond, List, [], ◌∷◌, ◌++◌, length, take, refl, sym, ap, ◌∙◌, subst, append_assoc, arith, ◌+◌, ◌<◌}
 use Rattle.std.specs.Prelude.{Option, Some, None}
 use Rattle.std.specs.List.{AllByRecursion, last_or}
 use Rattle.std.proofs.Math.Seq.{take-append_seam}
-use Rattle.std.proofs.lemmas.List.{append-nil, length_push}
+use Rattle.std.proofs.lemmas.List.{append-nil, length_push, take-append-le}
 use Rattle.rht_words.specs.declared.env.Env.{Env}
 use Rattle.rht_words.specs.declared.machine.Next.{Next}
 use Rattle.rht_words.specs.declared.machine.Next.TheVariants.{Go, Done}
@@ -38,6 +39,7 @@ use Rattle.rht_callers.proofs.RoomsOfCallers.{owners_beside-none, owners_after-s
 use Rattle.rht_core.proofs.Events.Invariants.{Inv}
 use Rattle.rht_core.proofs.Events.Worlds.{run_of-push, stepped_words}
 use Rattle.rht_core.proofs.Events.BucketsThere.{BucketsStay, buckets-stay}
+use Rattle.rht_core.proofs.Events.TablesThere.{TablesStayed, TablesStayed-same}
 use Rattle.rht_ghost.proofs.Theory.Ghosts.{Ghost}
 use Rattle.rht_ghost.proofs.Theory.Wholes.{Whole}
 use Rattle.rht_ghost.proofs.Theory.Steps.{mem}
@@ -120,23 +122,26 @@ module _ (mix : ℕ → ℕ → ℕ → ℕ) (env : Env) where
         JobStepOf env mix caller words ghost did.op job r
 
   -- where these are the words before the event with each number, the operation was performed in those before its event, and left those
-  -- behind it; and the buckets that tables had then stay where they were
+  -- behind it; the buckets that tables had then stay where they were, and each slot that had a table before has it still
   pub record StandsIn (words_at : ℕ → List ℕ) (job : Job) (did : Did) (performs : Performs job did) : Type 0 where
     pub now : performs.words ≡ words_at did.index
     pub next : applied performs.words did.op ≡ words_at (did.index + 1)
     pub stay : BucketsStay env mix words_at performs.ghost did.index
+    pub stayed : TablesStayed env mix words_at performs.ghost did.index
 
-  -- the step of a caller is its job's, in the words of this core, of which the invariant holds
-  pub record PerformsAs {M : Type 0} (doing : Option Job) (core : Core M) (did : Did) : Type 0 where
+  -- The step of a caller is its job's, in the words behind these events, of which the invariant holds; and each slot that had a table
+  -- has it.
+  pub record PerformsAs (M : Type 0) (doing : Option Job) (events : List Event) (did : Did) : Type 0 where
     pub job : Job
     pub does : doing ≡ Some job
     pub performs : Performs job did
-    pub here : performs.words ≡ core.words
-    pub inv : Inv env mix M core performs.ghost
+    pub here : performs.words ≡ (run_of {M = M} mix env events).core.words
+    pub inv : Inv env mix M (run_of mix env events).core performs.ghost
+    pub stayed : TablesStayed env mix (words_before M mix env events) performs.ghost (length events)
 
   pub performs-made : (M : Type 0) (events : List Event) (c : ℕ) (local : Local M) (did : Did)
       → IsMade M mix env events c local did
-      → PerformsAs (job_of local.doing) (run_of {M = M} mix env events).core did
+      → PerformsAs M (job_of local.doing) events did
   performs-made M events c local did made =
       let known = made.known in
       let of = known.step in
@@ -160,6 +165,7 @@ module _ (mix : ℕ → ℕ → ℕ → ℕ) (env : Env) where
         };
         here = ap (λ (core : Core M). core.words) made.now;
         inv = subst (λ (core : Core M). Inv env mix M core known.ghost) made.now known.inv;
+        stayed = made.stayed;
       }
 
 -- ---- what is kept of calls
@@ -289,8 +295,9 @@ module _ (M : Type 0) (mix : ℕ → ℕ → ℕ → ℕ) (env : Env) (Now : Job
           → IsRecorded M mix env (past ++ Steps c ∷ []) c did
           → performs.words ≡ (run_of {M = M} mix env past).core.words
           → Inv env mix M (run_of mix env past).core performs.ghost
+          → TablesStayed env mix (words_before M mix env past) performs.ghost (length past)
           → StandsIn mix env (words_before M mix env events) job did performs
-      stands_in past rest c job did performs admitted all is recorded here inv =
+      stands_in past rest c job did performs admitted all is recorded here inv stayed =
           let stay = buckets-stay env mix M past (Steps c ∷ rest) performs.ghost inv (subst (IsAdmitted env.config.kind) all admitted) in
           record {
             now = here ∙ words_now past (Steps c ∷ rest) did.index all is;
@@ -299,6 +306,11 @@ module _ (M : Type 0) (mix : ℕ → ℕ → ℕ → ℕ) (env : Env) (Now : Job
                 subst (BucketsStay env mix (words_before M mix env events) performs.ghost) (sym is)
                 (subst (λ (es : List Event). BucketsStay env mix (words_before M mix env es) performs.ghost (length past)) (sym all)
                 stay);
+            stayed =
+                subst (TablesStayed env mix (words_before M mix env events) performs.ghost) (sym is)
+                (TablesStayed-same env mix (words_before M mix env past) (words_before M mix env events) performs.ghost (length past)
+                (λ i low. ap (λ (es : List Event). (run_of {M = M} mix env es).core.words)
+                (sym (ap (take i) all ∙ take-append-le i past (Steps c ∷ rest) low))) stayed);
           }
 
       steps-keeping : (past rest : List Event) (c : ℕ) (did : Did) (here : View M) (trace : Trace)
@@ -316,7 +328,8 @@ module _ (M : Type 0) (mix : ℕ → ℕ → ℕ → ℕ) (env : Env) (Now : Job
           let work : IsAtWork job here.book trace.steps =
           subst (λ (j : Option Job). IsAtJob j here.book trace.steps) planning.does keeping.now in
           let performs = planning.performs in
-          let stands = stands_in past rest c job did performs admitted all made.index made.recorded planning.here planning.inv in
+          let stands = stands_in past rest c job did performs admitted all made.index made.recorded planning.here planning.inv
+          planning.stayed in
           let leads = keep.goes job trace.steps did performs stands work.now in
           let after = job_after mix env job did.old in
           let left = local_after-job mix env here.local job did.old none made.table planning.does in

@@ -19,7 +19,7 @@ use Rattle.rht_bind.specs.BindHeld.{held_of_bind}
 use Rattle.rht_bind.specs.declared.bind.Attempt.{Attempt}
 use Rattle.rht_bind.specs.declared.bind.BindAt.{BindAt}
 use Rattle.rht_bind.specs.declared.bind.BindAt.TheVariants as binding
-use Rattle.rht_core.specs.Jobs.{Job, binds, rebinds, works, job_plan, held_of}
+use Rattle.rht_core.specs.Jobs.{Job, binds, works, job_plan, held_of}
 use Rattle.rht_core.specs.Traces.{Did}
 use Rattle.rht_core.specs.Seen.{CameTo}
 use Rattle.rht_ghost.proofs.Theory.Ghosts.{Ghost, index_at, table_at}
@@ -27,10 +27,11 @@ use Rattle.rht_ghost.proofs.Theory.Wholes.{Whole}
 use Rattle.rht_ghost.proofs.Theory.Knowledge.{TableMeans}
 use Rattle.rht_ghost.proofs.Pieces.OpenEntries.{known_growing, open_in_table}
 use Rattle.rht_core.proofs.Machines.JobSteps.{JobIn, JobKnows}
+use Rattle.rht_core.proofs.Machines.NeverHeld.{tableless, pageless}
 use Rattle.rht_core.proofs.Reasons.TablesWalked.{walked-came}
 use Rattle.rht_core.proofs.Reasons.CausesInRuns.{JobSaw}
 use Rattle.rht_core.proofs.Undoing.PastRefusal.{bind_is_past, is_past}
-use Rattle.rht_core.proofs.Undoing.RefusableJobs.{alone, early_work, make-enters, rebind-enters, take-none, unmake-enters, work-enters}
+use Rattle.rht_core.proofs.Undoing.RefusableJobs.{early_work, make-enters, take-none, unmake-enters, work-enters}
 
 -- a bind that is to enter a page has come to the table in which it is
 abbrev pub CameToEnter : Geometry → Job → List Did → Type 0
@@ -103,8 +104,6 @@ module _ (env : Env) (mix : ℕ → ℕ → ℕ → ℕ) (c : ℕ) (M : Memory) 
         → did.op ≡ job_plan env job → In page (held_of job).pages → CameToEnter g job steps → CameToEntry
     came_to_entry (binds port owner once state) may within knows is i came =
         bind-came port owner once state may within.at_in knows is i came
-    came_to_entry (rebinds port owner new state) may within knows is i came =
-        absurd (rebind-enters env mix c M G did entry page exchanges state may i)
     came_to_entry (works state) may within knows is i came =
         absurd (work-enters env mix c M G did entry page exchanges state (early_work state may) is i)
-    came_to_entry job may within knows is i came = absurd (subst (In page) (alone job tt may).pages i)
+    came_to_entry job may within knows is i came = absurd (pageless (tableless job refl) page i)

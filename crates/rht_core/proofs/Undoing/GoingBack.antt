@@ -66,15 +66,17 @@ pub record MayEnter (g : Geometry) (call : Call) (steps : List Did) (G : Ghost) 
   pub may : MayAttach call
   pub came : CameTo g (G.table (table_at G entry)).slot steps
 
--- The call may be refused before an operation and behind it, where it holds this: it has raised no count
--- and moves nothing. Where it has a lock and no node, the operation leaves its word, or drops the lock. Its
--- pages are its own, and it attaches and enters only what it may.
+-- The call may be refused before an operation and behind it, where it holds this: it has raised no count, moves
+-- nothing, and is in no read section. Where it has a lock and no node, the operation leaves its word, or drops the
+-- lock. Its pages are its own, and it attaches and enters only what it may.
 pub record MayGoBack (g : Geometry) (call : Call) (steps : List Did) (did : Did) (before after : Holding)
     (c : ℕ) (G : Ghost) : Type 0 where
   pub low : before.raised ≡ false
   pub low_then : after.raised ≡ false
   pub still : before.moving ≡ false
   pub still_then : after.moving ≡ false
+  pub outside : before.section ≡ false
+  pub outside_then : after.section ≡ false
   pub locked_leaves : before.lock ≢ None → before.node ≡ None
       → LeavesBits did.op did.old ⊎ (after.lock ≡ None)
   pub mine : (page : ℕ) → In page before.pages → G.page page ≡ PageHeld c

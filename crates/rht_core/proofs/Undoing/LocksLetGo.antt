@@ -2,12 +2,9 @@
 --
 -- Of each lock that a call holds it has turned the bit an odd number of times, and of each other one an even number; but for the entries at
 -- which it entered pages. Once it has ended it holds none.
-use Rattle.std.proofs.Common.{◌≡◌, ◌⊎◌, ℕ, ◌+◌, ◌%◌, ◌<◌, Bool, true, false, List, [], ◌∷◌, ◌++◌, Some, None, refl, sym, ap, ◌∙◌, subst, inl, inr, arith}
+use Rattle.std.proofs.Common.{◌≡◌, ◌⊎◌, ℕ, ◌+◌, ◌%◌, ◌<◌, Bool, false, List, [], ◌∷◌, ◌++◌, Some, None, refl, sym, ap, ◌∙◌, subst, inl, inr, arith}
 use Rattle.std.specs.List.{AllByRecursion}
-use Rattle.std.proofs.lemmas.List.{append_assoc}
 use Rattle.rht_words.specs.declared.env.Env.{Env}
-use Rattle.rht_words.specs.declared.config.Kind.{Kind}
-use Rattle.rht_words.specs.declared.config.Kind.TheVariants.{Single, Listed}
 use Rattle.rht_words.specs.declared.geometry.Geometry.{Geometry}
 use Rattle.rht_words.specs.declared.machine.Next.{Next}
 use Rattle.rht_words.specs.declared.machine.Next.TheVariants.{Go, Done}
@@ -20,34 +17,17 @@ use Rattle.rht_words.specs.Places.{WorkLock, PageWord, place_of}
 use Rattle.rht_words.proofs.Memory.{Memory}
 use Rattle.rht_words.proofs.PlacesApart.{parts_in_order}
 use Rattle.rht_model.specs.declared.history.Call.{Call}
-use Rattle.rht_model.specs.declared.history.Call.TheVariants.{Bind, Find, All, Release, Rebind, Work, Count}
 use Rattle.rht_model.specs.Endings.{Ending}
-use Rattle.rht_find.specs.FindHeld.{held_of_find}
-use Rattle.rht_find.specs.declared.find.FindAt.{FindAt}
-use Rattle.rht_find.specs.declared.find.FindAt.TheVariants as finding
-use Rattle.rht_bind.specs.BindHeld as bind_held
 use Rattle.rht_bind.specs.BindHeld.{held_of_bind}
-use Rattle.rht_bind.specs.declared.bind.Claimed.{Claimed}
 use Rattle.rht_bind.specs.declared.bind.BindAt.{BindAt}
 use Rattle.rht_bind.specs.declared.bind.BindAt.TheVariants as binding
 use Rattle.rht_chain.specs.Relink.{has_relinked}
-use Rattle.rht_release.specs.declared.found_port.FoundPort.{FoundPort}
-use Rattle.rht_release.specs.AllHeld.{held_of_all}
-use Rattle.rht_release.specs.declared.all.AllAt.{AllAt}
-use Rattle.rht_release.specs.declared.all.AllAt.TheVariants as listing
-use Rattle.rht_release.specs.ReleaseHeld.{held_of_release, holds_relinking}
-use Rattle.rht_release.specs.declared.release.ReleaseAt.{ReleaseAt}
-use Rattle.rht_release.specs.declared.release.ReleaseAt.TheVariants as releasing
-use Rattle.rht_release.specs.RebindHeld as rebind_held
-use Rattle.rht_release.specs.RebindHeld.{held_of_rebind}
-use Rattle.rht_release.specs.declared.rebind.RebindAt.{RebindAt}
-use Rattle.rht_release.specs.declared.rebind.RebindAt.TheVariants as rebinding
 use Rattle.rht_move.specs.WorkHeld.{held_of_work}
 use Rattle.rht_move.specs.Work.{IsWorkAtIn}
 use Rattle.rht_move.specs.declared.work.WorkAt.{WorkAt}
 use Rattle.rht_move.specs.declared.work.WorkAt.TheVariants as working
 use Rattle.rht_core.specs.declared.event.Event.{Event}
-use Rattle.rht_core.specs.Jobs.{Job, finds, binds, lists, releases, rebinds, works, counts, call_of, first_rebind, first_job, job_plan, job_after, held_of, held_next}
+use Rattle.rht_core.specs.Jobs.{Job, binds, works, call_of, first_job, job_plan, job_after, held_of, held_next}
 use Rattle.rht_core.specs.Traces.{Did, Past, traced_of}
 use Rattle.rht_core.specs.Seen.{words_before}
 use Rattle.rht_core.specs.Refused.{turns, IsMissingEntry}
@@ -55,13 +35,14 @@ use Rattle.rht_core.specs.LetGo.{HasEnteredAt, HasLetGo, LetGo}
 use Rattle.rht_ghost.proofs.Theory.Ghosts.{Ghost}
 use Rattle.rht_ghost.proofs.Theory.Steps.{Holding, mem, Does, Move, TakesNode, GivesNode, Links, Rebinds, SaysChange}
 use Rattle.rht_core.proofs.Machines.JobSteps.{JobIn}
-use Rattle.rht_core.proofs.Events.JobsOfCallers.{same_call}
+use Rattle.rht_core.proofs.Machines.NeverHeld.{tableless, front-tableless, pageless}
+use Rattle.rht_core.proofs.Events.JobsOfCallers.{same_call, first_holds, first_without}
 use Rattle.rht_core.proofs.Tracing.TracedJobs.{Performs, LeadsOn, IsEndedSo}
 use Rattle.rht_core.proofs.Tracing.JobsBeside.{kept_beside}
 use Rattle.rht_core.proofs.Reasons.CausesInRuns.{JobSaw, EndsSeen, job-leads, first_job-saw}
 use Rattle.rht_core.proofs.Undoing.EnteringBinds.{CameToEnter, attaching-none, saw-came, came_to_entry}
 use Rattle.rht_core.proofs.Undoing.TurnedBits.{turns-push}
-use Rattle.rht_core.proofs.Undoing.UndoneSoFar.{one_more}
+use Rattle.rht_core.proofs.Undoing.UndoneSoFar.{one_more, entered-more}
 use Rattle.rht_core.proofs.Undoing.EnteredWords.{entering_missing}
 use Rattle.rht_core.proofs.Undoing.PastRefusal.{is_past}
 use Rattle.rht_core.proofs.Undoing.RefusableJobs.{enters, unmake-enters}
@@ -69,41 +50,6 @@ use Rattle.rht_core.proofs.Undoing.RefusedCalls as refusals
 use Rattle.rht_core.proofs.Undoing.LocksTurned.{IsLockPlace, lock_bits, Turning, EntersHere, turns_evenly}
 
 -- ---- which job enters a page
-
-module _ (page : ℕ) where
-  -- a job without pages enters none
-  pub find-none : (state : FindAt) → In page (held_of_find state).pages → ⊥
-  find-none finding.CurrentTable i = i
-  find-none _ i = i
-
-  pub all-none : (owners : List ℕ) (state : AllAt) → In page (held_of_all owners state).pages → ⊥
-  all-none owners (listing.Seeking seek) i = i
-  all-none owners _ i = i
-
-  pub front-none : (claimed : Claimed) (stored : Bool) → In page (bind_held.holds_replacing claimed stored).pages → ⊥
-  front-none claimed true i = i
-  front-none claimed false i = i
-
-  pub replacing-none : (node : ℕ) (found : FoundPort) (stored : Bool)
-      → In page (rebind_held.holds_replacing node found stored).pages → ⊥
-  replacing-none node found true i = i
-  replacing-none node found false i = i
-
-  pub relinking-none : (found : FoundPort) (raised stored : Bool) → In page (holds_relinking found raised stored).pages → ⊥
-  relinking-none found raised true i = i
-  relinking-none found raised false i = i
-
-  pub release-none : (state : ReleaseAt) → In page (held_of_release state).pages → ⊥
-  release-none (releasing.Promoting found relink) i =
-      relinking-none found false (has_relinked found.before relink.at) i
-  release-none (releasing.Unlinking found relink) i =
-      relinking-none found true (has_relinked found.before relink.at) i
-  release-none _ i = i
-
-  pub rebind-none : (state : RebindAt) → In page (held_of_rebind state).pages → ⊥
-  rebind-none (rebinding.Replacing node found relink) i =
-      replacing-none node found (has_relinked found.before relink.at) i
-  rebind-none _ i = i
 
 -- The job may still be refused, and hasn't told an answer that says that bindings were changed.
 pub record IsEarly (job : Job) : Type 0 where
@@ -121,7 +67,7 @@ module _ (env : Env) (mix : ℕ → ℕ → ℕ → ℕ) (c : ℕ) (M : Memory) 
   bind-early port owner once (binding.Unmaking attempt unmake answer) is had =
       absurd (unmake-enters env mix c M G did entry page exchanges unmake.geometry unmake.slot unmake.at is)
   bind-early port owner once (binding.Replacing list relink) is had =
-      absurd (front-none page list.claimed (has_relinked list.before relink.at) had)
+      absurd (pageless (front-tableless list.claimed (has_relinked list.before relink.at)) page had)
   bind-early port owner once _ is had = absurd had
 
   work-early : (state : WorkAt) → IsWorkAtIn env state → did.op ≡ job_plan env (works state) → In page (held_of_work state).pages
@@ -133,13 +79,9 @@ module _ (env : Env) (mix : ℕ → ℕ → ℕ → ℕ) (c : ℕ) (M : Memory) 
   work-early _ within is had = absurd had
 
   pub early : (job : Job) → JobIn env mix c job → did.op ≡ job_plan env job → In page (held_of job).pages → IsEarly job
-  early (finds port state) within is had = absurd (find-none page state had)
   early (binds port owner once state) within is had = bind-early port owner once state is had
-  early (lists port room state) within is had = absurd (all-none page room.items state had)
-  early (releases port owner state) within is had = absurd (release-none page state had)
-  early (rebinds port owner new state) within is had = absurd (rebind-none page state had)
   early (works state) within is had = work-early state within is had
-  early counts within is had = absurd had
+  early job within is had = absurd (pageless (tableless job refl) page had)
 
 -- ---- the node of a call
 
@@ -193,28 +135,6 @@ module _ (M : Type 0) (mix : ℕ → ℕ → ℕ → ℕ) (env : Env) (events : 
       × ((place : ℕ) → IsLockPlace g place → HasEntered call steps place ⊎ (turns place 0 steps % 2 ≡ 0))
 
   -- ---- an operation
-
-  entered-more : (call : Call) (steps : List Did) (did : Did) (place : ℕ) → HasEntered call steps place
-      → HasEntered call (steps ++ did ∷ []) place
-  entered-more call steps did place is =
-      let has = is.entered.entered in
-      record {
-        index = is.index;
-        here = is.here;
-        entered = record {
-          may = is.entered.may;
-          page = is.entered.page;
-          entered = record {
-            before = has.before;
-            at = has.at;
-            behind = has.behind ++ did ∷ [];
-            split = ap (λ before. before ++ did ∷ []) has.split ∙ append_assoc has.before (has.at ∷ has.behind) (did ∷ []);
-            enters = has.enters;
-            missing = has.missing;
-            took = has.took;
-          };
-        };
-      }
 
   nothing_held : (n : ℕ) → (n + (0 + 0 + 0)) % 2 ≡ 0 → n % 2 ≡ 0
   nothing_held n even = omega (arith, even)
@@ -288,7 +208,15 @@ module _ (M : Type 0) (mix : ℕ → ℕ → ℕ → ℕ) (env : Env) (events : 
 
     turned_then : Turned (call_of job) (held_next next) all
     turned_then place is = elim (kept.1.turned place is) [
-      | inl entered ↦ inl (entered-more (call_of job) steps did place entered)
+      | inl was ↦ inl (record {
+        index = was.index;
+        here = was.here;
+        entered = record {
+          may = was.entered.may;
+          page = was.entered.page;
+          entered = entered-more g words_at was.index was.entered.page steps did was.entered.entered;
+        };
+      })
       | inr even ↦ elim (turns_evenly step performs.step.move performs.step.ready performs.step.made.whole does place is) [
         | inl enters_it ↦ inl (enters_now place enters_it)
         | inr now ↦ inr (
@@ -326,28 +254,11 @@ module _ (M : Type 0) (mix : ℕ → ℕ → ℕ → ℕ) (env : Env) (events : 
 
   -- ---- the beginning
 
-  holds_none : (job : Job) → (held_of job).node ≡ None → ((place : ℕ) → lock_bits g (held_of job) place ≡ 0) → HasTurned job []
-  holds_none job node none = record {
-    turned = λ place is. inr (ap (λ n. (0 + n) % 2) (none place));
-    node_in = λ n is. absurd (let both = sym node ∙ is in cc);
-  }
-
-  of_first : (first job : Job) → Some first ≡ Some job → HasTurned first [] → HasTurned job []
-  of_first first job is turned = let same : first ≡ job = cc in subst (λ j. HasTurned j []) same turned
-
-  begins-rebind : (port owner new : ℕ) (kind : Kind) (job : Job) → first_rebind env port owner new kind ≡ Some job → HasTurned job []
-  begins-rebind port owner new Single job is = of_first _ job is (holds_none _ refl (λ place. refl))
-  begins-rebind port owner new Listed job is = absurd (cc)
-
   begins : (call : Call) (job : Job) → first_job env call ≡ Some job → HasTurned job []
-  begins (Rebind port owner new) job is = begins-rebind port owner new env.config.kind job is
-  begins (Find port) job is = of_first _ job is (holds_none _ refl (λ place. refl))
-  begins (Bind port owner once) job is = of_first _ job is (holds_none _ refl (λ place. refl))
-  begins (All port) job is = of_first _ job is (holds_none _ refl (λ place. refl))
-  begins (Release port owner) job is = of_first _ job is (holds_none _ refl (λ place. refl))
-  begins Work job is = of_first _ job is (holds_none _ refl (λ place. refl))
-  begins Count job is = of_first _ job is (holds_none _ refl (λ place. refl))
-  begins _ job is = absurd (cc)
+  begins call job is = record {
+    turned = subst (λ h. Turned (call_of job) h []) (sym (first_holds env call job is)) (λ place at. inr refl);
+    node_in = λ n has. absurd (let both = sym (first_without env call job is) ∙ has in cc);
+  }
 
   -- ---- the law
 

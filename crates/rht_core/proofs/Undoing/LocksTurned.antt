@@ -8,7 +8,7 @@ use Rattle.rht_words.specs.declared.env.Env.{Env}
 use Rattle.rht_words.specs.declared.geometry.Geometry.{Geometry}
 use Rattle.rht_words.specs.declared.op.Op.TheVariants.{Store, Exchange}
 use Rattle.rht_words.specs.Operations.{op_place, old_of, word_after, applied}
-use Rattle.rht_words.specs.Places.{WorkLock, Slot, SlotWord, FutureWord, StateWord, LoadedSection, PageMap, PageWord, Node, NodeWord, ChainLink, nodes_at, pages_at, place_of, words_in}
+use Rattle.rht_words.specs.Places.{WorkLock, Section, Slot, SlotWord, FutureWord, StateWord, LoadedSection, PageMap, PageWord, Node, NodeWord, ChainLink, nodes_at, pages_at, place_of, words_in}
 use Rattle.rht_words.specs.TableWords.{IsTableWord}
 use Rattle.rht_words.specs.Members.{In}
 use Rattle.rht_words.proofs.Members.{in-middle}
@@ -23,7 +23,7 @@ use Rattle.rht_ghost.proofs.Theory.Wholes.{place_at, Whole}
 use Rattle.rht_ghost.proofs.Theory.Passed.{held-no_entry}
 use Rattle.rht_ghost.proofs.Theory.Readiness.{Change, changed, linked, linked_bucket, IsRebinding, ArePagesOf, IsEntering}
 use Rattle.rht_ghost.proofs.Theory.Departures.{arrived, cut_off, cut_by}
-use Rattle.rht_ghost.proofs.Theory.Steps.{bare, Holding, mem, IsAside, DoesQuiet, DoesTakeLock, DoesDropLock, DoesTakeSecond, DoesTakeWork, DoesGiveWork, DoesRebind, DoesEnter, Does, ReadyFor, ghost_after, Move, Quiet, TakesNode, GivesNode, TakesLock, DropsLock, Raises, Links, Lowers, Rebinds, LinksBehind, Arms, TakesSlot, GivesSlot, TakesPages, GivesPages, Attaches, Enters, TakesWork, GivesWork, BeginsMoving, TakesSecond, Leaves, Arrives, CutsOff, Publishes, Retires}
+use Rattle.rht_ghost.proofs.Theory.Steps.{bare, Holding, mem, IsAside, DoesQuiet, DoesTakeLock, DoesDropLock, DoesTakeSecond, DoesTakeWork, DoesGiveWork, DoesRebind, DoesEnter, Does, ReadyFor, ghost_after, Move, Quiet, TakesNode, GivesNode, TakesLock, DropsLock, Raises, Links, Lowers, Rebinds, LinksBehind, Arms, TakesSlot, GivesSlot, TakesPages, GivesPages, Attaches, Enters, TakesWork, GivesWork, BeginsMoving, TakesSecond, Leaves, Arrives, CutsOff, Publishes, Retires, Opens, Closes}
 use Rattle.rht_ghost.proofs.Moves.Relinking.{last_in}
 use Rattle.rht_ghost.proofs.Pieces.Rebounds.{node_before_pages}
 use Rattle.rht_core.proofs.Undoing.TurnedBits.{one_bit, one_bit-here, one_bit-far, turned-far, turned-here, turned-none, turned-same, turned-one, sets_lowest, clears_lowest, locked_bit, work_bit}
@@ -66,10 +66,13 @@ module _ (g : Geometry) where
   slot-off slot (LoadedSection caller) low is = elim is [ inl of_table ↦ absurd of_table | inr state ↦ absurd (cc) ]
   slot-off slot _ low is = below_slots _ (omega arith) (omega (arith, low))
 
-  pub first-off : (p : ℕ) → p ≢ 1 → p < 8 → IsOff p
+  pub first-off : (p : ℕ) → p ≢ 1 → p < 24 → IsOff p
   first-off p not_work low =
       let order = parts_in_order g in
       record { not_work = not_work; before = omega (arith, low, order.pages, order.nodes, order.page_map) }
+
+  pub section-off : (caller : ℕ) → caller < 16 → IsOff (place_of g (Section caller))
+  section-off caller low = first-off _ (λ e. absurd (omega (arith, e))) (omega (arith, low))
 
   pub node_map-off : (node : ℕ) → node < g.nodes → IsOff (map_place g node)
   node_map-off node within =
@@ -420,3 +423,7 @@ module _ {env : Env} {mix : ℕ → ℕ → ℕ → ℕ} (step : Turning env mix
       inr (off (subst (IsOff g) (sym does.on) (first-off g 0 (λ e. cc) (omega arith))) does.holds (λ p. refl) place is)
   turns_evenly (Retires s) ready then does place is =
       inr (off (subst (IsOff g) (sym (ap op_place does.retiring)) (slot-off g s StateWord does.within (inr refl))) does.holds (λ p. refl) place is)
+  turns_evenly (Opens d) ready then does place is =
+      inr (off (subst (IsOff g) (sym (ap op_place does.turns)) (section-off g d does.within)) does.holds (λ p. refl) place is)
+  turns_evenly (Closes d) ready then does place is =
+      inr (off (subst (IsOff g) (sym (ap op_place does.turns)) (section-off g d does.within)) does.holds (λ p. refl) place is)

@@ -2,7 +2,7 @@
 --
 -- The words of entries are those that the whole says, and of all moves the entering of a page alone makes other ones of them. The page is one
 -- that the call has, and a bind alone exchanges an entry for a page of its own.
-use Rattle.std.proofs.Common.{◌≡◌, ℕ, ◌/◌, ◌<◌, Bool, true, false, List, length, refl, sym, ap, ◌∙◌, subst, inl, inr, arith}
+use Rattle.std.proofs.Common.{◌≡◌, ◌≢◌, ℕ, ◌*◌, ◌/◌, ◌<◌, Bool, true, false, List, length, refl, sym, ap, ◌∙◌, subst, arith}
 use Rattle.rht_words.specs.declared.op.Op.TheVariants.{Store, Exchange}
 use Rattle.rht_words.specs.declared.env.Env.{Env}
 use Rattle.rht_words.specs.declared.geometry.Geometry.{Geometry}
@@ -27,21 +27,17 @@ use Rattle.rht_move.specs.Work.{IsWorkAtIn}
 use Rattle.rht_move.specs.WorkHeld.{held_of_work}
 use Rattle.rht_move.specs.declared.work.WorkAt.{WorkAt}
 use Rattle.rht_move.specs.declared.work.WorkAt.TheVariants as working
-use Rattle.rht_core.specs.Jobs.{Job, finds, binds, lists, releases, rebinds, works, counts, job_plan, held_of}
+use Rattle.rht_core.specs.Jobs.{Job, binds, works, job_plan, held_of}
 use Rattle.rht_core.specs.Traces.{Did}
-use Rattle.rht_stands.specs.StandsFor.{in_force}
-use Rattle.rht_core.specs.Attached.{ChangesMissing}
-use Rattle.rht_ghost.proofs.Theory.Ghosts.{PageOwner, PageFree, PageHeld, put_in, put_in-other, has_bit, with_pages, is_entry_of, table_of_page, Ghost, SlotOwner, SlotFree, SlotHeld, Live, Retired, has_table, state_word, table_at, is_entry, entry_word}
+use Rattle.rht_ghost.proofs.Theory.Ghosts.{PageOwner, PageFree, PageHeld, put_in, put_in-other, has_bit, with_pages, is_entry_of, table_of_page, Ghost, table_at, is_entry, entry_word}
 use Rattle.rht_ghost.proofs.Theory.Wholes.{Whole}
 use Rattle.rht_ghost.proofs.Theory.Readiness.{IsEntering, ArePagesOf}
 use Rattle.rht_ghost.proofs.Theory.Steps as steps
 use Rattle.rht_ghost.proofs.Theory.Steps.{mem, ghost_after, Holding, Does, DoesEnter, ReadyFor, Move, TakesPages, GivesPages, Enters}
 use Rattle.rht_core.proofs.Machines.JobSteps.{JobIn}
-use Rattle.rht_core.proofs.Meaning.TablesInForce.{in_force_is}
-use Rattle.rht_core.proofs.Undoing.EnteredWords.{missing_is_entry}
+use Rattle.rht_core.proofs.Machines.NeverHeld.{tableless, front-tableless, pageless}
 use Rattle.rht_core.proofs.Undoing.RefusableJobs.{take-none, make-enters, unmake-enters}
 use Rattle.rht_core.proofs.Undoing.EnteringBinds.{attaching-none}
-use Rattle.rht_core.proofs.Undoing.LocksLetGo.{find-none, all-none, front-none, release-none, rebind-none}
 
 -- ---- by each move
 
@@ -53,7 +49,8 @@ pub record EntersThere (env : Env) (mix : ℕ → ℕ → ℕ → ℕ) (c : ℕ)
 
 module _ (env : Env) (mix : ℕ → ℕ → ℕ → ℕ) (c : ℕ) (words : List ℕ) (G : Ghost) (did : Did) (before after : Holding)
     (whole : Whole env mix (mem env mix words) G) (all : length words ≡ words_in env.geometry) (found : did.old ≡ old_of words did.op)
-    (entry : ℕ) (changes : ChangesMissing env.geometry words entry did) where
+    (entry : ℕ) (low : entry < 64 * env.geometry.pages) (of_entry : is_entry G entry ≡ true)
+    (there : op_place did.op ≡ place_of env.geometry (PageWord entry)) (changes : word_after did.old did.op ≢ did.old) where
   abbrev g : Geometry
   g = env.geometry
 
@@ -63,28 +60,18 @@ module _ (env : Env) (mix : ℕ → ℕ → ℕ → ℕ) (c : ℕ) (words : List
   abbrev Here : Type 0
   Here = EntersThere env mix c G did before after entry
 
-  -- a slot whose table is in force has a table
-  standing_has : (slot : ℕ) → In slot (in_force g words) → has_table (G.slot slot) ≡ true
-  standing_has slot stands =
-      let table = in_force_is env mix words G whole slot stands in
-      ap (λ s. has_table (G.slot s)) table.slot_is ∙ (whole.tables.each table.table table.attached).has_slot
-
-  of_entry : is_entry G entry ≡ true
-  of_entry = missing_is_entry env mix words G whole entry changes.table changes.way (standing_has changes.table changes.stands)
-
   -- a move that leaves where the entry leads leaves its word
   unchanged : (G' : Ghost) → Whole env mix (mem env mix (applied words did.op)) G' → is_entry G' entry ≡ true
       → (G'.table (table_at G' entry)).entry entry ≡ (G.table (table_at G entry)).entry entry → Here
   unchanged G' then is_then same =
-      let low = changes.entry_in in
-      let write = is_write g words (PageWord entry) did.op all low changes.there in
-      let old : did.old ≡ M (PageWord entry) = found ∙ ap (λ p. old_of words (Store p 0)) changes.there in
-      absurd (changes.other
+      let write = is_write g words (PageWord entry) did.op all low there in
+      let old : did.old ≡ M (PageWord entry) = found ∙ ap (λ p. old_of words (Store p 0)) there in
+      absurd (changes
       (ap (λ w. word_after w did.op) old ∙ sym write.same ∙ then.entries entry low is_then ∙ ap entry_word same
       ∙ sym (whole.entries entry low of_entry) ∙ sym old))
 
   before_pages : (place : ℕ) → op_place did.op ≡ place → place < place_of g (PageWord 0) → Here
-  before_pages place on low = absurd (let at = sym on ∙ changes.there in omega (arith, at, low))
+  before_pages place on few = absurd (let at = sym on ∙ there in omega (arith, at, few))
 
   -- where pages are taken or given back, that of the entry is none of them
   page_kept : (index bits : ℕ) (owner then : PageOwner) → ArePagesOf env mix G index bits owner
@@ -110,7 +97,7 @@ module _ (env : Env) (mix : ℕ → ℕ → ℕ → ℕ) (c : ℕ) (words : List
       → Whole env mix (mem env mix (applied words did.op)) (ghost_after env mix c move G)
       → Does env mix move did.op did.old before after → Here
   entered_by_move (Enters j p) ready then does =
-      let at : place_of g (PageWord j) ≡ place_of g (PageWord entry) = sym (ap op_place does.entering) ∙ changes.there in
+      let at : place_of g (PageWord j) ≡ place_of g (PageWord entry) = sym (ap op_place does.entering) ∙ there in
       let same : j ≡ entry = omega (arith, at) in
       record {
         page = p;
@@ -122,7 +109,7 @@ module _ (env : Env) (mix : ℕ → ℕ → ℕ → ℕ) (c : ℕ) (words : List
   entered_by_move (steps.Attaches slot shape seed serial) ready then does =
       let order = parts_in_order g in
       before_pages _ (ap op_place does.attaching)
-      (let low = does.within in omega (arith, low, order.pages, order.nodes, order.page_map))
+      (let few = does.within in omega (arith, few, order.pages, order.nodes, order.page_map))
   entered_by_move move ready then does = unchanged (ghost_after env mix c move G) then of_entry refl
 
 -- ---- by each state
@@ -160,7 +147,7 @@ module _ (env : Env) (mix : ℕ → ℕ → ℕ → ℕ) (c : ℕ) (M : Memory) 
   bind-enters port owner once (binding.Unmaking attempt unmake answer) within is had =
       absurd (unmake-enters env mix c M G did entry page exchanges unmake.geometry unmake.slot unmake.at is)
   bind-enters port owner once (binding.Replacing list relink) within is had =
-      absurd (front-none page list.claimed (has_relinked list.before relink.at) had)
+      absurd (pageless (front-tableless list.claimed (has_relinked list.before relink.at)) page had)
   bind-enters port owner once _ within is had = absurd had
 
   work-none : (state : WorkAt) → IsWorkAtIn env state → did.op ≡ job_plan env (works state) → In page (held_of_work state).pages → ⊥
@@ -173,10 +160,6 @@ module _ (env : Env) (mix : ℕ → ℕ → ℕ → ℕ) (c : ℕ) (M : Memory) 
   work-none _ within is had = had
 
   pub enters_now : (job : Job) → JobIn env mix c job → did.op ≡ job_plan env job → In page (held_of job).pages → Now job
-  enters_now (finds port state) within is had = absurd (find-none page state had)
   enters_now (binds port owner once state) within is had = bind-enters port owner once state within.at_in is had
-  enters_now (lists port room state) within is had = absurd (all-none page room.items state had)
-  enters_now (releases port owner state) within is had = absurd (release-none page state had)
-  enters_now (rebinds port owner new state) within is had = absurd (rebind-none page state had)
   enters_now (works state) within is had = absurd (work-none state within is had)
-  enters_now counts within is had = absurd had
+  enters_now job within is had = absurd (pageless (tableless job refl) page had)

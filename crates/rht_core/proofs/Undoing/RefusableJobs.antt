@@ -1,7 +1,7 @@
--- What a job holds and does that may still be refused, or that ends without a change: it has raised no count and moves nothing. Where it
+-- What a job holds and does that may still be refused, or that ends without a change: it has raised no count, moves nothing, and is in no read section. Where it
 -- takes nodes or makes tables it has a node where it has a lock, and else it holds a lock at most. Its pages are its own, the one exchange
 -- of a future is that of a bind which attaches the table that it has made, and a page that it enters is none of its own any more.
-use Rattle.std.proofs.Common.{◌≡◌, ◌≢◌, ℕ, ◌+◌, ◌<◌, Bool, false, List, [], Option, Some, None, refl, sym, ◌∙◌, subst, arith}
+use Rattle.std.proofs.Common.{◌≡◌, ◌≢◌, ℕ, ◌+◌, ◌<◌, Bool, false, List, Option, Some, None, refl, sym, ◌∙◌, subst, arith}
 use Rattle.rht_words.specs.declared.env.Env.{Env}
 use Rattle.rht_words.specs.declared.geometry.Geometry.{Geometry}
 use Rattle.rht_words.specs.declared.op.Op.TheVariants.{Exchange}
@@ -28,18 +28,12 @@ use Rattle.rht_nest.specs.declared.grow.GrowAt.TheVariants as grows
 use Rattle.rht_nest.specs.Unmake.{unmake_plan_at}
 use Rattle.rht_nest.specs.declared.unmake.UnmakeAt.{UnmakeAt}
 use Rattle.rht_nest.specs.declared.unmake.UnmakeAt.TheVariants as unmakes
-use Rattle.rht_find.specs.FindHeld.{held_of_find}
-use Rattle.rht_find.specs.declared.find.FindAt.{FindAt}
-use Rattle.rht_find.specs.declared.find.FindAt.TheVariants as finding
 use Rattle.rht_bind.specs.Bind.{behind_page, grown}
 use Rattle.rht_bind.specs.Growing.{has_attached, ended_attempt, behind_attempt}
 use Rattle.rht_bind.specs.declared.bind.Attempt.{Attempt}
 use Rattle.rht_bind.specs.BindHeld.{held_of_bind}
 use Rattle.rht_bind.specs.declared.bind.BindAt.{BindAt}
 use Rattle.rht_bind.specs.declared.bind.BindAt.TheVariants as binding
-use Rattle.rht_release.specs.AllHeld.{held_of_all}
-use Rattle.rht_release.specs.declared.all.AllAt.{AllAt}
-use Rattle.rht_release.specs.declared.all.AllAt.TheVariants as listing
 use Rattle.rht_release.specs.ReleaseHeld.{held_of_release}
 use Rattle.rht_release.specs.declared.release.ReleaseAt.{ReleaseAt}
 use Rattle.rht_release.specs.declared.release.ReleaseAt.TheVariants as releasing
@@ -63,6 +57,7 @@ use Rattle.rht_ghost.proofs.Theory.Steps.{Holding}
 use Rattle.rht_ghost.proofs.Pieces.Makes.{known_of_make}
 use Rattle.rht_words.proofs.FilteredLists.{range_with_len-from}
 use Rattle.rht_core.proofs.Machines.JobSteps.{JobKnows}
+use Rattle.rht_core.proofs.Machines.NeverHeld.{job-unraised, find-alone, all-alone, tableless, slotless, pageless}
 use Rattle.rht_core.proofs.Reasons.AttachedTables.{make-none, unmake-none}
 use Rattle.rht_core.proofs.Undoing.GoingBack.{MayAttachWith}
 use Rattle.rht_core.proofs.Undoing.PastRefusal.{bind_is_past, release_is_past, rebind_is_past, work_is_past, is_past}
@@ -142,51 +137,46 @@ pub work-refusable : (state : WorkAt) → IsEarlyWork state → LocksWithNode (h
 work-refusable state at_lock = has_no_lock refl refl refl
 work-refusable state _ = has_no_lock refl refl refl
 
--- the jobs that take no node and make no table
-abbrev pub TakesNothing : Job → Type 0
-TakesNothing (finds port state) = Unit {0}
-TakesNothing (binds port owner once state) = ⊥
-TakesNothing (lists port room state) = Unit {0}
-TakesNothing (releases port owner state) = Unit {0}
-TakesNothing (rebinds port owner new state) = ⊥
-TakesNothing (works state) = ⊥
-TakesNothing counts = Unit {0}
-
--- such a one may hold a lock, and nothing else
-pub record HoldsLockAlone (h : Holding) : Type 0 where
-  pub refusable : IsRefusable h
-  pub slot : h.slot ≡ None
-  pub pages : h.pages ≡ []
-
-lock_alone : {h : Holding} → h.raised ≡ false → h.moving ≡ false → h.slot ≡ None → h.pages ≡ [] → HoldsLockAlone h
-lock_alone low still slot pages = record { refusable = record { low = low; still = still }; slot = slot; pages = pages }
-
-find-alone : (state : FindAt) → HoldsLockAlone (held_of_find state)
-find-alone finding.CurrentTable = lock_alone refl refl refl refl
-find-alone _ = lock_alone refl refl refl refl
-
-all-alone : (owners : List ℕ) (state : AllAt) → HoldsLockAlone (held_of_all owners state)
-all-alone owners (listing.Seeking seek) = lock_alone refl refl refl refl
-all-alone owners _ = lock_alone refl refl refl refl
-
-release-alone : (state : ReleaseAt) → release_is_past state ≡ false → HoldsLockAlone (held_of_release state)
-release-alone (releasing.Promoting found relink) may = absurd (cc)
-release-alone (releasing.Unlinking found relink) may = absurd (cc)
-release-alone (releasing.Lowering node shape) may = absurd (cc)
-release-alone _ may = lock_alone refl refl refl refl
-
-pub alone : (job : Job) → TakesNothing job → is_past job ≡ false → HoldsLockAlone (held_of job)
-alone (finds port state) takes may = find-alone state
-alone (lists port room state) takes may = all-alone room.items state
-alone (releases port owner state) takes may = release-alone state may
-alone counts takes may = lock_alone refl refl refl refl
-alone _ takes may = absurd takes
+-- a release that may still be refused has raised none
+release-low : (state : ReleaseAt) → release_is_past state ≡ false → (held_of_release state).raised ≡ false
+release-low (releasing.Promoting found relink) may = absurd (cc)
+release-low (releasing.Unlinking found relink) may = absurd (cc)
+release-low (releasing.Lowering node shape) may = absurd (cc)
+release-low _ may = refl
 
 pub refusable : (job : Job) → is_past job ≡ false → IsRefusable (held_of job)
 refusable (binds port owner once state) may = (bind-refusable state may).refusable
-refusable (rebinds port owner new state) may = (rebind-refusable state may).refusable
+refusable (releases port owner state) may =
+    record { low = release-low state may; still = (tableless (releases port owner state) refl).still }
 refusable (works state) may = (work-refusable state (early_work state may)).refusable
-refusable job may = (alone job tt may).refusable
+refusable job may = record { low = job-unraised job; still = (tableless job refl).still }
+
+-- no machine opens a read section yet
+bind-outside : (state : BindAt) → bind_is_past state ≡ false → (held_of_bind state).section ≡ false
+bind-outside (binding.Replacing list relink) may = absurd (cc)
+bind-outside _ may = refl
+
+release-outside : (state : ReleaseAt) → release_is_past state ≡ false → (held_of_release state).section ≡ false
+release-outside (releasing.Promoting found relink) may = absurd (cc)
+release-outside (releasing.Unlinking found relink) may = absurd (cc)
+release-outside _ may = refl
+
+rebind-outside : (state : RebindAt) → rebind_is_past state ≡ false → (held_of_rebind state).section ≡ false
+rebind-outside (rebinding.Replacing node found relink) may = absurd (cc)
+rebind-outside _ may = refl
+
+work-outside : (state : WorkAt) → (held_of_work state).section ≡ false
+work-outside working.WorkLock = refl
+work-outside _ = refl
+
+pub outside : (job : Job) → is_past job ≡ false → (held_of job).section ≡ false
+outside (finds port state) may = (find-alone state).outside
+outside (binds port owner once state) may = bind-outside state may
+outside (lists port room state) may = (all-alone room.items state).outside
+outside (releases port owner state) may = release-outside state may
+outside (rebinds port owner new state) may = rebind-outside state may
+outside (works state) may = work-outside state
+outside counts may = refl
 
 -- what it has stored for a table that it makes
 abbrev pub JobStored : Env → Job → List Did → Type 0
@@ -241,10 +231,6 @@ module _ (env : Env) (mix : ℕ → ℕ → ℕ → ℕ) (c : ℕ) (M : Memory) 
       knows.knowing.means.making page i
   bind-mine port owner once _ may knows page i = absurd i
 
-  rebind-mine : (state : RebindAt) → rebind_is_past state ≡ false → AreMine (held_of_rebind state).pages
-  rebind-mine (rebinding.Replacing node found relink) may page i = absurd (cc)
-  rebind-mine _ may page i = absurd i
-
   work-mine : (state : WorkAt) → IsEarlyWork state → JobKnows env mix c (works state) M G → AreMine (held_of_work state).pages
   work-mine state (at_making wanted make) knows page i =
       make-mine make.exponent make.seed make.at knows.knowing.means.making page i
@@ -252,9 +238,8 @@ module _ (env : Env) (mix : ℕ → ℕ → ℕ → ℕ) (c : ℕ) (M : Memory) 
 
   pub mine : (job : Job) → is_past job ≡ false → JobKnows env mix c job M G → AreMine (held_of job).pages
   mine (binds port owner once state) may knows page i = bind-mine port owner once state may knows page i
-  mine (rebinds port owner new state) may knows page i = rebind-mine state may page i
   mine (works state) may knows page i = work-mine state (early_work state may) knows page i
-  mine job may knows page i = absurd (subst (In page) (alone job tt may).pages i)
+  mine job may knows page i = absurd (pageless (tableless job refl) page i)
 
   -- ---- which exchange of a future it makes
 
@@ -282,12 +267,7 @@ module _ (env : Env) (mix : ℕ → ℕ → ℕ → ℕ) (c : ℕ) (M : Memory) 
         absurd (unmake-none g unmake.geometry unmake.slot unmake.at last 0 (future_of slot) low (sym is ∙ exchanges))
     bind-attaches port owner once _ may knows stored is has = absurd (cc)
 
-    -- a rebind has no slot
-    rebind-slot : (state : RebindAt) → rebind_is_past state ≡ false → (held_of_rebind state).slot ≡ Some slot → ⊥
-    rebind-slot (rebinding.Replacing node found relink) may has = absurd (cc)
-    rebind-slot _ may has = cc
-
-    -- and a resizing that may be refused exchanges none
+    -- a resizing that may be refused exchanges none
     work-attaches : (state : WorkAt) → IsEarlyWork state → did.op ≡ job_plan env (works state)
         → (held_of_work state).slot ≡ Some slot → ⊥
     work-attaches state (at_making wanted make) is has =
@@ -297,9 +277,8 @@ module _ (env : Env) (mix : ℕ → ℕ → ℕ → ℕ) (c : ℕ) (M : Memory) 
     pub attaches : (job : Job) → is_past job ≡ false → JobKnows env mix c job M G → JobStored env job steps
         → did.op ≡ job_plan env job → (held_of job).slot ≡ Some slot → MayAttachNow job
     attaches (binds port owner once state) may knows stored is has = bind-attaches port owner once state may knows stored is has
-    attaches (rebinds port owner new state) may knows stored is has = absurd (rebind-slot state may has)
     attaches (works state) may knows stored is has = absurd (work-attaches state (early_work state may) is has)
-    attaches job may knows stored is has = absurd (let none = sym (alone job tt may).slot ∙ has in cc)
+    attaches job may knows stored is has = absurd (slotless (tableless job refl) slot has)
 
   -- ---- which page it enters
 
@@ -320,10 +299,6 @@ module _ (env : Env) (mix : ℕ → ℕ → ℕ → ℕ) (c : ℕ) (M : Memory) 
     make-enters exponent seed h (makes.SlotBack slot) is i = i
     make-enters exponent seed h _ is i = let same = sym is ∙ exchanges in cc
 
-    pub rebind-enters : (state : RebindAt) → rebind_is_past state ≡ false → In page (held_of_rebind state).pages → ⊥
-    rebind-enters (rebinding.Replacing node found relink) may i = absurd (cc)
-    rebind-enters _ may i = i
-
     pub work-enters : (state : WorkAt) → IsEarlyWork state → did.op ≡ job_plan env (works state)
         → In page (held_of_work state).pages → ⊥
     work-enters state (at_making wanted make) is i = make-enters make.exponent make.seed make.geometry make.at is i
@@ -332,9 +307,8 @@ module _ (env : Env) (mix : ℕ → ℕ → ℕ → ℕ) (c : ℕ) (M : Memory) 
     pub enters : (job : Job) → is_past job ≡ false → did.op ≡ job_plan env job → In page (held_of job).pages
         → MayAttach (call_of job)
     enters (binds port owner once state) may is i = tt
-    enters (rebinds port owner new state) may is i = absurd (rebind-enters state may i)
     enters (works state) may is i = absurd (work-enters state (early_work state may) is i)
-    enters job may is i = absurd (subst (In page) (alone job tt may).pages i)
+    enters job may is i = absurd (pageless (tableless job refl) page i)
 
     -- ---- which is no page of its own any more
 
@@ -385,6 +359,5 @@ module _ (env : Env) (mix : ℕ → ℕ → ℕ → ℕ) (c : ℕ) (M : Memory) 
     pub gone : (job : Job) → is_past job ≡ false → did.op ≡ job_plan env job → In page (held_of job).pages
         → In page (held_next (job_after mix env job 0)).pages → ⊥
     gone (binds port owner once state) may is had i = bind-gone port owner once state may is had i
-    gone (rebinds port owner new state) may is had i = rebind-enters state may had
     gone (works state) may is had i = work-enters state (early_work state may) is had
-    gone job may is had i = subst (In page) (alone job tt may).pages had
+    gone job may is had i = pageless (tableless job refl) page had

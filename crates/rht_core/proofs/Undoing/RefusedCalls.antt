@@ -5,30 +5,28 @@
 -- number of times are those of what it holds, but for those that may be left. An operation that changes bindings tells an answer that
 -- says so, and behind that the call doesn't end so. Once it has ended it holds nothing.
 use Rattle.std.proofs.Common.{◌≡◌, ◌≢◌, ◌⊎◌, ℕ, suc, ◌+◌, ◌%◌, ◌<◌, Bool, true, false, List, [], ◌∷◌, ◌++◌, take, refl, sym, ap, ◌∙◌, subst, inl, inr, arith}
-use Rattle.std.specs.Prelude.{Option, Some, None}
+use Rattle.std.specs.Prelude.{Option, Some, None, IfSome}
 use Rattle.std.specs.List.{AllByRecursion}
 use Rattle.rht_words.specs.declared.env.Env.{Env}
 use Rattle.rht_words.specs.declared.config.Kind.{Kind}
-use Rattle.rht_words.specs.declared.config.Kind.TheVariants.{Single, Listed}
 use Rattle.rht_words.specs.declared.geometry.Geometry.{Geometry}
 use Rattle.rht_words.specs.declared.machine.Next.{Next}
 use Rattle.rht_words.specs.declared.machine.Next.TheVariants.{Go, Done}
 use Rattle.rht_words.specs.Members.{In}
+use Rattle.rht_words.specs.Machines.{GoesOrEnds}
 use Rattle.rht_words.specs.Links.{slot_of}
 use Rattle.rht_words.specs.Operations.{old_of, applied}
 use Rattle.rht_words.specs.Places.{Slot, FutureWord}
 use Rattle.rht_words.proofs.EachElement.{AllByRecursion-push}
 use Rattle.rht_model.specs.declared.history.Call.{Call}
-use Rattle.rht_model.specs.declared.history.Call.TheVariants.{Bind, Find, All, Release, Rebind, Work, Count}
+use Rattle.rht_model.specs.declared.history.Call.TheVariants.{Rebind}
 use Rattle.rht_model.specs.declared.history.Reply.{Reply}
 use Rattle.rht_model.specs.declared.history.Reply.TheVariants as replies
 use Rattle.rht_model.specs.Answers.{Answer, is_change}
 use Rattle.rht_model.specs.Endings.{Ending, plain_ending}
 use Rattle.rht_model.specs.Multimap.{Multimap, Agree}
 use Rattle.rht_model.proofs.UnchangedBindings.{left_by-unchanged}
-use Rattle.rht_find.specs.Find as find_at
 use Rattle.rht_bind.specs.Bind as bind_at
-use Rattle.rht_release.specs.All as all_at
 use Rattle.rht_release.specs.Release as release_at
 use Rattle.rht_release.specs.Rebind as rebind_at
 use Rattle.rht_move.specs.Work as work_at
@@ -37,14 +35,14 @@ use Rattle.rht_move.specs.declared.work.Due.TheVariants as dues
 use Rattle.rht_move.specs.declared.work.WorkAt.TheVariants as works_at
 use Rattle.rht_core.specs.declared.event.Event.{Event}
 use Rattle.rht_core.specs.declared.event.Event.TheVariants.{Step as Steps}
-use Rattle.rht_core.specs.Jobs.{Job, finds, binds, lists, releases, rebinds, works, counts, listing_ending, call_of, first_rebind, first_job, job_plan, job_after, job_next, node_ending, held_of, held_next}
+use Rattle.rht_core.specs.Jobs.{Job, binds, releases, rebinds, works, call_of, first_job, job_plan, job_after, job_next, node_ending, held_of, held_next}
 use Rattle.rht_core.specs.Runs.{World, run_of}
 use Rattle.rht_core.specs.Traces.{Did, Past, traced_of}
 use Rattle.rht_core.specs.Seen.{words_before}
 use Rattle.rht_stands.specs.StandsFor.{stands_for}
 use Rattle.rht_core.specs.RunHistories.{ChangesBindings}
 use Rattle.rht_core.specs.Laws.{IsRecorded, IsPastCall}
-use Rattle.rht_core.specs.Refused.{changes_nothing, turns, IsExcepted, IsUndone, Refused}
+use Rattle.rht_core.specs.Refused.{MayAttach, changes_nothing, turns, IsExcepted, IsUndone, Refused}
 use Rattle.rht_ghost.proofs.Theory.Answering.{entry_of, same_reply, known_so, unknown_before, Says, ChangesBindings as ChangesThem}
 use Rattle.rht_ghost.proofs.Theory.Knowns.{Onward, Rooted}
 use Rattle.rht_ghost.proofs.Theory.Knowledge.{WorkMeans}
@@ -52,19 +50,18 @@ use Rattle.rht_ghost.proofs.Pieces.WorkLoads.{has_future}
 use Rattle.rht_ghost.proofs.Theory.Steps.{Holding, mem, ghost_after, Does, SaysChange}
 use Rattle.rht_core.proofs.Meaning.BoundPorts.{stands_for_bound}
 use Rattle.rht_core.proofs.Events.Worlds.{run_of-next, step_words}
-use Rattle.rht_core.proofs.Events.JobsOfCallers.{same_call}
+use Rattle.rht_core.proofs.Events.JobsOfCallers.{each_goes, first-so, first_holds, first_rebind-so, same_call}
 use Rattle.rht_core.proofs.Tracing.TracedJobs.{Performs, LeadsOn, IsEndedSo}
 use Rattle.rht_core.proofs.Tracing.JobsBeside.{kept_beside}
 use Rattle.rht_core.proofs.Reasons.CausesInRuns.{JobSaw, EndsSeen, job-leads, first_job-saw}
 use Rattle.rht_core.proofs.Undoing.EnteringBinds.{CameToEnter, saw-came, came_to_entry}
 use Rattle.rht_core.proofs.Tracing.TracesAtEvents.{at_events}
-use Rattle.rht_core.proofs.Undoing.TurnedBits.{held_bits}
 use Rattle.rht_core.proofs.Undoing.UndoneSoFar.{Undoes, GoneWhereEntered, Undoes-push}
 use Rattle.rht_core.proofs.Undoing.GoingBack.{GoesBack}
 use Rattle.rht_core.proofs.Undoing.UndoneMoves.{kept_by}
 use Rattle.rht_core.proofs.Undoing.PastRefusal.{due_is_past, is_past, StaysPast, bind-past, release-past, rebind-past, work-past}
 use Rattle.rht_core.proofs.Undoing.StoredShapes.{bind-stored}
-use Rattle.rht_core.proofs.Undoing.RefusableJobs.{refusable, mine, JobStored, attaches, enters, gone}
+use Rattle.rht_core.proofs.Undoing.RefusableJobs.{refusable, outside, mine, JobStored, attaches, enters, gone}
 use Rattle.rht_core.proofs.Undoing.LockedJobs.{locked-leaves}
 
 -- ---- answers that say that bindings were changed
@@ -193,31 +190,27 @@ module _ (M : Type 0) (mix : ℕ → ℕ → ℕ → ℕ) (env : Env) (events : 
 
   -- what the next state has stored
   abbrev NextStored : List Did → Job × Next Ending → Type 0
-  NextStored all (after, Go) = JobStored env after all
-  NextStored all (after, Done ending) = Unit {0}
+  NextStored all next = GoesOrEnds (λ after. JobStored env after all) (λ ending. Unit {0}) next
 
   next-stored : {S A : Type 0} (all : List Did) (job : S → Job) (ending : A → Ending) (r : S × Next A)
       → JobStored env (job r.0) all → NextStored all (job_next job ending r)
   next-stored all job ending (state, Go) stored = stored
   next-stored all job ending (state, Done end) stored = tt
 
+  -- a job of a call that attaches no table has nothing to say of it
+  other-stored : (job : Job) (steps : List Did) → ¬ MayAttach (call_of job) → JobStored env job steps
+  other-stored (binds port owner once state) steps other = absurd (other tt)
+  other-stored _ steps other = tt
+
   stored_then : (job : Job) (steps : List Did) (did : Did) → is_past job ≡ false → did.op ≡ job_plan env job
       → JobStored env job steps → NextStored (steps ++ did ∷ []) (job_after mix env job did.old)
   stored_then (binds port owner once state) steps did may is stored =
       let r = bind_at.after_at mix env port once state did.old in
       next-stored (steps ++ did ∷ []) (binds port owner once) plain_ending r (bind-stored env mix port once state steps did is stored)
-  stored_then (rebinds port owner new state) steps did may is stored =
-      next-stored (steps ++ did ∷ []) (rebinds port owner new) node_ending (rebind_at.after_at mix env port owner state did.old) tt
-  stored_then (works state) steps did may is stored =
-      next-stored (steps ++ did ∷ []) works plain_ending (work_at.after_at mix env state did.old) tt
-  stored_then (finds port state) steps did may is stored =
-      next-stored (steps ++ did ∷ []) (finds port) plain_ending (find_at.after_at mix env port state did.old) tt
-  stored_then (lists port room state) steps did may is stored =
-      let after = all_at.room_after state room did.old in
-      next-stored (steps ++ did ∷ []) (lists port after) (listing_ending after) (all_at.after_at mix env port state did.old) tt
-  stored_then (releases port owner state) steps did may is stored =
-      next-stored (steps ++ did ∷ []) (releases port owner) node_ending (release_at.after_at mix env port owner state did.old) tt
-  stored_then counts steps did may is stored = tt
+  stored_then job steps did may is stored =
+      let all = steps ++ did ∷ [] in
+      each_goes (λ after. JobStored env after all) (λ ending. Unit {0}) (call_of job) (job_after mix env job did.old)
+      (same_call mix env job did.old) (λ other same. other-stored other all (λ may. subst MayAttach same may)) (λ ending. tt)
 
   -- a call that has ended holds nothing
   nothing_held : (n : ℕ) → (n + 0) % 2 ≡ 0 → n % 2 ≡ 0
@@ -233,7 +226,7 @@ module _ (M : Type 0) (mix : ℕ → ℕ → ℕ → ℕ) (env : Env) (events : 
 
     abbrev UndoesOr : Holding → Type 0
     UndoesOr after =
-        after.raised ≡ false → after.moving ≡ false → SaysChange after.answer ⊎ Undoes g (words_before M mix env events) (call_of job) after all
+        after.raised ≡ false → after.moving ≡ false → after.section ≡ false → SaysChange after.answer ⊎ Undoes g (words_before M mix env events) (call_of job) after all
 
     go_on : (after : Job) → call_of after ≡ call_of job → LeavesOr (held_of after) → UndoesOr (held_of after)
         → JobStored env after all → (t : Bool) → is_past after ≡ t → Going after all
@@ -242,7 +235,7 @@ module _ (M : Type 0) (mix : ℕ → ℕ → ℕ → ℕ) (env : Env) (events : 
         let may_then = refusable after not_past in
         elim leaves [
           | inl says ↦ inr (inl says)
-          | inr left ↦ elim (undoes may_then.low may_then.still) [
+          | inr left ↦ elim (undoes may_then.low may_then.still (outside after not_past)) [
             | inl says ↦ inr (inl says)
             | inr now ↦ inr (inr (record {
               undoes = subst (λ call. Undoes g (words_before M mix env events) call (held_of after) all) (sym same) now;
@@ -256,7 +249,7 @@ module _ (M : Type 0) (mix : ℕ → ℕ → ℕ → ℕ) (env : Env) (events : 
         → Leads job all (after, Done ending)
     end after ending leaves undoes = elim leaves [
       | inl says ↦ change-leads all job (after, Done ending) says
-      | inr left ↦ elim (undoes refl refl) [
+      | inr left ↦ elim (undoes refl refl refl) [
         | inl says ↦ change-leads all job (after, Done ending) says
         | inr now ↦ λ nothing. record {
           even = λ place bit low. elim (now.even place bit low) [
@@ -295,7 +288,7 @@ module _ (M : Type 0) (mix : ℕ → ℕ → ℕ → ℕ) (env : Env) (events : 
       ]
 
       undoes : UndoesOr after
-      undoes low_then still_then =
+      undoes low_then still_then outside_then =
           let gone_then : GoneWhereEntered g (words_before M mix env events) (call_of job) steps did (held_of job) after =
           λ entry page exchanges free had i.
           gone env mix performs.caller (mem env mix performs.words) performs.ghost did entry page exchanges job may performs.planned
@@ -319,6 +312,8 @@ module _ (M : Type 0) (mix : ℕ → ℕ → ℕ → ℕ) (env : Env) (events : 
               low_then = low_then;
               still = holds.still;
               still_then = still_then;
+              outside = outside job may;
+              outside_then = outside_then;
               locked_leaves = locked-leaves env mix did.op did.old job may performs.planned;
               mine = mine env mix performs.caller (mem env mix performs.words) performs.ghost job may performs.knows;
               attaches = λ last slot low exchanges has.
@@ -362,41 +357,25 @@ module _ (M : Type 0) (mix : ℕ → ℕ → ℕ → ℕ) (env : Env) (events : 
       by_case true past = past-leads (steps ++ did ∷ []) job did performs past
       by_case false may = leads_on job steps did may kept performs here came
 
-  of_first : (first job : Job) → Some first ≡ Some job → Going first [] → Going job []
-  of_first first job is going = let same : first ≡ job = cc in subst (λ j. Going j []) same going
+  first-stored : (call : Call) → IfSome (first_job env call) (λ job. JobStored env job [])
+  first-stored (Rebind port owner new) = first_rebind-so (λ job. JobStored env job []) env port owner new tt
+  first-stored _ = tt
 
   -- at first nothing is held, and nothing was turned
-  holds_none : (job : Job) → (held_of job).node ≡ None → (held_of job).slot ≡ None → (held_of job).pages ≡ []
-      → ((place bit : ℕ) → held_bits g (held_of job) place bit ≡ 0) → JobStored env job [] → Going job []
-  holds_none job node slot pages none stored = inr (inr (record {
-    undoes = record {
-      even = λ place bit low. inr (ap (λ n. (0 + n) % 2) (none place bit));
-      node_in = λ n is. absurd (let both = sym node ∙ is in cc);
-      slot_in = λ s is. absurd (let both = sym slot ∙ is in cc);
-      pages_in = λ page i. absurd (subst (In page) pages i);
-      took = λ page i. absurd (subst (In page) pages i);
-    };
-    still = tt;
-    stored = stored;
-  }))
-
-  begins-rebind : (port owner new : ℕ) (kind : Kind) (job : Job) → first_rebind env port owner new kind ≡ Some job → Going job []
-  begins-rebind port owner new Single job is =
-      of_first _ job is
-      (holds_none (rebinds port owner new (rebind_at.first_state env port new)) refl refl refl (λ place bit. refl) tt)
-  begins-rebind port owner new Listed job is = absurd (cc)
-
   pub begins : (call : Call) (job : Job) → first_job env call ≡ Some job → Going job []
-  begins (Find port) job is = of_first _ job is (holds_none _ refl refl refl (λ place bit. refl) tt)
-  begins (Bind port owner once) job is =
-      of_first _ job is
-      (holds_none (binds port owner once (bind_at.first_state env port owner)) refl refl refl (λ place bit. refl) tt)
-  begins (All port) job is = of_first _ job is (holds_none _ refl refl refl (λ place bit. refl) tt)
-  begins (Release port owner) job is = of_first _ job is (holds_none _ refl refl refl (λ place bit. refl) tt)
-  begins (Rebind port owner new) job is = begins-rebind port owner new env.config.kind job is
-  begins Work job is = of_first _ job is (holds_none _ refl refl refl (λ place bit. refl) tt)
-  begins Count job is = of_first _ job is (holds_none counts refl refl refl (λ place bit. refl) tt)
-  begins _ job is = absurd (cc)
+  begins call job is = inr (inr (record {
+    undoes =
+        subst (λ h. Undoes g (words_before M mix env events) (call_of job) h []) (sym (first_holds env call job is))
+        (record {
+          even = λ place bit low. inr refl;
+          node_in = λ n is. absurd (cc);
+          slot_in = λ s is. absurd (cc);
+          pages_in = λ page i. absurd i;
+          took = λ page i. absurd i;
+        });
+    still = tt;
+    stored = first-so (λ j. JobStored env j []) (first_job env call) job (first-stored call) is;
+  }))
 
   -- ---- the law
 

@@ -3,7 +3,7 @@
 use Rattle.std.proofs.Common.{◌⊎◌, ℕ, List, sym, ap, ◌∙◌, inl, inr}
 use Rattle.rht_words.specs.declared.env.Env.{Env}
 use Rattle.rht_model.specs.declared.history.Call.{Call}
-use Rattle.rht_ghost.proofs.Theory.Steps.{bare, Holding, LeavesBits, DoesLinkBehind, Move, Quiet, TakesNode, GivesNode, TakesLock, DropsLock, Raises, Links, Lowers, Rebinds, LinksBehind, Arms, TakesSlot, GivesSlot, TakesPages, GivesPages, TakesWork, GivesWork, BeginsMoving, mem, Does, ReadyFor, SaysChange}
+use Rattle.rht_ghost.proofs.Theory.Steps.{bare, Holding, LeavesBits, DoesLinkBehind, Move, Quiet, TakesNode, GivesNode, TakesLock, DropsLock, Raises, Links, Lowers, Rebinds, LinksBehind, Arms, TakesSlot, GivesSlot, TakesPages, GivesPages, TakesWork, GivesWork, BeginsMoving, Opens, Closes, mem, Does, ReadyFor, SaysChange}
 use Rattle.rht_ghost.proofs.Theory.Steps as moves
 use Rattle.rht_core.proofs.Undoing.GoingBack.{GoesBack, Kept}
 use Rattle.rht_core.proofs.Undoing.UndoneHoldings.{quiet, take_node, give_node, take_lock, drop_lock, take_work, give_work, take_slot, give_slot}
@@ -50,4 +50,8 @@ module _ {env : Env} {mix : ℕ → ℕ → ℕ → ℕ} {words_at : ℕ → Lis
   kept_by BeginsMoving ready does =
       let moving = ap (λ (x : Holding). x.moving) does.holds in
       absurd (let e = sym step.may.still_then ∙ moving in cc)
+  kept_by (Opens d) ready does =
+      let inside = ap (λ (x : Holding). x.section) does.holds in
+      absurd (let e = sym step.may.outside_then ∙ inside in cc)
+  kept_by (Closes d) ready does = absurd (let e = sym step.may.outside ∙ does.inside in cc)
   kept_by _ ready does = absurd (let e = sym step.may.still ∙ does.moves in cc)

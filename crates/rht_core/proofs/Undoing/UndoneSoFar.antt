@@ -11,12 +11,25 @@ use Rattle.rht_words.proofs.EachElement.{AllByRecursion-push, Any-append_left}
 use Rattle.rht_model.specs.declared.history.Call.{Call}
 use Rattle.rht_arena.specs.RunLaws.{TakesPage, GivesPage}
 use Rattle.rht_core.specs.Traces.{Did, performed_of}
-use Rattle.rht_core.specs.Refused.{turned, turns, IsTableWord, GivesBackNode, GivesBackSlot, IsOfNodeGiven, IsOfSlotGiven, IsOfAttached, PutsPage, HasTaken, IsOfEntered, IsExcepted}
+use Rattle.rht_core.specs.Refused.{turned, turns, IsTableWord, GivesBackNode, GivesBackSlot, IsOfNodeGiven, IsOfSlotGiven, IsOfAttached, PutsPage, HasTaken, EnteredWhenTaken, IsExcepted}
 use Rattle.rht_ghost.proofs.Theory.Steps.{Holding}
 use Rattle.rht_core.proofs.Undoing.TurnedBits.{turns-push, held_bits}
 
 pub one_more : (sum t x y : ℕ) → (sum + x) % 2 ≡ 0 → (t + x + y) % 2 ≡ 0 → (sum + t + y) % 2 ≡ 0
 one_more sum t x y so_far now = omega (arith, so_far, now)
+
+-- a page that was entered was entered by these operations and one more
+pub entered-more : (g : Geometry) (words_at : ℕ → List ℕ) (entry page : ℕ) (steps : List Did) (did : Did)
+    → EnteredWhenTaken g words_at entry page steps → EnteredWhenTaken g words_at entry page (steps ++ did ∷ [])
+entered-more g words_at entry page steps did is = record {
+  before = is.before;
+  at = is.at;
+  behind = is.behind ++ did ∷ [];
+  split = ap (λ before. before ++ did ∷ []) is.split ∙ append_assoc is.before (is.at ∷ is.behind) (did ∷ []);
+  enters = is.enters;
+  missing = is.missing;
+  took = is.took;
+}
 
 module _ (g : Geometry) (words_at : ℕ → List ℕ) (call : Call) where
   -- ---- what a call may have turned
@@ -98,27 +111,6 @@ module _ (g : Geometry) (words_at : ℕ → List ℕ) (call : Call) where
           of_it = is.of_it;
         }
 
-    entered-more : (place bit : ℕ) → IsOfEntered g words_at steps place bit
-        → IsOfEntered g words_at all place bit
-    entered-more place bit is =
-        let has = is.entered in
-        record {
-          entry = is.entry;
-          page = is.page;
-          entered = record {
-            before = has.before;
-            at = has.at;
-            behind = has.behind ++ did ∷ [];
-            split =
-                ap (λ before. before ++ did ∷ []) has.split
-                ∙ append_assoc has.before (has.at ∷ has.behind) (did ∷ []);
-            enters = has.enters;
-            missing = has.missing;
-            took = has.took;
-          };
-          of_it = is.of_it;
-        }
-
     excepted-more : (place bit : ℕ) → IsExcepted g words_at call steps place bit
         → IsExcepted g words_at call all place bit
     excepted-more place bit (inl serial) = inl serial
@@ -127,7 +119,15 @@ module _ (g : Geometry) (words_at : ℕ → List ℕ) (call : Call) where
     excepted-more place bit (inr (inr (inr (may, inl attached)))) =
         inr (inr (inr (may, inl (attached-more place bit attached))))
     excepted-more place bit (inr (inr (inr (may, inr entered)))) =
-        inr (inr (inr (may, inr (entered-more place bit entered))))
+        inr (inr (inr (
+          may,
+          inr (record {
+            entry = entered.entry;
+            page = entered.page;
+            entered = entered-more g words_at entered.entry entered.page steps did entered.entered;
+            of_it = entered.of_it;
+          }),
+        )))
 
     -- the call had this page, and the operation doesn't give it back
     pub record StillHas (h : Holding) (page : ℕ) : Type 0 where

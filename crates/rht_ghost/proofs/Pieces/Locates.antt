@@ -14,14 +14,14 @@ use Rattle.rht_words.specs.declared.machine.Start.TheVariants as starts
 use Rattle.rht_words.specs.declared.op.Op.TheVariants.{Load}
 use Rattle.rht_words.specs.Links.{table_of, slot_of, future_of, page_of}
 use Rattle.rht_words.specs.Operations.{old_of, applied}
-use Rattle.rht_words.specs.Places.{CurrentTable, Slot, SlotWord, ShapeWord, SeedWord, FutureWord, PageWord, place_of}
+use Rattle.rht_words.specs.Places.{CurrentTable, Slot, ShapeWord, SeedWord, FutureWord, PageWord, place_of}
 use Rattle.rht_words.proofs.Memory.{Memory}
 use Rattle.rht_policy.specs.Mix.{bucket_of}
 use Rattle.rht_model.specs.declared.history.Call.{Call}
 use Rattle.rht_model.specs.Multimap.{Multimap}
 use Rattle.rht_model.specs.Answers.{Answer}
 use Rattle.rht_nest.specs.Tables.{is_nested}
-use Rattle.rht_nest.specs.Place.{PlaceModel, flat_place, nested_place, place_plan, entered, went_behind, entry_seen, behind_entry, place_or_last, read_place}
+use Rattle.rht_nest.specs.Place.{PlaceModel, flat_place, nested_place, place_plan, entered, went_behind, entry_seen, read_place}
 use Rattle.rht_nest.specs.Locate.{LocateModel, locate_plan, locate_after, located_at, entry_followed, IsLocateAtIn, IsLocateIn}
 use Rattle.rht_nest.specs.declared.locate.LocateAt.{LocateAt}
 use Rattle.rht_nest.specs.declared.locate.LocateAt.TheVariants as locates
@@ -30,12 +30,13 @@ use Rattle.rht_nest.specs.declared.locate.LocatedBucket.{LocatedBucket}
 use Rattle.rht_nest.specs.declared.locate.LocatedBucket.TheVariants as buckets
 use Rattle.rht_nest.specs.Early.{early_of_locate}
 use Rattle.rht_ghost.proofs.Theory.Ghosts.{Ghost, has_table, index_at, none-some}
-use Rattle.rht_ghost.proofs.Theory.Wholes.{TableRight, Whole, hash_in, home, place_at, word_index, future_in}
-use Rattle.rht_ghost.proofs.Theory.Passed.{hash-below, passed_first, unbound_at_last, unbound_missing, go_on, go_beyond}
+use Rattle.rht_ghost.proofs.Theory.Wholes.{Whole, home, place_at, word_index, future_in}
+use Rattle.rht_ghost.proofs.Theory.Passed.{passed_first, unbound_at_last, unbound_missing, go_on, go_beyond}
 use Rattle.rht_ghost.proofs.Theory.Knowns.{KnownNode, KnownTable, Passes, Shaped, OnWay, AtHome, KnownBucket, knows_plain}
-use Rattle.rht_ghost.proofs.Theory.Knowledge.{plainly, TableMeans, IsPassing, IsShaped, IsRightBehind, IsOnWay, IsMissed, Knowing}
-use Rattle.rht_ghost.proofs.Theory.WaysRead.{IsPlaced, words_of_pages, read_by_entry, flat_read, on_way_read, on_way_next, at_home, missing_home}
+use Rattle.rht_ghost.proofs.Theory.Knowledge.{plainly, TableMeans, IsPassing, IsRightBehind, IsOnWay, IsMissed, Knowing}
+use Rattle.rht_ghost.proofs.Theory.WaysRead.{IsPlaced, words_of_pages, read_by_entry, on_way_read, on_way_next, at_home}
 use Rattle.rht_ghost.proofs.Theory.Answering.{IsLegalOn, KnowsEarly, none_early, foresees, stays_early}
+use Rattle.rht_ghost.proofs.Pieces.TableLoads.{table_right, slot_word, shape_word, way_begins, flat_home, way_missing, way_home}
 use Rattle.rht_ghost.proofs.Theory.Steps.{Holding, by_test, mem, owners, owners_in, unchanged, SilentStep, loads}
 
 -- what is known on the way to the bucket of a port
@@ -76,14 +77,6 @@ module _ (env : Env) (mix : ℕ → ℕ → ℕ → ℕ) (c : ℕ) (h : Holding)
     with_table : (table more : KnownTable) → knowing table M G → TableMeans env mix G more → knowing more M G
     with_table table more knows means = plainly env mix knows.only knows.means.node means knows.means.bucket
 
-    -- the table in a slot, and what its words say
-    table-right : (slot : ℕ) → has_table (G.slot slot) ≡ true → TableRight env mix M G (index_at G slot)
-    table-right slot has = whole.tables.each (index_at G slot) (whole.tables.slots slot has).attached
-
-    slot-word : (slot : ℕ) (w : SlotWord) → has_table (G.slot slot) ≡ true
-        → M (Slot slot w) ≡ M (Slot (G.table (index_at G slot)).slot w)
-    slot-word slot w has = ap (λ s. M (Slot s w)) (sym (whole.tables.slots slot has).slot)
-
     -- the slot of the current table has a table, and nothing was passed there
     pub first_passed : (port : ℕ) → IsPassing env mix G port (table_of (M CurrentTable))
     first_passed port =
@@ -111,7 +104,7 @@ module _ (env : Env) (mix : ℕ → ℕ → ℕ → ℕ) (c : ℕ) (h : Holding)
     future_leads slot has =
         let τ = index_at G slot in
         let future : M (Slot slot FutureWord) ≡ future_in env mix G τ =
-        slot-word slot FutureWord has ∙ (table-right slot has).future_is in
+        slot_word env mix M G whole slot FutureWord has ∙ (table_right env mix M G whole slot has).future_is in
         rw future (elim (cases_lt (τ + 1) G.attached) [
           | inl more ↦
               let right = whole.tables.each (τ + 1) more in
@@ -172,24 +165,10 @@ module _ (env : Env) (mix : ℕ → ℕ → ℕ → ℕ) (c : ℕ) (h : Holding)
     abbrev led_by : PlaceModel → Option ℕ
     led_by place = page_of place.geometry.pages (old_of words (place_plan place))
 
-    loaded : (place : PlaceModel) → place.geometry ≡ env.geometry
-        → led_by place ≡ page_of env.geometry.pages (M (PageWord place.entry))
-    loaded place same =
-        ap (λ (g : Geometry). page_of g.pages (old_of words (Load (place_of g (PageWord place.entry))))) same
-
-    -- and as it is read
-    read_behind : (place : PlaceModel) → place.geometry ≡ env.geometry → (entry : Option ℕ) → led_by place ≡ entry
-        → read_place (words_of_pages M) place ≡ behind_entry (place_or_last (words_of_pages M)) place entry
-    read_behind place same entry is =
-        read_by_entry (words_of_pages M) place env.geometry entry same (sym (loaded place same) ∙ is)
-
-    -- where it leads to no page the bucket is missing
-    gone : (port slot shape : ℕ) (place : PlaceModel) (early : Option ℕ) → place.geometry ≡ env.geometry
-        → IsOnWay env mix G port slot shape place early → led_by place ≡ None
-        → home env mix G port (index_at G slot) ≡ None
-    gone port slot shape place early same on is =
-        missing_home env mix (home env mix G port (index_at G slot))
-        (sym (on_way_read env mix M G whole port slot shape place early on) ∙ read_behind place same None is)
+    leads : (place : PlaceModel) (entry : Option ℕ) → place.geometry ≡ env.geometry → led_by place ≡ entry
+        → page_of env.geometry.pages (M (PageWord place.entry)) ≡ entry
+    leads place entry same is =
+        sym (ap (λ (g : Geometry). page_of g.pages (old_of words (Load (place_of g (PageWord place.entry))))) same) ∙ is
 
     missing_knows : (port slot shape : ℕ) (place : PlaceModel) (early : Option ℕ) → place.geometry ≡ env.geometry
         → knowing (OnWay port slot shape place early) M G → led_by place ≡ None
@@ -201,7 +180,8 @@ module _ (env : Env) (mix : ℕ → ℕ → ℕ → ℕ) (c : ℕ) (h : Holding)
         with_table (OnWay port slot shape place (Some next)) (Passes port next) knows (record {
           table = behind.table;
           passed = rw behind.index (go_beyond env mix M G whole port (index_at G slot) on.shaped.passing.passed
-              (gone port slot shape place (Some next) same on is) (behind_attached slot next behind));
+              (way_missing env mix M G whole port slot on.shaped.passing.table place same on.to (leads place None same is))
+              (behind_attached slot next behind));
         })
 
     -- where it leads to one, there is the next entry, or the bucket
@@ -210,15 +190,19 @@ module _ (env : Env) (mix : ℕ → ℕ → ℕ → ℕ) (c : ℕ) (h : Holding)
         → (start : Start PlaceModel ℕ) → entered place page ≡ start
         → let next = went_behind place start in LocateKnows port (entry_followed m shape early next.0 next.1) M G
     entered_knows port m shape early place page same knows is (starts.Running next) e =
-        with_table (OnWay port m.table shape place early) (OnWay port m.table shape next early) knows
-        (on_way_next env mix M G whole port m.table shape place early knows.means.table next page
-        (sym (loaded place same) ∙ is) e)
+        let on = knows.means.table in
+        with_table (OnWay port m.table shape place early) (OnWay port m.table shape next early) knows (record {
+          shaped = on.shaped;
+          to = on_way_next env mix M G whole port m.table on.shaped.passing.table place on.to next page
+              (leads place (Some page) same is) e;
+          behind = on.behind;
+        })
     entered_knows port m shape early place page same knows is (starts.Done there) e =
         let on = knows.means.table in
         with_table (OnWay port m.table shape place early) (AtHome port m.table (Some shape) there) knows
         (at_home env mix M G whole port m.table shape there on.shaped.passing on.shaped.shape_is
-        (sym (on_way_read env mix M G whole port m.table shape place early on)
-        ∙ read_behind place same (Some page) is ∙ ap (place_or_last (words_of_pages M)) e))
+        (way_home env mix M G whole port m.table on.shaped.passing.table place same on.to page there
+        (leads place (Some page) same is) e))
 
     entry_knows : (port : ℕ) (m : LocateModel) (shape : ℕ) (early : Option ℕ) (place : PlaceModel)
         → place.geometry ≡ env.geometry → knowing (OnWay port m.table shape place early) M G
@@ -231,36 +215,27 @@ module _ (env : Env) (mix : ℕ → ℕ → ℕ → ℕ) (c : ℕ) (h : Holding)
 
     -- ---- the operations of the way
 
-    -- the number of the bucket
-    hashed_is : (port slot shape : ℕ) → IsShaped env mix G port slot shape
-        → bucket_of mix port shape (M (Slot slot SeedWord)) ≡ hash_in env mix G port (index_at G slot)
-    hashed_is port slot shape shaped =
-        let has = shaped.passing.table in
-        ap (λ s. bucket_of mix port s (M (Slot slot SeedWord))) (sym shaped.shape_is)
-        ∙ ap (bucket_of mix port (G.table (index_at G slot)).shape) (slot-word slot SeedWord has
-        ∙ (table-right slot has).seed_is)
-
     seed_knows : (port slot shape : ℕ) → knowing (Shaped port slot shape) M G
         → let m : LocateModel = record { geometry = env.geometry; table = slot; at = locates.Seed shape } in
         LocateKnows port (locate_after mix port m (M (Slot slot SeedWord))) M G
     seed_knows port slot shape knows =
         let m : LocateModel = record { geometry = env.geometry; table = slot; at = locates.Seed shape } in
         let shaped = knows.means.table in
+        let has = shaped.passing.table in
         let number = bucket_of mix port shape (M (Slot slot SeedWord)) in
-        let is = hashed_is port slot shape shaped in
-        let τ = index_at G slot in
         by_test (λ t. LocateKnows port (cond {A = LocateModel × Next Located} t
         (record m { at = locates.Early shape (nested_place env.geometry shape number) }, Go)
         (m, Done (located_at shape (flat_place env.geometry shape number)))) M G)
         (is_nested shape)
         (λ nested. with_table (Shaped port slot shape) (OnWay port slot shape (nested_place env.geometry shape number) None)
-        knows (record { shaped = shaped; nested = nested; way = inl (ap (nested_place env.geometry shape) is); behind = tt }))
+        knows (record {
+          shaped = shaped;
+          to = way_begins env mix M G whole port slot has shape shaped.shape_is nested;
+          behind = tt;
+        }))
         (λ flat. with_table (Shaped port slot shape) (AtHome port slot (Some shape) (flat_place env.geometry shape number))
         knows (at_home env mix M G whole port slot shape (flat_place env.geometry shape number) shaped.passing shaped.shape_is
-        (flat_read env mix M G whole τ (hash_in env mix G port τ) shaped.passing.passed.attached
-        (hash-below env mix M G whole port τ) (ap is_nested shaped.shape_is ∙ flat)
-        ∙ ap (λ s. Some (flat_place env.geometry s (hash_in env mix G port τ))) shaped.shape_is
-        ∙ ap (λ b. Some (flat_place env.geometry shape b)) (sym is))))
+        (flat_home env mix M G whole port slot has shape shaped.shape_is flat)))
 
     early_knows : (port slot shape : ℕ) (place : PlaceModel) → knowing (OnWay port slot shape place None) M G
         → (future : Option ℕ) → Leads slot future → knowing (OnWay port slot shape place future) M G
@@ -268,7 +243,7 @@ module _ (env : Env) (mix : ℕ → ℕ → ℕ → ℕ) (c : ℕ) (h : Holding)
     early_knows port slot shape place knows (Some next) behind =
         let on = knows.means.table in
         with_table (OnWay port slot shape place None) (OnWay port slot shape place (Some next)) knows
-        (record { shaped = on.shaped; nested = on.nested; way = on.way; behind = behind })
+        (record { shaped = on.shaped; to = on.to; behind = behind })
 
     -- what is known after an operation
     step_knows : (port slot : ℕ) (at : LocateAt) → IsLocateAtIn env.geometry at → knowing (known_locate port slot at) M G
@@ -278,7 +253,7 @@ module _ (env : Env) (mix : ℕ → ℕ → ℕ → ℕ) (c : ℕ) (h : Holding)
         let has = knows.means.table.table in
         with_table (Passes port slot) (Shaped port slot (M (Slot slot ShapeWord))) knows (record {
           passing = knows.means.table;
-          shape_is = sym (slot-word slot ShapeWord has ∙ (table-right slot has).shape_is);
+          shape_is = sym (shape_word env mix M G whole slot has);
         })
     step_knows port slot (locates.Seed shape) within knows = seed_knows port slot shape knows
     step_knows port slot (locates.Early shape place) within knows =
@@ -371,7 +346,7 @@ module _ (env : Env) (mix : ℕ → ℕ → ℕ → ℕ) (c : ℕ) (h : Holding)
       foresees_now slot shape place on None last = go (home env mix G port (index_at G slot)) refl
         where
           read : read_place (words_of_pages M) place ≡ option_map (place_at env mix) (home env mix G port (index_at G slot))
-          read = on_way_read env mix M G whole port slot shape place None on
+          read = on_way_read env mix M G whole port slot on.shaped.passing.table place on.to
 
           go : (word : Option ℕ) → home env mix G port (index_at G slot) ≡ word
               → KnowsFrom slot (locates.Early shape place) slot (locates.Entry shape None place) words
@@ -387,8 +362,8 @@ module _ (env : Env) (mix : ℕ → ℕ → ℕ → ℕ) (c : ℕ) (h : Holding)
           → KnowsFrom slot (locates.Entry shape early place) slot (locates.Entry shape early next) words
       stays_now slot shape None place next on further =
           stays_early env.config.kind c call (IsPlaced M place) (IsPlaced M next) now (Some absent)
-          (λ there none. there (on_way_read env mix M G whole port slot shape place None on
-          ∙ sym (on_way_read env mix M G whole port slot shape next None further) ∙ none))
+          (λ there none. there (on_way_read env mix M G whole port slot on.shaped.passing.table place on.to
+          ∙ sym (on_way_read env mix M G whole port slot further.shaped.passing.table next further.to) ∙ none))
       stays_now slot shape (Some early) place next on further =
           says_none slot (locates.Entry shape (Some early) place) (locates.Entry shape (Some early) next) words
           refl
@@ -397,7 +372,11 @@ module _ (env : Env) (mix : ℕ → ℕ → ℕ → ℕ) (c : ℕ) (h : Holding)
           → led_by place ≡ None → Recalls slot (locates.Entry shape early place) (buckets.Missing place early)
       missing_says slot shape (Some next) place same is = tt
       missing_says slot shape None place same is =
-          record { known_early = refl; missing = λ there. there (read_behind place same None is) }
+          record {
+            known_early = refl;
+            missing = λ there. there
+                (read_by_entry (words_of_pages M) place env.geometry None same (leads place None same is));
+          }
 
       entered_says : (m : LocateModel) (shape : ℕ) (early : Option ℕ) (place : PlaceModel) (page : ℕ)
           → place.geometry ≡ env.geometry → knowing (OnWay port m.table shape place early) M G

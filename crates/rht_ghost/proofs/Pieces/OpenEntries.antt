@@ -10,7 +10,7 @@ use Rattle.rht_words.specs.Places.{PageWord, place_of}
 use Rattle.rht_words.proofs.LinksRead.{entries_come_back}
 use Rattle.rht_words.proofs.Memory.{Memory}
 use Rattle.rht_nest.specs.Tables.{is_nested}
-use Rattle.rht_nest.specs.Place.{PlaceModel, nested_place, picked, entered, place_or_last}
+use Rattle.rht_nest.specs.Place.{PlaceModel, nested_place, picked, entered}
 use Rattle.rht_nest.specs.declared.grow.GrowAt.{GrowAt}
 use Rattle.rht_nest.specs.declared.grow.GrowAt.TheVariants as grows
 use Rattle.rht_ghost.proofs.Theory.Ghosts.{Part, Middle, Top, has_entries, PageOf, Ghost, index_at, is_entry_of, entry_word, table_of_page, table_at}
@@ -20,7 +20,8 @@ use Rattle.rht_ghost.proofs.Theory.Entries.{few_entries, some_entries, page_with
 use Rattle.rht_ghost.proofs.Theory.PlacesRead.{begins_at_top, entries_in_words}
 use Rattle.rht_ghost.proofs.Theory.Knowns.{KnownTable, OnWay, AtHome}
 use Rattle.rht_ghost.proofs.Theory.Knowledge.{TableMeans, IsWay, IsOnWay}
-use Rattle.rht_ghost.proofs.Theory.WaysRead.{words_of_pages, first_of_two, read_by_entry, nested_placed, on_way_read, on_way_next, at_home}
+use Rattle.rht_ghost.proofs.Theory.WaysRead.{words_of_pages, first_of_two, nested_placed, on_way_next, at_home}
+use Rattle.rht_ghost.proofs.Pieces.TableLoads.{way_home}
 use Rattle.rht_ghost.proofs.Pieces.Grows.{IsOpenEntry, LeadsTo}
 
 -- what is known of the table behind an entry that leads to a page, where no table was behind before: the way stands at the next entry, or at
@@ -122,8 +123,7 @@ module _ (env : Env) (mix : ℕ → ℕ → ℕ → ℕ) (M : Memory) (G : Ghost
     open_in_table =
         let τ = index_at G slot in
         let number = hash_in env mix G port τ in
-        way_open τ number on.shaped.passing.passed.attached (ap is_nested on.shaped.shape_is ∙ on.nested) place
-        (subst (λ s. IsWay env mix G number τ s place) (sym on.shaped.shape_is) on.way)
+        way_open τ number on.shaped.passing.passed.attached on.to.nested place on.to.way
 
     pub open_on_way : IsOpenEntry env G place.entry
     open_on_way = open_in_table.open_is
@@ -135,12 +135,14 @@ module _ (env : Env) (mix : ℕ → ℕ → ℕ → ℕ) (M : Memory) (G : Ghost
       entered_so : (start : Start PlaceModel ℕ) → entered place page ≡ start
           → TableMeans env mix G (known_entered port slot shape start)
       entered_so (starts.Running next) e =
-          on_way_next env mix M G whole port slot shape place None on next page entry_is e
+          record {
+            shaped = on.shaped;
+            to = on_way_next env mix M G whole port slot on.shaped.passing.table place on.to next page entry_is e;
+            behind = tt;
+          }
       entered_so (starts.Done there) e =
           at_home env mix M G whole port slot shape there on.shaped.passing on.shaped.shape_is
-          (sym (on_way_read env mix M G whole port slot shape place None on)
-          ∙ read_by_entry (words_of_pages M) place env.geometry (Some page) same entry_is
-          ∙ ap (place_or_last (words_of_pages M)) e)
+          (way_home env mix M G whole port slot on.shaped.passing.table place same on.to page there entry_is e)
 
       -- and behind the page the way goes on
       pub entered_on_way : TableMeans env mix G (known_entered port slot shape (entered place page))

@@ -11,7 +11,7 @@ use Rattle.rht_words.specs.Links.{link_of, head_of, marker_of, table_of, slot_of
 use Rattle.rht_words.specs.Ports.{port_of}
 use Rattle.rht_words.specs.Chains.{IsSegment}
 use Rattle.rht_words.specs.Shapes.{unpacked, size_of}
-use Rattle.rht_words.specs.Places.{CurrentTable, Slot, SlotWord, ShapeWord, SeedWord, FutureWord, Node, KeyWord, PageWord}
+use Rattle.rht_words.specs.Places.{CurrentTable, Slot, ShapeWord, SeedWord, FutureWord, Node, KeyWord, PageWord}
 use Rattle.rht_words.specs.Members.{In}
 use Rattle.rht_words.proofs.Memory.{Memory}
 use Rattle.rht_words.proofs.Members.{in-middle}
@@ -22,12 +22,13 @@ use Rattle.rht_policy.specs.Mix.{bucket_of}
 use Rattle.rht_nest.specs.Place.{PlaceModel, flat_place, nested_place, entered, behind_entry, place_or_last}
 use Rattle.rht_nest.specs.Tables.{is_nested}
 use Rattle.rht_ghost.proofs.Theory.Ghosts.{Ghost, has_table, index_at, lock_bit, none-some}
-use Rattle.rht_ghost.proofs.Theory.Wholes.{chain_of, key_of, place_at, word_index, place_at-index, index-within, hash_in, future_in, stop, PlacedRight, TableRight, Whole}
+use Rattle.rht_ghost.proofs.Theory.Wholes.{chain_of, key_of, place_at, word_index, place_at-index, index-within, hash_in, future_in, stop, PlacedRight, Whole}
 use Rattle.rht_ghost.proofs.Theory.Passed.{hash-below, held-no_entry}
 use Rattle.rht_ghost.proofs.Theory.Knowns.{KnownAim, NoAim, Onward, From, Beyond, KnownRehash, KnownPlace, KnownEntry, KnownWork, Works, Rooted, Follows, Empties, Nears, Faces, InBucket, Bare, AtEntry, AtTail, Aims}
 use Rattle.rht_ghost.proofs.Theory.Knowledge.{DoesWork, HasLock, IsEmptying, IsNearing, IsInBucket, WorkMeans}
 use Rattle.rht_ghost.proofs.Theory.WaysRead.{words_of_pages, read_by_entry, flat_read, near_read, near_next, place_of_bucket, missing_home}
 use Rattle.rht_ghost.proofs.Moves.Relinking.{last_of-more}
+use Rattle.rht_ghost.proofs.Pieces.TableLoads.{table_right, slot_word, shape_word, seed_word}
 
 -- Behind a load of a table's future: the last table, which may be the current one, and the last one where there is one behind the
 -- current one
@@ -58,21 +59,6 @@ module _ (env : Env) (mix : ℕ → ℕ → ℕ → ℕ) (c : ℕ) (M : Memory) 
 
   -- ---- words of tables
 
-  table_right : (slot : ℕ) → has_table (G.slot slot) ≡ true → TableRight env mix M G (index_at G slot)
-  table_right slot has = whole.tables.each (index_at G slot) (whole.tables.slots slot has).attached
-
-  slot_word : (slot : ℕ) (w : SlotWord) → has_table (G.slot slot) ≡ true
-      → M (Slot slot w) ≡ M (Slot (G.table (index_at G slot)).slot w)
-  slot_word slot w has = ap (λ s. M (Slot s w)) (sym (whole.tables.slots slot has).slot)
-
-  shape_word : (slot : ℕ) → (has : has_table (G.slot slot) ≡ true)
-      → M (Slot slot ShapeWord) ≡ (G.table (index_at G slot)).shape
-  shape_word slot has = slot_word slot ShapeWord has ∙ (table_right slot has).shape_is
-
-  seed_word : (slot : ℕ) → (has : has_table (G.slot slot) ≡ true)
-      → M (Slot slot SeedWord) ≡ (G.table (index_at G slot)).seed
-  seed_word slot has = slot_word slot SeedWord has ∙ (table_right slot has).seed_is
-
   slot_named : (next : ℕ) → next < 8 → slot_of (future_of next) ≡ Some next
   slot_named next l = grind (arith, nat_tests)
 
@@ -91,8 +77,8 @@ module _ (env : Env) (mix : ℕ → ℕ → ℕ → ℕ) (c : ℕ) (M : Memory) 
       → LeadsTo (index_at G slot) (slot_of (M (Slot slot FutureWord)))
   future_leads slot has =
       let τ = index_at G slot in
-      let future : M (Slot slot FutureWord) ≡ future_in env mix G τ = slot_word slot FutureWord has
-      ∙ (table_right slot has).future_is in
+      let future : M (Slot slot FutureWord) ≡ future_in env mix G τ = slot_word env mix M G whole slot FutureWord has
+      ∙ (table_right env mix M G whole slot has).future_is in
       let attached = (whole.tables.slots slot has).attached in
       rw future (elim (cases_lt (τ + 1) G.attached) [
         | inl more ↦
@@ -185,8 +171,8 @@ module _ (env : Env) (mix : ℕ → ℕ → ℕ → ℕ) (c : ℕ) (M : Memory) 
   future_behind root last some knows =
       let aim = knows.more.aim_is in
       let τ = index_at G last in
-      let future : M (Slot last FutureWord) ≡ future_in env mix G τ = slot_word last FutureWord aim.table
-      ∙ (table_right last aim.table).future_is in
+      let future : M (Slot last FutureWord) ≡ future_in env mix G τ = slot_word env mix M G whole last FutureWord aim.table
+      ∙ (table_right env mix M G whole last aim.table).future_is in
       record {
         works = knows.works;
         more = record {
@@ -211,8 +197,8 @@ module _ (env : Env) (mix : ℕ → ℕ → ℕ → ℕ) (c : ℕ) (M : Memory) 
   pub nested_size : (slot : ℕ) → has_table (G.slot slot) ≡ true → is_nested (M (Slot slot ShapeWord)) ≡ true
       → size_of (unpacked (M (Slot slot ShapeWord))) ≤ 2 ^ 17
   nested_size slot has nested =
-      subst (λ shape. size_of (unpacked shape) ≤ 2 ^ 17) (sym (shape_word slot has))
-      (go (table_right slot has).placed (sym (ap is_nested (shape_word slot has)) ∙ nested))
+      subst (λ shape. size_of (unpacked shape) ≤ 2 ^ 17) (sym (shape_word env mix M G whole slot has))
+      (go (table_right env mix M G whole slot has).placed (sym (ap is_nested (shape_word env mix M G whole slot has)) ∙ nested))
     where
       go : PlacedRight env mix (G.table (index_at G slot)) G.page (index_at G slot)
           → is_nested (G.table (index_at G slot)).shape ≡ true → size_of (unpacked (G.table (index_at G slot)).shape) ≤ 2 ^ 17
@@ -245,7 +231,7 @@ module _ (env : Env) (mix : ℕ → ℕ → ℕ → ℕ) (c : ℕ) (M : Memory) 
         works = knows.works;
         more = record {
           followed = knows.more;
-          shape_is = sym (shape_word root has.0 ∙ ap (λ τ. (G.table τ).shape) has.1);
+          shape_is = sym (shape_word env mix M G whole root has.0 ∙ ap (λ τ. (G.table τ).shape) has.1);
           within = omega arith;
           each = λ b j l at. absurd (omega (arith, l));
         };
@@ -288,8 +274,10 @@ module _ (env : Env) (mix : ℕ → ℕ → ℕ → ℕ) (c : ℕ) (M : Memory) 
     more = record {
       empties = knows.more;
       below = next_below root number knows.more l;
-      nested = nested;
-      way = inl refl;
+      to = record {
+        nested = ap is_nested knows.more.shape_is ∙ nested;
+        way = inl (ap (λ s. nested_place env.geometry s number) (sym knows.more.shape_is));
+      };
     };
   }
 
@@ -405,7 +393,7 @@ module _ (env : Env) (mix : ℕ → ℕ → ℕ → ℕ) (c : ℕ) (M : Memory) 
         aim_is = record {
           table = is.aim_is.table;
           later = is.aim_is.later;
-          shape_is = sym (shape_word slot is.aim_is.table);
+          shape_is = sym (shape_word env mix M G whole slot is.aim_is.table);
           flat = flat;
           seed_is = tt;
         };
@@ -424,7 +412,7 @@ module _ (env : Env) (mix : ℕ → ℕ → ℕ → ℕ) (c : ℕ) (M : Memory) 
           later = is.aim_is.later;
           shape_is = is.aim_is.shape_is;
           flat = is.aim_is.flat;
-          seed_is = sym (seed_word slot is.aim_is.table);
+          seed_is = sym (seed_word env mix M G whole slot is.aim_is.table);
         };
       })
 

@@ -67,11 +67,19 @@ module _ (env : Env) (mix : ℕ → ℕ → ℕ → ℕ) where
     pub table : has_table (G.slot next) ≡ true
     pub index : index_at G next ≡ index_at G slot + 1
 
-  -- the table is nested, so that the way to the port's bucket leads over entries, at one of which it stands
+  -- the table is nested, so that the way to the bucket with this number leads over entries, at one of which it stands
+  pub record IsWayIn (G : Ghost) (number τ : ℕ) (place : PlaceModel) : Type 0 where
+    pub nested : is_nested (G.table τ).shape ≡ true
+    pub way : IsWay G number τ (G.table τ).shape place
+
+  -- the same of the port's bucket in the table of a slot
+  abbrev pub IsWayTo : Ghost → ℕ → ℕ → PlaceModel → Type 0
+  IsWayTo G port slot place = IsWayIn G (hash_in env mix G port (index_at G slot)) (index_at G slot) place
+
+  -- none of the tables before binds the port, and the table behind may be known
   pub record IsOnWay (G : Ghost) (port slot shape : ℕ) (place : PlaceModel) (early : Option ℕ) : Type 0 where
     pub shaped : IsShaped G port slot shape
-    pub nested : is_nested shape ≡ true
-    pub way : IsWay G (hash_in env mix G port (index_at G slot)) (index_at G slot) shape place
+    pub to : IsWayTo G port slot place
     pub behind : IfSome early (IsRightBehind G slot)
 
   pub record IsAtHome (G : Ghost) (port slot : ℕ) (shape : Option ℕ) (place : ℕ) : Type 0 where
@@ -355,8 +363,7 @@ module _ (env : Env) (mix : ℕ → ℕ → ℕ → ℕ) where
   pub record IsNearing (G : Ghost) (root : KnownRehash) (number : ℕ) (place : PlaceModel) : Type 0 where
     pub empties : IsEmptying G root number
     pub below : number < size_of (unpacked (G.table G.current).shape)
-    pub nested : is_nested root.shape ≡ true
-    pub way : IsWay G number G.current root.shape place
+    pub to : IsWayIn G number G.current place
 
   -- the place of the bucket of the current table that is to be emptied next
   pub record IsFacing (G : Ghost) (root : KnownRehash) (number place : ℕ) : Type 0 where

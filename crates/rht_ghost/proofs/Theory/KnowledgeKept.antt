@@ -14,9 +14,9 @@ use Rattle.rht_ghost.proofs.Theory.Ghosts.{Ghost, has_table, index_at, seat-used
 use Rattle.rht_ghost.proofs.Theory.Wholes.{retired_stay, key_of, word_index, home, out-seated, Whole}
 use Rattle.rht_ghost.proofs.Theory.Passed.{place-table, TableStays, TablesGrow, table_at-grows, home-stays}
 use Rattle.rht_ghost.proofs.Theory.Knowns.{KnownAim, NoAim, Onward, From, Beyond, KnownRehash, KnownPlace, Follows, Nears, Faces, KnownEntry, InBucket, Bare, AtEntry, AtTail, Aims, Brings, Empties, LeavesBehind, HasBrought, HasMade, HasPages, HasTaken, Known, KnownMaking, KnownWork, MakesNothing, NoWork, Rooted, TakesOut, Works, last_of}
-use Rattle.rht_ghost.proofs.Theory.Knowledge.{AimMeans, IsWay, IsRooted, IsFollowed, IsNearing, IsFacing, IsLeftBehind, IsNext, IsInBucket, IsBare, IsAim, IsAiming, IsWorking, HasLock, HasOnly, HasSlot, IsBringing, IsBrought, IsEmptying, IsEntry, IsOutOf, IsRoot, IsTail, IsTakenOut, IsTarget, Knowing, MakingMeans, Means, WorkMeans, bucket_at}
+use Rattle.rht_ghost.proofs.Theory.Knowledge.{AimMeans, IsWayIn, IsRooted, IsFollowed, IsNearing, IsFacing, IsLeftBehind, IsNext, IsInBucket, IsBare, IsAim, IsAiming, IsWorking, HasLock, HasOnly, HasSlot, IsBringing, IsBrought, IsEmptying, IsEntry, IsOutOf, IsRoot, IsTail, IsTakenOut, IsTarget, Knowing, MakingMeans, Means, WorkMeans, bucket_at}
 use Rattle.rht_ghost.proofs.Theory.Reliance.{HoldingsStay, Rely, WordStays, WorkStays, members_used}
-use Rattle.rht_ghost.proofs.Theory.WaysStay.{IsWay-stay}
+use Rattle.rht_ghost.proofs.Theory.WaysStay.{IsWayIn-stay}
 use Rattle.rht_ghost.proofs.Theory.KnowledgeStays.{BucketMeans-own, NodeMeans-stay, TableMeans-stay}
 
 module _ (env : Env) (mix : ℕ → ℕ → ℕ → ℕ) where
@@ -175,9 +175,8 @@ module _ (env : Env) (mix : ℕ → ℕ → ℕ → ℕ) where
     IsNearing-stay root number place is = record {
       empties = IsEmptying-stay root number is.empties;
       below = below-stays number is.below;
-      nested = is.nested;
-      way = subst (λ τ. IsWay env mix G' number τ root.shape place) (sym stays.current)
-          (IsWay-stay env mix G G' keeps.grow number G.current root.shape place whole.tables.current_in is.way);
+      to = subst (λ τ. IsWayIn env mix G' number τ place) (sym stays.current)
+          (IsWayIn-stay env mix G G' keeps.grow number G.current place whole.tables.current_in is.to);
     }
 
     IsFacing-stay : (root : KnownRehash) (number place : ℕ) → IsFacing env mix G root number place

@@ -8,11 +8,11 @@ use Rattle.rht_words.proofs.Memory.{Memory}
 use Rattle.rht_words.specs.Members.{In}
 use Rattle.rht_words.proofs.Members.{In-append_left, In-append_cases, in-middle}
 use Rattle.rht_ghost.proofs.Theory.Ghosts.{NodeHeld, Ghost, is_taken_by, has_table, index_at}
-use Rattle.rht_ghost.proofs.Theory.Wholes.{chain_of, key_of, word_index, hash_in, home}
-use Rattle.rht_ghost.proofs.Theory.Passed.{NoKey, NoKey-same, hash-stays, home-stays}
+use Rattle.rht_ghost.proofs.Theory.Wholes.{chain_of, key_of, word_index, home}
+use Rattle.rht_ghost.proofs.Theory.Passed.{NoKey, NoKey-same, home-stays}
 use Rattle.rht_ghost.proofs.Theory.Knowns.{Armed, AtHome, AtNode, Collected, CollectedTo, CutsOut, Differing, Differs, FirstLink, Found, InList, InSlot, IsAmong, IsLeading, IsOwnersNode, KnownBucket, KnownList, KnownNode, KnownTable, Leads, LeadsTo, Listing, Locks, LocksTakenOut, Matching, Member, Missed, NoOwner, Nowhere, OnWay, Passes, Promotes, Replaces, Shaped, Stands, StandsInList, Succeeds, TakenOut, Unlocked, Unlocks, WithShape, first_of_list, owners_of}
 use Rattle.rht_ghost.proofs.Theory.Knowledge.{ArmedFor, BucketMeans, HasLock, HasNode, HasTakenOut, HoldsLock, IsArmed, IsDiffering, IsFound, IsInList, IsMember, IsPassing, IsPlain, IsPlainList, IsReaching, IsShaped, IsStanding, ListMeans, NodeMeans, TableMeans, bucket_at}
-use Rattle.rht_ghost.proofs.Theory.WaysStay.{IsWay-stay, IsRightBehind-stay}
+use Rattle.rht_ghost.proofs.Theory.WaysStay.{IsWayTo-stay, IsRightBehind-stay}
 use Rattle.rht_ghost.proofs.Theory.Reliance.{ChainsStay, MembersUsed, TablesStay, WordStays}
 
 module _ (env : Env) (mix : ℕ → ℕ → ℕ → ℕ) where
@@ -80,11 +80,7 @@ module _ (env : Env) (mix : ℕ → ℕ → ℕ → ℕ) where
           let passing = means.shaped.passing in
           record {
             shaped = IsShaped-stay port slot shape means.shaped;
-            nested = means.nested;
-            way = rw (stay.grow.indices slot passing.table)
-                (rw (hash-stays env mix G G' stay.grow port (index_at G slot) passing.passed.attached)
-                (IsWay-stay env mix G G' stay.grow (hash_in env mix G port (index_at G slot)) (index_at G slot) shape place
-                passing.passed.attached means.way));
+            to = IsWayTo-stay env mix G G' stay.grow port slot place passing.table passing.passed.attached means.to;
             behind = IsRightBehind-stay env mix G G' stay.grow slot early passing.table means.behind;
           }
       TableMeans-stay (AtHome port slot shape place) means =

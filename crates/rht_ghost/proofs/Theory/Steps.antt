@@ -11,7 +11,7 @@ use Rattle.rht_words.specs.Links.{future_of, entry_of}
 use Rattle.rht_words.specs.Maps.{bit_of}
 use Rattle.rht_words.specs.Ports.{owner_of}
 use Rattle.rht_words.specs.Operations.{op_place, old_of, word_after, applied}
-use Rattle.rht_words.specs.Places.{CurrentTable, WorkLock, PortCount, NextSerial, Slot, SlotWord, FutureWord, StateWord, PageMap, PageWord, Node, NodeWord, ChainLink, OwnerWord, nodes_at, pages_at, place_of, word_at}
+use Rattle.rht_words.specs.Places.{CurrentTable, WorkLock, PortCount, NextSerial, Section, Slot, SlotWord, FutureWord, StateWord, PageMap, PageWord, Node, NodeWord, ChainLink, OwnerWord, nodes_at, pages_at, place_of, word_at}
 use Rattle.rht_words.specs.Members.{In}
 use Rattle.rht_words.proofs.Members.{count_below-same, in-middle}
 use Rattle.rht_words.proofs.Memory.{Memory}
@@ -34,7 +34,7 @@ use Rattle.rht_ghost.proofs.Theory.Departures.{with_worker, published, retired, 
 -- of these bits of a word of the map taken or given back, the table in a slot attached that has this shape, seed and serial, or behind an
 -- entry a page entered. And what the work does: its lock taken or given back, that it begins to move entries, and the lock of a second bucket taken; an entry
 -- taken out of its bucket, brought into another one, and cut off from the first; the next table made the current one, and the table in
--- a slot retired
+-- a slot retired. And the read section of a caller opened or closed
 pub data Move : Type 0 where
   Quiet : Move
   TakesNode : ℕ → Move
@@ -62,6 +62,8 @@ pub data Move : Type 0 where
   CutsOff : ℕ → ℕ → Option ℕ → Move
   Publishes : Move
   Retires : ℕ → Move
+  Opens : ℕ → Move
+  Closes : ℕ → Move
 
 -- a test's two cases, with what the test says
 pub by_test : (C : Bool → Type 0) (b : Bool) → ((b ≡ true) → C true) → ((b ≡ false) → C false) → C b
@@ -190,6 +192,7 @@ module _ (g : Geometry) where
     pub left_lock :
         ((h'.lock ≡ h.lock) × (op_place op < pages_at g)) ⊎ ((h'.lock ≡ None) × (op_place op ≡ place) × (holder ≡ None))
     pub left_second : h'.second ≡ h.second
+    pub left_section : h'.section ≡ h.section
     pub left_worker : h'.worker ≡ h.worker
     pub left_node : (h'.node ≡ h.node) ⊎ (h'.node ≡ None)
     pub raised_is : h'.raised ≡ raised
@@ -322,6 +325,19 @@ module _ (g : Geometry) where
     pub moves : h.moving ≡ true
     pub holds : HoldsSame h h'
 
+  -- an addition to a caller's section word, by which its section is opened, or closed
+  pub record DoesOpen (caller : ℕ) (op : Op) (h h' : Holding) : Type 0 where
+    pub within : caller < 16
+    pub turns : op ≡ Add (place_of g (Section caller)) 1
+    pub outside : h.section ≡ false
+    pub holds : bare h' ≡ record (bare h) { section = true }
+
+  pub record DoesClose (caller : ℕ) (op : Op) (h h' : Holding) : Type 0 where
+    pub within : caller < 16
+    pub turns : op ≡ Add (place_of g (Section caller)) 1
+    pub inside : h.section ≡ true
+    pub holds : bare h' ≡ record (bare h) { section = false }
+
 module _ (env : Env) (mix : ℕ → ℕ → ℕ → ℕ) where
   -- the ghost after a move of a caller
   abbrev pub ghost_after : ℕ → Move → Ghost → Ghost
@@ -351,6 +367,8 @@ module _ (env : Env) (mix : ℕ → ℕ → ℕ → ℕ) where
   ghost_after c (CutsOff j entry before) G = cut_off G j before
   ghost_after c Publishes G = published G
   ghost_after c (Retires s) G = retired G s
+  ghost_after c (Opens d) G = G
+  ghost_after c (Closes d) G = G
 
   -- the words as a memory
   abbrev pub mem : List ℕ → Memory
@@ -366,6 +384,7 @@ module _ (env : Env) (mix : ℕ → ℕ → ℕ → ℕ) where
   -- What a move needs: to link a node, all that makes it ready, and to be armed, the lock of a bucket in the last table. To take a slot or
   -- pages, that they are free, to give them back, that the caller has them, to attach a table, that the caller has made it, and to enter a
   -- page, that the caller has it. To take the work, that nobody has it, and to do it, that the caller has it, with what the moves of entries and tables need.
+  -- To open or close a section, that it is the caller's own.
   abbrev pub ReadyFor : ℕ → Memory → Ghost → Move → Type 0
   ReadyFor c M G Quiet = Unit {0}
   ReadyFor c M G (TakesNode n) = G.node n ≡ Free
@@ -393,6 +412,8 @@ module _ (env : Env) (mix : ℕ → ℕ → ℕ → ℕ) where
   ReadyFor c M G (CutsOff j entry before) = CanCut env mix c j entry before G
   ReadyFor c M G Publishes = CanPublish env mix c G
   ReadyFor c M G (Retires s) = CanRetire env mix c s G
+  ReadyFor c M G (Opens d) = d ≡ c
+  ReadyFor c M G (Closes d) = d ≡ c
 
   -- which operation the move is, and how what the call holds changes by it
   abbrev pub Does : Move → Op → ℕ → Holding → Holding → Type 0
@@ -423,6 +444,8 @@ module _ (env : Env) (mix : ℕ → ℕ → ℕ → ℕ) where
   Does (CutsOff j entry before) op old h h' = DoesCutOff env.geometry (place_at env mix j) before op h (bare h')
   Does Publishes op old h h' = DoesPublish env.geometry op h (bare h')
   Does (Retires s) op old h h' = DoesRetire env.geometry s op h (bare h')
+  Does (Opens d) op old h h' = DoesOpen env.geometry d op h (bare h')
+  Does (Closes d) op old h h' = DoesClose env.geometry d op h (bare h')
 
   -- An operation of a caller in a call, which holds this before it and that after it, with what it knows afterwards.
   -- `early` is for a call that finds a page missing and answers as of its load of a future before, since which others may have bound the port:
@@ -520,6 +543,8 @@ module _ (env : Env) (mix : ℕ → ℕ → ℕ → ℕ) where
   LinksNone (CutsOff j entry before) = Unit {0}
   LinksNone Publishes = Unit {0}
   LinksNone (Retires s) = Unit {0}
+  LinksNone (Opens d) = Unit {0}
+  LinksNone (Closes d) = Unit {0}
 
   -- An operation of a caller that leaves bindings, whatever is known of its call's answer.
   pub record SilentStep (c : ℕ) (words : List ℕ) (G : Ghost) (op : Op) (h h' : Holding) (Knows : Memory

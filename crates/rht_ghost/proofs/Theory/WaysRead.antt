@@ -12,12 +12,12 @@ use Rattle.rht_words.specs.Shapes.{unpacked, size_of}
 use Rattle.rht_words.proofs.Memory.{Memory}
 use Rattle.rht_nest.specs.Tables.{is_nested}
 use Rattle.rht_nest.specs.Place.{PlaceModel, is_deep, flat_place, nested_place, picked, entered, behind_entry, place_at_once, place_or_last, read_last, read_place, place_in}
-use Rattle.rht_ghost.proofs.Theory.Ghosts.{Ghost, index_at, none-some, some-same}
+use Rattle.rht_ghost.proofs.Theory.Ghosts.{Ghost, has_table, index_at, none-some, some-same}
 use Rattle.rht_ghost.proofs.Theory.Wholes.{place_at, word_index, index-place_at, home, hash_in, IsNested, Whole}
 use Rattle.rht_ghost.proofs.Theory.PlacesRead.{leads_to_middle, middle_behind, entries_in_words, placed_in_words}
 use Rattle.rht_ghost.proofs.Theory.Passed.{hash-below, place-word}
 use Rattle.rht_ghost.proofs.Theory.Knowns.{KnownRehash}
-use Rattle.rht_ghost.proofs.Theory.Knowledge.{IsWay, IsOnWay, IsPassing, IsAtHome, IsNearing}
+use Rattle.rht_ghost.proofs.Theory.Knowledge.{IsWayIn, IsWayTo, IsPassing, IsAtHome, IsNearing}
 
 -- by the words of the pages no page is missing on the way from this entry on
 abbrev pub words_of_pages : Memory → ℕ → ℕ
@@ -83,6 +83,11 @@ module _ (env : Env) (mix : ℕ → ℕ → ℕ → ℕ) where
     | inr nested ↦ nested
   ]
 
+  -- the word of the bucket with this number has this place
+  pub record IsPlaceOf (G : Ghost) (τ number place : ℕ) : Type 0 where
+    pub bucket : IsBucketPlace env.geometry place
+    pub here : (G.table τ).place number ≡ Some (word_index env mix place)
+
   module _ (M : Memory) (G : Ghost) (whole : Whole env mix M G) (τ number : ℕ) (l : τ < G.attached)
       (below : number < size_of (unpacked (G.table τ).shape)) where
     abbrev shape_of_table : ℕ
@@ -114,54 +119,52 @@ module _ (env : Env) (mix : ℕ → ℕ → ℕ → ℕ) where
     first_read : is_nested shape_of_table ≡ true → read_place read at_first ≡ there
     first_read nested = ap (λ t. cond t (read_place read at_first) (Some in_row)) (sym nested) ∙ in_words
 
-    module _ (nested : is_nested shape_of_table ≡ true) where
+    module _ (place : PlaceModel) (to : IsWayIn env mix G number τ place) where
       is : IsNested env mix (G.table τ) G.page τ
-      is = nested_placed M G whole τ l nested
+      is = nested_placed M G whole τ l to.nested
 
       -- the words lead to the bucket, where it is there
-      pub way_read : (place : PlaceModel) → IsWay env mix G number τ shape_of_table place → read_place read place ≡ there
-      way_read place way = elim way [
-        | inl first ↦ ap (read_place read) first ∙ first_read nested
+      pub way_read : read_place read place ≡ there
+      way_read = elim to.way [
+        | inl first ↦ ap (read_place read) first ∙ first_read to.nested
         | inr second ↦
             let led = middle_behind env mix (G.table τ) G.page τ (whole.tables.each τ l).placed read
             (entries_in_words env mix M G whole τ l) is number second.page second.of second.part_is in
             read_behind read at_first place second.page led second.place_is
-            ∙ first_read nested
+            ∙ first_read to.nested
       ]
 
       -- and where the entry leads to a page of entries, the way goes on there
-      pub way_next : (place next : PlaceModel) (page : ℕ) → IsWay env mix G number τ shape_of_table place
-          → page_of env.geometry.pages (read place.entry) ≡ Some page → entered place page ≡ starts.Running next
-          → IsWay env mix G number τ shape_of_table next
-      way_next place next page way leads e = elim way [
-        | inl first ↦
-            let two = first_of_two place next page e in
-            let deep : is_deep shape_of_table ≡ true = ap (λ (m : PlaceModel). m.deep) (sym first) ∙ two.deep in
-            let led = ap (λ (m : PlaceModel). page_of env.geometry.pages (read m.entry)) (sym first) ∙ leads in
-            let middle = leads_to_middle env mix (G.table τ) G.page τ (whole.tables.each τ l).placed read
-            (entries_in_words env mix M G whole τ l) is number page led deep in
-            inr (record {
-              page = page;
-              of = middle.0;
-              part_is = middle.1;
-              place_is = ap (λ m. entered m page) (sym first) ∙ e;
-            })
-        | inr second ↦
-            let before = first_of_two at_first place second.page second.place_is in
-            let two = first_of_two place next page e in
-            absurd (both_ways place.deep before.last two.deep)
-      ]
+      pub way_next : (next : PlaceModel) (page : ℕ) → page_of env.geometry.pages (read place.entry) ≡ Some page
+          → entered place page ≡ starts.Running next → IsWayIn env mix G number τ next
+      way_next next page leads e = record {
+        nested = to.nested;
+        way = elim to.way [
+          | inl first ↦
+              let two = first_of_two place next page e in
+              let deep : is_deep shape_of_table ≡ true = ap (λ (m : PlaceModel). m.deep) (sym first) ∙ two.deep in
+              let led = ap (λ (m : PlaceModel). page_of env.geometry.pages (read m.entry)) (sym first) ∙ leads in
+              let middle = leads_to_middle env mix (G.table τ) G.page τ (whole.tables.each τ l).placed read
+              (entries_in_words env mix M G whole τ l) is number page led deep in
+              inr (record {
+                page = page;
+                of = middle.0;
+                part_is = middle.1;
+                place_is = ap (λ m. entered m page) (sym first) ∙ e;
+              })
+          | inr second ↦
+              let before = first_of_two at_first place second.page second.place_is in
+              let two = first_of_two place next page e in
+              absurd (both_ways place.deep before.last two.deep)
+        ];
+      }
 
     -- where the way has come to a place, the bucket's word is there
-    pub record IsPlaceOf (place : ℕ) : Type 0 where
-      pub bucket : IsBucketPlace env.geometry place
-      pub here : (G.table τ).place number ≡ Some (word_index env mix place)
-
-    pub place_of_bucket : (place : ℕ) → there ≡ Some place → IsPlaceOf place
+    pub place_of_bucket : (place : ℕ) → there ≡ Some place → IsPlaceOf G τ number place
     place_of_bucket place = go ((G.table τ).place number) refl
       where
         go : (word : Option ℕ) → (G.table τ).place number ≡ word → option_map (place_at env mix) word ≡ Some place
-            → IsPlaceOf place
+            → IsPlaceOf G τ number place
         go None here is = absurd (cc)
         go (Some j) here is =
             let same : place_at env mix j ≡ place = some-same (place_at env mix j) place is in
@@ -175,19 +178,10 @@ module _ (env : Env) (mix : ℕ → ℕ → ℕ → ℕ) where
 
   module _ (M : Memory) (G : Ghost) (whole : Whole env mix M G) (root : KnownRehash) (number : ℕ) (place : PlaceModel)
       (near : IsNearing env mix G root number place) where
-    abbrev shape_now : ℕ
-    shape_now = (G.table G.current).shape
-
-    nested_now : is_nested shape_now ≡ true
-    nested_now = ap is_nested near.empties.shape_is ∙ near.nested
-
-    way_now : IsWay env mix G number G.current shape_now place
-    way_now = subst (λ s. IsWay env mix G number G.current s place) (sym near.empties.shape_is) near.way
-
     -- the words lead to the bucket, where it is there
     pub near_read : read_place (words_of_pages M) place
         ≡ option_map (place_at env mix) ((G.table G.current).place number)
-    near_read = way_read M G whole G.current number whole.tables.current_in near.below nested_now place way_now
+    near_read = way_read M G whole G.current number whole.tables.current_in near.below place near.to
 
     -- and where the entry leads to a page of entries, the way goes on there
     pub near_next : (next : PlaceModel) (page : ℕ) → page_of env.geometry.pages (M (PageWord place.entry)) ≡ Some page
@@ -195,23 +189,17 @@ module _ (env : Env) (mix : ℕ → ℕ → ℕ → ℕ) where
     near_next next page leads e = record {
       empties = near.empties;
       below = near.below;
-      nested = near.nested;
-      way = subst (λ s. IsWay env mix G number G.current s next) near.empties.shape_is
-          (way_next M G whole G.current number whole.tables.current_in near.below nested_now place next page way_now leads e);
+      to = way_next M G whole G.current number whole.tables.current_in near.below place near.to next page leads e;
     }
 
-  -- ---- on the way to the bucket of a port
+  -- ---- on the way to the bucket of a port in the table of a slot
 
-  module _ (M : Memory) (G : Ghost) (whole : Whole env mix M G) (port slot shape : ℕ) (place : PlaceModel)
-      (early : Option ℕ) (on : IsOnWay env mix G port slot shape place early) where
+  module _ (M : Memory) (G : Ghost) (whole : Whole env mix M G) (port slot : ℕ) (has : has_table (G.slot slot) ≡ true) where
     abbrev τ : ℕ
     τ = index_at G slot
 
     attached : τ < G.attached
-    attached = on.shaped.passing.passed.attached
-
-    nested_there : is_nested (G.table τ).shape ≡ true
-    nested_there = ap is_nested on.shaped.shape_is ∙ on.nested
+    attached = (whole.tables.slots slot has).attached
 
     abbrev number : ℕ
     number = hash_in env mix G port τ
@@ -219,23 +207,25 @@ module _ (env : Env) (mix : ℕ → ℕ → ℕ → ℕ) where
     below : number < size_of (unpacked (G.table τ).shape)
     below = hash-below env mix M G whole port τ
 
-    way_there : IsWay env mix G number τ (G.table τ).shape place
-    way_there = subst (λ s. IsWay env mix G number τ s place) (sym on.shaped.shape_is) on.way
+    -- in a flat table its place is known at once
+    pub home_flat : is_nested (G.table τ).shape ≡ false
+        → option_map (place_at env mix) (home env mix G port τ) ≡ Some (flat_place env.geometry (G.table τ).shape number)
+    home_flat = flat_read M G whole τ number attached below
 
-    -- the words lead to the port's bucket
-    pub on_way_read : read_place (words_of_pages M) place ≡ option_map (place_at env mix) (home env mix G port τ)
-    on_way_read = way_read M G whole τ number attached below nested_there place way_there
+    -- where the words lead to a place, it is that of the bucket's word
+    pub home_place : (place : ℕ) → option_map (place_at env mix) (home env mix G port τ) ≡ Some place
+        → IsPlaceOf G τ number place
+    home_place = place_of_bucket M G whole τ number attached below
 
-    -- and where the entry leads to a page of entries, the way to it goes on there
-    pub on_way_next : (next : PlaceModel) (page : ℕ) → page_of env.geometry.pages (M (PageWord place.entry)) ≡ Some page
-        → entered place page ≡ starts.Running next → IsOnWay env mix G port slot shape next early
-    on_way_next next page leads e = record {
-      shaped = on.shaped;
-      nested = on.nested;
-      way = subst (λ s. IsWay env mix G number τ s next) on.shaped.shape_is
-          (way_next M G whole τ number attached below nested_there place next page way_there leads e);
-      behind = on.behind;
-    }
+    module _ (place : PlaceModel) (to : IsWayTo env mix G port slot place) where
+      -- the words lead to the port's bucket
+      pub on_way_read : read_place (words_of_pages M) place ≡ option_map (place_at env mix) (home env mix G port τ)
+      on_way_read = way_read M G whole τ number attached below place to
+
+      -- and where the entry leads to a page of entries, the way to it goes on there
+      pub on_way_next : (next : PlaceModel) (page : ℕ) → page_of env.geometry.pages (M (PageWord place.entry)) ≡ Some page
+          → entered place page ≡ starts.Running next → IsWayTo env mix G port slot next
+      on_way_next = way_next M G whole τ number attached below place to
 
   -- ---- where the way ends
 
@@ -245,9 +235,7 @@ module _ (env : Env) (mix : ℕ → ℕ → ℕ → ℕ) where
       → option_map (place_at env mix) (home env mix G port (index_at G slot)) ≡ Some place
       → IsAtHome env mix G port slot (Some shape) place
   at_home M G whole port slot shape place passing shape_is is =
-      let τ = index_at G slot in
-      let at = place_of_bucket M G whole τ (hash_in env mix G port τ) passing.passed.attached
-      (hash-below env mix M G whole port τ) place is in
+      let at = home_place M G whole port slot passing.table place is in
       record { passing = passing; shape_is = shape_is; bucket = at.bucket; here = at.here }
 
   -- and where the words lead to none it is missing
@@ -258,18 +246,18 @@ module _ (env : Env) (mix : ℕ → ℕ → ℕ → ℕ) where
   -- ---- a bucket that is there stays so
 
   pub placed-stays : (M M' : Memory) (G G' : Ghost) → Whole env mix M G → Whole env mix M' G'
-      → (port slot shape : ℕ) (place : PlaceModel) (early : Option ℕ) → IsOnWay env mix G port slot shape place early
-      → IsOnWay env mix G' port slot shape place early
+      → (port slot : ℕ) (place : PlaceModel) → has_table (G.slot slot) ≡ true → has_table (G'.slot slot) ≡ true
+      → IsWayTo env mix G port slot place → IsWayTo env mix G' port slot place
       → ((j : ℕ) → home env mix G port (index_at G slot) ≡ Some j → home env mix G' port (index_at G' slot) ≡ Some j)
       → IsPlaced M place → IsPlaced M' place
-  placed-stays M M' G G' whole whole' port slot shape place early on on' homes placed =
+  placed-stays M M' G G' whole whole' port slot place has has' to to' homes placed =
       go (home env mix G port (index_at G slot)) refl
     where
       read : read_place (words_of_pages M) place ≡ option_map (place_at env mix) (home env mix G port (index_at G slot))
-      read = on_way_read M G whole port slot shape place early on
+      read = on_way_read M G whole port slot has place to
 
       go : (word : Option ℕ) → home env mix G port (index_at G slot) ≡ word → IsPlaced M' place
       go None here = absurd (placed (read ∙ ap (option_map (place_at env mix)) here))
       go (Some j) here = λ none.
-          none-some none (on_way_read M' G' whole' port slot shape place early on'
+          none-some none (on_way_read M' G' whole' port slot has' place to'
           ∙ ap (option_map (place_at env mix)) (homes j here))

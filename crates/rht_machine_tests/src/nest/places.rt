@@ -2,7 +2,7 @@
 
 use super::ALL;
 use crate::asserts::{assert_performs, assert_same};
-use rht_nest::{Bucket, Grow, GrowAt, Locate, LocateAt, Located, LocatedBucket, Place};
+use rht_nest::{Bucket, Grow, GrowAt, Locate, LocateAt, Located, LocatedBucket, Place, Reach, ReachAt};
 use rht_policy::Low;
 use rht_words::{Geometry, Next, Op, Start};
 use std::process::Abort;
@@ -180,6 +180,37 @@ fn a_ports_bucket_may_be_missing(rt: HostRuntime) {
     // bucket 5,000 of 8,192 in page 0
     assert_located(&rt, 45, (1, Some(0)), &[(314, 6), (638, 8)], Some(801));
     assert_located(&rt, 45, (9, None), &[(314, 6), (638, 0)], None);
+}
+
+/// Asserts where a `Reach` finds the bucket of port 5,000 in the table of slot 2: the shape's word, the
+/// entries with what each has, and the bucket.
+fn assert_reached(rt: &impl Abort, shape: u64, entries: &[(usize, u64)], want: Bucket) {
+    let Some(geometry) = Geometry::new(8, 8, 1) else {
+        panic!(rt; "not within limits");
+    };
+    let reach = Reach::new(geometry, 2);
+    assert_same(rt, (reach.table(), reach.plan()), (2, Op::load(88)));
+    let seed = reach.with(ReachAt::Seed { shape });
+    assert_same(rt, reach.after::<Low>(5_000, shape), (seed, Next::Go));
+    assert_same(rt, seed.plan(), Op::load(89));
+    let (mut reach, mut next) = seed.after::<Low>(5_000, 1);
+    for (entry, page) in entries {
+        assert_same(rt, (reach.plan(), next), (Op::load(*entry), Next::Go));
+        (reach, next) = reach.after::<Low>(5_000, *page);
+    }
+    assert_same(rt, next, Next::Done(want));
+}
+
+#[test]
+fn a_bucket_is_reached_by_loads_of_its_table_alone(rt: HostRuntime) {
+    // flat, 64 buckets from page 0 on: bucket 8
+    assert_reached(&rt, 6, &[], Bucket::At(322));
+    // bucket 8 of 128, behind the first entry of page 2; page 3
+    assert_reached(&rt, 2_087, &[(442, 4)], Bucket::At(510));
+    assert_reached(&rt, 2_087, &[(442, 0)], Bucket::Absent(442));
+    // bucket 5,000 of 8,192, behind entries of page 0 and page 5
+    assert_reached(&rt, 45, &[(314, 6), (638, 8)], Bucket::At(801));
+    assert_reached(&rt, 45, &[(314, 6), (638, 0)], Bucket::Absent(638));
 }
 
 /// Asserts how a page is entered for the entry at 443: how many pages there are, the operations with

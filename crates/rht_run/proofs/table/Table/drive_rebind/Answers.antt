@@ -4,14 +4,14 @@ use Rattle.rht_core.specs.Locals.{machine_of, rebinding_of}
 use Rattle.rht_core.specs.Runs.{IsBuiltFor}
 use Rattle.rht_run.proofs.table.Table.drive_rebind.Goals as goal
 
-pub begin_with_node-requires-clause-begins : goal.begin_with_node-requires-clause-begins
-begin_with_node-requires-clause-begins g c =
+pub begin_with_node-begun-requires-clause-begins : goal.begin_with_node-begun-requires-clause-begins
+begin_with_node-begun-requires-clause-begins g c =
     let env = c.args.self.now.env in
     ap (λ n. machine_of env n g.K.Ride.riding.call) c.requires.number
     ∙ ap (λ (call : Call). machine_of env c.args.number call) c.requires.call
     ∙ ap (rebinding_of env c.args.number c.args.port c.args.owner c.args.new) c.requires.single
 
-pub begin_with_node-requires-clause-built : goal.begin_with_node-requires-clause-built
-begin_with_node-requires-clause-built g c =
+pub begin_with_node-begun-requires-clause-built : goal.begin_with_node-begun-requires-clause-built
+begin_with_node-begun-requires-clause-built g c =
     subst (λ (call : Call). IsBuiltFor c.args.self.now.env.config.kind call) (sym c.requires.call)
     (λ listed. absurd (let same = sym c.requires.single ∙ listed in cc))

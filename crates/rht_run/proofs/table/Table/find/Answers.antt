@@ -1,5 +1,7 @@
-use Rattle.std.proofs.Common.{refl}
+use Rattle.std.proofs.Common.{refl, sym, subst}
 use Rattle.rht_model.specs.declared.history.Call.TheVariants.{Find}
+use Rattle.rht_model.specs.declared.history.Reply.{Reply}
+use Rattle.rht_run.specs.Rides.{riding_of, HasEnded}
 use Rattle.rht_run.proofs.CallSteps.{answered}
 use Rattle.rht_run.proofs.CallCauses.{called_caused}
 use Rattle.rht_run.proofs.Rides.{before, called}
@@ -11,17 +13,18 @@ drive_find-requires-clause-before g c =
 
 pub returns-clause-called : goal.returns-clause-called
 returns-clause-called g c =
+    let ended =
+    subst (λ (reply : Reply). HasEnded g.M.Mix.mix_of c.args.self.now (riding_of c.args.pass.now.number (Find c.args.port) c.args.pass.now.seat) reply c.drive_find.new.seat)
+    (sym c.looked_up.ensures) c.drive_find.ensures in
     called g.M.Mix.mix_of c.args.self.now c.args.pass.now (Find c.args.port) c.requires.pass c.requires.idle _
-    c.drive_find.result refl c.clear_rooms.ensures c.drive_find.ensures
+    c.looked_up.result refl c.clear_rooms.ensures ended
 
 pub returns-clause-reply : goal.returns-clause-reply
 returns-clause-reply g c =
-    let has = called g.M.Mix.mix_of c.args.self.now c.args.pass.now (Find c.args.port) c.requires.pass c.requires.idle _
-    c.drive_find.result refl c.clear_rooms.ensures c.drive_find.ensures in
-    (answered g.M.Mix.mix_of c.args.self.now (Find c.args.port) c.drive_find.result c.args.pass.now _ has).reply
+    let has = returns-clause-called g c in
+    (answered g.M.Mix.mix_of c.args.self.now (Find c.args.port) c.looked_up.result c.args.pass.now _ has).reply
 
 pub returns-clause-cause : goal.returns-clause-cause
 returns-clause-cause g c =
-    let has = called g.M.Mix.mix_of c.args.self.now c.args.pass.now (Find c.args.port) c.requires.pass c.requires.idle _
-    c.drive_find.result refl c.clear_rooms.ensures c.drive_find.ensures in
-    called_caused g.M.Mix.mix_of c.args.self.now (Find c.args.port) c.drive_find.result c.args.pass.now _ has
+    let has = returns-clause-called g c in
+    called_caused g.M.Mix.mix_of c.args.self.now (Find c.args.port) c.looked_up.result c.args.pass.now _ has

@@ -1,0 +1,85 @@
+-- What loads of a table's words tell, and of the entries on the way to a port's bucket there, whoever makes them. They tell it of any table
+-- that a slot has, whatever the caller knows of those before.
+use Rattle.std.proofs.Common.{◌≡◌, ℕ, Some, None, true, false, sym, ◌∙◌, ap, inl}
+use Rattle.std.specs.Option.{option_map}
+use Rattle.rht_words.specs.declared.env.Env.{Env}
+use Rattle.rht_words.specs.declared.machine.Start.TheVariants as starts
+use Rattle.rht_words.specs.Links.{page_of}
+use Rattle.rht_words.specs.Places.{Slot, SlotWord, ShapeWord, SeedWord, PageWord}
+use Rattle.rht_words.proofs.Memory.{Memory}
+use Rattle.rht_policy.specs.Mix.{bucket_of}
+use Rattle.rht_nest.specs.Tables.{is_nested}
+use Rattle.rht_nest.specs.Place.{PlaceModel, flat_place, nested_place, entered, place_or_last}
+use Rattle.rht_ghost.proofs.Theory.Ghosts.{Ghost, has_table, index_at}
+use Rattle.rht_ghost.proofs.Theory.Wholes.{TableRight, Whole, hash_in, home, place_at}
+use Rattle.rht_ghost.proofs.Theory.Knowledge.{IsWayTo}
+use Rattle.rht_ghost.proofs.Theory.WaysRead.{words_of_pages, read_by_entry, home_flat, on_way_read, missing_home}
+
+module _ (env : Env) (mix : ℕ → ℕ → ℕ → ℕ) (M : Memory) (G : Ghost) (whole : Whole env mix M G) where
+  -- ---- the table in a slot, and what its words say
+
+  pub table_right : (slot : ℕ) → has_table (G.slot slot) ≡ true → TableRight env mix M G (index_at G slot)
+  table_right slot has = whole.tables.each (index_at G slot) (whole.tables.slots slot has).attached
+
+  pub slot_word : (slot : ℕ) (w : SlotWord) → has_table (G.slot slot) ≡ true
+      → M (Slot slot w) ≡ M (Slot (G.table (index_at G slot)).slot w)
+  slot_word slot w has = ap (λ s. M (Slot s w)) (sym (whole.tables.slots slot has).slot)
+
+  pub shape_word : (slot : ℕ) → has_table (G.slot slot) ≡ true
+      → M (Slot slot ShapeWord) ≡ (G.table (index_at G slot)).shape
+  shape_word slot has = slot_word slot ShapeWord has ∙ (table_right slot has).shape_is
+
+  pub seed_word : (slot : ℕ) → has_table (G.slot slot) ≡ true
+      → M (Slot slot SeedWord) ≡ (G.table (index_at G slot)).seed
+  seed_word slot has = slot_word slot SeedWord has ∙ (table_right slot has).seed_is
+
+  module _ (port slot : ℕ) (has : has_table (G.slot slot) ≡ true) where
+    abbrev τ : ℕ
+    τ = index_at G slot
+
+    -- ---- by its shape and its seed
+
+    module _ (shape : ℕ) (shape_is : (G.table τ).shape ≡ shape) where
+      -- the number of the port's bucket, as it is loaded
+      abbrev loaded_number : ℕ
+      loaded_number = bucket_of mix port shape (M (Slot slot SeedWord))
+
+      number_is : loaded_number ≡ hash_in env mix G port τ
+      number_is =
+          ap (λ s. bucket_of mix port s (M (Slot slot SeedWord))) (sym shape_is)
+          ∙ ap (bucket_of mix port (G.table τ).shape) (seed_word slot has)
+
+      -- where the table is nested the way begins
+      pub way_begins : is_nested shape ≡ true → IsWayTo env mix G port slot (nested_place env.geometry shape loaded_number)
+      way_begins nested = record {
+        nested = ap is_nested shape_is ∙ nested;
+        way = inl (ap (nested_place env.geometry shape) number_is
+            ∙ ap (λ s. nested_place env.geometry s (hash_in env mix G port τ)) (sym shape_is));
+      }
+
+      -- and where it is flat there is the bucket
+      pub flat_home : is_nested shape ≡ false
+          → option_map (place_at env mix) (home env mix G port τ) ≡ Some (flat_place env.geometry shape loaded_number)
+      flat_home flat =
+          home_flat env mix M G whole port slot has (ap is_nested shape_is ∙ flat)
+          ∙ ap (λ s. Some (flat_place env.geometry s (hash_in env mix G port τ))) shape_is
+          ∙ ap (λ b. Some (flat_place env.geometry shape b)) (sym number_is)
+
+    -- ---- by the entry at which the way stands
+
+    module _ (place : PlaceModel) (same : place.geometry ≡ env.geometry) (to : IsWayTo env mix G port slot place) where
+      -- one that leads to no page: the bucket is missing
+      pub way_missing : page_of env.geometry.pages (M (PageWord place.entry)) ≡ None → home env mix G port τ ≡ None
+      way_missing none =
+          missing_home env mix (home env mix G port τ)
+          (sym (on_way_read env mix M G whole port slot has place to)
+          ∙ read_by_entry (words_of_pages M) place env.geometry None same none)
+
+      -- one that leads to the page of the bucket's word
+      pub way_home : (page there : ℕ) → page_of env.geometry.pages (M (PageWord place.entry)) ≡ Some page
+          → entered place page ≡ starts.Done there
+          → option_map (place_at env mix) (home env mix G port τ) ≡ Some there
+      way_home page there leads e =
+          sym (on_way_read env mix M G whole port slot has place to)
+          ∙ read_by_entry (words_of_pages M) place env.geometry (Some page) same leads
+          ∙ ap (place_or_last (words_of_pages M)) e

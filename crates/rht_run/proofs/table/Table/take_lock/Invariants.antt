@@ -1,0 +1,7 @@
+use Rattle.rht_run.specs.Rides.{IsRiding}
+use Rattle.rht_run.proofs.table.Table.take_lock.Given as goal
+
+-- the lock stands here
+abbrev pub invariant-loop : goal.invariant-loop
+invariant-loop g l =
+    IsRiding g.M.Mix.mix_of l.self g.K.Ride.riding (g.F.Frame.holding l.frame l.lock) l.seat
