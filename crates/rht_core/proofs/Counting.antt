@@ -27,6 +27,10 @@ pub mod NodesUsed
 pub mod TablePages
 -- the words of buckets that nobody has locked
 pub mod RestingBuckets
+-- each node of a table in force lies in the bucket of its own key
+pub mod PlacedNodes
+-- a table whose ports all lie in one bucket is refused
+pub mod WorkedPlaces
 -- the count of ports, and a table that nobody uses
 pub mod CountedRuns
 -- where one of the calls that serve commands found no node, more commands need one than there are nodes

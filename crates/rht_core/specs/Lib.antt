@@ -65,3 +65,5 @@ pub mod LetGo
 pub mod Attached
 -- what is true of each table in force
 pub mod Tables
+-- and in which bucket each node lies
+pub mod Placed
