@@ -29,7 +29,9 @@ pub mod TablePages
 pub mod RestingBuckets
 -- each node of a table in force lies in the bucket of its own key
 pub mod PlacedNodes
--- a table whose ports all lie in one bucket is refused
+-- and each table has its pages for itself
+pub mod OwnPages
+-- a table whose ports all lie in one bucket is refused, and two that have one page
 pub mod WorkedPlaces
 -- the count of ports, and a table that nobody uses
 pub mod CountedRuns
