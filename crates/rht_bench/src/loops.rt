@@ -137,14 +137,8 @@ fn mixed<M: Mix, R: Wait>(rt: &R, table: &Table<M>, pass: &mut Pass<M>, ports: P
         right += twenty(rt, table, pass, ports, block);
     }
     let left = ports.count % 20;
-    right
-        + lookups(
-            rt,
-            table,
-            pass,
-            ports.part(ports.count - left, left),
-            Asked::Own,
-        )
+    let rest = ports.part(ports.count - left, left);
+    right + lookups(rt, table, pass, rest, Asked::Own)
 }
 
 /// The twenty calls of a block.

@@ -27,6 +27,12 @@ pub mod NodesUsed
 pub mod TablePages
 -- the words of buckets that nobody has locked
 pub mod RestingBuckets
+-- each node of a table in force lies in the bucket of its own key
+pub mod PlacedNodes
+-- and each table has its pages for itself
+pub mod OwnPages
+-- a table whose ports all lie in one bucket is refused, and two that have one page
+pub mod WorkedPlaces
 -- the count of ports, and a table that nobody uses
 pub mod CountedRuns
 -- where one of the calls that serve commands found no node, more commands need one than there are nodes

@@ -65,3 +65,5 @@ pub mod LetGo
 pub mod Attached
 -- what is true of each table in force
 pub mod Tables
+-- in which bucket each node lies, and whose pages are whose
+pub mod Placed

@@ -10,6 +10,7 @@ ghost use Rattle.rht_core.specs.LetGo.{LetGo};
 ghost use Rattle.rht_core.specs.ListedOwners.{ListedOwners};
 ghost use Rattle.rht_core.specs.NeverRefused.{RoomyTakesAll, OneWorkerAsModel};
 ghost use Rattle.rht_core.specs.NodesUsed.{Nodes};
+ghost use Rattle.rht_core.specs.Placed.{Placed, OwnPages};
 ghost use Rattle.rht_core.specs.Refused.{Refused};
 ghost use Rattle.rht_core.specs.Tables.{Tables, NeverAgain};
 ghost use Rattle.rht_core.specs.RunHistories.{HasFittingHistory};
@@ -327,9 +328,17 @@ pub fn nodes<M: Mix>()
 /// number of that, in 64 bits. While fewer than 2^64 were drawn no serial comes back: a table in force with the serial
 /// of one that was in force before is in the same slot, which had a table in force in between. It says nothing of tables that
 /// are being made or were never in force, nor which of these sizes a table has.
+///
+/// And each node of a table in force lies in the bucket of its own key, by that table's shape and its seed. Of a bucket that
+/// is locked it says nothing: a node may be on its way out, and nodes of another bucket stand behind that.
+///
+/// Nor is a page of such a table free, or one of another table in force. The same is so of a retired table, while nobody has the
+/// work lock. It says nothing of slots whose table was never attached, and of the words of pages.
 pub fn tables<M: Mix>()
     ensures each { Tables M M.mix_of }
     ensures never_again { NeverAgain M M.mix_of }
+    ensures placed { Placed M M.mix_of }
+    ensures pages { OwnPages M M.mix_of }
 {}
 
 /// In some runs no table is made. The table begins with 64 buckets or more and doesn't shrink; and the binds,

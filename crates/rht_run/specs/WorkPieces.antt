@@ -11,7 +11,7 @@ use Rattle.rht_nest.specs.Tables.{is_nested}
 use Rattle.rht_nest.specs.Make.{make_new}
 use Rattle.rht_model.specs.declared.history.Reply.{Reply}
 use Rattle.rht_move.specs.LastTable.{LastTableModel}
-use Rattle.rht_move.specs.Work.{bucket_of_root, last_seen, locked, entry_table, entry_table_seen, unlocking, second_locked, unlocked_bucket}
+use Rattle.rht_move.specs.Work.{bucket_of_root, last_seen, locked, entry_table, entry_table_seen, unlocking, second_locked}
 use Rattle.rht_move.specs.declared.last_table.Last.{Last}
 use Rattle.rht_move.specs.declared.last_entry.Entry.{Entry}
 use Rattle.rht_move.specs.declared.rehash.Rehash.{Rehash}

@@ -126,26 +126,43 @@ impl<M: Mix> Table<M> {
             let at = WorkAt::BucketWord { emptying, target };
             let word = unlocked(self.working::<K>(seat, env, caller, at));
             let place = bucket.place;
-            let bucket_now = Locked { place, word };
+            bucket = Locked { place, word };
             let emptying = Emptying {
                 rehash,
                 number,
-                bucket: bucket_now,
+                bucket,
             };
             let Some(first) = node_of(env.geometry.nodes, head_of(place, word)) else {
                 self.unlock_bucket::<K>(seat, env, caller, emptying, false);
                 return Some(false);
             };
-            let Some(entry) = self.last_entry::<K>(seat, env, caller, emptying, target, first)
-            else {
-                return None;
-            };
-            let Some(left) = self.move_entry::<K>(seat, env, caller, emptying, target, entry) else {
+            let Some(left) = self.move_last::<K>(seat, env, caller, emptying, target, first) else {
                 return None;
             };
             bucket = left;
         }
         None
+    }
+
+    /// Moves the last entry of a locked bucket, whose first one is this node, and answers the bucket
+    /// without it.
+    #[inline(always)]
+    fn move_last<K: Ride>(
+        &self,
+        seat: &mut Seat<(), SeatView<M>>,
+        env: Env,
+        caller: u32,
+        emptying: Emptying,
+        target: Target,
+        first: u32,
+    ) -> Option<Locked>
+        requires { IsRiding M.mix_of self.now K.riding (work_at env caller (works.Walking emptying target (last_entry_new env.geometry first))) seat.old }
+        ensures { IfSome result (λ left. IsRiding M.mix_of self.now K.riding (work_at env caller (bucket_locked env emptying.rehash emptying.number left)) seat.new) }
+    {
+        let Some(entry) = self.last_entry::<K>(seat, env, caller, emptying, target, first) else {
+            return None;
+        };
+        self.move_entry::<K>(seat, env, caller, emptying, target, entry)
     }
 
     /// Loads the seed of the table to which the entry goes.
@@ -198,7 +215,7 @@ impl<M: Mix> Table<M> {
         None
     }
 
-    /// Moves the last entry of a locked bucket, and answers the bucket without it.
+    /// Moves this entry, the bucket's last one, and answers the bucket without it.
     #[inline(always)]
     fn move_entry<K: Ride>(
         &self,

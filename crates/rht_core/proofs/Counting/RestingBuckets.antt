@@ -29,17 +29,11 @@ state_has (Retired τ) unheld is = refl
 retired_not_live : (o : SlotOwner) (τ : ℕ) → state_word o ≡ 2 → o ≡ Live τ → ⊥
 retired_not_live o τ is live = let both = sym is ∙ ap state_word live in cc
 
-module _ (env : Env) (mix : ℕ → ℕ → ℕ → ℕ) (words : List ℕ) (G : Ghost) (whole : Whole env mix (mem env mix words) G)
-    (unheld : (c s : ℕ) → G.slot s ≢ SlotHeld c) (unlocked : (c j : ℕ) → (G.bucket j).holder ≢ Some c) where
+-- ---- the words of buckets
+
+module _ (env : Env) (mix : ℕ → ℕ → ℕ → ℕ) (words : List ℕ) (G : Ghost) (whole : Whole env mix (mem env mix words) G) where
   abbrev g : Geometry
   g = env.geometry
-
-  nobody : (j : ℕ) → (G.bucket j).holder ≡ None
-  nobody j = go (G.bucket j).holder refl
-    where
-      go : (holder : Option ℕ) → (G.bucket j).holder ≡ holder → (G.bucket j).holder ≡ None
-      go None is = is
-      go (Some c) is = absurd (unlocked c j is)
 
   -- the table in a slot was attached
   pub record IsTableIn (slot : ℕ) : Type 0 where
@@ -47,22 +41,13 @@ module _ (env : Env) (mix : ℕ → ℕ → ℕ → ℕ) (words : List ℕ) (G :
     pub attached : table < G.attached
     pub slot_is : slot ≡ (G.table table).slot
 
-  table_in : (slot : ℕ) → HasTable g words slot → IsTableIn slot
-  table_in slot (inl i) =
-      let is = in_force_is env mix words G whole slot i in
-      record { table = is.table; attached = is.attached; slot_is = is.slot_is }
-  table_in slot (inr (low, taken)) =
-      let has = state_has (G.slot slot) (λ c. unheld c slot) (λ e. taken (whole.slots.states slot low ∙ e)) in
-      let is = whole.tables.slots slot has in
-      record { table = index_at G slot; attached = is.attached; slot_is = sym is.slot }
-
   -- the word of a bucket is that of one of the words of all pages
   pub record IsWordIn (τ bucket place : ℕ) : Type 0 where
     pub index : ℕ
     pub here : (G.table τ).place bucket ≡ Some index
     pub place_is : place ≡ place_at env mix index
 
-  word_in : (slot place : ℕ) (has : IsTableIn slot) (is : IsBucketOfSlot g words slot place)
+  pub word_in : (slot place : ℕ) (has : IsTableIn slot) (is : IsBucketOfSlot g words slot place)
       → (is.bucket < size_of (unpacked (G.table has.table).shape)) × IsWordIn has.table is.bucket place
   word_in slot place has is = (below, go ((G.table has.table).place is.bucket) refl there)
     where
@@ -82,9 +67,29 @@ module _ (env : Env) (mix : ℕ → ℕ → ℕ → ℕ) (words : List ℕ) (G :
       go None e found = absurd (cc)
       go (Some j) e found = record { index = j; here = e; place_is = sym (some-same (place_at env mix j) place found) }
 
+-- ---- while no caller holds a lock or a slot
+
+module _ (env : Env) (mix : ℕ → ℕ → ℕ → ℕ) (words : List ℕ) (G : Ghost) (whole : Whole env mix (mem env mix words) G)
+    (unheld : (c s : ℕ) → G.slot s ≢ SlotHeld c) (unlocked : (c j : ℕ) → (G.bucket j).holder ≢ Some c) where
+  nobody : (j : ℕ) → (G.bucket j).holder ≡ None
+  nobody j = go (G.bucket j).holder refl
+    where
+      go : (holder : Option ℕ) → (G.bucket j).holder ≡ holder → (G.bucket j).holder ≡ None
+      go None is = is
+      go (Some c) is = absurd (unlocked c j is)
+
+  table_in : (slot : ℕ) → HasTable env.geometry words slot → IsTableIn env mix words G whole slot
+  table_in slot (inl i) =
+      let is = in_force_is env mix words G whole slot i in
+      record { table = is.table; attached = is.attached; slot_is = is.slot_is }
+  table_in slot (inr (low, taken)) =
+      let has = state_has (G.slot slot) (λ c. unheld c slot) (λ e. taken (whole.slots.states slot low ∙ e)) in
+      let is = whole.tables.slots slot has in
+      record { table = index_at G slot; attached = is.attached; slot_is = sym is.slot }
+
   -- the word of a bucket has its plain part alone
   plain_word : (τ bucket place : ℕ) → τ < G.attached → bucket < size_of (unpacked (G.table τ).shape)
-      → (word : IsWordIn τ bucket place)
+      → (word : IsWordIn env mix words G whole τ bucket place)
       → (slice_index words place ≡ (G.bucket word.index).plain) × ((G.bucket word.index).plain % 2 ≡ 0)
   plain_word τ bucket place l below word =
       let j = word.index in
@@ -97,20 +102,20 @@ module _ (env : Env) (mix : ℕ → ℕ → ℕ → ℕ) (words : List ℕ) (G :
         right.even,
       )
 
-  pub bucket_unlocked : (slot place : ℕ) → HasTable g words slot → IsBucketOfSlot g words slot place
+  pub bucket_unlocked : (slot place : ℕ) → HasTable env.geometry words slot → IsBucketOfSlot env.geometry words slot place
       → slice_index words place % 2 ≡ 0
   bucket_unlocked slot place has is =
       let in_slot = table_in slot has in
-      let word = word_in slot place in_slot is in
+      let word = word_in env mix words G whole slot place in_slot is in
       let plain = plain_word in_slot.table is.bucket place in_slot.attached word.0 word.1 in
       ap (λ w. w % 2) plain.0 ∙ plain.1
 
-  pub bucket_emptied : (slot place : ℕ) → slot < 8 → word_at g words (Slot slot StateWord) ≡ 2
-      → IsBucketOfSlot g words slot place → slice_index words place ≡ 0
+  pub bucket_emptied : (slot place : ℕ) → slot < 8 → word_at env.geometry words (Slot slot StateWord) ≡ 2
+      → IsBucketOfSlot env.geometry words slot place → slice_index words place ≡ 0
   bucket_emptied slot place low retired is =
       let in_slot = table_in slot (inr (low, λ e. let both = sym retired ∙ e in cc)) in
       let τ = in_slot.table in
-      let word = word_in slot place in_slot is in
+      let word = word_in env mix words G whole slot place in_slot is in
       let plain = plain_word τ is.bucket place in_slot.attached word.0 word.1 in
       let right = whole.tables.each τ in_slot.attached in
       let state : state_word (G.slot slot) ≡ 2 = sym (whole.slots.states slot low) ∙ retired in

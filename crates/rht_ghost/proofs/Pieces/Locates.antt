@@ -1,10 +1,8 @@
 -- The operations on the way to a port's bucket: the current table, a table's shape and seed, and its future; and in a nested table the
 -- future once more, before the entries. Where that leads to no table, what follows if the bucket is missing is known early: the port is bound
 -- nowhere then, unless the bucket is there.
-use Rattle.std.proofs.Common.{◌≡◌, ℕ, ◌+◌, ◌<◌, List, [], Option, Some, None, true, cond, refl, sym, ◌∙◌, ap, subst, inl, inr, arith}
+use Rattle.std.proofs.Common.{◌≡◌, ℕ, ◌+◌, ◌<◌, List, [], Option, Some, None, true, cond, refl, sym, ◌∙◌, ap, subst, inr, arith}
 use Rattle.std.specs.Option.{option_map}
-use Rattle.std.proofs.lemmas.Bool.{lt-ltb, cases_lt, le-ltb}
-use Rattle.std.proofs.lemmas.Bool.Decides.{nat_tests}
 use Rattle.rht_words.specs.declared.env.Env.{Env}
 use Rattle.rht_words.specs.declared.geometry.Geometry.{Geometry}
 use Rattle.rht_words.specs.declared.machine.Next.{Next}
@@ -12,7 +10,7 @@ use Rattle.rht_words.specs.declared.machine.Next.TheVariants.{Go, Done}
 use Rattle.rht_words.specs.declared.machine.Start.{Start}
 use Rattle.rht_words.specs.declared.machine.Start.TheVariants as starts
 use Rattle.rht_words.specs.declared.op.Op.TheVariants.{Load}
-use Rattle.rht_words.specs.Links.{table_of, slot_of, future_of, page_of}
+use Rattle.rht_words.specs.Links.{table_of, slot_of, page_of}
 use Rattle.rht_words.specs.Operations.{old_of, applied}
 use Rattle.rht_words.specs.Places.{CurrentTable, Slot, ShapeWord, SeedWord, FutureWord, PageWord, place_of}
 use Rattle.rht_words.proofs.Memory.{Memory}
@@ -30,13 +28,13 @@ use Rattle.rht_nest.specs.declared.locate.LocatedBucket.{LocatedBucket}
 use Rattle.rht_nest.specs.declared.locate.LocatedBucket.TheVariants as buckets
 use Rattle.rht_nest.specs.Early.{early_of_locate}
 use Rattle.rht_ghost.proofs.Theory.Ghosts.{Ghost, has_table, index_at, none-some}
-use Rattle.rht_ghost.proofs.Theory.Wholes.{Whole, home, place_at, word_index, future_in}
+use Rattle.rht_ghost.proofs.Theory.Wholes.{Whole, home, place_at, word_index}
 use Rattle.rht_ghost.proofs.Theory.Passed.{passed_first, unbound_at_last, unbound_missing, go_on, go_beyond}
 use Rattle.rht_ghost.proofs.Theory.Knowns.{KnownNode, KnownTable, Passes, Shaped, OnWay, AtHome, KnownBucket, knows_plain}
 use Rattle.rht_ghost.proofs.Theory.Knowledge.{plainly, TableMeans, IsPassing, IsRightBehind, IsOnWay, IsMissed, Knowing}
 use Rattle.rht_ghost.proofs.Theory.WaysRead.{IsPlaced, words_of_pages, read_by_entry, on_way_read, on_way_next, at_home}
 use Rattle.rht_ghost.proofs.Theory.Answering.{IsLegalOn, KnowsEarly, none_early, foresees, stays_early}
-use Rattle.rht_ghost.proofs.Pieces.TableLoads.{table_right, slot_word, shape_word, way_begins, flat_home, way_missing, way_home}
+use Rattle.rht_ghost.proofs.Pieces.TableLoads.{LeadsBehind, future_leads, shape_word, way_begins, flat_home, way_missing, way_home}
 use Rattle.rht_ghost.proofs.Theory.Steps.{Holding, by_test, mem, owners, owners_in, unchanged, SilentStep, loads}
 
 -- what is known on the way to the bucket of a port
@@ -92,33 +90,12 @@ module _ (env : Env) (mix : ℕ → ℕ → ℕ → ℕ) (c : ℕ) (h : Holding)
 
     -- ---- the future of a table
 
-    slot-named : (next : ℕ) → next < 8 → slot_of (future_of next) ≡ Some next
-    slot-named next l = grind (arith, nat_tests)
-
-    -- it leads to no table, which is the last one then, or to the table right behind
+    -- what it is read as leads to
     abbrev Leads : ℕ → Option ℕ → Type 0
-    Leads slot None = index_at G slot + 1 ≡ G.attached
-    Leads slot (Some next) = IsRightBehind env mix G slot next
+    Leads = LeadsBehind env mix M G whole
 
-    future_leads : (slot : ℕ) → has_table (G.slot slot) ≡ true → Leads slot (slot_of (M (Slot slot FutureWord)))
-    future_leads slot has =
-        let τ = index_at G slot in
-        let future : M (Slot slot FutureWord) ≡ future_in env mix G τ =
-        slot_word env mix M G whole slot FutureWord has ∙ (table_right env mix M G whole slot has).future_is in
-        rw future (elim (cases_lt (τ + 1) G.attached) [
-          | inl more ↦
-              let right = whole.tables.each (τ + 1) more in
-              let next = (G.table (τ + 1)).slot in
-              let is : slot_of (future_in env mix G τ) ≡ Some next =
-              ap (λ t. slot_of (cond t (future_of next) 0)) (lt-ltb (τ + 1) G.attached more)
-              ∙ slot-named next right.slot_in in
-              subst (Leads slot) (sym is) (record { table = right.has_slot; index = right.index })
-          | inr last ↦
-              let is : slot_of (future_in env mix G τ) ≡ None =
-              ap (λ t. slot_of (cond t (future_of (G.table (τ + 1)).slot) 0)) (le-ltb (τ + 1) G.attached last) in
-              let attached = (whole.tables.slots slot has).attached in
-              subst (Leads slot) (sym is) (omega (arith, attached, last))
-        ])
+    behind-table : (slot : ℕ) → has_table (G.slot slot) ≡ true → Leads slot (slot_of (M (Slot slot FutureWord)))
+    behind-table = future_leads env mix M G whole
 
     -- a table right behind another one was attached
     behind_attached : (slot next : ℕ) → IsRightBehind env mix G slot next → index_at G slot + 1 < G.attached
@@ -136,7 +113,7 @@ module _ (env : Env) (mix : ℕ → ℕ → ℕ → ℕ) (c : ℕ) (h : Holding)
         → IsMissed env mix c M G place word port
         → FutureIs port (slot_of (M (Slot slot FutureWord)))
     future_is port slot place word shape knows missed =
-        go (slot_of (M (Slot slot FutureWord))) (future_leads slot knows.means.table.passing.table)
+        go (slot_of (M (Slot slot FutureWord))) (behind-table slot knows.means.table.passing.table)
       where
         go : (future : Option ℕ) → Leads slot future → FutureIs port future
         go None last =
@@ -157,7 +134,7 @@ module _ (env : Env) (mix : ℕ → ℕ → ℕ → ℕ) (c : ℕ) (h : Holding)
         → Knowing env mix c h (knows_plain node (AtHome port slot shape place) bucket) M G
         → slot_of (M (Slot slot FutureWord)) ≡ None → index_at G slot + 1 ≡ G.attached
     is_last port slot place shape knows none =
-        subst (Leads slot) none (future_leads slot knows.means.table.passing.table)
+        subst (Leads slot) none (behind-table slot knows.means.table.passing.table)
 
     -- ---- the entries of a nested table
 
@@ -258,7 +235,7 @@ module _ (env : Env) (mix : ℕ → ℕ → ℕ → ℕ) (c : ℕ) (h : Holding)
     step_knows port slot (locates.Seed shape) within knows = seed_knows port slot shape knows
     step_knows port slot (locates.Early shape place) within knows =
         early_knows port slot shape place knows (slot_of (M (Slot slot FutureWord)))
-        (future_leads slot knows.means.table.shaped.passing.table)
+        (behind-table slot knows.means.table.shaped.passing.table)
     step_knows port slot (locates.Entry shape early place) within knows =
         let m : LocateModel = record { geometry = env.geometry; table = slot; at = locates.Entry shape early place } in
         entry_knows port m shape early place within.nested_in.place_in.geometry_same knows (led_by place) refl
@@ -418,7 +395,7 @@ module _ (env : Env) (mix : ℕ → ℕ → ℕ → ℕ) (c : ℕ) (h : Holding)
       says_at slot (locates.Early shape place) within knows =
           let on = knows.means.table in
           foresees_now slot shape place on (slot_of (M (Slot slot FutureWord)))
-          (future_leads slot on.shaped.passing.table)
+          (behind-table slot on.shaped.passing.table)
       says_at slot (locates.Entry shape early place) within knows =
           let m : LocateModel = record { geometry = env.geometry; table = slot; at = locates.Entry shape early place } in
           entry_says m shape early place within.nested_in.place_in.geometry_same knows (led_by place) refl

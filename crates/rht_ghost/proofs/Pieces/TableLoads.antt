@@ -1,18 +1,20 @@
 -- What loads of a table's words tell, and of the entries on the way to a port's bucket there, whoever makes them. They tell it of any table
 -- that a slot has, whatever the caller knows of those before.
-use Rattle.std.proofs.Common.{◌≡◌, ℕ, Some, None, true, false, sym, ◌∙◌, ap, inl}
+use Rattle.std.proofs.Common.{◌≡◌, ℕ, ◌+◌, ◌<◌, Option, Some, None, true, false, cond, sym, ◌∙◌, ap, subst, inl, inr, arith}
 use Rattle.std.specs.Option.{option_map}
+use Rattle.std.proofs.lemmas.Bool.{lt-ltb, cases_lt, le-ltb}
+use Rattle.std.proofs.lemmas.Bool.Decides.{nat_tests}
 use Rattle.rht_words.specs.declared.env.Env.{Env}
 use Rattle.rht_words.specs.declared.machine.Start.TheVariants as starts
-use Rattle.rht_words.specs.Links.{page_of}
-use Rattle.rht_words.specs.Places.{Slot, SlotWord, ShapeWord, SeedWord, PageWord}
+use Rattle.rht_words.specs.Links.{slot_of, future_of, page_of}
+use Rattle.rht_words.specs.Places.{Slot, SlotWord, ShapeWord, SeedWord, FutureWord, PageWord}
 use Rattle.rht_words.proofs.Memory.{Memory}
 use Rattle.rht_policy.specs.Mix.{bucket_of}
 use Rattle.rht_nest.specs.Tables.{is_nested}
 use Rattle.rht_nest.specs.Place.{PlaceModel, flat_place, nested_place, entered, place_or_last}
 use Rattle.rht_ghost.proofs.Theory.Ghosts.{Ghost, has_table, index_at}
-use Rattle.rht_ghost.proofs.Theory.Wholes.{TableRight, Whole, hash_in, home, place_at}
-use Rattle.rht_ghost.proofs.Theory.Knowledge.{IsWayTo}
+use Rattle.rht_ghost.proofs.Theory.Wholes.{TableRight, Whole, hash_in, home, place_at, future_in}
+use Rattle.rht_ghost.proofs.Theory.Knowledge.{IsRightBehind, IsWayTo}
 use Rattle.rht_ghost.proofs.Theory.WaysRead.{words_of_pages, read_by_entry, home_flat, on_way_read, missing_home}
 
 module _ (env : Env) (mix : ℕ → ℕ → ℕ → ℕ) (M : Memory) (G : Ghost) (whole : Whole env mix M G) where
@@ -32,6 +34,36 @@ module _ (env : Env) (mix : ℕ → ℕ → ℕ → ℕ) (M : Memory) (G : Ghost
   pub seed_word : (slot : ℕ) → has_table (G.slot slot) ≡ true
       → M (Slot slot SeedWord) ≡ (G.table (index_at G slot)).seed
   seed_word slot has = slot_word slot SeedWord has ∙ (table_right slot has).seed_is
+
+  -- ---- by its future
+
+  slot_named : (next : ℕ) → next < 8 → slot_of (future_of next) ≡ Some next
+  slot_named next l = grind (arith, nat_tests)
+
+  -- it leads to no table, which is the last one then, or to the table right behind
+  abbrev pub LeadsBehind : ℕ → Option ℕ → Type 0
+  LeadsBehind slot None = index_at G slot + 1 ≡ G.attached
+  LeadsBehind slot (Some next) = IsRightBehind env mix G slot next
+
+  pub future_leads : (slot : ℕ) → has_table (G.slot slot) ≡ true → LeadsBehind slot (slot_of (M (Slot slot FutureWord)))
+  future_leads slot has =
+      let τ = index_at G slot in
+      let future : M (Slot slot FutureWord) ≡ future_in env mix G τ =
+      slot_word slot FutureWord has ∙ (table_right slot has).future_is in
+      rw future (elim (cases_lt (τ + 1) G.attached) [
+        | inl more ↦
+            let right = whole.tables.each (τ + 1) more in
+            let next = (G.table (τ + 1)).slot in
+            let is : slot_of (future_in env mix G τ) ≡ Some next =
+            ap (λ t. slot_of (cond t (future_of next) 0)) (lt-ltb (τ + 1) G.attached more)
+            ∙ slot_named next right.slot_in in
+            subst (LeadsBehind slot) (sym is) (record { table = right.has_slot; index = right.index })
+        | inr last ↦
+            let is : slot_of (future_in env mix G τ) ≡ None =
+            ap (λ t. slot_of (cond t (future_of (G.table (τ + 1)).slot) 0)) (le-ltb (τ + 1) G.attached last) in
+            let attached = (whole.tables.slots slot has).attached in
+            subst (LeadsBehind slot) (sym is) (omega (arith, attached, last))
+      ])
 
   module _ (port slot : ℕ) (has : has_table (G.slot slot) ≡ true) where
     abbrev τ : ℕ

@@ -2,8 +2,7 @@
 use Rattle.std.proofs.Common.{◌≡◌, ◌≢◌, ℕ, ◌+◌, ◌^◌, ◌<◌, ◌≤◌, List, [], ◌∷◌, ◌++◌, Option, Some, None, true, false, nat_lt, max, min, cond, refl, sym, ◌∙◌, ap, subst, inl, inr, arith}
 use Rattle.std.proofs.Math.Nat.{mod-eq_of_lt}
 use Rattle.std.proofs.Math.Seq.{append_snoc}
-use Rattle.std.proofs.lemmas.Bool.{lt-ltb, cases_lt, le-ltb}
-use Rattle.std.proofs.lemmas.Bool.Decides.{nat_tests}
+use Rattle.std.proofs.lemmas.Bool.{cases_lt, le-ltb}
 use Rattle.std.specs.Option.{option_map}
 use Rattle.rht_words.specs.declared.env.Env.{Env}
 use Rattle.rht_words.specs.declared.machine.Start.TheVariants as starts
@@ -28,7 +27,7 @@ use Rattle.rht_ghost.proofs.Theory.Knowns.{KnownAim, NoAim, Onward, From, Beyond
 use Rattle.rht_ghost.proofs.Theory.Knowledge.{DoesWork, HasLock, IsEmptying, IsNearing, IsInBucket, WorkMeans}
 use Rattle.rht_ghost.proofs.Theory.WaysRead.{words_of_pages, read_by_entry, flat_read, near_read, near_next, place_of_bucket, missing_home}
 use Rattle.rht_ghost.proofs.Moves.Relinking.{last_of-more}
-use Rattle.rht_ghost.proofs.Pieces.TableLoads.{table_right, slot_word, shape_word, seed_word}
+use Rattle.rht_ghost.proofs.Pieces.TableLoads.{LeadsBehind, table_right, slot_word, shape_word, seed_word, future_leads}
 
 -- Behind a load of a table's future: the last table, which may be the current one, and the last one where there is one behind the
 -- current one
@@ -59,9 +58,6 @@ module _ (env : Env) (mix : ℕ → ℕ → ℕ → ℕ) (c : ℕ) (M : Memory) 
 
   -- ---- words of tables
 
-  slot_named : (next : ℕ) → next < 8 → slot_of (future_of next) ≡ Some next
-  slot_named next l = grind (arith, nat_tests)
-
   -- what the future of a table is read as: none for the last one, and else the slot of the next one
   record IsNextTable (τ next : ℕ) : Type 0 where
     attached : τ + 1 < G.attached
@@ -73,30 +69,22 @@ module _ (env : Env) (mix : ℕ → ℕ → ℕ → ℕ) (c : ℕ) (M : Memory) 
   LeadsTo τ None = τ + 1 ≡ G.attached
   LeadsTo τ (Some next) = IsNextTable τ next
 
-  future_leads : (slot : ℕ) → has_table (G.slot slot) ≡ true
+  next_leads : (slot : ℕ) (future : Option ℕ) → LeadsBehind env mix M G whole slot future → LeadsTo (index_at G slot) future
+  next_leads slot None last = last
+  next_leads slot (Some next) behind =
+      let of = whole.tables.slots next behind.table in
+      let attached = of.attached in
+      let index = behind.index in
+      record {
+        attached = omega (arith, attached, index);
+        slot_is = ap (λ τ. (G.table τ).slot) (sym index) ∙ of.slot;
+        table = behind.table;
+        index_is = index;
+      }
+
+  future_read : (slot : ℕ) → has_table (G.slot slot) ≡ true
       → LeadsTo (index_at G slot) (slot_of (M (Slot slot FutureWord)))
-  future_leads slot has =
-      let τ = index_at G slot in
-      let future : M (Slot slot FutureWord) ≡ future_in env mix G τ = slot_word env mix M G whole slot FutureWord has
-      ∙ (table_right env mix M G whole slot has).future_is in
-      let attached = (whole.tables.slots slot has).attached in
-      rw future (elim (cases_lt (τ + 1) G.attached) [
-        | inl more ↦
-            let right = whole.tables.each (τ + 1) more in
-            let next = (G.table (τ + 1)).slot in
-            let is : future_in env mix G τ ≡ future_of next = ap (λ t. cond t (future_of next) 0)
-            (lt-ltb (τ + 1) G.attached more) in
-            rw is (rw (slot_named next right.slot_in) (record {
-              attached = more;
-              slot_is = refl;
-              table = right.has_slot;
-              index_is = right.index;
-            }))
-        | inr last ↦
-            let is : future_in env mix G τ ≡ 0 = ap (λ t. cond t (future_of (G.table (τ + 1)).slot) 0)
-            (le-ltb (τ + 1) G.attached last) in
-            rw is (let e : τ + 1 ≡ G.attached = omega (arith, attached, last) in e)
-      ])
+  future_read slot has = next_leads slot (slot_of (M (Slot slot FutureWord))) (future_leads env mix M G whole slot has)
 
   -- ---- tables
 
@@ -135,7 +123,7 @@ module _ (env : Env) (mix : ℕ → ℕ → ℕ → ℕ) (c : ℕ) (M : Memory) 
   -- the last table
   pub last_seen : (root slot : ℕ) → Knows (Rooted root (From slot))
       → Knows (Rooted root (last_sought slot (slot_of (M (Slot slot FutureWord)))))
-  last_seen root slot knows = go (slot_of (M (Slot slot FutureWord))) (future_leads slot knows.more.aim_is.table)
+  last_seen root slot knows = go (slot_of (M (Slot slot FutureWord))) (future_read slot knows.more.aim_is.table)
     where
       go : (next : Option ℕ) → LeadsTo (index_at G slot) next → Knows (Rooted root (last_sought slot next))
       go None leads = knows
@@ -189,7 +177,7 @@ module _ (env : Env) (mix : ℕ → ℕ → ℕ → ℕ) (c : ℕ) (M : Memory) 
   pub has_future : (root : ℕ) → Knows (Rooted root Onward) → slot_of (M (Slot root FutureWord)) ≢ None
   has_future root knows none =
       let has = root_has root knows.more.root_is in
-      let last : index_at G root + 1 ≡ G.attached = subst (LeadsTo (index_at G root)) none (future_leads root has.0) in
+      let last : index_at G root + 1 ≡ G.attached = subst (LeadsTo (index_at G root)) none (future_read root has.0) in
       let more = knows.more.aim_is in
       absurd (omega (arith, last, has.1, more))
 
@@ -213,7 +201,7 @@ module _ (env : Env) (mix : ℕ → ℕ → ℕ → ℕ) (c : ℕ) (M : Memory) 
   future_seen root future aim knows is =
       let has = root_has root knows.more.root_is in
       let leads : IsNextTable (index_at G root) future = subst (LeadsTo (index_at G root)) is
-      (future_leads root has.0) in
+      (future_read root has.0) in
       record {
         works = knows.works;
         more = record {
@@ -355,7 +343,7 @@ module _ (env : Env) (mix : ℕ → ℕ → ℕ → ℕ) (c : ℕ) (M : Memory) 
   pub aim_seen : (root : KnownRehash) (at : KnownPlace) (slot : ℕ) → Knows (InBucket root at (From slot))
       → Knows (InBucket root at (aim_sought slot (slot_of (M (Slot slot FutureWord)))))
   aim_seen root at slot knows =
-      go (slot_of (M (Slot slot FutureWord))) (future_leads slot knows.more.aim_is.table)
+      go (slot_of (M (Slot slot FutureWord))) (future_read slot knows.more.aim_is.table)
     where
       from : G.current ≤ index_at G slot
       from = knows.more.aim_is.from

@@ -11,12 +11,12 @@ returns g c =
     let t = c.args.table.now in
     let blocks = c.loop-block.auto.block-end in
     let no_more = c.loop-block-test.false in
-    let left = c.part.ensures in
-    let all : c.loop-block.block * 20 + c.part.result.count ≡ c.args.ports.count = omega arith in
+    let left = c.part-rest.ensures in
+    let all : c.loop-block.block * 20 + c.part-rest.result.count ≡ c.args.ports.count = omega arith in
     record {
       made = subst
           (λ (n : ℕ). HasMade mix t is_done n (c.loop-block.right + c.lookups.result) c.args.pass.now c.lookups.new.pass) all
-          (HasMade-HasMade mix t is_done (c.loop-block.block * 20) c.loop-block.right c.part.result.count c.lookups.result
+          (HasMade-HasMade mix t is_done (c.loop-block.block * 20) c.loop-block.right c.part-rest.result.count c.lookups.result
           c.args.pass.now c.loop-block.pass c.lookups.new.pass c.loop-block.invariant
           (c.lookups.ensures.fitting is_done IsOfLookups-is_done));
     }
