@@ -176,7 +176,7 @@ outside (lists port room state) may = (all-alone room.items state).outside
 outside (releases port owner state) may = release-outside state may
 outside (rebinds port owner new state) may = rebind-outside state may
 outside (works state) may = work-outside state
-outside counts may = refl
+outside _ may = refl
 
 -- what it has stored for a table that it makes
 abbrev pub JobStored : Env → Job → List Did → Type 0
