@@ -28,6 +28,8 @@ pub mod PagesMissed
 pub mod NamedFutures
 -- what whoever makes a new node has seen
 pub mod NewNodesSeen
+-- what a bind has seen that goes on to raise the count
+pub mod RoomSeen
 -- what a bind made of the raise of the count
 pub mod RaisesSeen
 -- what a bind has seen, in each of its states and for its reply
@@ -92,3 +94,5 @@ pub mod AttachedInRuns
 pub mod WorkedAttachings
 -- that a new attempt has to come to its tables anew
 pub mod WorkedAttempts
+-- a bind that raises the count though there is no room is refused
+pub mod WorkedRooms

@@ -3,7 +3,7 @@
 -- last row of a table stands for all other replies, which aren't the call's and can have no cause. So it lets nothing pass.
 use Rattle.std.specs.Prelude.{◌≡◌, ◌↔◌, ℕ, ◌+◌, ◌-◌, ◌<◌, ◌≤◌, ◌⊎◌, Bool, true, List, ◌∷◌, ◌++◌, map}
 use Rattle.std.specs.List.{AllByRecursion, Any}
-use Rattle.rht_words.specs.declared.op.Op.TheVariants.{Load, Add, Sub}
+use Rattle.rht_words.specs.declared.op.Op.TheVariants.{Load, Sub}
 use Rattle.rht_words.specs.declared.env.Env.{Env}
 use Rattle.rht_words.specs.declared.config.Kind.TheVariants.{Single}
 use Rattle.rht_words.specs.declared.geometry.Geometry.{Geometry}
@@ -22,6 +22,8 @@ use Rattle.rht_core.specs.Traces.{Did, Past, performed_of, traced_of}
 use Rattle.rht_core.specs.Due.{is_due_to_shrink}
 use Rattle.rht_core.specs.Seen.{LastWalked, CountedAt, SawCount, words_before}
 use Rattle.rht_core.specs.ResizeCauses.{IsUnboundAt, AttachesSome, HasFollowed, SawBusy, SawNoTable, SawNoPage}
+pub use Rattle.rht_core.specs.RoomCauses.{IsRaise}
+use Rattle.rht_core.specs.RoomCauses.{HadRoom}
 use Rattle.rht_core.specs.WorkCauses.{SawElsewhere, SawNoTableDue, SawNothingDue, SawMoved}
 
 -- why a look-up ended with this reply: it has nothing to show for its answers
@@ -55,10 +57,6 @@ WorkCause env words_at past (Moved again) = SawMoved env words_at again past.ste
 WorkCause env words_at past Idle = SawNothingDue env past.steps
 WorkCause env words_at past (NoTable size) = SawNoTableDue env size past.steps
 WorkCause env words_at past _ = ⊥
-
--- the operation raised the count of ports
-abbrev pub IsRaise : Geometry → Did → Type 0
-IsRaise g did = did.op ≡ Add (place_of g PortCount) 1
 
 -- and by the raised count a table of this shape is due to grow
 pub record IsDueBy (env : Env) (shape : ℕ) (did : Did) : Type 0 where
@@ -128,7 +126,7 @@ module _ (M : Type 0) (mix : ℕ → ℕ → ℕ → ℕ) where
 
   -- why a bind of this port ended with this reply; in a table of lists none ends with `Exists`
   abbrev pub BindCause : Env → List Event → ℕ → ℕ → Past → Reply → Type 0
-  BindCause env events c port past (Bound kick) = KicksRightly env kick past.steps
+  BindCause env events c port past (Bound kick) = KicksRightly env kick past.steps × HadRoom M mix env events c port past.steps
   BindCause env events c port past (Exists owner) = env.config.kind ≡ Single
   BindCause env events c port past NoNode = SawNoNode env past
   BindCause env events c port past (TooBig count) = SawTooBig env events c port count past.steps

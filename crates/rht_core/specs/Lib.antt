@@ -23,6 +23,8 @@ pub mod Causes
 pub mod Kicks
 -- and why a bind that wanted a further table was
 pub mod ResizeCauses
+-- and why one that raised the count wasn't
+pub mod RoomCauses
 -- one call alone
 pub mod Alone
 -- the pages of a table, as the words have them

@@ -109,16 +109,24 @@ module _ (g : Geometry) (words_at : ℕ → List ℕ) (mix : ℕ → ℕ → ℕ
   abbrev pub FindsBucketAt : ℕ → ℕ → Did → Type 0
   FindsBucketAt bucket place did = (node : ℕ) → LoadsKey g node did → HasBucketAt bucket place did
 
-  -- Behind the load of the table's shape the call counted 16 nodes or more, all in the port's bucket of the table: each stood there,
-  -- as its key was loaded, which isn't the port's, behind as many others as were counted before.
-  pub record SawLongChain (behind : List Did) : Type 0 where
+  -- Behind the load of the table's shape the call counted nodes, all in the port's bucket of the table: each stood there, as its key was
+  -- loaded, which isn't the port's, behind as many others as were counted before. It loaded no other key. And this is so of how many they are.
+  pub record SawChain (Many : ℕ → Type 0) (behind : List Did) : Type 0 where
     pub bucket : ℕ
     pub within : bucket < size_of (unpacked shape)
     pub place : ℕ
     pub bucket_is : AllByRecursion (FindsBucketAt bucket place) behind
     pub nodes : List ℕ
     pub counted : AreCounted g words_at port place 0 behind nodes
-    pub many : 16 ≤ length nodes
+    pub many : Many (length nodes)
+
+  -- they are 16 or more
+  abbrev pub SawLongChain : List Did → Type 0
+  SawLongChain = SawChain (λ many. 16 ≤ many)
+
+  -- or fewer
+  abbrev pub SawShortChain : List Did → Type 0
+  SawShortChain = SawChain (λ many. many < 16)
 
 -- where these are the words before the event with each number
 module _ (g : Geometry) (words_at : ℕ → List ℕ) where

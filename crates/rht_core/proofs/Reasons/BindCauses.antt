@@ -5,6 +5,7 @@
 -- the clamp under which a bind looks at it has changed nothing.
 use Rattle.std.proofs.Common.{◌≡◌, ◌⊎◌, ℕ, ◌+◌, Bool, true, false, ◌↔◌, List, [], ◌∷◌, ◌++◌, min, refl, sym, ap, ◌∙◌, subst, inl, inr, arith, append_assoc}
 use Rattle.std.specs.List.{AllByRecursion, Any}
+use Rattle.std.proofs.lemmas.Bool.{leb-false}
 use Rattle.std.proofs.lemmas.List.Elements.{All-from_recursion}
 use Rattle.std.proofs.lemmas.List.Quantifiers.{Any-push}
 use Rattle.rht_words.specs.declared.op.Op.TheVariants.{Load}
@@ -12,7 +13,8 @@ use Rattle.rht_words.specs.declared.env.Env.{Env}
 use Rattle.rht_words.specs.declared.config.Kind.TheVariants.{Single, Listed}
 use Rattle.rht_words.specs.Places.{PortCount, Slot, FutureWord, place_of}
 use Rattle.rht_words.proofs.EachElement.{Any-append_left, AllByRecursion-cut}
-use Rattle.rht_policy.specs.Thresholds.{is_above_75, is_above_100}
+use Rattle.rht_policy.specs.Thresholds.{is_above_75, is_above_100, is_above_max}
+use Rattle.rht_policy.specs.Sizes.{most_ports}
 use Rattle.rht_words.specs.Shapes.{unpacked, size_of}
 use Rattle.rht_model.specs.declared.history.Reply.{Reply}
 use Rattle.rht_model.specs.declared.history.Reply.TheVariants.{Bound, Exists, TooBig, Again, Busy, NoTable, NoNode}
@@ -24,6 +26,7 @@ use Rattle.rht_core.specs.Runs.{IsAdmitted}
 use Rattle.rht_core.specs.Laws.{IsRecorded}
 use Rattle.rht_core.specs.Seen.{words_before}
 use Rattle.rht_core.specs.ResizeCauses.{Loaded, AttachesSome, wanted_size, SawCrowded, WalkedFull}
+use Rattle.rht_core.specs.RoomCauses.{SawRoom, HadRoom}
 use Rattle.rht_core.specs.Causes.{IsRaise, IsDueBy, KicksRightly, SawTooBig, BindCause}
 use Rattle.rht_core.proofs.Counting.FullTables.{counted_at}
 use Rattle.rht_core.proofs.Reasons.AttachedTables.{IsNoAttach, AttachedSo}
@@ -31,6 +34,8 @@ use Rattle.rht_core.proofs.Reasons.RefusedBinds.{SawCrowd, SawWhy, SawOther, Saw
 use Rattle.rht_core.proofs.Counting.CountedNodes.{raise_few, load_few}
 use Rattle.rht_core.proofs.Reasons.BindsSeen.{TooBigSeen, SawFor}
 use Rattle.rht_core.proofs.Reasons.RaisesSeen.{Raised, due_by, SaysOfRaise}
+use Rattle.rht_core.proofs.Reasons.RoomSeen.{LoadedRoom, some-raised}
+use Rattle.rht_core.proofs.Reasons.TablesWalked.{IsNoRaise}
 use Rattle.rht_core.proofs.Reasons.PagesMissed.{no_page-cause}
 
 module _ (M : Type 0) (mix : ℕ → ℕ → ℕ → ℕ) (env : Env) (events : List Event) (c : ℕ)
@@ -75,10 +80,10 @@ module _ (M : Type 0) (mix : ℕ → ℕ → ℕ → ℕ) (env : Env) (events : 
       }
 
   -- no clamp of the count has changed whether the table is due
-  kicked : (kick : Bool) (steps : List Did) → AllByRecursion IsRecordedHere steps
-      → Raised env words_at kick steps
+  kicked : (port : ℕ) (kick : Bool) (steps : List Did) → AllByRecursion IsRecordedHere steps
+      → Raised env words_at mix port kick steps
       → KicksRightly env kick steps
-  kicked kick steps recorded raised =
+  kicked port kick steps recorded raised =
       let walked = raised.walked in
       let shape = raised.shape in
       let behind = AllByRecursion-cut IsRecordedHere walked.before (walked.at ∷ walked.behind)
@@ -88,13 +93,19 @@ module _ (M : Type 0) (mix : ℕ → ℕ → ℕ → ℕ) (env : Env) (events : 
         shape = shape;
         walked = walked;
         unraised = raised.unraised;
-        kicks = so_kicks raised.attached raised.so shape walked.behind behind.1.1 raised.each raised.some;
-        raised = λ single. elim raised.some [
+        kicks = so_kicks raised.attached raised.so shape walked.behind behind.1.1 raised.each some;
+        raised = λ single. elim some [
           | inl any ↦ any
           | inr none ↦ absurd (let both : Single ≡ Listed = sym single ∙ none.1 in cc)
         ];
       }
     where
+      some : Any (IsRaise env.geometry) raised.walked.behind ⊎ ((kick ≡ raised.attached) × (env.config.kind ≡ Listed))
+      some = elim raised.some [
+        | inl seen ↦ inl (some-raised env words_at mix port raised.table raised.shape raised.walked.behind seen)
+        | inr nothing ↦ inr (nothing.same, nothing.listed)
+      ]
+
       unclamped : (shape : ℕ) (did : Did) → IsRecordedHere did → IsRaise env.geometry did
           → due_by env words_at shape did.old
           ≡ is_above_75 (did.old + 1) (size_of (unpacked shape)) env.config.max
@@ -185,6 +196,61 @@ module _ (M : Type 0) (mix : ℕ → ℕ → ℕ → ℕ) (env : Env) (events : 
       let was = subst IsRecordedHere is (All-from_recursion IsRecordedHere steps recorded k did within) in
       subst (λ n. min n 65536 ≡ n) loaded.found (unclamped did was loaded.word.loads)
 
+  -- there is room by the count that was loaded
+  saw_room : (port shape : ℕ) (steps : List Did) → AllByRecursion IsRecordedHere steps
+      → Any (LoadedRoom env words_at mix port shape) steps → Any (SawRoom M mix env events c port shape) steps
+  saw_room port shape steps recorded (k, did, low, is, loaded) =
+      let was = subst IsRecordedHere is (All-from_recursion IsRecordedHere steps recorded k did low) in
+      let same = unclamped did was loaded.loaded in (
+        k,
+        did,
+        low,
+        is,
+        record {
+          count = did.old;
+          saw = record {
+            loaded = loaded.loaded;
+            found = refl;
+            counted = counted_at M mix env events c did.old did admitted loaded.loaded refl was;
+          };
+          below = leb-false (most_ports env.config.max) did.old
+              (subst (λ n. is_above_max n env.config.max ≡ false) same loaded.below);
+          within = subst (λ n. is_above_100 n (size_of (unpacked shape)) env.config.max ≡ false) same loaded.within;
+          unbound = loaded.unbound;
+        },
+      )
+
+  none_raised : (steps : List Did) → AllByRecursion (IsNoRaise env.geometry) steps → Any (IsRaise env.geometry) steps → ⊥
+  none_raised steps none (k, did, within, at_k, raises) =
+      subst (IsNoRaise env.geometry) at_k (All-from_recursion (IsNoRaise env.geometry) steps none k did within) raises
+
+  -- and where the count was raised there was
+  had_room : (port : ℕ) (kick : Bool) (steps : List Did) → AllByRecursion IsRecordedHere steps
+      → Raised env words_at mix port kick steps → HadRoom M mix env events c port steps
+  had_room port kick steps recorded raised =
+      let walked = raised.walked in
+      let behind = (recorded_at steps walked.before walked.behind walked.at walked.split recorded).2 in
+      record {
+        table = raised.table;
+        shape = raised.shape;
+        walked = walked;
+        room = λ some. elim raised.some [
+          | inl seen ↦ record {
+            before = seen.before;
+            at = seen.at;
+            rest = seen.rest;
+            split = seen.split;
+            raises = seen.raises;
+            first = seen.first;
+            chain = seen.seen.short.chain;
+            none = seen.seen.short.none;
+            room = saw_room port raised.shape seen.before
+                (recorded_at walked.behind seen.before seen.rest seen.at seen.split behind).0 seen.seen.room;
+          }
+          | inr nothing ↦ absurd (none_raised walked.behind nothing.unraised some)
+        ];
+      }
+
   -- a table is full by the count that was loaded, or its bucket has too many nodes
   pub crowded : (port table : ℕ) (why : Full) (shape : ℕ) (behind : List Did) → AllByRecursion IsRecordedHere behind
       → SawCrowd env words_at mix port table why shape behind → SawCrowded M mix env events c port table shape behind
@@ -238,7 +304,8 @@ module _ (M : Type 0) (mix : ℕ → ℕ → ℕ → ℕ) (env : Env) (events : 
 
   pub bind-cause : (port : ℕ) (past : Past) (reply : Reply) → SawFor env words_at mix port reply past.steps
       → AllByRecursion IsRecordedHere past.steps → IsRising (past.begin + 1) past.steps → BindCause M mix env events c port past reply
-  bind-cause port past (Bound kick) saw recorded rising = kicked kick past.steps recorded saw
+  bind-cause port past (Bound kick) saw recorded rising =
+      (kicked port kick past.steps recorded saw, had_room port kick past.steps recorded saw)
   bind-cause port past (Exists owner) saw recorded rising = saw
   bind-cause port past NoNode saw recorded rising = saw
   bind-cause port past (TooBig count) saw recorded rising = too_big port count past.steps recorded saw

@@ -1,9 +1,9 @@
 -- What each operation of a bind sees: from what was seen in its state, what is seen in the next one, or for
 -- the reply.
-use Rattle.std.proofs.Common.{◌∙◌, ◌≡◌, ℕ, ◌≤◌, Bool, cond, nat_le, List, [], ◌∷◌, ◌++◌, min, refl, sym, ap, subst, arith}
+use Rattle.std.proofs.Common.{◌∙◌, ◌≡◌, ℕ, ◌≤◌, ◌<◌, Bool, cond, nat_le, List, [], ◌∷◌, ◌++◌, min, refl, sym, ap, subst, arith}
 use Rattle.std.specs.Prelude.{Option, Some, None}
 use Rattle.std.specs.List.{AllByRecursion, Any}
-use Rattle.std.proofs.lemmas.Bool.{leb-true}
+use Rattle.std.proofs.lemmas.Bool.{leb-true, leb-false}
 use Rattle.std.proofs.lemmas.List.Quantifiers.{Any-push}
 use Rattle.rht_words.specs.declared.op.Op.TheVariants.{Load}
 use Rattle.rht_words.specs.declared.env.Env.{Env}
@@ -42,7 +42,7 @@ use Rattle.rht_bind.specs.declared.bind.BindAt.TheVariants as at
 use Rattle.rht_core.specs.Jobs.{binds}
 use Rattle.rht_core.specs.Traces.{Did, performed_of}
 use Rattle.rht_core.specs.Seen.{CameTo}
-use Rattle.rht_core.specs.ResizeCauses.{IsUnboundAt, SawNoneBehind, SawLongChain}
+use Rattle.rht_core.specs.ResizeCauses.{IsUnboundAt, SawNoneBehind, SawLongChain, SawShortChain}
 use Rattle.rht_stands.specs.StandsFor.{stands_for}
 use Rattle.rht_words.specs.Operations.{old_of}
 use Rattle.rht_core.proofs.Reasons.UnboundSeen.{no_owner, unbound-walked}
@@ -50,9 +50,10 @@ use Rattle.rht_core.proofs.Reasons.NamedFutures.{no_slot, future_few}
 use Rattle.rht_words.specs.Machines.{GoesOrEnds}
 use Rattle.rht_core.proofs.Reasons.PagesMissed.{SawGrowing, SawGrown, grow-saw, SeesMissing, SeesMissing-push}
 use Rattle.rht_core.proofs.Tracing.TracedJobs.{Performs, StandsIn}
-use Rattle.rht_core.proofs.Reasons.TablesWalked.{IsAside, grow_loads, IsNoRaise, no_load, aside, elsewhere, node_loads, probe_loads, relink_stores, came-current, came-future, walked-came, LastWalked-push, Walked, Walked-push, WalkedSeeing, WalkedSeeing-push, make_loads, grow_current, other_load}
-use Rattle.rht_core.proofs.Reasons.KeyLoads.{no_key, no_key-grow}
-use Rattle.rht_core.proofs.Reasons.ChainsCounted.{HasCounted, HasCounted-push, CountedUnless, WalkCounted, CountedNext, probe-counted, long-counted}
+use Rattle.rht_core.proofs.Reasons.TablesWalked.{IsAside, grow_loads, IsNoRaise, no_load, aside, elsewhere, node_loads, probe_loads, relink_stores, came-current, came-future, walked-came, LastWalked-push, Walked, Walked-push, WalkedSeeing, WalkedSeeing-push, make_loads, grow_current, other_load, nodes_behind}
+use Rattle.rht_core.proofs.Reasons.KeyLoads.{no_key, no_key-before, no_key-grow}
+use Rattle.rht_core.proofs.Reasons.RoomSeen.{ShortSeen, RoomSeen, RoomSeen-push, room-seen}
+use Rattle.rht_core.proofs.Reasons.ChainsCounted.{HasCounted, HasCounted-push, CountedUnless, WalkCounted, CountedNext, probe-counted, chain-counted}
 use Rattle.rht_core.proofs.Reasons.AttachedTables.{no_attach, AttachedSo, AttachedSo-push, SawAttached, relink-none, unmake-none}
 use Rattle.rht_core.proofs.Reasons.UnraisedBinds.{grow-none, SawUnraised}
 use Rattle.rht_core.proofs.Reasons.RefusedBinds.{no_key-future, Behind-push, SawWhy, SawWhy-push, SawRoot, SawToMake, above-why, root-saw, making-saw}
@@ -137,15 +138,18 @@ module _ (env : Env) (words_at : ℕ → List ℕ) (mix : ℕ → ℕ → ℕ �
       subst (λ ws. stands_for env.geometry ws port ≡ []) now
       (no_owner env mix does.words does.ghost does.whole port does.knows.knowing.means.bucket.armed.unbound)
 
-  -- 16 nodes that were counted are a long chain, where no table is behind
+  -- 16 nodes that were counted are a long chain, where no table is behind, and fewer a short one
   future-saw : (claimed : Claimed) (length : ℕ) (future : Option ℕ) (steps : List Did)
       → ((behind : List Did) → 16 ≤ length
       → HasCounted env.geometry words_at mix port claimed.table claimed.shape claimed.bucket.place length behind
       → SawLongChain env.geometry words_at mix port claimed.table claimed.shape behind)
+      → ((behind : List Did) → length < 16
+      → HasCounted env.geometry words_at mix port claimed.table claimed.shape claimed.bucket.place length behind
+      → SawShortChain env.geometry words_at mix port claimed.table claimed.shape behind)
       → ((table : ℕ) → future ≡ Some table → CameTo env.geometry table steps)
       → WalkedSeeing env.geometry claimed.table claimed.shape (SawFuture claimed length future) steps
       → Sees (future_or_count claimed length future) steps
-  future-saw claimed length None steps long came seeing =
+  future-saw claimed length None steps long short came seeing =
       by_test (λ t. Sees (cond t (unlocking_full claimed full.Chain) (at.Count claimed)) steps)
       (nat_le 16 length)
       (λ t. record {
@@ -155,14 +159,20 @@ module _ (env : Env) (words_at : ℕ → List ℕ) (mix : ℕ → ℕ → ℕ �
           unbound = seeing.saw.1 refl;
         };
       })
-      (λ f. record { walked = seeing.walked; saw = seeing.saw.1 refl })
-  future-saw claimed length (Some table) steps long came seeing = came table refl
+      (λ f. record {
+        walked = seeing.walked;
+        saw = record {
+          chain = short seeing.walked.last.behind (leb-false 16 length f) seeing.saw.0;
+          none = seeing.saw.1 refl;
+        };
+      })
+  future-saw claimed length (Some table) steps long short came seeing = came table refl
 
-  -- a count that refuses the bind was loaded by this operation
+  -- a count that refuses the bind was loaded by this operation, or one by which there is room
   count-saw : (claimed : Claimed) (steps : List Did) (did : Did)
       → did.op ≡ Load (place_of env.geometry PortCount)
       → IsUnboundAt env.geometry words_at port did
-      → WalkedSeeing env.geometry claimed.table claimed.shape (Any (SawNoneBehind env.geometry words_at port claimed.table)) steps
+      → WalkedSeeing env.geometry claimed.table claimed.shape (ShortSeen env words_at mix port claimed.table claimed.shape) steps
       → Sees (checked_count env claimed did.old) (steps ++ did ∷ [])
   unfolding LastWalked-push
   count-saw claimed steps did is now seeing =
@@ -195,9 +205,14 @@ module _ (env : Env) (words_at : ℕ → List ℕ) (mix : ℕ → ℕ → ℕ �
       (λ t. record {
         walked =
             LastWalked-push env.geometry claimed.table claimed.shape steps did beside.no_shape walked.last;
-        saw = above-why env words_at mix port claimed.table claimed.shape walked.last.behind did is t now seeing.saw;
+        saw = above-why env words_at mix port claimed.table claimed.shape walked.last.behind did is t now seeing.saw.none;
       })
-      (λ f. Walked-push env.geometry claimed.table claimed.shape steps did beside walked))
+      (λ within.
+      WalkedSeeing-push env.geometry claimed.table claimed.shape (ShortSeen env words_at mix port claimed.table claimed.shape)
+      (RoomSeen env words_at mix port claimed.table claimed.shape) steps did beside
+      (λ behind short. room-seen env words_at mix port claimed.table claimed.shape behind did
+      (no_key-before env.geometry did _ is (omega (arith, nodes_behind env.geometry)))
+      (record { loaded = is; below = f; within = within; unbound = now }) short) seeing))
 
   -- a bind that has put its node in front of a list has raised none
   replaced-saw : (list : FoundList) (relink : RelinkModel) (next : Next (Unit {0})) (steps : List Did)
@@ -208,11 +223,11 @@ module _ (env : Env) (words_at : ℕ → List ℕ) (mix : ℕ → ℕ → ℕ �
       → SeesNext steps (replaced list relink next)
   replaced-saw list relink Go steps listed walked so none = walked
   replaced-saw list relink (Done done) steps listed walked so none =
-      none-raised env words_at list.claimed steps listed walked so none
+      none-raised env words_at mix port list.claimed steps listed walked so none
 
   published-saw : (node table : ℕ) (kick : Bool) (relink : RelinkModel) (next : Next (Unit {0}))
       (steps : List Did)
-      → Raised env words_at kick steps → SeesNext steps (published node table kick relink next)
+      → Raised env words_at mix port kick steps → SeesNext steps (published node table kick relink next)
   published-saw node table kick relink Go steps raised = raised
   published-saw node table kick relink (Done done) steps raised = raised
 
@@ -304,9 +319,10 @@ module _ (env : Env) (words_at : ℕ → List ℕ) (mix : ℕ → ℕ → ℕ �
         let place = claimed.bucket.place in
         let counted = HasCounted env.geometry words_at mix port claimed.table claimed.shape place length in
         future-saw claimed length (slot_of did.old) (steps ++ did ∷ [])
-        (λ behind enough has. long-counted env mix words_at does.caller port does.words does.ghost does.whole
-        claimed.table
-        claimed.shape place length behind does.knows.knowing.means.table enough has)
+        (λ behind enough has. chain-counted env mix words_at does.caller port does.words does.ghost does.whole (λ many. 16 ≤ many)
+        claimed.table claimed.shape place length behind does.knows.knowing.means.table enough has)
+        (λ behind few has. chain-counted env mix words_at does.caller port does.words does.ghost does.whole (λ many. many < 16)
+        claimed.table claimed.shape place length behind does.knows.knowing.means.table few has)
         (λ table named. came-future env.geometry claimed.table table steps did does.within.at_in.table_in
         does.planned named
         (walked-came env.geometry claimed.table claimed.shape steps saw.walked))
@@ -321,13 +337,16 @@ module _ (env : Env) (words_at : ℕ → List ℕ) (mix : ℕ → ℕ → ℕ �
     bind-saw (at.Count claimed) steps did does now saw so unraised =
         count-saw claimed steps did does.planned (count-unbound owner once claimed did does now.now) saw
     bind-saw (at.Link claimed) steps did does now saw so unraised =
-        Walked-push env.geometry claimed.table claimed.shape steps did
-        (aside env.geometry did _ does.planned (λ place load. cc) (λ place value adds. cc)) saw
+        WalkedSeeing-push env.geometry claimed.table claimed.shape (RoomSeen env words_at mix port claimed.table claimed.shape)
+        (RoomSeen env words_at mix port claimed.table claimed.shape) steps did
+        (aside env.geometry did _ does.planned (λ place load. cc) (λ place value adds. cc))
+        (λ behind seen. RoomSeen-push env words_at mix port claimed.table claimed.shape behind did
+        (no_key env.geometry did _ does.planned (λ place load. cc)) seen) saw
     bind-saw (at.Raise claimed) steps did does now saw so unraised =
-        raise-saw env words_at claimed steps did does.planned saw so unraised
+        raise-saw env words_at mix port claimed steps did does.planned saw so unraised
     bind-saw (at.Publish node table relink kick) steps did does now saw so unraised =
         published-saw node table kick (relink_after relink).0 (relink_after relink).1 (steps ++ did ∷ [])
-        (Raised-push env words_at kick steps did
+        (Raised-push env words_at mix port kick steps did
         (still env did _ does.planned (relink-no_load relink relink.at) (relink-no_add relink relink.at)
         (relink-none env.geometry relink relink.at)) saw)
     bind-saw (at.Unlocking attempt table unlock next) steps did does now saw so unraised =

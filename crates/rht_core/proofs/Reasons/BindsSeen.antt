@@ -3,12 +3,11 @@
 -- While it takes a node, each node below the one at which it stands was taken. Before the load of a table's
 -- shape it has come to that table, and from there on this is the last table that it walked, while it wants a
 -- further table too. While it enters a page, it loaded the table's future as none, and then the entry at
--- which the way to its port's bucket ends, and these pages were seen taken. Behind the raise of the count
--- there was that; and while its state holds a refusal, what the refusal says. What is seen for a reply stays
+-- which the way to its port's bucket ends, and these pages were seen taken. Before the raise of the count it
+-- has seen that there is room, and behind it there was that; and while its state holds a refusal, what the refusal says. What is seen for a reply stays
 -- so while it unlocks a bucket and gives its node back.
 use Rattle.std.proofs.Common.{◌≡◌, ◌⊎◌, ℕ, ◌≤◌, List, [], ◌∷◌, ◌++◌, map, sym, ap, ◌∙◌, append_assoc, subst, inl, inr}
 use Rattle.std.specs.Prelude.{Option, Some, None, IfSome}
-use Rattle.std.specs.List.{Any}
 use Rattle.std.proofs.lemmas.List.{map-append}
 use Rattle.rht_words.specs.declared.op.Op.TheVariants.{Load}
 use Rattle.rht_words.specs.declared.env.Env.{Env}
@@ -27,7 +26,7 @@ use Rattle.rht_bind.specs.declared.bind.BindAt.{BindAt}
 use Rattle.rht_bind.specs.declared.bind.BindAt.TheVariants as at
 use Rattle.rht_core.specs.Traces.{Did, performed_of}
 use Rattle.rht_core.specs.Seen.{CameTo, IsNoShapeLoad, LastWalked}
-use Rattle.rht_core.specs.ResizeCauses.{IsUnboundAt, SawNoneBehind}
+use Rattle.rht_core.specs.ResizeCauses.{IsUnboundAt}
 use Rattle.rht_words.specs.Machines.{GoesOrEnds}
 use Rattle.rht_core.proofs.Reasons.PagesMissed.{SawGrowing, SeesMissing, NoPageSeen, NoPageSeen-push}
 use Rattle.rht_core.proofs.Reasons.UnboundSeen.{SeesNoFuture}
@@ -35,6 +34,7 @@ use Rattle.rht_core.proofs.Reasons.TablesWalked.{CameTo-append, LastWalked-push,
 use Rattle.rht_core.proofs.Reasons.ChainsCounted.{HasCounted, WalkCounted}
 use Rattle.rht_core.proofs.Reasons.RefusedBinds.{Behind, SawWhy, SawRoot, SawRefusal, SawToMake, SawToAttach, FollowedSeen, FollowedSeen-push, BusySeen, BusySeen-push, NoTableSeen, NoTableSeen-push}
 use Rattle.rht_core.proofs.Reasons.NewNodesSeen.{SawNew}
+use Rattle.rht_core.proofs.Reasons.RoomSeen.{ShortSeen, RoomSeen}
 use Rattle.rht_core.proofs.Reasons.RaisesSeen.{Raised, IsStill, Raised-push}
 use Rattle.rht_core.specs.Attached.{HasTakenSlot}
 
@@ -78,7 +78,7 @@ module _ (env : Env) (words_at : ℕ → List ℕ) (mix : ℕ → ℕ → ℕ �
   abbrev pub SawFor : Reply → List Did → Type 0
   SawFor NoNode steps = SawAllBelow env.geometry env.geometry.nodes (map performed_of steps)
   SawFor (TooBig count) steps = TooBigSeen count steps
-  SawFor (Bound kick) steps = Raised env words_at kick steps
+  SawFor (Bound kick) steps = Raised env words_at mix port kick steps
   SawFor (Exists owner) steps = env.config.kind ≡ Single
   SawFor (Again table) steps = FollowedSeen env words_at mix port table steps
   SawFor (Busy root last) steps = BusySeen env words_at mix port root last steps
@@ -117,10 +117,12 @@ module _ (env : Env) (words_at : ℕ → List ℕ) (mix : ℕ → ℕ → ℕ �
   SawAt (at.Replacing list relink) steps = Walked env.geometry list.claimed.table list.claimed.shape steps
   SawAt (at.Future claimed length) steps = SawCounted claimed length steps
   SawAt (at.Count claimed) steps =
-      WalkedSeeing env.geometry claimed.table claimed.shape (Any (SawNoneBehind env.geometry words_at port claimed.table)) steps
-  SawAt (at.Link claimed) steps = Walked env.geometry claimed.table claimed.shape steps
-  SawAt (at.Raise claimed) steps = Walked env.geometry claimed.table claimed.shape steps
-  SawAt (at.Publish node table relink kick) steps = Raised env words_at kick steps
+      WalkedSeeing env.geometry claimed.table claimed.shape (ShortSeen env words_at mix port claimed.table claimed.shape) steps
+  SawAt (at.Link claimed) steps =
+      WalkedSeeing env.geometry claimed.table claimed.shape (RoomSeen env words_at mix port claimed.table claimed.shape) steps
+  SawAt (at.Raise claimed) steps =
+      WalkedSeeing env.geometry claimed.table claimed.shape (RoomSeen env words_at mix port claimed.table claimed.shape) steps
+  SawAt (at.Publish node table relink kick) steps = Raised env words_at mix port kick steps
   SawAt (at.Unlocking attempt table unlock next) steps = SawThen next steps
   SawAt (at.UnlockingFull growing unlock) steps =
       Behind env.geometry growing.table growing.shape (SawWhy env words_at mix port growing.table growing.why growing.shape) steps
@@ -149,7 +151,7 @@ module _ (env : Env) (words_at : ℕ → List ℕ) (mix : ℕ → ℕ → ℕ �
       subst (SawAllBelow env.geometry env.geometry.nodes) (sym (map-append performed_of steps (did ∷ [])))
       (SawAllBelow-push env.geometry env.geometry.nodes before (performed_of did) saw)
   SawFor-push (TooBig count) steps did none saw = TooBigSeen-push count steps did none.aside.no_shape saw
-  SawFor-push (Bound kick) steps did none saw = Raised-push env words_at kick steps did none saw
+  SawFor-push (Bound kick) steps did none saw = Raised-push env words_at mix port kick steps did none saw
   SawFor-push (Exists owner) steps did none saw = saw
   SawFor-push (Again table) steps did none saw =
       FollowedSeen-push env words_at mix port table steps did none.aside.no_shape saw

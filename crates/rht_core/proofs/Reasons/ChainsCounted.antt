@@ -7,7 +7,7 @@
 --
 -- At the event of such a load the port's bucket has its number by the seed in the slot's word, and its word is at its place. That stays so,
 -- and no other bucket of the table ever has the word. So the loads of keys all found one bucket there.
-use Rattle.std.proofs.Common.{◌≡◌, ◌≢◌, ◌⊎◌, ℕ, ◌+◌, ◌<◌, ◌≤◌, ◌%◌, ◌==◌, List, [], ◌∷◌, ◌++◌, length, cond, refl, sym, ap, ◌∙◌, subst, inl, inr, arith}
+use Rattle.std.proofs.Common.{◌≡◌, ◌≢◌, ◌⊎◌, ℕ, ◌+◌, ◌<◌, ◌%◌, ◌==◌, List, [], ◌∷◌, ◌++◌, length, cond, refl, sym, ap, ◌∙◌, subst, inl, inr, arith}
 use Rattle.std.specs.Prelude.{Option, Some, None}
 use Rattle.std.specs.List.{AllByRecursion}
 use Rattle.std.proofs.lemmas.Bool.{eqb-false}
@@ -37,7 +37,7 @@ use Rattle.rht_chain.specs.declared.probe.ProbeAt.TheVariants as probes
 use Rattle.rht_chain.specs.declared.probe.Probed.{Probed}
 use Rattle.rht_core.specs.Traces.{Did}
 use Rattle.rht_stands.specs.StandsFor.{bucket_in, bucket_nodes, stands_for, AreBound}
-use Rattle.rht_core.specs.ResizeCauses.{IsNoKeyLoad, CountsNode, AreCounted, FindsBucketAt, SawLongChain}
+use Rattle.rht_core.specs.ResizeCauses.{IsNoKeyLoad, CountsNode, AreCounted, FindsBucketAt, SawChain}
 use Rattle.rht_ghost.proofs.Theory.Ghosts.{Ghost, index_at}
 use Rattle.rht_ghost.proofs.Theory.Wholes.{word_index, hash_in, place_at-index, index-within, Whole}
 use Rattle.rht_ghost.proofs.Theory.Passed.{hash-below, held-no_entry}
@@ -93,9 +93,9 @@ module _ (g : Geometry) (words_at : ℕ → List ℕ) (mix : ℕ → ℕ → ℕ
   abbrev Finds : ℕ → ℕ → Did → Type 0
   Finds = FindsBucketAt g words_at mix port table shape
 
-  pub SawLongChain-push : (steps : List Did) (did : Did) → IsNoKeyLoad g did → SawLongChain g words_at mix port table shape steps
-      → SawLongChain g words_at mix port table shape (steps ++ did ∷ [])
-  SawLongChain-push steps did none saw = record {
+  pub SawChain-push : (Many : ℕ → Type 0) (steps : List Did) (did : Did) → IsNoKeyLoad g did
+      → SawChain g words_at mix port table shape Many steps → SawChain g words_at mix port table shape Many (steps ++ did ∷ [])
+  SawChain-push Many steps did none saw = record {
     bucket = saw.bucket;
     within = saw.within;
     place = saw.place;
@@ -328,16 +328,16 @@ module _ (env : Env) (mix : ℕ → ℕ → ℕ → ℕ) (words_at : ℕ → Lis
       (walk-counted table shape bucket.place bucket.word walk walk.at steps did within.walk_in.at_in for
       (home-place table shape bucket.place did.index home now stay) knows planned now has)
 
-  -- 16 nodes that were counted in a port's bucket are a long chain
-  pub long-counted : (table shape place count : ℕ) (steps : List Did) → IsAtHome env mix G port table (Some shape) place
-      → 16 ≤ count → HasCounted g words_at mix port table shape place count steps
-      → SawLongChain g words_at mix port table shape steps
-  long-counted table shape place count steps is enough has = go has.found
+  -- the nodes that were counted in a port's bucket are its chain, of which this is so
+  pub chain-counted : (Many : ℕ → Type 0) (table shape place count : ℕ) (steps : List Did)
+      → IsAtHome env mix G port table (Some shape) place → Many count → HasCounted g words_at mix port table shape place count steps
+      → SawChain g words_at mix port table shape Many steps
+  chain-counted Many table shape place count steps is so has = go has.found
     where
-      many : 16 ≤ length has.nodes
-      many = let many = has.many in omega (arith, enough, many)
+      many : Many (length has.nodes)
+      many = subst Many has.many so
 
-      go : FoundSoFar g words_at mix port table shape place steps → SawLongChain g words_at mix port table shape steps
+      go : FoundSoFar g words_at mix port table shape place steps → SawChain g words_at mix port table shape Many steps
       go (inl none) =
           let τ = index_at G table in
           let number = hash_in env mix G port τ in

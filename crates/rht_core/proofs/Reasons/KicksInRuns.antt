@@ -15,7 +15,7 @@ use Rattle.rht_core.proofs.Reasons.CausesInRuns.{causes}
 module _ (M : Type 0) (mix : ℕ → ℕ → ℕ → ℕ) (env : Env) (events : List Event) (c : ℕ) where
   bound_well : (past : Past) (call : Call) (kick : Bool) → CauseOf M mix env events c past call (Bound kick)
       → KicksRightly env kick past.steps
-  bound_well past (Bind port owner once) kick cause = cause
+  bound_well past (Bind port owner once) kick cause = cause.0
   bound_well past (Find port) kick cause = absurd cause
   bound_well past (All port) kick cause = absurd cause
   bound_well past (Release port owner) kick cause = absurd cause

@@ -3,15 +3,14 @@
 -- anyway.
 use Rattle.std.proofs.Common.{◌≡◌, ◌⊎◌, ℕ, ◌+◌, Bool, ◌≢◌, List, [], ◌∷◌, ◌++◌, min, refl, subst, inl, inr}
 use Rattle.std.specs.Prelude.{◌||◌}
-use Rattle.std.specs.List.{AllByRecursion, Any}
-use Rattle.std.proofs.lemmas.List.Quantifiers.{Any-push}
+use Rattle.std.specs.List.{AllByRecursion}
 use Rattle.rht_words.specs.declared.op.Op.{Op}
 use Rattle.rht_words.specs.declared.op.Op.TheVariants.{Load, Add}
 use Rattle.rht_words.specs.declared.env.Env.{Env}
 use Rattle.rht_words.specs.declared.config.Kind.TheVariants.{Listed}
 use Rattle.rht_words.specs.declared.geometry.Geometry.{Geometry}
 use Rattle.rht_words.specs.Places.{PortCount, place_of}
-use Rattle.rht_words.proofs.EachElement.{Any-append_left, AllByRecursion-cut, AllByRecursion-push}
+use Rattle.rht_words.proofs.EachElement.{AllByRecursion-cut, AllByRecursion-push}
 use Rattle.rht_policy.specs.Thresholds.{is_above_75}
 use Rattle.rht_words.specs.Shapes.{unpacked, size_of}
 use Rattle.rht_nest.specs.Unmake.{unmake_plan_at}
@@ -25,7 +24,8 @@ use Rattle.rht_bind.specs.declared.bind.Claimed.{Claimed}
 use Rattle.rht_core.specs.Traces.{Did}
 use Rattle.rht_core.specs.Seen.{LastWalked}
 use Rattle.rht_core.specs.Causes.{IsRaise}
-use Rattle.rht_core.proofs.Reasons.TablesWalked.{IsNoRaise, IsAside, no_load, aside, LastWalked-push, Walked}
+use Rattle.rht_core.proofs.Reasons.TablesWalked.{IsNoRaise, IsAside, no_load, aside, LastWalked-push, Walked, WalkedSeeing}
+use Rattle.rht_core.proofs.Reasons.RoomSeen.{RoomSeen, RaisedSeen, RaisedSeen-push}
 use Rattle.rht_core.proofs.Reasons.AttachedTables.{IsNoFutureExchange, IsNoAttach, no_attach, AttachedSo, AttachedSo-push}
 
 -- a store of a link loads nothing and adds nothing
@@ -83,7 +83,22 @@ module _ (env : Env) (words_at : ℕ → List ℕ) where
   abbrev pub SaysOfRaise : Bool → ℕ → Bool → Did → Type 0
   SaysOfRaise attached shape kick did = IsRaise env.geometry did → kick ≡ (attached || due_by shape did.old)
 
-  -- behind the last table that it walked a bind raised the count, or it had nothing to raise
+  -- while no count was raised, there is nothing to say of that
+  unraised-says : (attached : Bool) (shape : ℕ) (kick : Bool) (steps : List Did)
+      → AllByRecursion (IsNoRaise env.geometry) steps → AllByRecursion (SaysOfRaise attached shape kick) steps
+  unraised-says attached shape kick [] none = tt
+  unraised-says attached shape kick (did ∷ steps) none =
+      ((λ adds. absurd (none.0 adds)), unraised-says attached shape kick steps none.1)
+
+-- of a bind of this port
+module _ (env : Env) (words_at : ℕ → List ℕ) (mix : ℕ → ℕ → ℕ → ℕ) (port : ℕ) where
+  -- a bind in a table of lists had nothing to raise, and raised nothing
+  pub record HasNone (kick attached : Bool) (behind : List Did) : Type 0 where
+    pub unraised : AllByRecursion (IsNoRaise env.geometry) behind
+    pub same : kick ≡ attached
+    pub listed : env.config.kind ≡ Listed
+
+  -- behind the last table that it walked a bind raised the count, where there was room, or it had nothing to raise
   pub record Raised (kick : Bool) (steps : List Did) : Type 0 where
     pub attached : Bool
     pub so : AttachedSo env.geometry attached steps
@@ -91,8 +106,8 @@ module _ (env : Env) (words_at : ℕ → List ℕ) where
     pub shape : ℕ
     pub walked : LastWalked env.geometry table shape steps
     pub unraised : AllByRecursion (IsNoRaise env.geometry) walked.before
-    pub each : AllByRecursion (SaysOfRaise attached shape kick) walked.behind
-    pub some : Any (IsRaise env.geometry) walked.behind ⊎ ((kick ≡ attached) × (env.config.kind ≡ Listed))
+    pub each : AllByRecursion (SaysOfRaise env words_at attached shape kick) walked.behind
+    pub some : RaisedSeen env words_at mix port table shape walked.behind ⊎ HasNone kick attached walked.behind
 
   pub Raised-push : (kick : Bool) (steps : List Did) (did : Did) → IsStill env did → Raised kick steps
       → Raised kick (steps ++ did ∷ [])
@@ -106,30 +121,28 @@ module _ (env : Env) (words_at : ℕ → List ℕ) where
         LastWalked-push env.geometry raised.table raised.shape steps did none.aside.no_shape raised.walked;
     unraised = raised.unraised;
     each =
-        AllByRecursion-push (SaysOfRaise raised.attached raised.shape kick) raised.walked.behind did
+        AllByRecursion-push (SaysOfRaise env words_at raised.attached raised.shape kick) raised.walked.behind did
         raised.each
         (λ adds. absurd (none.aside.no_raise adds));
     some = elim raised.some [
-      | inl any ↦ inl (Any-append_left (IsRaise env.geometry) raised.walked.behind (did ∷ []) any)
-      | inr none_raised ↦ inr none_raised
+      | inl seen ↦ inl (RaisedSeen-push env words_at mix port raised.table raised.shape raised.walked.behind did seen)
+      | inr nothing ↦ inr (record {
+        unraised = AllByRecursion-push (IsNoRaise env.geometry) raised.walked.behind did nothing.unraised none.aside.no_raise;
+        same = nothing.same;
+        listed = nothing.listed;
+      })
     ];
   }
 
-  -- while no count was raised, there is nothing to say of that
-  unraised-says : (attached : Bool) (shape : ℕ) (kick : Bool) (steps : List Did)
-      → AllByRecursion (IsNoRaise env.geometry) steps → AllByRecursion (SaysOfRaise attached shape kick) steps
-  unraised-says attached shape kick [] none = tt
-  unraised-says attached shape kick (did ∷ steps) none =
-      ((λ adds. absurd (none.0 adds)), unraised-says attached shape kick steps none.1)
-
-  -- the count is raised behind the walk
+  -- the count is raised behind the walk, where there was room
   pub raise-saw : (claimed : Claimed) (steps : List Did) (did : Did)
       → did.op ≡ Add (place_of env.geometry PortCount) 1
-      → Walked env.geometry claimed.table claimed.shape steps
+      → WalkedSeeing env.geometry claimed.table claimed.shape (RoomSeen env words_at mix port claimed.table claimed.shape) steps
       → AttachedSo env.geometry claimed.attempt.attached steps → AllByRecursion (IsNoRaise env.geometry) steps
       → Raised (kicks env claimed did.old) (steps ++ did ∷ [])
   unfolding LastWalked-push
-  raise-saw claimed steps did is walked so none =
+  raise-saw claimed steps did is seeing so none =
+      let walked = seeing.walked in
       let behind = walked.last.behind in
       let parts = each_part env steps claimed.table claimed.shape walked.last none in
       let kick = kicks env claimed did.old in
@@ -145,10 +158,18 @@ module _ (env : Env) (words_at : ℕ → List ℕ) where
             (no_load env.geometry did _ is (λ place load. cc)) walked.last;
         unraised = parts.0;
         each =
-            AllByRecursion-push (SaysOfRaise attached claimed.shape kick) behind did
-            (unraised-says attached claimed.shape kick behind parts.1)
+            AllByRecursion-push (SaysOfRaise env words_at attached claimed.shape kick) behind did
+            (unraised-says env words_at attached claimed.shape kick behind parts.1)
             (λ adds. refl);
-        some = inl (Any-push (IsRaise env.geometry) behind did is);
+        some = inl (record {
+          before = behind;
+          at = did;
+          rest = [];
+          split = refl;
+          raises = is;
+          first = parts.1;
+          seen = seeing.saw;
+        });
       }
 
   -- a bind that has put its node in front of a list has raised none
@@ -166,6 +187,6 @@ module _ (env : Env) (words_at : ℕ → List ℕ) where
         shape = claimed.shape;
         walked = walked.last;
         unraised = parts.0;
-        each = unraised-says attached claimed.shape attached walked.last.behind parts.1;
-        some = inr (refl, listed);
+        each = unraised-says env words_at attached claimed.shape attached walked.last.behind parts.1;
+        some = inr (record { unraised = parts.1; same = refl; listed = listed });
       }

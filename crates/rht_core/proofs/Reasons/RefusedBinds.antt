@@ -36,7 +36,7 @@ use Rattle.rht_core.specs.Seen.{LoadsCurrent, IsNoShapeLoad, LastWalked}
 use Rattle.rht_core.specs.ResizeCauses.{IsUnboundAt, SawNoneBehind, Loaded, Attaches, FindsFuture, wanted_size, AreNoPages, SawNoRoom, IsNoKeyLoad, SawLongChain}
 use Rattle.rht_core.proofs.Reasons.TablesWalked.{nodes_behind, LastWalked-push}
 use Rattle.rht_core.proofs.Reasons.KeyLoads.{no_key-before, no_key-make}
-use Rattle.rht_core.proofs.Reasons.ChainsCounted.{SawLongChain-push}
+use Rattle.rht_core.proofs.Reasons.ChainsCounted.{SawChain-push}
 use Rattle.rht_core.proofs.Reasons.MakesSeen.{SawMade, saw_nothing, make-saw}
 use Rattle.rht_core.proofs.Reasons.MadeSizes.{nests-wanted, pages-wanted, size_of-wanted, made_nested}
 use Rattle.rht_core.specs.Due.{pages_due}
@@ -200,7 +200,7 @@ module _ (env : Env) (words_at : ℕ → List ℕ) (mix : ℕ → ℕ → ℕ �
   SawCrowd-push : (table : ℕ) (why : Full) (shape : ℕ) (behind : List Did) (did : Did) → IsNoKeyLoad g did
       → SawCrowd table why shape behind → SawCrowd table why shape (behind ++ did ∷ [])
   SawCrowd-push table full.Chain shape behind did no_key saw =
-      SawLongChain-push g words_at mix port table shape behind did no_key saw
+      SawChain-push g words_at mix port table shape (λ many. 16 ≤ many) behind did no_key saw
   SawCrowd-push table full.Table shape behind did no_key saw = Any-append_left (LoadedAbove shape) behind (did ∷ []) saw
 
   pub SawWhy-push : (table : ℕ) (why : Full) (shape : ℕ) (behind : List Did) (did : Did) → IsNoKeyLoad g did
