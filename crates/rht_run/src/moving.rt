@@ -6,12 +6,12 @@ ghost use Rattle.rht_chain.specs.Lock.{lock_new};
 ghost use Rattle.rht_core.specs.Locals.{doing_after};
 ghost use Rattle.rht_move.specs.LastTable.{last_table_new};
 ghost use Rattle.rht_move.specs.LastEntry.{last_entry_new};
-ghost use Rattle.rht_move.specs.Work.{bucket_of_root, unlocked_bucket, unlocking};
+ghost use Rattle.rht_move.specs.Work.{bucket_of_root, entry_table, unlocked_bucket, unlocking};
 ghost use Rattle.rht_move.specs.declared.work.WorkAt.TheVariants as works;
 ghost use Rattle.rht_nest.specs.Tables.{is_nested};
 ghost use Rattle.rht_nest.specs.Place.{flat_place};
 ghost use Rattle.rht_run.specs.Rides.{IsRiding, Stepped};
-ghost use Rattle.rht_run.specs.WorkPieces.{work_at, bucket_locked, move_ended};
+ghost use Rattle.rht_run.specs.WorkPieces.{work_at, bucket_locked, entry_sought, move_ended};
 
 use crate::pieces::{Frame, Whole};
 use crate::ride::Ride;
@@ -105,17 +105,7 @@ impl<M: Mix> Table<M> {
                 number,
                 bucket,
             };
-            let frame = EntrySeeking {
-                env,
-                caller,
-                emptying,
-            };
-            let Some(last) = self.last_table::<K, EntrySeeking>(
-                seat,
-                &frame,
-                env.geometry,
-                rehash.root,
-            ) else {
+            let Some(last) = self.entry_table::<K>(seat, env, caller, emptying) else {
                 return None;
             };
             if is_nested(last.shape) {
@@ -142,6 +132,27 @@ impl<M: Mix> Table<M> {
             bucket = left;
         }
         None
+    }
+
+    /// Looks for the last table, to which the last entry of a locked bucket goes.
+    #[inline(always)]
+    fn entry_table<K: Ride>(
+        &self,
+        seat: &mut Seat<(), SeatView<M>>,
+        env: Env,
+        caller: u32,
+        emptying: Emptying,
+    ) -> Option<Last>
+        requires { IsRiding M.mix_of self.now K.riding (work_at env caller (entry_table env.geometry emptying)) seat.old }
+        ensures { IfSome result (λ last. IsRiding M.mix_of self.now K.riding (work_at env caller (entry_sought emptying last)) seat.new) }
+    {
+        let frame = EntrySeeking {
+            env,
+            caller,
+            emptying,
+        };
+        let root = emptying.rehash.root;
+        self.last_table::<K, EntrySeeking>(seat, &frame, env.geometry, root)
     }
 
     /// Moves the last entry of a locked bucket, whose first one is this node, and answers the bucket
@@ -281,11 +292,13 @@ impl<M: Mix> Table<M> {
         self.working::<K>(seat, env, caller, at);
         let at = WorkAt::CuttingOff { emptying, entry };
         self.working::<K>(seat, env, caller, at);
-        let Some(_) = entry.before else {
-            let place = emptying.bucket.place;
-            return Locked { place, word: 0 };
-        };
-        emptying.bucket
+        match entry.before {
+            None => Locked {
+                place: emptying.bucket.place,
+                word: 0,
+            },
+            Some(_) => emptying.bucket,
+        }
     }
 
     /// Unlocks the bucket. With `stop` the move ends there.
@@ -354,25 +367,17 @@ impl<M: Mix> Table<M> {
         requires { IsRiding M.mix_of self.now K.riding (F.holding frame.now (lock_new place)) seat.old }
         ensures { IfSome result (λ bucket. Stepped M.mix_of self.now K.riding (F.behind frame.now bucket) seat.new) }
     {
-        let mut lock = Lock::new(place);
         for _ in 0..u64::MAX {
+            let lock = Lock::new(place);
             let word = self.operate::<K, Locked, Lock, F>(seat, frame, &lock);
-            let (next, answer) = lock.after(word);
-            if let Next::Done(word) = answer {
-                let place = next.place();
-                return Some(Locked { place, word });
-            }
-            lock = next;
             if is_locked(word) {
                 continue;
             }
-            let word = self.operate::<K, Locked, Lock, F>(seat, frame, &lock);
-            let (next, answer) = lock.after(word);
-            if let Next::Done(word) = answer {
-                let place = next.place();
+            let (lock, _) = lock.after(word);
+            let found = self.operate::<K, Locked, Lock, F>(seat, frame, &lock);
+            if found == word {
                 return Some(Locked { place, word });
             }
-            lock = next;
         }
         None
     }
