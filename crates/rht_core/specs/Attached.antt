@@ -1,10 +1,10 @@
 -- When a table is attached, by whom, and of which size.
 -- What the words of a slot say of its table is changed by the caller alone that has taken the slot for a new table. Of a table in force it
 -- stays as it is, but for its future. That becomes another one only by the exchange that attaches the next table. A bind does that which
--- saw the table full, or a resizing that chose one. The current table becomes another one only by a resizing, which goes on to the next. And
--- where an entry of a nested table leads to no page, a bind alone enters one, on the way to its own port's bucket: in a table in force, and in
--- each to which the call has come. A slot is taken by whoever makes a table, given back by who took it, and retired by a resizing. And the work
--- lock is taken by a resizing, and given back by the one that took it.
+-- saw the table full, or a resizing that chose one. The current table becomes another one only by a resizing, which goes on to the next.
+-- Where an entry of a nested table leads to no page, a bind alone enters one, on the way to its own port's bucket. It is so in a table in force,
+-- and in each to which the call has come. A slot is taken by whoever makes a table, given back by who took it, and retired by a resizing. And
+-- the work lock is taken by a resizing, and given back by the one that took it. Under it tables become current and are retired.
 use Rattle.std.specs.Prelude.{◌≡◌, ◌≢◌, ℕ, ◌*◌, ◌<◌, ◌⊎◌, ◌≤◌, true, false, Some, List, [], ◌∷◌, ◌++◌, IfSome, map}
 use Rattle.std.specs.List.{AllByRecursion, Any}
 use Rattle.rht_words.specs.declared.op.Op.TheVariants.{Load, Store}
@@ -49,7 +49,21 @@ pub record ChangesState (g : Geometry) (slot : ℕ) (did : Did) : Type 0 where
   pub there : op_place did.op ≡ place_of g (Slot slot StateWord)
   pub other : word_after did.old did.op ≢ did.old
 
--- one of these operations made another table the current one in the place of that of this slot
+-- the operation changes the word of the work lock
+pub record ChangesWorkLock (g : Geometry) (did : Did) : Type 0 where
+  pub there : op_place did.op ≡ place_of g WorkLock
+  pub other : word_after did.old did.op ≢ did.old
+
+-- one of these operations took the work lock, which was free, and none behind it changed its word
+pub record HasWorkLock (g : Geometry) (steps : List Did) : Type 0 where
+  pub before : List Did
+  pub at : Did
+  pub behind : List Did
+  pub split : steps ≡ before ++ at ∷ behind
+  pub takes : TakesWorkLock g at
+  pub kept : AllByRecursion (λ did. ¬ ChangesWorkLock g did) behind
+
+-- one of these operations stored which table is the current one, and found that of this slot there
 pub record HasGoneOn (g : Geometry) (slot : ℕ) (steps : List Did) : Type 0 where
   pub before : List Did
   pub at : Did
@@ -59,9 +73,10 @@ pub record HasGoneOn (g : Geometry) (slot : ℕ) (steps : List Did) : Type 0 whe
   pub stores : StoresCurrent g next at
   pub from : table_of at.old ≡ slot
 
--- The operation retires the table of this slot, from which the call has gone on. By the words before it isn't in force, and futures lead from
--- it to the current one.
+-- The operation retires the table of this slot, from which the call has gone on, under the work lock. By the words before it isn't in force,
+-- and futures lead from it to the current one.
 pub record RetiresTable (g : Geometry) (words : List ℕ) (slot : ℕ) (before : List Did) (did : Did) : Type 0 where
+  pub lock : HasWorkLock g before
   pub gone_on : HasGoneOn g slot before
   pub stores : did.op ≡ Store (place_of g (Slot slot StateWord)) 2
   pub apart : ¬ In slot (in_force g words)
@@ -85,21 +100,7 @@ pub record MovesOn (g : Geometry) (words : List ℕ) (did : Did) : Type 0 where
   pub becomes : word_after did.old did.op ≡ table
   pub followed : slot_of (word_at g words (Slot (table_of did.old) FutureWord)) ≡ Some table
 
--- the operation changes the word of the work lock
-pub record ChangesWorkLock (g : Geometry) (did : Did) : Type 0 where
-  pub there : op_place did.op ≡ place_of g WorkLock
-  pub other : word_after did.old did.op ≢ did.old
-
--- one of these operations took the work lock, which was free, and none behind it changed its word
-pub record HasWorkLock (g : Geometry) (steps : List Did) : Type 0 where
-  pub before : List Did
-  pub at : Did
-  pub behind : List Did
-  pub split : steps ≡ before ++ at ∷ behind
-  pub takes : TakesWorkLock g at
-  pub kept : AllByRecursion (λ did. ¬ ChangesWorkLock g did) behind
-
--- Only a resizing changes it: it takes the lock, which was free, or gives it back, which it had taken and has had since.
+-- Only a resizing changes the work lock: it takes it, which was free, or gives it back, which it had taken and has had since.
 abbrev pub WorkLockCause : Geometry → Call → List Did → Did → Type 0
 WorkLockCause g call before did =
     (call ≡ Work) × (TakesWorkLock g did ⊎ (HasWorkLock g before × (did.op ≡ Store (place_of g WorkLock) 0)))
@@ -222,7 +223,8 @@ module _ (M : Type 0) (mix : ℕ → ℕ → ℕ → ℕ) (env : Env) (events : 
     pub apart : ¬ In slot (in_force env.geometry (words_before M mix env events did.index))
 
   -- The operation attaches a table of the call's own behind this one, and has a cause for it. By the words before, the slot of that table has
-  -- the shape that the cause names, and no table behind it. Each page of a table of that shape the call has taken, and still has.
+  -- the shape that the cause names, and no table behind it. Each page of a flat table of that shape, or the top page of a nested one, the call
+  -- has taken, and has neither given it back nor entered it since.
   pub record AttachesRightly (call : Call) (table : ℕ) (before : List Did) (did : Did) : Type 0 where
     pub slot : ℕ
     pub attaches : Attaches env.geometry table slot did
@@ -249,7 +251,7 @@ module _ (M : Type 0) (mix : ℕ → ℕ → ℕ → ℕ) (env : Env) (events : 
     pub tables : (slot : ℕ) → ChangesTable env.geometry slot did → IsOwnTable slot before did ⊎ AttachesRightly call slot before did
     pub current :
         ChangesCurrent env.geometry did
-        → (call ≡ Work) × MovesOn env.geometry (words_before M mix env events did.index) did
+        → (call ≡ Work) × HasWorkLock env.geometry before × MovesOn env.geometry (words_before M mix env events did.index) did
     pub states : (slot : ℕ) → ChangesState env.geometry slot did → StateCause call slot before did
     pub entries :
         (entry : ℕ) → ChangesMissing env.geometry (words_before M mix env events did.index) before entry did

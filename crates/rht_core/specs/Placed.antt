@@ -1,5 +1,5 @@
--- Where nodes and pages are in every run: each node of a table in force lies in the bucket of its own key, and each table has its pages for
--- itself.
+-- Where nodes and pages are in every run. Each node in the chain of a bucket of a table in force has a key of that bucket, and each table has
+-- its pages for itself.
 use Rattle.std.specs.Prelude.{◌≡◌, ℕ, ◌%◌, ◌<◌, ◌⊎◌, Some, List, slice_index}
 use Rattle.rht_words.specs.declared.env.Env.{Env}
 use Rattle.rht_words.specs.declared.geometry.Geometry.{Geometry}
@@ -18,8 +18,8 @@ module _ (mix : ℕ → ℕ → ℕ → ℕ) (g : Geometry) (words : List ℕ) w
   own_bucket slot node =
       bucket_of mix (word_at g words (Node node KeyWord)) (shape_of g words slot) (word_at g words (Slot slot SeedWord))
 
-  -- Each node of a bucket of this table is in the bucket of its key, where the bucket's word is even: while a bucket is locked a node may be
-  -- on its way out of it, and others of another bucket stand behind that.
+  -- Each node of a bucket of this table is in the bucket of its key, where the bucket's word is even. While a bucket is locked a node may be on
+  -- its way out of it, and behind that stand others of another bucket.
   abbrev pub AreNodesPlaced : ℕ → Type 0
   AreNodesPlaced slot =
       (bucket place node : ℕ) → bucket < size_of (unpacked (shape_of g words slot))

@@ -220,9 +220,9 @@ pub fn counted<M: Mix>()
 
 /// In every run, while nobody is in a call, all of this is so.
 ///
-/// Locks: no bucket is locked of a table that is in force or stands in a slot that isn't free; the word of
-/// each bucket of a retired table is 0; and the work lock is free. Each caller's section word is even, so none
-/// is in a read section.
+/// Locks: no bucket is locked of a table that is in force or stands in a slot that isn't free. The word of each
+/// bucket of a retired table is 0. And the work lock is free. Each caller's section word is even, so none is in a
+/// read section.
 ///
 /// Nodes: each is free, in the list of a port, or out, and never two of these. Those that are out are as many
 /// as the calls that were answered `Released` or `Rebound`. In a table of one owner for each port no list has a
@@ -281,8 +281,9 @@ pub fn sections<M: Mix>()
 /// table, but for two cases. The table is the call's own: its operations took the slot, which was free, and
 /// have neither given it back nor attached the table since. By the words before, it isn't in force. Or the
 /// operation attaches a table of the call's own behind this one, by an exchange that finds its future to be
-/// none. By the words before, that table has no future, and the shape that is told next. Each page of a table of
-/// that shape the call has taken, and has neither given it back nor entered it since.
+/// none. By the words before, that table has no future, and the shape that is told next. The call has taken each
+/// page of a flat table of that shape, or the top page of a nested one. It has neither given it back nor entered
+/// it since.
 ///
 /// The call is then a bind or a `Work`. A bind saw the table full up to this operation, by its port's bucket or
 /// by the count. In between it loaded a count, and no other behind that. By that count a table is wanted of
@@ -293,8 +294,8 @@ pub fn sections<M: Mix>()
 /// size is due behind this one, which was the last. Behind that it stored, last of all shapes, that of a flat table
 /// of this size. Either had drawn the serial that it stored last.
 ///
-/// No operation changes which table is the current one, but for one of a `Work`, which makes that table
-/// current that was the future of the one before.
+/// No operation changes which table is the current one, but for one of a `Work` that has the work lock. It makes
+/// that table current which was the future of the one before.
 ///
 /// An entry leads to no page where the way to a bucket of a nested table ends. Where that table is in force, or the
 /// call's operations before had come to it, no operation changes such an entry, but for one of a bind that enters a
@@ -304,11 +305,12 @@ pub fn sections<M: Mix>()
 ///
 /// Nor does it change the word that says whether a slot is free, but in three cases. A bind or a `Work` takes a
 /// slot that was free. A call gives back a slot of its own, in which by the words before no table is in force.
-/// Or a `Work` retires a slot, in the place of whose table its own operations have made another one current. By the
-/// words before, that table isn't in force, and from it futures lead to the current one.
+/// Or a `Work` that has the work lock retires a slot. A store of its own on the word of the current table found that
+/// slot there. By the words before, the slot's table isn't in force, and from it futures lead to the current one.
 ///
 /// Nor does it change the word of the work lock, but for one of a `Work`. That takes the lock, by an exchange of 0
-/// for 1, or stores 0, where its own operations took it and left that word alone since.
+/// for 1, or stores 0, where its own operations took it and didn't change that word since. In these words a `Work`
+/// has the lock.
 ///
 /// It doesn't say that a slot which was taken is given back, or that a table is ever attached, or a page entered.
 pub fn attached<M: Mix>()
@@ -335,11 +337,12 @@ pub fn nodes<M: Mix>()
 /// of one that was in force before is in the same slot, which had a table in force in between. It says nothing of tables that
 /// are being made or were never in force, nor which of these sizes a table has.
 ///
-/// And each node of a table in force lies in the bucket of its own key, by that table's shape and its seed. Of a bucket that
-/// is locked it says nothing: a node may be on its way out, and nodes of another bucket stand behind that.
+/// And each node in the chain of a bucket of a table in force belongs there by its key, by that table's shape and its seed.
+/// Of a bucket that is locked it says nothing: a node may be on its way out, and nodes of another bucket stand behind that.
+/// Nor does it speak of the nodes of a list behind its first one, or of the marker at a chain's end.
 ///
 /// Nor is a page of such a table free, or one of another table in force. The same is so of a retired table, while nobody has the
-/// work lock. It says nothing of slots whose table was never attached, and of the words of pages.
+/// work lock. It says nothing of a table that is neither in force nor retired, and nothing of the words of pages.
 pub fn tables<M: Mix>()
     ensures each { Tables M M.mix_of }
     ensures never_again { NeverAgain M M.mix_of }

@@ -96,7 +96,7 @@ abbrev pub looked_up : Option ℕ → Reply
 looked_up None = Missing
 looked_up (Some owner) = Found owner
 
--- and what it has come to, in its reply; no other reply is one
+-- and what it has come to, in its reply; any other reply counts as `Missing`
 abbrev pub owner_in : Reply → Option ℕ
 owner_in (Found owner) = Some owner
 owner_in _ = None

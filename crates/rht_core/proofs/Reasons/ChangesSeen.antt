@@ -47,7 +47,7 @@ use Rattle.rht_core.proofs.Reasons.MadeSizes.{made_flat}
 use Rattle.rht_core.proofs.Reasons.SlotsTaken.{each-push}
 use Rattle.rht_core.proofs.Reasons.TableWordsKept.{FitBefore, by_move, current_by_move, StateHere, state_by_move, TakesWorkHere, GivesWorkHere, lock_by_move, worker_by_move}
 use Rattle.rht_core.proofs.Reasons.RefusedBinds.{Behind, SawToAttach, attach-taken}
-use Rattle.rht_core.proofs.Reasons.OwnTables.{own_slot, moving_works, AttachesNow, attaches_now, by_bind, by_work, slot_makes}
+use Rattle.rht_core.proofs.Reasons.OwnTables.{own_slot, moving_works, moving_has, AttachesNow, attaches_now, by_bind, by_work, slot_makes}
 use Rattle.rht_words.specs.declared.op.Op.TheVariants.{Load, Store}
 use Rattle.rht_words.specs.Operations.{old_of, applied}
 use Rattle.rht_words.specs.Links.{page_of, table_of}
@@ -107,7 +107,7 @@ module _ (M : Type 0) (mix : ℕ → ℕ → ℕ → ℕ) (env : Env) (events : 
   pub record ChangesSeen (call : Call) (before : List Did) (did : Did) : Type 0 where
     pub tables : (slot : ℕ) → ChangesTable g slot did
         → IsOwnTable M mix env events c slot before did ⊎ AttachesSeen call slot before did
-    pub current : ChangesCurrent g did → (call ≡ Work) × MovesOn g (words_at did.index) did
+    pub current : ChangesCurrent g did → (call ≡ Work) × HasWorkLock g before × MovesOn g (words_at did.index) did
     pub states : (slot : ℕ) → ChangesState g slot did → StateCause M mix env events c call slot before did
     pub entries : (entry : ℕ) (changed : ChangesMissing g (words_at did.index) before entry did)
         → HadTable g words_at did.index changed.table → EnterCause g words_at mix call entry before did
@@ -288,12 +288,13 @@ module _ (M : Type 0) (mix : ℕ → ℕ → ℕ → ℕ) (env : Env) (events : 
     makes_then job slot (after, Done ending) same has = absurd (cc)
 
     retires : (words : List ℕ) (G : Ghost) (caller slot : ℕ) → Whole env mix (mem env mix words) G → words ≡ words_at did.index
-        → CanRetire env mix caller slot G → did.op ≡ Store (place_of g (Slot slot StateWord)) 2 → HasGoneOn g slot steps
+        → CanRetire env mix caller slot G → did.op ≡ Store (place_of g (Slot slot StateWord)) 2 → HasWorkLock g steps → HasGoneOn g slot steps
         → RetiresTable g (words_at did.index) slot steps did
-    retires words G caller slot whole now can stores gone =
+    retires words G caller slot whole now can stores lock gone =
         let of = whole.tables.slots slot can.table in
         let τ = index_at G slot in
         subst (λ ws. RetiresTable g ws slot steps did) now (record {
+          lock = lock;
           gone_on = gone;
           stores = stores;
           apart = λ i.
@@ -308,21 +309,22 @@ module _ (M : Type 0) (mix : ℕ → ℕ → ℕ → ℕ) (env : Env) (events : 
         })
 
     stated : (job : Job) (slot : ℕ) (performs : Performs mix env job did) → performs.words ≡ words_at did.index
-        → JobSaw env words_at mix job steps → ChangesState g slot did
+        → JobSaw env words_at mix job steps → HasTakenWork job steps → ChangesState g slot did
         → StateHere env mix performs.caller (mem env mix performs.words) performs.ghost did (held_of job) (held_next (job_after mix env job did.old)) slot
         → StateCause M mix env events c (call_of job) slot steps did
-    stated job slot performs now saw changed (inl takes) =
+    stated job slot performs now saw taken changed (inl takes) =
         inl (makes_then job slot (job_after mix env job did.old) (same_call mix env job did.old) takes.has, takes.takes)
-    stated job slot performs now saw changed (inr (inl gives)) =
+    stated job slot performs now saw taken changed (inr (inl gives)) =
         let is = own_slot env words_at mix performs.caller (mem env mix performs.words) performs.ghost steps slot job performs.knows saw gives.has in
         inr (inl (own_table slot performs.caller performs.words performs.ghost performs.whole now is.held is.taken, gives.gives))
-    stated job slot performs now saw changed (inr (inr here)) =
+    stated job slot performs now saw taken changed (inr (inr here)) =
         let gone =
         gone_on env words_at mix performs.caller performs.words performs.ghost performs.whole did performs.found slot changed.slot_in here.can
         here.stores changed.other steps job performs.planned here.moves performs.knows saw in
         inr (inr (
           moving_works job here.moves,
-          retires performs.words performs.ghost performs.caller slot performs.whole now here.can here.stores gone,
+          retires performs.words performs.ghost performs.caller slot performs.whole now here.can here.stores
+          (taken (moving_has job here.moves)) gone,
         ))
 
     -- a call whose job has the work lock behind the operation is a resizing
@@ -432,9 +434,9 @@ module _ (M : Type 0) (mix : ℕ → ℕ → ℕ → ℕ) (env : Env) (events : 
           current = λ changed.
               let publishing = current_by_move env mix performs.caller performs.words performs.ghost did (held_of job) (held_next next)
               performs.whole performs.all performs.found fits changed step.move step.ready step.made.whole does in
-              (moving_works job publishing.moves, subst (λ ws. MovesOn g ws did) now publishing.on);
+              (moving_works job publishing.moves, taken (moving_has job publishing.moves), subst (λ ws. MovesOn g ws did) now publishing.on);
           states = λ slot changed.
-              stated job slot performs now saw changed
+              stated job slot performs now saw taken changed
               (state_by_move env mix performs.caller there performs.ghost did (held_of job) (held_next next) slot fits changed step.move
               step.ready does);
           entries = λ entry changed had.

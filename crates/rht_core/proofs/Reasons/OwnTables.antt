@@ -225,6 +225,16 @@ moving_works (binds port owner once state) moves = absurd (bind-unmoving state m
 moving_works (works state) moves = refl
 moving_works job moves = absurd (both_ways _ (tableless job refl).still moves)
 
+work-moving : (state : WorkAt) → (held_of_work state).moving ≡ true → (held_of_work state).worker ≡ true
+work-moving working.WorkLock moves = absurd (cc)
+work-moving _ moves = refl
+
+-- and has the work lock
+pub moving_has : (job : Job) → (held_of job).moving ≡ true → (held_of job).worker ≡ true
+moving_has (binds port owner once state) moves = absurd (bind-unmoving state moves)
+moving_has (works state) moves = work-moving state moves
+moving_has job moves = absurd (both_ways _ (tableless job refl).still moves)
+
 -- ---- a call that has a slot
 
 -- makes tables
