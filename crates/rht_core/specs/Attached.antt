@@ -63,7 +63,7 @@ pub record HasWorkLock (g : Geometry) (steps : List Did) : Type 0 where
   pub takes : TakesWorkLock g at
   pub kept : AllByRecursion (λ did. ¬ ChangesWorkLock g did) behind
 
--- one of these operations stored which table is the current one, and found that of this slot there
+-- one of these operations made another table the current one, in the place of that of this slot
 pub record HasGoneOn (g : Geometry) (slot : ℕ) (steps : List Did) : Type 0 where
   pub before : List Did
   pub at : Did
@@ -72,6 +72,7 @@ pub record HasGoneOn (g : Geometry) (slot : ℕ) (steps : List Did) : Type 0 whe
   pub next : ℕ
   pub stores : StoresCurrent g next at
   pub from : table_of at.old ≡ slot
+  pub other : next ≢ slot
 
 -- The operation retires the table of this slot, from which the call has gone on, under the work lock. By the words before it isn't in force,
 -- and futures lead from it to the current one.

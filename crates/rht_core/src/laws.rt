@@ -305,8 +305,8 @@ pub fn sections<M: Mix>()
 ///
 /// Nor does it change the word that says whether a slot is free, but in three cases. A bind or a `Work` takes a
 /// slot that was free. A call gives back a slot of its own, in which by the words before no table is in force.
-/// Or a `Work` that has the work lock retires a slot. A store of its own on the word of the current table found that
-/// slot there. By the words before, the slot's table isn't in force, and from it futures lead to the current one.
+/// Or a `Work` that has the work lock retires a slot, in the place of whose table it has made another one current. By
+/// the words before, that table isn't in force, and from it futures lead to the current one.
 ///
 /// Nor does it change the word of the work lock, but for one of a `Work`. That takes the lock, by an exchange of 0
 /// for 1, or stores 0, where its own operations took it and didn't change that word since. In these words a `Work`

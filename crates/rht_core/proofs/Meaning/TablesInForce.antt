@@ -1,5 +1,5 @@
 -- The tables in force, as the words have them, are those from the current one on, in the order in which they were attached.
-use Rattle.std.proofs.Common.{◌≡◌, ℕ, zero, suc, ◌+◌, ◌-◌, ◌<◌, ◌≤◌, List, [], ◌∷◌, ◌++◌, length, Option, Some, None, true, cond, refl, sym, ◌∙◌, ap, subst, inl, inr, arith, map}
+use Rattle.std.proofs.Common.{◌≡◌, ◌≢◌, ℕ, zero, suc, ◌+◌, ◌-◌, ◌<◌, ◌≤◌, List, [], ◌∷◌, ◌++◌, length, Option, Some, None, true, cond, refl, sym, ◌∙◌, ap, subst, inl, inr, arith, map}
 use Rattle.std.proofs.lemmas.Bool.{lt-ltb, le-ltb, cases_eq}
 use Rattle.std.specs.List.{AllByRecursion, range_with_len}
 use Rattle.rht_words.specs.declared.env.Env.{Env}
@@ -13,6 +13,7 @@ use Rattle.rht_words.proofs.Members.{count_below-most, length-count_below}
 use Rattle.rht_stands.specs.StandsFor.{in_force, tables_from}
 use Rattle.rht_ghost.proofs.Theory.Ghosts.{Ghost, has_table, index_at}
 use Rattle.rht_ghost.proofs.Theory.Wholes.{Whole}
+use Rattle.rht_ghost.proofs.Theory.Knowledge.{IsFollowed}
 use Rattle.rht_ghost.proofs.Theory.Steps.{mem}
 
 module _ (env : Env) (mix : ℕ → ℕ → ℕ → ℕ) (words : List ℕ) (G : Ghost)
@@ -42,6 +43,15 @@ module _ (env : Env) (mix : ℕ → ℕ → ℕ → ℕ) (words : List ℕ) (G :
       ap slot_of ((whole.tables.each τ (omega (arith, all))).future_is
       ∙ ap (λ t. cond t (future_of (G.table (τ + 1)).slot) 0) (lt-ltb (τ + 1) G.attached (omega (arith, all))))
       ∙ entries_come_back.future_names (G.table (τ + 1)).slot next.slot_in
+
+  -- the next table has another slot than the current one
+  pub next_apart : (root next : ℕ) → IsFollowed env mix G root next → next ≢ root
+  next_apart root next is same =
+      let index : index_at G (G.table (G.current + 1)).slot ≡ index_at G (G.table G.current).slot =
+      ap (index_at G) (is.future_is ∙ same ∙ sym is.root_is) in
+      let later = (whole.tables.each (G.current + 1) is.more).index in
+      let now = (whole.tables.each G.current whole.tables.current_in).index in
+      omega (arith, index, later, now)
 
   -- so where the future of a table names a slot, that is the next table's
   pub record IsNextTable (τ slot : ℕ) : Type 0 where

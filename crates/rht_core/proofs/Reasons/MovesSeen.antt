@@ -353,6 +353,7 @@ module _ (env : Env) (words_at : ℕ → List ℕ) where
         next = saw.1.next;
         stores = saw.1.stores;
         from = saw.1.from;
+        other = saw.1.other;
       }
 
       looked : (table : ℕ) (later : List Did) → table ≡ rehash.future

@@ -45,7 +45,7 @@ use Rattle.rht_ghost.proofs.Theory.Knowns.{Onward, Rooted}
 use Rattle.rht_ghost.proofs.Theory.Knowledge.{WorkMeans}
 use Rattle.rht_ghost.proofs.Pieces.WorkLoads.{has_future, future_seen, nested_size}
 use Rattle.rht_core.proofs.Tracing.TracedJobs.{Performs}
-use Rattle.rht_core.proofs.Meaning.TablesInForce.{current_slot}
+use Rattle.rht_core.proofs.Meaning.TablesInForce.{current_slot, next_apart}
 use Rattle.rht_core.proofs.Reasons.AttachedTables.{no_attach, lock-none, unmake-none}
 use Rattle.rht_core.proofs.Reasons.MakesSeen.{runs_taken-stay}
 use Rattle.rht_core.proofs.Reasons.ChoicesMade.{HasChosen-push, Since-push}
@@ -300,6 +300,7 @@ module _ (env : Env) (words_at : ℕ → List ℕ) where
       stores = record { table_in = does.within.tables_in.future_in; stores = does.planned };
       from = ap table_of (does.found ∙ ap (old_of does.words) does.planned)
           ∙ current_slot env mix does.words does.ghost does.whole ∙ does.knows.knowing.means.work.more.followed.root_is;
+      other = next_apart env mix does.words does.ghost does.whole rehash.root rehash.future does.knows.knowing.means.work.more.followed;
     },
   )
   work-saw mix (at.NewFuture rehash) steps did does here saw =
