@@ -1,7 +1,7 @@
 //! Looking a port up, without a lock.
 //!
-//! Stands on `rht_words`, `rht_policy`, `rht_model`, and the pieces of `rht_nest`. `rht_callers` has
-//! this machine among the others.
+//! Stands on `rht_words`, `rht_policy`, `rht_model`, and the pieces of `rht_nest`. No call is this
+//! machine yet: look-ups are still those of `rht_find`. The proofs of `rht_core` say what it knows.
 //! Read `specs/Find.antt` first: it is the machine as a table.
 #![tactic(auto)]
 
