@@ -1,14 +1,13 @@
 -- What a look-up without locks knows in each of its states, and that each of its loads leads from what it knows to what it knows next.
 -- A load leaves words and ghost, so all of this is said of one moment; what others do meanwhile is said by stages (`stage_stays`).
-use Rattle.std.proofs.Common.{◌≡◌, ◌≢◌, ℕ, ◌+◌, ◌<◌, ◌≤◌, nat_lt, cond, List, [], Option, Some, None, true, refl, sym, ◌∙◌, ap, subst, inl, inr, arith}
+use Rattle.std.proofs.Common.{◌≡◌, ◌≢◌, ℕ, ◌+◌, ◌<◌, ◌≤◌, nat_lt, List, [], Option, Some, None, refl, sym, ◌∙◌, ap, subst, arith}
 use Rattle.std.specs.Prelude.{◌==◌, ◌%◌, if◌then◌else◌}
-use Rattle.std.proofs.lemmas.Bool.{cond_both, eqb-true, eqb-false, ltb-false, lt-ltb, le-ltb, cases_lt}
-use Rattle.std.proofs.lemmas.Bool.Decides.{nat_tests}
+use Rattle.std.proofs.lemmas.Bool.{cond_both, eqb-true, eqb-false, ltb-false}
 use Rattle.rht_words.specs.declared.env.Env.{Env}
 use Rattle.rht_words.specs.declared.machine.Next.{Next}
 use Rattle.rht_words.specs.declared.machine.Next.TheVariants.{Go, Done}
 use Rattle.rht_words.specs.declared.op.Op.TheVariants.{Load}
-use Rattle.rht_words.specs.Links.{link_of, marker_of, node_of, head_of, unlocked, table_of, slot_of, future_of}
+use Rattle.rht_words.specs.Links.{link_of, marker_of, node_of, head_of, unlocked, table_of, slot_of}
 use Rattle.rht_words.specs.Operations.{old_of}
 use Rattle.rht_words.specs.Places.{CurrentTable, Slot, FutureWord, Node, OwnerWord, IsBucketPlace}
 use Rattle.rht_words.specs.Ports.{owner_of}
@@ -23,12 +22,11 @@ use Rattle.rht_look.specs.Find.{plan_at, goes, reached, walked_anew, chain_ended
 use Rattle.rht_look.specs.declared.find.Head.{Head}
 use Rattle.rht_look.specs.declared.find.FindAt.{FindAt}
 use Rattle.rht_look.specs.declared.find.FindAt.TheVariants as at
-use Rattle.rht_ghost.proofs.Theory.Ghosts.{Ghost, lock_bit, has_table, index_at, none-some}
-use Rattle.rht_ghost.proofs.Theory.Wholes.{chain_of, key_of, place_at, word_index, place_at-index, future_in, Whole}
+use Rattle.rht_ghost.proofs.Theory.Ghosts.{Ghost, lock_bit, index_at, none-some}
+use Rattle.rht_ghost.proofs.Theory.Wholes.{chain_of, key_of, place_at, word_index, place_at-index, Whole}
 use Rattle.rht_ghost.proofs.Theory.Passed.{TablesGrow, home-within, home-no_entry}
-use Rattle.rht_ghost.proofs.Theory.Knowledge.{IsRightBehind}
 use Rattle.rht_ghost.proofs.Theory.Steps.{mem}
-use Rattle.rht_ghost.proofs.Pieces.TableLoads.{table_right, slot_word}
+use Rattle.rht_ghost.proofs.Pieces.TableLoads.{LeadsBehind, future_leads}
 use Rattle.rht_ghost.proofs.Pieces.Reaches.{IsReachingHome}
 use Rattle.rht_core.proofs.Finding.Places.{Places, PlacesRight}
 use Rattle.rht_core.proofs.Finding.PlacesSteps.{PlacesNext}
@@ -149,34 +147,7 @@ module _ (env : Env) (mix : ℕ → ℕ → ℕ → ℕ) (port since : ℕ) (Say
 
     -- ---- the future of a table
 
-    abbrev LeadsTo : ℕ → Option ℕ → Type 0
-    LeadsTo slot None = index_at G slot + 1 ≡ G.attached
-    LeadsTo slot (Some next) = IsRightBehind env mix G slot next
-
-    slot_named : (next : ℕ) → next < 8 → slot_of (future_of next) ≡ Some next
-    slot_named next l = grind (arith, nat_tests)
-
-    future_leads : (slot : ℕ) → has_table (G.slot slot) ≡ true → LeadsTo slot (slot_of (M (Slot slot FutureWord)))
-    future_leads slot has =
-        let τ = index_at G slot in
-        let future : M (Slot slot FutureWord) ≡ future_in env mix G τ =
-        slot_word env mix M G whole slot FutureWord has ∙ (table_right env mix M G whole slot has).future_is in
-        rw future (elim (cases_lt (τ + 1) G.attached) [
-          | inl more ↦
-              let behind = whole.tables.each (τ + 1) more in
-              let next = (G.table (τ + 1)).slot in
-              let is : slot_of (future_in env mix G τ) ≡ Some next =
-              ap (λ t. slot_of (cond t (future_of next) 0)) (lt-ltb (τ + 1) G.attached more)
-              ∙ slot_named next behind.slot_in in
-              subst (LeadsTo slot) (sym is) (record { table = behind.has_slot; index = behind.index })
-          | inr last ↦
-              let is : slot_of (future_in env mix G τ) ≡ None =
-              ap (λ t. slot_of (cond t (future_of (G.table (τ + 1)).slot) 0)) (le-ltb (τ + 1) G.attached last) in
-              let attached = (whole.tables.slots slot has).attached in
-              subst (LeadsTo slot) (sym is) (omega (arith, attached, last))
-        ])
-
-    future_known : (slot : ℕ) → Means (Ending slot) → (future : Option ℕ) → LeadsTo slot future
+    future_known : (slot : ℕ) → Means (Ending slot) → (future : Option ℕ) → LeadsBehind env mix M G whole slot future
         → Knows (next_table env future)
     future_known slot ending None last =
         none_behind env mix port since now M G P whole right deaths (Says Missing) slot ending last
@@ -239,7 +210,7 @@ module _ (env : Env) (mix : ℕ → ℕ → ℕ → ℕ) (port since : ℕ) (Say
         })
         (node_of env.geometry.nodes link) refl
     look_leads caller (at.Future table) within known =
-        future_known table known (slot_of (M (Slot table FutureWord))) (future_leads table known.0.table)
+        future_known table known (slot_of (M (Slot table FutureWord))) (future_leads env mix M G whole table known.0.table)
     look_leads caller (at.Owner node) within known = found node known.0 known.1
     look_leads caller (at.Closing reply) within known = known
 
