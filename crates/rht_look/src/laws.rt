@@ -1,0 +1,16 @@
+//! What a look-up does and how long it takes, whatever it finds. Each function is empty, and its clause
+//! is the law.
+
+ghost use Rattle.rht_look.specs.FindBound.{LoadsOnly, LeavesTable};
+
+/// In each state whatsoever a look-up loads a word, or turns the section word of its caller.
+pub fn loads_only()
+    ensures { LoadsOnly }
+{}
+
+/// A look-up that comes to a table is at its future, or at the owner of a node that was found, after so
+/// many operations: four on the way to the bucket, and for each walk one load of the bucket's word and
+/// two for each node that there is.
+pub fn leaves_table()
+    ensures { LeavesTable }
+{}
