@@ -8,21 +8,19 @@ use Rattle.rht_words.specs.declared.env.Env.{Env}
 use Rattle.rht_words.specs.declared.machine.Next.{Next}
 use Rattle.rht_model.specs.declared.history.Call.{Call}
 use Rattle.rht_model.specs.declared.history.Reply.{Reply}
-use Rattle.rht_model.specs.declared.finished.Finished.{Finished}
 use Rattle.rht_model.specs.Rooms.{Kept, emptied}
-use Rattle.rht_model.specs.Endings.{Ending}
 use Rattle.rht_core.specs.declared.book.Book.{Book}
 use Rattle.rht_callers.specs.declared.local.Local.{Local}
 use Rattle.rht_callers.specs.declared.local.Doing.{Doing}
 use Rattle.rht_callers.specs.declared.local.Doing.TheVariants.{Idle, Finding, Binding, Listing, Releasing, Rebinding, Working, Counting}
-use Rattle.rht_core.specs.Locals.{does_nothing, is_idle, machine_of, doing_plan, plan_of, doing_after, owners_beside, owners_after, begin_with, begun_with, local_after, ending_of}
-use Rattle.rht_core.specs.Runs.{View, book_begun, book_after, finished_with, IsAdmittedCall, IsBuiltFor}
+use Rattle.rht_core.specs.Locals.{does_nothing, is_idle, machine_of, doing_plan, plan_of, doing_after, owners_beside, owners_after, begun_with, local_after, ending_of}
+use Rattle.rht_core.specs.Runs.{book_begun, book_after, finished_with, IsAdmittedCall, IsBuiltFor}
 use Rattle.rht_core.specs.Laws.{IsDoingIn}
 use Rattle.rht_run.specs.declared.seats.Held.{Held}
 use Rattle.rht_run.specs.declared.seats.SeatView.{SeatView}
 use Rattle.rht_run.specs.declared.table.Table.{Table}
 use Rattle.rht_run.specs.declared.pass.Pass.{Pass}
-use Rattle.rht_run.specs.Rule.{MayBegin, Went, book_then, local_then, held_then, held_stepped}
+use Rattle.rht_run.specs.Rule.{Went, book_then, local_then, held_then, held_stepped}
 use Rattle.rht_run.specs.Passes.{CanPerform, IsSameSeat, IsPassOf, HasCalled, book_in, book_of}
 use Rattle.rht_run.specs.Rides.{Riding, riding_of, riding_local, riding_pass, owners_in, pairs_in, IsBefore, IsRiding, HasEnded, Stepped, piece_next}
 use Rattle.rht_run.proofs.Performed.{local_in, ready, still}

@@ -8,7 +8,13 @@ use Rattle.rht_nest.specs.Locate.{LocateModel}
 use Rattle.rht_nest.specs.declared.locate.Located.{Located}
 use Rattle.rht_nest.specs.declared.locate.LocatedBucket.{LocatedBucket}
 use Rattle.rht_nest.specs.declared.locate.LocatedBucket.TheVariants as buckets
-use Rattle.rht_chain.specs.Probe.{ProbeModel, probe_new}
+use Rattle.rht_words.specs.declared.machine.Start.{Start}
+use Rattle.rht_words.specs.declared.machine.Start.TheVariants as starts
+use Rattle.rht_chain.specs.Lock.{LockModel, lock_new}
+use Rattle.rht_chain.specs.LockedWalk.{LockedWalkModel, locked_walk_new}
+use Rattle.rht_chain.specs.Probe.{ProbeModel, probe_new, lock_taken, walk_or_seen}
+use Rattle.rht_chain.specs.declared.locked.Locked.{Locked}
+use Rattle.rht_chain.specs.declared.locked_walk.Seen.{Seen}
 use Rattle.rht_chain.specs.declared.probe.Probed.{Probed}
 use Rattle.rht_arena.specs.NewNode.{NewNodeModel}
 use Rattle.rht_bind.specs.declared.bind.growth.Full.{Full}
@@ -29,7 +35,7 @@ use Rattle.rht_core.specs.Locals.{doing_next}
 use Rattle.rht_run.specs.declared.pieces.PortLocate.{PortLocate}
 use Rattle.rht_run.specs.declared.pieces.PortLocated.{PortLocated}
 use Rattle.rht_run.specs.Rides.{piece_next}
-use Rattle.rht_run.specs.Pieces.{locate_told}
+use Rattle.rht_run.specs.Pieces.{locate_told, locked_of, probe_told, probe_locks, probe_locked}
 
 -- it holds a bucket into which its node doesn't go, for this reason, and unlocks it next
 abbrev pub full_at : ℕ → ℕ → ℕ → ℕ → ℕ → Full → BindAt
@@ -43,6 +49,25 @@ module _ {M : Type 0} where
       → doing_next doing next ≡ piece_next doing (λ reply. (Idle, Some reply)) next
   doing_piece doing (m, Go) = refl
   doing_piece doing (m, Done reply) = refl
+
+  -- the lock of a bucket is a piece of its probe: where it was taken the walk begins
+  pub probe_locking : (holding : ProbeModel → Doing M) (behind : Probed → Doing M × Option Reply) (probe : ProbeModel)
+      (next : LockModel × Next ℕ)
+      → piece_next holding behind (probe_told probe (lock_taken probe.geometry probe.key next.0 next.1))
+      ≡ piece_next (λ lock. holding (probe_locks probe lock))
+      (λ bucket. piece_next holding behind (probe_locked probe bucket)) (locked_of next)
+  probe_locking holding behind probe (lock, Go) = refl
+  probe_locking holding behind probe (lock, Done word) = began (locked_walk_new probe.geometry lock.place word probe.key)
+    where
+      bucket : Locked
+      bucket = record { place = lock.place; word = word }
+
+      -- the probe that has ended forgets the lock, and the one that walks has none
+      began : (start : Start LockedWalkModel Seen)
+          → piece_next holding behind (probe_told probe (walk_or_seen lock bucket start))
+          ≡ piece_next holding behind (probe_told probe (walk_or_seen (lock_new lock.place) bucket start))
+      began (starts.Running walk) = refl
+      began (starts.Done seen) = refl
 
   -- it looks a port up, and stands here
   abbrev pub find_at : Env → ℕ → ℕ → FindAt → Doing M

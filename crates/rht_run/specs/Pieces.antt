@@ -5,9 +5,12 @@ use Rattle.rht_words.specs.declared.machine.Next.TheVariants.{Go, Done}
 use Rattle.rht_arena.specs.NewNode.{NewNodeModel}
 use Rattle.rht_arena.specs.declared.new_node.NewNodeAt.{NewNodeAt}
 use Rattle.rht_arena.specs.declared.new_node.NewNodeAt.TheVariants as news
-use Rattle.rht_chain.specs.Probe.{ProbeModel}
+use Rattle.rht_chain.specs.Lock.{LockModel, lock_new, lock_after}
+use Rattle.rht_chain.specs.Probe.{ProbeModel, walk_began}
+use Rattle.rht_chain.specs.declared.locked.Locked.{Locked}
 use Rattle.rht_chain.specs.declared.probe.Probed.{Probed}
 use Rattle.rht_chain.specs.declared.probe.ProbeAt.{ProbeAt}
+use Rattle.rht_chain.specs.declared.probe.ProbeAt.TheVariants as probes
 use Rattle.rht_words.specs.declared.geometry.Geometry.{Geometry}
 use Rattle.rht_nest.specs.Locate.{LocateModel, locate_new, locate_after}
 use Rattle.rht_nest.specs.Place.{nested_place}
@@ -21,9 +24,26 @@ use Rattle.rht_callers.specs.declared.local.Doing.{Doing}
 use Rattle.rht_run.specs.declared.pieces.PortLocate.{PortLocate}
 use Rattle.rht_run.specs.declared.pieces.PortLocated.{PortLocated}
 
+-- the taking of a lock stands here, and says this; once it has the lock it answers the bucket, with its word before
+abbrev pub locked_of : LockModel × Next ℕ → LockModel × Next Locked
+locked_of (lock, Go) = (lock, Go)
+locked_of (lock, Done word) = (lock, Done (record { place = lock.place; word = word }))
+
+abbrev pub bucket_lock_after : LockModel → ℕ → LockModel × Next Locked
+bucket_lock_after lock word = locked_of (lock_after lock word)
+
 -- the probe stands here, and says this
 abbrev pub probe_told : ProbeModel → ProbeAt × Next Probed → ProbeModel × Next Probed
 probe_told probe next = (record probe { at = next.0 }, next.1)
+
+-- the probe takes its lock, which stands here
+abbrev pub probe_locks : ProbeModel → LockModel → ProbeModel
+probe_locks probe lock = record probe { at = probes.Locking lock }
+
+-- and has taken that of this bucket: it walks the chain next, or has seen an empty one
+abbrev pub probe_locked : ProbeModel → Locked → ProbeModel × Next Probed
+probe_locked probe bucket =
+    probe_told probe (walk_began probe.geometry probe.key (lock_new bucket.place) bucket)
 
 -- the new node stands here, and says this
 abbrev pub new_node_told : NewNodeModel → NewNodeAt × Next (Option ℕ) → NewNodeModel × Next (Option ℕ)

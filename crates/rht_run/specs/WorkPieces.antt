@@ -5,7 +5,7 @@ use Rattle.rht_words.specs.declared.geometry.Geometry.{Geometry}
 use Rattle.rht_words.specs.Shapes.{size_of, unpacked}
 use Rattle.rht_words.specs.declared.machine.Next.{Next}
 use Rattle.rht_words.specs.declared.machine.Next.TheVariants.{Go, Done}
-use Rattle.rht_chain.specs.Lock.{LockModel, lock_after}
+use Rattle.rht_chain.specs.Lock.{LockModel}
 use Rattle.rht_chain.specs.declared.locked.Locked.{Locked}
 use Rattle.rht_nest.specs.Tables.{is_nested}
 use Rattle.rht_nest.specs.Make.{make_new}
@@ -23,14 +23,7 @@ use Rattle.rht_move.specs.declared.work.WorkAt.TheVariants as works
 use Rattle.rht_callers.specs.declared.local.Doing.{Doing}
 use Rattle.rht_callers.specs.declared.local.Doing.TheVariants.{Working}
 use Rattle.rht_run.specs.Rides.{piece_next}
-
--- the taking of a lock stands here, and says this; once it has the lock it answers the bucket, with its word before
-abbrev pub locked_of : LockModel × Next ℕ → LockModel × Next Locked
-locked_of (lock, Go) = (lock, Go)
-locked_of (lock, Done word) = (lock, Done (record { place = lock.place; word = word }))
-
-abbrev pub bucket_lock_after : LockModel → ℕ → LockModel × Next Locked
-bucket_lock_after lock word = locked_of (lock_after lock word)
+use Rattle.rht_run.specs.Pieces.{locked_of}
 
 -- a table of this size is due behind the last one, which has this slot and this shape
 abbrev pub wanted_of : ℕ → ℕ → ℕ → ℕ → Wanted

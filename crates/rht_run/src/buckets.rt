@@ -1,16 +1,13 @@
-//! Locking the bucket of a port and walking its chain, in whatever machine does so.
+//! Taking the lock of a bucket and walking its chain, in whatever machine does so.
 
-ghost use Rattle.std.specs.Prelude.{◌≡◌, ◌<◌, ℕ, IfSome};
-ghost use Rattle.rht_words.specs.declared.machine.Next.TheVariants.{Done};
+ghost use Rattle.std.specs.Prelude.{◌≡◌, ◌<◌, IfSome};
 ghost use Rattle.rht_chain.specs.Lock.{lock_new};
-ghost use Rattle.rht_chain.specs.Probe.{probe_new, probe_after, lock_taken};
-ghost use Rattle.rht_chain.specs.declared.lock.LockAt.TheVariants.{Exchange};
+ghost use Rattle.rht_chain.specs.Probe.{probe_new, probe_after};
 ghost use Rattle.rht_chain.specs.declared.locked_walk.LockedWalkAt.TheVariants.{Key};
 ghost use Rattle.rht_chain.specs.declared.probe.ProbeAt.TheVariants as at;
 ghost use Rattle.rht_run.specs.Rides.{IsRiding, Stepped, piece_next};
-ghost use Rattle.rht_run.specs.Pieces.{probe_told};
 
-use crate::pieces::Frame;
+use crate::pieces::{Frame, ProbeLocking};
 use crate::ride::Ride;
 use crate::seats::SeatView;
 use crate::table::Table;
@@ -36,10 +33,14 @@ impl<M: Mix> Table<M> {
         ensures { IfSome result (λ end. Stepped M.mix_of self.now K.riding (F.behind frame.now end) seat.new) }
     {
         let probe = Probe::new(geometry, place, key);
-        let Some(word) = self.lock::<K, F>(seat, frame, &probe, place) else {
+        let locking = ProbeLocking {
+            frame,
+            probe: &probe,
+        };
+        let Some(bucket) = self.take_lock::<K, ProbeLocking<F>>(seat, &locking, place) else {
             return None;
         };
-        let bucket = Locked { place, word };
+        let Locked { place, word } = bucket;
         match LockedWalk::new(geometry, place, word, key) {
             Start::Running(walk) => {
                 let nodes = geometry.nodes;
@@ -52,30 +53,29 @@ impl<M: Mix> Table<M> {
         }
     }
 
-    /// Takes the lock of the bucket at this place, and answers the word before. A round ends without it
-    /// where the word was found locked, or was another one at the exchange. Each round begins with the
-    /// lock's first state, so the compiler keeps no state of it.
+    /// Takes the lock of the bucket at this place. A round ends without it where the word was found
+    /// locked, or was another one at the exchange. Each round begins with the lock's first state, so
+    /// the compiler keeps no state of it.
     #[inline(always)]
-    fn lock<K: Ride, F: Frame<M, Probe, Probed>>(
+    pub(crate) fn take_lock<K: Ride, F: Frame<M, Lock, Locked>>(
         &self,
         seat: &mut Seat<(), SeatView<M>>,
         frame: &F,
-        probe: &Probe,
         place: usize,
-    ) -> Option<u64>
-        requires { IsRiding M.mix_of self.now K.riding (F.holding frame.now (record probe.now { at = at.Locking (lock_new place) })) seat.old }
-        ensures { IfSome result (λ word. Stepped M.mix_of self.now K.riding (piece_next (λ p. F.holding frame.now p) (λ a. F.behind frame.now a) (probe_told probe.now (lock_taken probe.now.geometry probe.now.key (record (lock_new place) { at = Exchange word }) (Done word)))) seat.new) }
+    ) -> Option<Locked>
+        requires { IsRiding M.mix_of self.now K.riding (F.holding frame.now (lock_new place)) seat.old }
+        ensures { IfSome result (λ bucket. Stepped M.mix_of self.now K.riding (F.behind frame.now bucket) seat.new) }
     {
         for _ in 0..u64::MAX {
             let lock = Lock::new(place);
-            let word = self.probing::<K, F>(seat, frame, probe, ProbeAt::Locking { lock });
+            let word = self.operate::<K, Locked, Lock, F>(seat, frame, &lock);
             if is_locked(word) {
                 continue;
             }
             let (lock, _) = lock.after(word);
-            let found = self.probing::<K, F>(seat, frame, probe, ProbeAt::Locking { lock });
+            let found = self.operate::<K, Locked, Lock, F>(seat, frame, &lock);
             if found == word {
-                return Some(word);
+                return Some(Locked { place, word });
             }
         }
         None

@@ -19,7 +19,7 @@ use crate::seats::SeatView;
 use crate::table::Table;
 use crate::work_pieces::{BucketLocking, EntrySeeking, SecondLocking};
 use atomic_table::Seat;
-use rht_chain::{Lock, Locked, Unlock};
+use rht_chain::{Locked, Unlock};
 use rht_model::Reply;
 use rht_move::work::WorkAt;
 use rht_move::{
@@ -27,9 +27,7 @@ use rht_move::{
 };
 use rht_nest::{flat_place, is_nested};
 use rht_policy::{Mix, bucket_of};
-use rht_words::{
-    Env, Geometry, Next, Shape, head_of, is_locked, node_of, port_of, slot_of, unlocked,
-};
+use rht_words::{Env, Geometry, Next, Shape, head_of, node_of, port_of, slot_of, unlocked};
 
 impl<M: Mix> Table<M> {
     /// Empties the buckets of a flat table, one after another. The answer is whether it has stopped
@@ -351,33 +349,6 @@ impl<M: Mix> Table<M> {
                 return Some(Last { table, shape });
             };
             table = next;
-        }
-        None
-    }
-
-    /// Takes the lock of the bucket at this place. A round ends without it where the word was found
-    /// locked, or was another one at the exchange.
-    #[inline(always)]
-    fn take_lock<K: Ride, F: Frame<M, Lock, Locked>>(
-        &self,
-        seat: &mut Seat<(), SeatView<M>>,
-        frame: &F,
-        place: usize,
-    ) -> Option<Locked>
-        requires { IsRiding M.mix_of self.now K.riding (F.holding frame.now (lock_new place)) seat.old }
-        ensures { IfSome result (λ bucket. Stepped M.mix_of self.now K.riding (F.behind frame.now bucket) seat.new) }
-    {
-        for _ in 0..u64::MAX {
-            let lock = Lock::new(place);
-            let word = self.operate::<K, Locked, Lock, F>(seat, frame, &lock);
-            if is_locked(word) {
-                continue;
-            }
-            let (lock, _) = lock.after(word);
-            let found = self.operate::<K, Locked, Lock, F>(seat, frame, &lock);
-            if found == word {
-                return Some(Locked { place, word });
-            }
         }
         None
     }

@@ -7,6 +7,7 @@ ghost use Rattle.rht_words.specs.declared.env.Env.{Env};
 ghost use Rattle.rht_arena.specs.NewNode.{new_node_plan, new_node_after, IsNewNodeIn};
 ghost use Rattle.rht_bind.specs.Bind.{bind_plan, bind_after, IsBindAtIn};
 ghost use Rattle.rht_bind.specs.declared.bind.BindAt.TheVariants as binds;
+ghost use Rattle.rht_chain.specs.Lock.{lock_plan, lock_after, IsLockIn};
 ghost use Rattle.rht_chain.specs.Probe.{probe_plan, probe_after, IsProbeIn};
 ghost use Rattle.rht_find.specs.Find.{find_plan, find_after, IsFindAtIn};
 ghost use Rattle.rht_find.specs.declared.find.FindAt.TheVariants as finds;
@@ -18,12 +19,12 @@ ghost use Rattle.rht_callers.specs.declared.local.Doing.TheVariants.{Idle, Bindi
 ghost use Rattle.rht_core.specs.Locals.{does_nothing, doing_plan, doing_after, owners_beside, owners_after};
 ghost use Rattle.rht_core.specs.Laws.{IsDoingIn};
 ghost use Rattle.rht_run.specs.Rides.{piece_next};
-ghost use Rattle.rht_run.specs.Pieces.{port_locate_after};
-ghost use Rattle.rht_run.specs.PieceFrames.{doing_piece, bind_at, bind_filling, bind_filled, bind_locating, bind_located, bind_probing, bind_probed, find_at, find_locating, find_located, find_probing, find_probed};
+ghost use Rattle.rht_run.specs.Pieces.{bucket_lock_after, probe_locks, probe_locked, port_locate_after};
+ghost use Rattle.rht_run.specs.PieceFrames.{doing_piece, probe_locking, bind_at, bind_filling, bind_filled, bind_locating, bind_located, bind_probing, bind_probed, find_at, find_locating, find_located, find_probing, find_probed};
 
 use rht_arena::NewNode;
 use rht_bind::{Attempt, Bind};
-use rht_chain::{Probe, Probed};
+use rht_chain::{Lock, Locked, Probe, Probed};
 use rht_find::Find;
 use rht_model::Reply;
 use rht_nest::{Locate, Located};
@@ -91,6 +92,59 @@ impl<M: Mix> Piece<M, Probed> for Probe {
     fn told(&mut self, old: u64) -> Next<Probed> {
         self.take(old)
     }
+}
+
+impl<M: Mix> Piece<M, Locked> for Lock {
+    ghost plan_of = { lock_plan };
+
+    ghost after_of = { bucket_lock_after };
+
+    ghost is_in = { λ env p. IsLockIn env.geometry p };
+
+    #[inline(always)]
+    fn planned(&self) -> Op {
+        self.plan()
+    }
+
+    #[inline(always)]
+    fn told(&mut self, old: u64) -> Next<Locked> {
+        let (lock, next) = self.after(old);
+        *self = lock;
+        match next {
+            Next::Go => Next::Go,
+            Next::Done(word) => {
+                let place = lock.place();
+                Next::Done(Locked { place, word })
+            }
+        }
+    }
+}
+
+/// A state of a machine that holds a probe, which takes its lock.
+#[derive(Drop)]
+pub struct ProbeLocking<'a, F> {
+    pub frame: &'a F,
+    pub probe: &'a Probe,
+}
+
+impl<'a, M: Mix, F: Frame<M, Probe, Probed>> Frame<M, Lock, Locked> for ProbeLocking<'a, F> {
+    ghost use Rattle.std.proofs.Common.{◌∙◌};
+
+    ghost holding = { λ f lock. F.holding f.frame.now (probe_locks f.probe.now lock) };
+
+    ghost behind = { λ f bucket. piece_next (λ p. F.holding f.frame.now p) (λ a. F.behind f.frame.now a) (probe_locked f.probe.now bucket) };
+
+    ghost busy = { λ f lock. F.busy f.frame.now (probe_locks f.probe.now lock) };
+
+    ghost empties = { λ f lock room. F.empties f.frame.now (probe_locks f.probe.now lock) room };
+
+    ghost plans = { λ f lock. F.plans f.frame.now (probe_locks f.probe.now lock) };
+
+    ghost within = { λ env c f lock is. (F.within env c f.frame.now (probe_locks f.probe.now lock) is).at_in };
+
+    ghost goes = { λ f lock old. F.goes f.frame.now (probe_locks f.probe.now lock) old ∙ probe_locking (λ p. F.holding f.frame.now p) (λ a. F.behind f.frame.now a) f.probe.now (lock_after lock old) };
+
+    ghost keeps = { λ f lock room old. F.keeps f.frame.now (probe_locks f.probe.now lock) room old };
 }
 
 /// The finding of this port's bucket.

@@ -3,12 +3,12 @@
 
 ghost use Rattle.std.specs.Prelude.{◌≡◌, ℕ, Some};
 ghost use Rattle.rht_callers.specs.declared.local.Doing.TheVariants.{Idle, Working};
-ghost use Rattle.rht_chain.specs.Lock.{lock_plan, lock_after, IsLockIn};
+ghost use Rattle.rht_chain.specs.Lock.{lock_after};
 ghost use Rattle.rht_move.specs.LastTable.{last_table_plan, last_table_after, IsLastTableIn};
 ghost use Rattle.rht_move.specs.Work.{work_plan, work_after, IsWorkAtIn};
 ghost use Rattle.rht_move.specs.declared.work.WorkAt.TheVariants as works;
 ghost use Rattle.rht_run.specs.PieceFrames.{doing_piece};
-ghost use Rattle.rht_run.specs.WorkPieces.{bucket_lock_after, work_at, work_on, work_seeking, entry_sought, entry_seeking, bucket_locked, bucket_locking, entry_linked, second_locking};
+ghost use Rattle.rht_run.specs.WorkPieces.{work_at, work_on, work_seeking, entry_sought, entry_seeking, bucket_locked, bucket_locking, entry_linked, second_locking};
 
 use crate::pieces::{Frame, Piece, Whole};
 use rht_chain::{Lock, Locked};
@@ -132,32 +132,6 @@ impl<M: Mix> Frame<M, LastTable, Last> for EntrySeeking {
 }
 
 // ---- the locks
-
-impl<M: Mix> Piece<M, Locked> for Lock {
-    ghost plan_of = { lock_plan };
-
-    ghost after_of = { bucket_lock_after };
-
-    ghost is_in = { λ env p. IsLockIn env.geometry p };
-
-    #[inline(always)]
-    fn planned(&self) -> Op {
-        self.plan()
-    }
-
-    #[inline(always)]
-    fn told(&mut self, old: u64) -> Next<Locked> {
-        let (lock, next) = self.after(old);
-        *self = lock;
-        match next {
-            Next::Go => Next::Go,
-            Next::Done(word) => {
-                let place = lock.place();
-                Next::Done(Locked { place, word })
-            }
-        }
-    }
-}
 
 /// A resizing that locks the bucket of this number, to empty it.
 #[derive(Clone, Copy)]
