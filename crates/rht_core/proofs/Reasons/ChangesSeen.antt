@@ -324,7 +324,7 @@ module _ (M : Type 0) (mix : ℕ → ℕ → ℕ → ℕ) (env : Env) (events : 
         inr (inr (
           moving_works job here.moves,
           retires performs.words performs.ghost performs.caller slot performs.whole now here.can here.stores
-          (taken (moving_has job here.moves)) gone,
+              (taken (moving_has job here.moves)) gone,
         ))
 
     -- a call whose job has the work lock behind the operation is a resizing

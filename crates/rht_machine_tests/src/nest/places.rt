@@ -2,7 +2,9 @@
 
 use super::ALL;
 use crate::asserts::{assert_performs, assert_same};
-use rht_nest::{Bucket, Grow, GrowAt, Locate, LocateAt, Located, LocatedBucket, Place, Reach, ReachAt};
+use rht_nest::{
+    Bucket, Grow, GrowAt, Locate, LocateAt, Located, LocatedBucket, Place, Reach, ReachAt,
+};
 use rht_policy::Low;
 use rht_words::{Geometry, Next, Op, Start};
 use std::process::Abort;
