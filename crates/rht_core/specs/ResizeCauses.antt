@@ -124,9 +124,16 @@ module _ (g : Geometry) (words_at : ℕ → List ℕ) (mix : ℕ → ℕ → ℕ
   abbrev pub SawLongChain : List Did → Type 0
   SawLongChain = SawChain (λ many. 16 ≤ many)
 
-  -- or fewer
-  abbrev pub SawShortChain : List Did → Type 0
-  SawShortChain = SawChain (λ many. many < 16)
+  -- at the event of the operation the port's bucket in the table has its word at this place, and so many nodes
+  pub record IsWhole (place count : ℕ) (did : Did) : Type 0 where
+    pub bucket : ℕ
+    pub has : HasBucketAt bucket place did
+    pub many : length (bucket_nodes g (words_at did.index) (Some place)) ≡ count
+
+  -- Or they are fewer. Then they were all nodes of the bucket at the event of one of the operations.
+  pub record SawShortChain (behind : List Did) : Type 0 where
+    pub chain : SawChain (λ many. many < 16) behind
+    pub whole : Any (IsWhole chain.place (length chain.nodes)) behind
 
 -- where these are the words before the event with each number
 module _ (g : Geometry) (words_at : ℕ → List ℕ) where

@@ -28,8 +28,8 @@ module _ (M : Type 0) (mix : ℕ → ℕ → ℕ → ℕ) (env : Env) (events : 
     pub unbound : IsUnboundAt env.geometry (words_before M mix env events) port did
 
   -- Behind the load of the shape of the table in this slot the call raised the count. Before, it had counted fewer than 16 nodes in the port's
-  -- bucket there, and loaded no other key; it had loaded the table's future as none, while the port had no owner; and then it had loaded a
-  -- count by which there is room.
+  -- bucket there, all that the bucket had at the event of one of its operations, and loaded no other key. It had loaded the table's future as
+  -- none, while the port had no owner, and a count by which there is room.
   pub record RaisedInRoom (table shape : ℕ) (behind : List Did) : Type 0 where
     pub before : List Did
     pub at : Did

@@ -108,10 +108,10 @@ pub fn taken_alone<M: Mix>()
 /// `Exists` only in a table of one owner each. The kick of a `Bound` or a `Released` is as `kicks` says.
 ///
 /// A bind that was answered `Bound`, and raised the count behind the last table that it walked, had room there.
-/// Before the raise it had counted fewer than 16 nodes in its port's bucket, and loaded no other key there. It
-/// had loaded that table's future as none, while its port had no owner. And it had loaded a count that is fewer
-/// than the table may hold, and no more than that table has buckets, where that may grow. It doesn't say that
-/// these were all nodes of the bucket, nor that the count was still so at the raise.
+/// Before the raise it had counted fewer than 16 nodes in its port's bucket, and loaded no other key there; at
+/// the event of one of its operations these were all nodes of that bucket. It had loaded that table's future as
+/// none, while its port had no owner. And it had loaded a count that is fewer than the table may hold, and no
+/// more than that table has buckets, where that may grow. It doesn't say that either was still so at the raise.
 ///
 /// `Again`, `Busy` and `NoTable` of a bind have as their cause first that the last table that it walked is
 /// full. It came to that table along the futures, from its last load of the current one before. Then it

@@ -53,7 +53,7 @@ use Rattle.rht_core.proofs.Tracing.TracedJobs.{Performs, StandsIn}
 use Rattle.rht_core.proofs.Reasons.TablesWalked.{IsAside, grow_loads, IsNoRaise, no_load, aside, elsewhere, node_loads, probe_loads, relink_stores, came-current, came-future, walked-came, LastWalked-push, Walked, Walked-push, WalkedSeeing, WalkedSeeing-push, make_loads, grow_current, other_load, nodes_behind}
 use Rattle.rht_core.proofs.Reasons.KeyLoads.{no_key, no_key-before, no_key-grow}
 use Rattle.rht_core.proofs.Reasons.RoomSeen.{ShortSeen, RoomSeen, RoomSeen-push, room-seen}
-use Rattle.rht_core.proofs.Reasons.ChainsCounted.{HasCounted, HasCounted-push, CountedUnless, WalkCounted, CountedNext, probe-counted, chain-counted}
+use Rattle.rht_core.proofs.Reasons.ChainsCounted.{HasWalked, HasWalked-push, CountedUnless, WalkCounted, CountedNext, probe-counted, long-counted, short-counted}
 use Rattle.rht_core.proofs.Reasons.AttachedTables.{no_attach, AttachedSo, AttachedSo-push, SawAttached, relink-none, unmake-none}
 use Rattle.rht_core.proofs.Reasons.UnraisedBinds.{grow-none, SawUnraised}
 use Rattle.rht_core.proofs.Reasons.RefusedBinds.{no_key-future, Behind-push, SawWhy, SawWhy-push, SawRoot, SawToMake, above-why, root-saw, making-saw}
@@ -107,7 +107,7 @@ module _ (env : Env) (words_at : ℕ → List ℕ) (mix : ℕ → ℕ → ℕ �
   -- so many nodes were counted, and where no table is behind, that was loaded while the port had no owner
   abbrev SawFuture : Claimed → ℕ → Option ℕ → List Did → Type 0
   SawFuture claimed length future behind =
-      HasCounted env.geometry words_at mix port claimed.table claimed.shape claimed.bucket.place length behind
+      HasWalked env.geometry words_at mix port claimed.table claimed.shape claimed.bucket.place length behind
       × (future ≡ None → Any (SawNoneBehind env.geometry words_at port claimed.table) behind)
 
   -- behind the walk in vain
@@ -141,10 +141,10 @@ module _ (env : Env) (words_at : ℕ → List ℕ) (mix : ℕ → ℕ → ℕ �
   -- 16 nodes that were counted are a long chain, where no table is behind, and fewer a short one
   future-saw : (claimed : Claimed) (length : ℕ) (future : Option ℕ) (steps : List Did)
       → ((behind : List Did) → 16 ≤ length
-      → HasCounted env.geometry words_at mix port claimed.table claimed.shape claimed.bucket.place length behind
+      → HasWalked env.geometry words_at mix port claimed.table claimed.shape claimed.bucket.place length behind
       → SawLongChain env.geometry words_at mix port claimed.table claimed.shape behind)
       → ((behind : List Did) → length < 16
-      → HasCounted env.geometry words_at mix port claimed.table claimed.shape claimed.bucket.place length behind
+      → HasWalked env.geometry words_at mix port claimed.table claimed.shape claimed.bucket.place length behind
       → SawShortChain env.geometry words_at mix port claimed.table claimed.shape behind)
       → ((table : ℕ) → future ≡ Some table → CameTo env.geometry table steps)
       → WalkedSeeing env.geometry claimed.table claimed.shape (SawFuture claimed length future) steps
@@ -295,7 +295,7 @@ module _ (env : Env) (words_at : ℕ → List ℕ) (mix : ℕ → ℕ → ℕ �
         (λ behind counted. probe-counted env mix words_at does.caller port does.words does.ghost does.whole
         table shape probe.geometry probe.key probe.at behind did within does.knows.fits.1
         does.knows.knowing.means.table does.knows.knowing.means.bucket
-        does.planned now.now now.stay counted) saw)
+        does.planned does.within.at_in.probe_in.geometry_same does.found now.now now.stay counted) saw)
     bind-saw (at.FoundOwner claimed found) steps did does now saw so unraised = does.knows.fits
     bind-saw (at.ListLink list) steps did does now saw so unraised =
         Walked-push env.geometry list.claimed.table list.claimed.shape steps did
@@ -317,11 +317,11 @@ module _ (env : Env) (words_at : ℕ → List ℕ) (mix : ℕ → ℕ → ℕ �
         (relink_stores env.geometry did relink relink.at does.planned).no_raise)
     bind-saw (at.Future claimed length) steps did does now saw so unraised =
         let place = claimed.bucket.place in
-        let counted = HasCounted env.geometry words_at mix port claimed.table claimed.shape place length in
+        let counted = HasWalked env.geometry words_at mix port claimed.table claimed.shape place length in
         future-saw claimed length (slot_of did.old) (steps ++ did ∷ [])
-        (λ behind enough has. chain-counted env mix words_at does.caller port does.words does.ghost does.whole (λ many. 16 ≤ many)
+        (λ behind enough has. long-counted env mix words_at does.caller port does.words does.ghost does.whole
         claimed.table claimed.shape place length behind does.knows.knowing.means.table enough has)
-        (λ behind few has. chain-counted env mix words_at does.caller port does.words does.ghost does.whole (λ many. many < 16)
+        (λ behind few has. short-counted env mix words_at does.caller port does.words does.ghost does.whole
         claimed.table claimed.shape place length behind does.knows.knowing.means.table few has)
         (λ table named. came-future env.geometry claimed.table table steps did does.within.at_in.table_in
         does.planned named
@@ -329,7 +329,7 @@ module _ (env : Env) (words_at : ℕ → List ℕ) (mix : ℕ → ℕ → ℕ �
         (WalkedSeeing-push env.geometry claimed.table claimed.shape counted (SawFuture claimed length (slot_of did.old)) steps did
         (elsewhere env.geometry did _ does.planned (λ first. absurd (omega (arith, first))) (λ table below same. absurd (omega arith)))
         (λ behind has. (
-          HasCounted-push env.geometry words_at mix port claimed.table claimed.shape place length behind did
+          HasWalked-push env.geometry words_at mix port claimed.table claimed.shape place length behind did
               (no_key-future env.geometry did claimed.table does.within.at_in.table_in does.planned) has,
           λ none. Any-push (SawNoneBehind env.geometry words_at port claimed.table) behind did
               (future-unbound owner once claimed length did does now.now none),

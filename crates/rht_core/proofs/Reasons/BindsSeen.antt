@@ -31,7 +31,7 @@ use Rattle.rht_words.specs.Machines.{GoesOrEnds}
 use Rattle.rht_core.proofs.Reasons.PagesMissed.{SawGrowing, SeesMissing, NoPageSeen, NoPageSeen-push}
 use Rattle.rht_core.proofs.Reasons.UnboundSeen.{SeesNoFuture}
 use Rattle.rht_core.proofs.Reasons.TablesWalked.{CameTo-append, LastWalked-push, Walked, WalkedSeeing, WalkedAt}
-use Rattle.rht_core.proofs.Reasons.ChainsCounted.{HasCounted, WalkCounted}
+use Rattle.rht_core.proofs.Reasons.ChainsCounted.{HasWalked, WalkCounted}
 use Rattle.rht_core.proofs.Reasons.RefusedBinds.{Behind, SawWhy, SawRoot, SawRefusal, SawToMake, SawToAttach, FollowedSeen, FollowedSeen-push, BusySeen, BusySeen-push, NoTableSeen, NoTableSeen-push}
 use Rattle.rht_core.proofs.Reasons.NewNodesSeen.{SawNew}
 use Rattle.rht_core.proofs.Reasons.RoomSeen.{ShortSeen, RoomSeen}
@@ -92,7 +92,7 @@ module _ (env : Env) (words_at : ℕ → List ℕ) (mix : ℕ → ℕ → ℕ �
   -- once the walk has ended: how many nodes it counted in the bucket
   abbrev pub SawCounted : Claimed → ℕ → List Did → Type 0
   SawCounted claimed length steps =
-      let counted = HasCounted env.geometry words_at mix port claimed.table claimed.shape claimed.bucket.place length in
+      let counted = HasWalked env.geometry words_at mix port claimed.table claimed.shape claimed.bucket.place length in
       WalkedSeeing env.geometry claimed.table claimed.shape counted steps
 
   -- behind an unlocking it goes on in a table that it came to, or gives its answer

@@ -183,7 +183,7 @@ module _ (env : Env) (Good Come : ℕ → Type 0) where
     calm-future mix port claimed length None steps saw good come =
         by_test (λ t. CalmBind (cond t (unlocking_full claimed full.Chain) (at.Count claimed))) (nat_le 16 length)
         (λ t.
-        let counted = saw.saw in
+        let counted = saw.saw.counted in
         let many = counted.many in
         let enough = leb-true 16 length t in
         none-counted port claimed.bucket.place 0 saw.walked.last.behind counted.nodes (omega arith) (omega (arith, many, enough))

@@ -1,6 +1,6 @@
 -- What a bind has seen that goes on to raise the count of ports: behind the load of the last table's shape it counted a short chain, loaded that
 -- table's future as none, and then a count by which there is room. From then on it loads nothing.
-use Rattle.std.proofs.Common.{◌≡◌, ℕ, ◌<◌, false, List, [], ◌∷◌, ◌++◌, min, sym, ap, ◌∙◌, subst, append_assoc}
+use Rattle.std.proofs.Common.{◌≡◌, ℕ, false, List, [], ◌∷◌, ◌++◌, min, sym, ap, ◌∙◌, subst, append_assoc}
 use Rattle.std.specs.List.{AllByRecursion, Any}
 use Rattle.std.proofs.lemmas.List.Quantifiers.{Any-push}
 use Rattle.rht_words.specs.declared.op.Op.TheVariants.{Load}
@@ -13,7 +13,7 @@ use Rattle.rht_core.specs.Traces.{Did}
 use Rattle.rht_core.specs.ResizeCauses.{IsUnboundAt, SawNoneBehind, SawShortChain, IsNoKeyLoad}
 use Rattle.rht_core.specs.RoomCauses.{IsRaise}
 use Rattle.rht_core.proofs.Reasons.TablesWalked.{IsNoRaise}
-use Rattle.rht_core.proofs.Reasons.ChainsCounted.{SawChain-push}
+use Rattle.rht_core.proofs.Reasons.ChainsCounted.{SawShortChain-push}
 
 -- where these are the words before the event with each number, of a bind of this port
 module _ (env : Env) (words_at : ℕ → List ℕ) (mix : ℕ → ℕ → ℕ → ℕ) (port : ℕ) where
@@ -37,7 +37,7 @@ module _ (env : Env) (words_at : ℕ → List ℕ) (mix : ℕ → ℕ → ℕ �
   ShortSeen-push : (table shape : ℕ) (behind : List Did) (did : Did) → IsNoKeyLoad env.geometry did → ShortSeen table shape behind
       → ShortSeen table shape (behind ++ did ∷ [])
   ShortSeen-push table shape behind did no_key short = record {
-    chain = SawChain-push env.geometry words_at mix port table shape (λ many. many < 16) behind did no_key short.chain;
+    chain = SawShortChain-push env.geometry words_at mix port table shape behind did no_key short.chain;
     none = Any-append_left (SawNoneBehind env.geometry words_at port table) behind (did ∷ []) short.none;
   }
 
