@@ -108,7 +108,7 @@ pub fn taken_alone<M: Mix>()
 /// `Exists` only in a table of one owner each. The kick of a `Bound` or a `Released` is as `kicks` says.
 ///
 /// A bind that was answered `Bound`, and raised the count behind the last table that it walked, had room there.
-/// Before the raise it had counted fewer than 16 nodes in its port's bucket, and loaded no other key there; at
+/// Before its first raise there it had counted fewer than 16 nodes in its port's bucket, and loaded no other key; at
 /// the event of one of its operations these were all nodes of that bucket. It had loaded that table's future as
 /// none, while its port had no owner. And it had loaded a count that is fewer than the table may hold, and no
 /// more than that table has buckets, where that may grow. It doesn't say that either was still so at the raise.
