@@ -2,5 +2,5 @@
 pub mod FindStays
 -- on which words a look-up works
 pub mod FindPlanned
--- a look-up, operation by operation
-pub mod FindSteps
+-- a look-up leaves a table after a bounded number of operations
+pub mod FindBounds

@@ -3,7 +3,7 @@
 //! of 8 from 314 on, and of 2 from 290 on. The marker of the bucket at a place is twice that + 1.
 
 use crate::asserts::{Machine, assert_performs};
-use rht_look::Find;
+use rht_find::Find;
 use rht_model::Reply;
 use rht_policy::Low;
 use rht_words::{Config, Env, Hash, Kind, Next, Op};

@@ -18,10 +18,10 @@ use Rattle.rht_model.specs.declared.history.Reply.TheVariants.{Found, Missing}
 use Rattle.rht_nest.specs.Reach.{ReachModel, reach_after, reach_plan}
 use Rattle.rht_nest.specs.declared.place.Bucket.{Bucket}
 use Rattle.rht_nest.specs.declared.place.Bucket.TheVariants as buckets
-use Rattle.rht_look.specs.Find.{plan_at, goes, reached, walked_anew, chain_ended, led_to, next_table, IsFindAtIn}
-use Rattle.rht_look.specs.declared.find.Head.{Head}
-use Rattle.rht_look.specs.declared.find.FindAt.{FindAt}
-use Rattle.rht_look.specs.declared.find.FindAt.TheVariants as at
+use Rattle.rht_find.specs.Find.{plan_at, goes, reached, walked_anew, chain_ended, led_to, next_table, IsFindAtIn}
+use Rattle.rht_find.specs.declared.find.Head.{Head}
+use Rattle.rht_find.specs.declared.find.FindAt.{FindAt}
+use Rattle.rht_find.specs.declared.find.FindAt.TheVariants as at
 use Rattle.rht_ghost.proofs.Theory.Ghosts.{Ghost, lock_bit, index_at, none-some}
 use Rattle.rht_ghost.proofs.Theory.Wholes.{chain_of, key_of, place_at, word_index, place_at-index, Whole}
 use Rattle.rht_ghost.proofs.Theory.Passed.{TablesGrow, home-within, home-no_entry}

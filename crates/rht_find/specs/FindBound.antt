@@ -8,9 +8,9 @@ use Rattle.rht_words.specs.declared.geometry.Geometry.{Geometry}
 use Rattle.rht_words.specs.Planned.{IsWord}
 use Rattle.rht_nest.specs.declared.reach.ReachAt.{ReachAt}
 use Rattle.rht_nest.specs.declared.reach.ReachAt.TheVariants as reaches
-use Rattle.rht_look.specs.Find.{turns_section, plan_at, goes, locating}
-use Rattle.rht_look.specs.declared.find.FindAt.{FindAt}
-use Rattle.rht_look.specs.declared.find.FindAt.TheVariants as at
+use Rattle.rht_find.specs.Find.{turns_section, plan_at, goes, locating}
+use Rattle.rht_find.specs.declared.find.FindAt.{FindAt}
+use Rattle.rht_find.specs.declared.find.FindAt.TheVariants as at
 
 -- ---- it only loads
 

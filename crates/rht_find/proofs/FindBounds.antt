@@ -25,12 +25,12 @@ use Rattle.rht_nest.specs.declared.place.Bucket.{Bucket}
 use Rattle.rht_nest.specs.declared.place.Bucket.TheVariants as buckets
 use Rattle.rht_nest.specs.declared.reach.ReachAt.{ReachAt}
 use Rattle.rht_nest.specs.declared.reach.ReachAt.TheVariants as reaches
-use Rattle.rht_look.specs.Find.{reached, walked_anew, chain_ended, led_to, led_on, compared, goes, locating, IsFindAtIn}
-use Rattle.rht_look.specs.FindBound.{IsLookOp, LoadsOnly, LeavesTable, StaysInTable, IsInTable, reach_left, walks_left, left_in_table}
-use Rattle.rht_look.specs.declared.find.Head.{Head}
-use Rattle.rht_look.specs.declared.find.FindAt.{FindAt}
-use Rattle.rht_look.specs.declared.find.FindAt.TheVariants as at
-use Rattle.rht_look.proofs.FindStays.{find_stays}
+use Rattle.rht_find.specs.Find.{reached, walked_anew, chain_ended, led_to, led_on, compared, goes, locating, IsFindAtIn}
+use Rattle.rht_find.specs.FindBound.{IsLookOp, LoadsOnly, LeavesTable, StaysInTable, IsInTable, reach_left, walks_left, left_in_table}
+use Rattle.rht_find.specs.declared.find.Head.{Head}
+use Rattle.rht_find.specs.declared.find.FindAt.{FindAt}
+use Rattle.rht_find.specs.declared.find.FindAt.TheVariants as at
+use Rattle.rht_find.proofs.FindStays.{find_stays}
 
 -- ---- it only loads
 

@@ -1,7 +1,7 @@
 //! What a look-up does and how long it takes, whatever it finds. Each function is empty, and its clause
 //! is the law.
 
-ghost use Rattle.rht_look.specs.FindBound.{LoadsOnly, LeavesTable};
+ghost use Rattle.rht_find.specs.FindBound.{LoadsOnly, LeavesTable};
 
 /// In each state whatsoever a look-up loads a word, or turns the section word of its caller.
 pub fn loads_only()
