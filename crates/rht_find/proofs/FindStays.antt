@@ -1,6 +1,7 @@
 -- Whatever words it is told, a look-up stays in its table: a case a state.
 -- Slots, links and shapes are read totally, so what they name is there or is none.
 use Rattle.std.proofs.Common.{ℕ, ◌<◌, nat_lt, Option, Some, None, refl, arith}
+use Rattle.std.specs.Prelude.{IfSome}
 use Rattle.std.specs.Prelude.{◌==◌}
 use Rattle.std.proofs.lemmas.Bool.{cond_both, ltb-true}
 use Rattle.rht_words.specs.declared.env.Env.{Env}
@@ -15,7 +16,6 @@ use Rattle.rht_nest.specs.Reach.{ReachModel, reach_after}
 use Rattle.rht_nest.specs.declared.place.Bucket.{Bucket}
 use Rattle.rht_nest.specs.declared.place.Bucket.TheVariants as buckets
 use Rattle.rht_nest.proofs.Reaches.{ReachStays, reach_stays}
-use Rattle.rht_chain.specs.LockedWalk.{IsNodeOrNone}
 use Rattle.rht_find.specs.Find.{reached, walked_anew, chain_ended, led_to, led_on, compared, next_table, goes, IsHeadIn, IsFindAtIn}
 use Rattle.rht_find.specs.declared.find.Head.{Head}
 use Rattle.rht_find.specs.declared.find.FindAt.{FindAt}
@@ -43,7 +43,7 @@ module _ (mix : ℕ → ℕ → ℕ → ℕ) (env : Env) (port : ℕ) where
   chain_ended-in head link within =
       cond_both (link == marker_of head.place) _ _ IsIn (λ t. within.table_in) (λ f. walked_anew-in head within)
 
-  led_to-in : (head : Head) (visited link : ℕ) (node : Option ℕ) → IsHeadIn g head → IsNodeOrNone g node
+  led_to-in : (head : Head) (visited link : ℕ) (node : Option ℕ) → IsHeadIn g head → IfSome node (λ n. n < g.nodes)
       → IsIn (led_to g head visited link node)
   led_to-in head visited link None within node_in = chain_ended-in head link within
   led_to-in head visited link (Some node) within node_in =

@@ -4,3 +4,5 @@ pub mod FindStays
 pub mod FindPlanned
 -- a look-up leaves a table after a bounded number of operations
 pub mod FindBounds
+-- each operation of a look-up keeps what others rely on
+pub mod FindSteps

@@ -1,14 +1,15 @@
 -- The look-up of a port, which takes no lock: what each state performs, and what comes after it.
 use Rattle.std.specs.Prelude.{◌≡◌, ℕ, ◌+◌, ◌-◌, ◌^◌, ◌<◌, ◌≤◌, ◌==◌, nat_lt, Option, None, Some, if◌then◌else◌}
 use Rattle.rht_words.specs.declared.op.Op.{Op}
-use Rattle.rht_words.specs.declared.op.Op.TheVariants.{Load, Add}
+use Rattle.rht_words.specs.declared.op.Op.TheVariants.{Load}
 use Rattle.rht_words.specs.declared.machine.Next.{Next}
 use Rattle.rht_words.specs.declared.machine.Next.TheVariants.{Go, Done}
 use Rattle.rht_words.specs.declared.env.Env.{Env}
 use Rattle.rht_words.specs.declared.geometry.Geometry.{Geometry}
 use Rattle.rht_words.specs.Links.{table_of, slot_of, node_of, head_of, marker_of}
 use Rattle.rht_words.specs.Ports.{word_of, owner_of}
-use Rattle.rht_words.specs.Places.{CurrentTable, Section, Slot, FutureWord, Node, KeyWord, ChainLink, OwnerWord, IsBucketPlace, place_of}
+use Rattle.rht_words.specs.Places.{CurrentTable, Slot, FutureWord, Node, KeyWord, ChainLink, OwnerWord, IsBucketPlace, place_of}
+use Rattle.rht_grace.specs.Sections.{turning}
 use Rattle.rht_nest.specs.Reach.{ReachModel, reach_new, reach_plan, reach_after, IsReachIn}
 use Rattle.rht_nest.specs.declared.place.Bucket.{Bucket}
 use Rattle.rht_nest.specs.declared.place.Bucket.TheVariants as buckets
@@ -29,13 +30,9 @@ pub record FindModel : Type 0 where
 abbrev pub find_new : Env → ℕ → ℕ → FindModel
 find_new env caller port = record { env = env; caller = caller; port = port; at = at.Opening }
 
--- one more in the section word of its caller
-abbrev pub turns_section : Env → ℕ → Op
-turns_section env caller = Add (place_of env.geometry (Section caller)) 1
-
 -- the state's one operation
 abbrev pub plan_at : Env → ℕ → FindAt → Op
-plan_at env caller at.Opening = turns_section env caller
+plan_at env caller at.Opening = turning caller
 plan_at env caller at.CurrentTable = Load (place_of env.geometry CurrentTable)
 plan_at env caller (at.Locating reach) = reach_plan reach
 plan_at env caller (at.Heading head) = Load head.place
@@ -43,7 +40,7 @@ plan_at env caller (at.Key head node visited) = Load (place_of env.geometry (Nod
 plan_at env caller (at.Link head node visited) = Load (place_of env.geometry (Node node ChainLink))
 plan_at env caller (at.Future table) = Load (place_of env.geometry (Slot table FutureWord))
 plan_at env caller (at.Owner node) = Load (place_of env.geometry (Node node OwnerWord))
-plan_at env caller (at.Closing reply) = turns_section env caller
+plan_at env caller (at.Closing reply) = turning caller
 
 abbrev pub find_plan : FindModel → Op
 find_plan m = plan_at m.env m.caller m.at

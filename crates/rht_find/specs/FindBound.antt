@@ -8,7 +8,8 @@ use Rattle.rht_words.specs.declared.geometry.Geometry.{Geometry}
 use Rattle.rht_words.specs.Planned.{IsWord}
 use Rattle.rht_nest.specs.declared.reach.ReachAt.{ReachAt}
 use Rattle.rht_nest.specs.declared.reach.ReachAt.TheVariants as reaches
-use Rattle.rht_find.specs.Find.{turns_section, plan_at, goes, locating}
+use Rattle.rht_grace.specs.Sections.{turning}
+use Rattle.rht_find.specs.Find.{plan_at, goes, locating}
 use Rattle.rht_find.specs.declared.find.FindAt.{FindAt}
 use Rattle.rht_find.specs.declared.find.FindAt.TheVariants as at
 
@@ -16,7 +17,7 @@ use Rattle.rht_find.specs.declared.find.FindAt.TheVariants as at
 
 -- the operation loads a word, or turns the section word of this caller
 abbrev pub IsLookOp : Env → ℕ → Op → Type 0
-IsLookOp env caller op = ((place : ℕ) × (op ≡ Load place)) ⊎ (op ≡ turns_section env caller)
+IsLookOp env caller op = ((place : ℕ) × (op ≡ Load place)) ⊎ (op ≡ turning caller)
 
 -- so it is in each state whatsoever
 abbrev pub LoadsOnly : Type 0

@@ -1,4 +1,6 @@
 -- the look-up, state by state
 pub mod Find
+-- what a look-up holds
+pub mod FindHeld
 -- how many operations it takes in a table
 pub mod FindBound

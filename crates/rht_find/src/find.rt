@@ -5,8 +5,9 @@ ghost use Rattle.rht_words.specs.Operations.{op_place};
 ghost use Rattle.rht_words.specs.Places.{words_in};
 ghost use Rattle.rht_nest.specs.Place.{IsBucketIn};
 ghost use Rattle.rht_nest.specs.Reach.{reach_after, IsReachIn};
-ghost use Rattle.rht_find.specs.Find.{find_new, find_plan, find_after, goes, says, turns_section, locating, reached, headed, walked_anew, chain_ended, led_on, compared, next_table, IsHeadIn, IsFindAtIn};
+ghost use Rattle.rht_find.specs.Find.{find_new, find_plan, find_after, goes, says, locating, reached, headed, walked_anew, chain_ended, led_on, compared, next_table, IsHeadIn, IsFindAtIn};
 
+use rht_grace::{Enter, Leave};
 use rht_model::Reply;
 use rht_nest::{Bucket, Reach};
 use rht_policy::Mix;
@@ -106,7 +107,8 @@ impl<M: Mix> Find<M> {
     {
         let geometry = self.env.geometry;
         match self.at {
-            FindAt::Opening | FindAt::Closing { .. } => self.turns_section(),
+            FindAt::Opening => Enter::new(self.caller).plan(),
+            FindAt::Closing { .. } => Leave::new(self.caller).plan(),
             FindAt::CurrentTable => Op::load(places::current_table()),
             FindAt::Locating { reach } => reach.plan(),
             FindAt::Heading { head } => Op::load(head.place),
@@ -115,15 +117,6 @@ impl<M: Mix> Find<M> {
             FindAt::Future { table } => Op::load(places::future(table)),
             FindAt::Owner { node } => Op::load(geometry.owner(node)),
         }
-    }
-
-    /// One more in the caller's section word.
-    #[inline(always)]
-    fn turns_section(&self) -> Op
-        ensures turns { result ≡ turns_section self.now.env self.now.caller }
-        ensures place { op_place result < words_in self.now.env.geometry }
-    {
-        Op::add(places::section(self.caller), 1)
     }
 
     /// Takes in the word's old value.
