@@ -26,7 +26,7 @@ use Rattle.rht_nest.specs.declared.place.Bucket.TheVariants as buckets
 use Rattle.rht_nest.specs.declared.reach.ReachAt.{ReachAt}
 use Rattle.rht_nest.specs.declared.reach.ReachAt.TheVariants as reaches
 use Rattle.rht_find.specs.Find.{reached, walked_anew, chain_ended, led_to, led_on, compared, goes, locating, IsFindAtIn}
-use Rattle.rht_find.specs.FindBound.{IsLookOp, LoadsOnly, LeavesTable, StaysInTable, IsInTable, reach_left, walks_left, left_in_table}
+use Rattle.rht_find.specs.FindBound.{IsLookOp, LoadsOnly, LeavesTable, StaysInTable, IsInTable, reach_left, walks_left, left_in_table, table_steps, find_bound}
 use Rattle.rht_find.specs.declared.find.Head.{Head}
 use Rattle.rht_find.specs.declared.find.FindAt.{FindAt}
 use Rattle.rht_find.specs.declared.find.FindAt.TheVariants as at
@@ -205,3 +205,14 @@ module _ (mix : ℕ → ℕ → ℕ → ℕ) (env : Env) (port : ℕ) where
 pub leaves_table : LeavesTable
 leaves_table mix env port table words table_in told stays =
     few_left mix env port words (locating env table) (record { geometry_same = refl; table_in = table_in; at_in = tt }) told stays
+
+-- ---- in all tables
+
+-- the way to the current table, eight tables with their futures, and the closing of the section are within the bound
+pub within_bound : (env : Env) (made : ℕ) → made ≤ 2 + 8 * (table_steps env + 1) → made + 1 ≤ find_bound env
+within_bound env made most = go (env.config.rewalks) env.geometry.nodes most
+  where
+    -- of walks and nodes
+    go : (rewalks nodes : ℕ) → made ≤ 2 + 8 * (4 + (rewalks + 1) * (1 + 2 * nodes) + 1)
+        → made + 1 ≤ 4 + 8 * (4 + (rewalks + 1) * (4 + 2 * nodes))
+    go rewalks nodes most = omega (arith, most)

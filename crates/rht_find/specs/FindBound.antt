@@ -69,9 +69,17 @@ module _ (mix : ℕ → ℕ → ℕ → ℕ) (env : Env) (port : ℕ) where
   StaysInTable state [] = Unit {0}
   StaysInTable state (word ∷ words) = IsInTable state × StaysInTable (goes mix env port state word) words
 
+-- so many operations it takes in one table at most, before the load of the table's future, or of an owner
+abbrev pub table_steps : Env → ℕ
+table_steps env = 4 + (env.config.rewalks + 1) * walk_steps env.geometry
+
+-- so many operations a look-up takes at most in all, in at most eight tables
+abbrev pub find_bound : Env → ℕ
+find_bound env = 4 + 8 * (4 + (env.config.rewalks + 1) * (4 + 2 * env.geometry.nodes))
+
 -- whatever words it finds, a look-up that comes to a table is at its future, or at an owner, after at most so many operations
 abbrev pub LeavesTable : Type 0
 LeavesTable =
     (mix : ℕ → ℕ → ℕ → ℕ) (env : Env) (port table : ℕ) (words : List ℕ) → table < 8 → All IsWord words
     → StaysInTable mix env port (locating env table) words
-    → length words ≤ 4 + (env.config.rewalks + 1) * walk_steps env.geometry
+    → length words ≤ table_steps env
