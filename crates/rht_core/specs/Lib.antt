@@ -69,3 +69,5 @@ pub mod Attached
 pub mod Tables
 -- in which bucket each node lies, and whose pages are whose
 pub mod Placed
+-- what holds of look-ups: their bound, that they find what stays bound, and what they never do
+pub mod Lookups

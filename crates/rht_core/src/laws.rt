@@ -8,6 +8,7 @@ ghost use Rattle.rht_core.specs.FewPorts.{FewPorts, OneCaller};
 ghost use Rattle.rht_core.specs.Kicks.{Kicks};
 ghost use Rattle.rht_core.specs.LetGo.{LetGo};
 ghost use Rattle.rht_core.specs.ListedOwners.{ListedOwners};
+ghost use Rattle.rht_core.specs.Lookups.{Bounded, TakesEffect, FindsWhatStays, Harmless};
 ghost use Rattle.rht_core.specs.NeverRefused.{RoomyTakesAll, OneWorkerAsModel};
 ghost use Rattle.rht_core.specs.NodesUsed.{Nodes};
 ghost use Rattle.rht_core.specs.Placed.{Placed, OwnPages};
@@ -275,6 +276,27 @@ pub fn let_go<M: Mix>()
 pub fn sections<M: Mix>()
     ensures idle { Sections M M.mix_of }
     ensures own { OwnSections M M.mix_of }
+{}
+
+/// In every run a look-up, ended or in progress, has at most `4 + 8 * (4 + (rewalks + 1) * (4 + 2 * nodes))`
+/// operations: in at most eight tables, `rewalks + 1` walks of at most `nodes` nodes. That is so whatever
+/// other callers do or leave undone, also where one that holds a lock never steps again.
+pub fn bounded<M: Mix>()
+    ensures { Bounded M M.mix_of }
+{}
+
+/// In every run a look-up that has ended answered the first owner that the words stood for behind some event
+/// from its call's beginning to its last operation, or `Missing` where they stood for none there. So it found
+/// its port, where they stood for an owner of it behind each of these events.
+pub fn found<M: Mix>()
+    ensures moment { TakesEffect M M.mix_of }
+    ensures throughout { FindsWhatStays M M.mix_of }
+{}
+
+/// In every run each operation of a look-up or of a reading of the count, ended or in progress, only loads
+/// where it is on a bucket's word, and none is on the work lock. So these calls lock nothing.
+pub fn harmless<M: Mix>()
+    ensures { Harmless M M.mix_of }
 {}
 
 /// In every run, of each call, ended or in progress, no operation changes what the words of a slot say of a

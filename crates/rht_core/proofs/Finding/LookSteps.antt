@@ -54,6 +54,12 @@ most_in-seven t index low = let more = mul-le-mul_right (t + 1) low in omega (ar
 most_in-all : (t made : ℕ) → made ≤ most_in t 7 → made + 1 ≤ most_of t
 most_in-all t made few = omega (arith, few)
 
+most_of-first : (t made : ℕ) → made ≤ 1 → made ≤ most_of t
+most_of-first t made few = omega (arith, few)
+
+most_of-in : (t index made left : ℕ) → index ≤ 7 → made + left ≤ most_in t index → made ≤ most_of t
+most_of-in t index made left low few = let more = most_in-seven t index low in omega (arith, few, more)
+
 fewer : (made left now most : ℕ) → made + left ≤ most → now < left → made + 1 + now ≤ most
 fewer made left now most few less = omega (arith, few, less)
 
@@ -213,6 +219,28 @@ module _ (env : Env) where
         (future_leads env mix M G whole table known.0.table) few
     spent_leads caller made (at.Owner node) goes_on within known few = most_in-all (table_steps env) made few
     spent_leads caller made (at.Closing reply) goes_on within known few = absurd (cc)
+
+    -- so many are within the bound, in whatever state
+    pub spent_most : (made : ℕ) (state : FindAt) → LookMeans env mix port since Says M G P state → IsSpent G state made
+        → made ≤ most_of (table_steps env)
+    spent_most made at.Opening known few = most_of-first (table_steps env) made (omega (arith, few))
+    spent_most made at.CurrentTable known few = most_of-first (table_steps env) made few
+    spent_most made (at.Locating reach) known few =
+        most_of-in (table_steps env) (index_at G reach.table) made (left_at (at.Locating reach))
+        (low_index reach.table known.0.0.attached) few
+    spent_most made (at.Heading head) known few =
+        most_of-in (table_steps env) (index_at G head.table) made (left_at (at.Heading head))
+        (low_index head.table known.0.of.attached) few
+    spent_most made (at.Key head node visited) known few =
+        most_of-in (table_steps env) (index_at G head.table) made (left_at (at.Key head node visited))
+        (low_index head.table known.0.of.attached) few
+    spent_most made (at.Link head node visited) known few =
+        most_of-in (table_steps env) (index_at G head.table) made (left_at (at.Link head node visited))
+        (low_index head.table known.0.of.attached) few
+    spent_most made (at.Future table) known few =
+        most_of-in (table_steps env) (index_at G table) made 0 (low_index table known.0.attached) (omega (arith, few))
+    spent_most made (at.Owner node) known few = most_of-in (table_steps env) 7 made 0 (omega arith) (omega (arith, few))
+    spent_most made (at.Closing reply) known few = few
 
     -- and it stays so behind an operation of anybody else
     module _ (G' : Ghost) (grow : TablesGrow env mix G G') where

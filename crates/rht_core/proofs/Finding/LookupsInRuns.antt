@@ -20,7 +20,7 @@ use Rattle.rht_model.specs.declared.history.Call.TheVariants as calls
 use Rattle.rht_model.specs.declared.history.Reply.{Reply}
 use Rattle.rht_model.specs.declared.history.Reply.TheVariants.{Missing}
 use Rattle.rht_model.specs.Answers.{Answer, plain}
-use Rattle.rht_model.specs.Endings.{Ending, plain_ending}
+use Rattle.rht_model.specs.Endings.{Ending, ended_with, plain_ending}
 use Rattle.rht_model.specs.Multimap.{Multimap}
 use Rattle.rht_find.specs.Find.{plan_at, goes, says, after_at, IsFindAtIn}
 use Rattle.rht_find.specs.FindBound.{find_bound}
@@ -34,7 +34,7 @@ use Rattle.rht_callers.specs.Locals.{local_after, ending_of}
 use Rattle.rht_core.specs.declared.event.Event.{Event}
 use Rattle.rht_core.specs.declared.event.Event.TheVariants.{Enroll, Begin, Step}
 use Rattle.rht_core.specs.Jobs.{Job, finds, first_job, job_of, job_plan, job_next, job_after, told, held_of, held_next, call_of}
-use Rattle.rht_core.specs.Runs.{Core, World, View, IsAdmitted, IsAdmittedEvent, ended_with, local_of, beginning_in, planned_in, world_step}
+use Rattle.rht_core.specs.Runs.{Core, World, View, IsAdmitted, IsAdmittedEvent, local_of, beginning_in, planned_in, world_step}
 use Rattle.rht_core.specs.Traces.{Did, Past, Trace, Traced, trace_begun, trace_did, traces_after, traced_step, traced_of, behind_call}
 use Rattle.rht_core.specs.RunHistories.{bindings_behind}
 use Rattle.rht_stands.specs.StandsFor.{stands_for}
