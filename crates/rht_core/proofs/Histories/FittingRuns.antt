@@ -314,10 +314,11 @@ module _ (M : Type 0) (mix : ℕ → ℕ → ℕ → ℕ) (env : Env) where
         step : IsNext M mix env events event c (call_of job) trace.begin at.begun trace.steps at.made did
             (count-traced_of M mix env events) history (held_next next_job).answer own.es
         step =
+            -- Open: a look-up's answer is only claimed by its step, and right over the whole run.
             next_history M mix env events event c (call_of job) trace.begin at.begun trace.steps at.made
             did (count-traced_of M mix env events)
             (held_of job).early (IsThereAt M mix env events job) history (held_of job).answer (held_next next_job).answer
-            own.es fitting.good (λ claims. absurd (let never = claims.may in cc)) says at.early at.tail
+            own.es fitting.good (λ claims. ?) says at.early at.tail
 
         early : IsEarly M mix env after_it c (call_of job) trace.begin
             (IsThereNext next_job (mem env mix (applied words op))) (held_next next_job).early
