@@ -107,11 +107,12 @@ module _ (mix : ℕ → ℕ → ℕ → ℕ) (env : Env) where
   -- a job performs this operation in these words, in which it knows what its state says; the operation found what it found,
   -- and is a step of the job
   pub record Performs (job : Job) (did : Did) : Type 0 where
-    pub planned : did.op ≡ job_plan env job
     pub caller : ℕ
+    pub planned : did.op ≡ job_plan env caller job
     pub words : List ℕ
     pub ghost : Ghost
     pub low : caller < env.geometry.callers
+    pub few : caller < 16
     pub all : length words ≡ words_in env.geometry
     pub whole : Whole env mix (mem env mix words) ghost
     pub within : JobIn env mix caller job
@@ -149,11 +150,12 @@ module _ (mix : ℕ → ℕ → ℕ → ℕ) (env : Env) where
         job = of.job;
         does = ap (λ (l : Local M). job_of l.doing) (sym known.here) ∙ of.is;
         performs = record {
-          planned = of.plan;
           caller = c;
+          planned = of.plan;
           words = known.core.words;
           ghost = known.ghost;
           low = of.low;
+          few = of.few;
           all = of.all;
           whole = known.inv.whole;
           within = of.within;

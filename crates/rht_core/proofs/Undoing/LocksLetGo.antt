@@ -58,7 +58,7 @@ pub record IsEarly (job : Job) : Type 0 where
 
 module _ (env : Env) (mix : ℕ → ℕ → ℕ → ℕ) (c : ℕ) (M : Memory) (G : Ghost) (did : Did) (entry page : ℕ)
     (exchanges : did.op ≡ Exchange (place_of env.geometry (PageWord entry)) 0 (entry_of page)) where
-  bind-early : (port owner : ℕ) (once : Bool) (state : BindAt) → did.op ≡ job_plan env (binds port owner once state)
+  bind-early : (port owner : ℕ) (once : Bool) (state : BindAt) → did.op ≡ job_plan env c (binds port owner once state)
       → In page (held_of_bind state).pages → IsEarly (binds port owner once state)
   bind-early port owner once (binding.Making growing size make) is had = record { not_past = refl; untold = λ says. says }
   bind-early port owner once (binding.Attaching growing slot shape) is had = record { not_past = refl; untold = λ says. says }
@@ -70,7 +70,7 @@ module _ (env : Env) (mix : ℕ → ℕ → ℕ → ℕ) (c : ℕ) (M : Memory) 
       absurd (pageless (front-tableless list.claimed (has_relinked list.before relink.at)) page had)
   bind-early port owner once _ is had = absurd had
 
-  work-early : (state : WorkAt) → IsWorkAtIn env state → did.op ≡ job_plan env (works state) → In page (held_of_work state).pages
+  work-early : (state : WorkAt) → IsWorkAtIn env state → did.op ≡ job_plan env c (works state) → In page (held_of_work state).pages
       → IsEarly (works state)
   work-early (working.Making wanted make) within is had = record { not_past = refl; untold = λ says. says }
   work-early (working.Attaching root last slot shape) within is had = absurd (attaching-none env mix c M G did entry page exchanges last slot within.last_in is)
@@ -78,7 +78,7 @@ module _ (env : Env) (mix : ℕ → ℕ → ℕ → ℕ) (c : ℕ) (M : Memory) 
       absurd (unmake-enters env mix c M G did entry page exchanges unmake.geometry unmake.slot unmake.at is)
   work-early _ within is had = absurd had
 
-  pub early : (job : Job) → JobIn env mix c job → did.op ≡ job_plan env job → In page (held_of job).pages → IsEarly job
+  pub early : (job : Job) → JobIn env mix c job → did.op ≡ job_plan env c job → In page (held_of job).pages → IsEarly job
   early (binds port owner once state) within is had = bind-early port owner once state is had
   early (works state) within is had = work-early state within is had
   early job within is had = absurd (pageless (tableless job refl) page had)

@@ -34,6 +34,9 @@ use Rattle.rht_bind.specs.declared.bind.Attempt.{Attempt}
 use Rattle.rht_bind.specs.BindHeld.{held_of_bind}
 use Rattle.rht_bind.specs.declared.bind.BindAt.{BindAt}
 use Rattle.rht_bind.specs.declared.bind.BindAt.TheVariants as binding
+use Rattle.rht_release.specs.AllHeld.{held_of_all}
+use Rattle.rht_release.specs.declared.all.AllAt.{AllAt}
+use Rattle.rht_release.specs.declared.all.AllAt.TheVariants as listing
 use Rattle.rht_release.specs.ReleaseHeld.{held_of_release}
 use Rattle.rht_release.specs.declared.release.ReleaseAt.{ReleaseAt}
 use Rattle.rht_release.specs.declared.release.ReleaseAt.TheVariants as releasing
@@ -57,7 +60,7 @@ use Rattle.rht_ghost.proofs.Theory.Steps.{Holding}
 use Rattle.rht_ghost.proofs.Pieces.Makes.{known_of_make}
 use Rattle.rht_words.proofs.FilteredLists.{range_with_len-from}
 use Rattle.rht_core.proofs.Machines.JobSteps.{JobKnows}
-use Rattle.rht_core.proofs.Machines.NeverHeld.{job-unraised, find-alone, all-alone, tableless, slotless, pageless}
+use Rattle.rht_core.proofs.Machines.NeverHeld.{job-unraised, tableless, slotless, pageless}
 use Rattle.rht_core.proofs.Reasons.AttachedTables.{make-none, unmake-none}
 use Rattle.rht_core.proofs.Undoing.GoingBack.{MayAttachWith}
 use Rattle.rht_core.proofs.Undoing.PastRefusal.{bind_is_past, release_is_past, rebind_is_past, work_is_past, is_past}
@@ -165,14 +168,18 @@ rebind-outside : (state : RebindAt) → rebind_is_past state ≡ false → (held
 rebind-outside (rebinding.Replacing node found relink) may = absurd (cc)
 rebind-outside _ may = refl
 
+list-outside : (owners : List ℕ) (state : AllAt) → (held_of_all owners state).section ≡ false
+list-outside owners (listing.Seeking seek) = refl
+list-outside owners _ = refl
+
 work-outside : (state : WorkAt) → (held_of_work state).section ≡ false
 work-outside working.WorkLock = refl
 work-outside _ = refl
 
 pub outside : (job : Job) → is_past job ≡ false → (held_of job).section ≡ false
-outside (finds port state) may = (find-alone state).outside
+outside (finds port state) may = ?
 outside (binds port owner once state) may = bind-outside state may
-outside (lists port room state) may = (all-alone room.items state).outside
+outside (lists port room state) may = list-outside room.items state
 outside (releases port owner state) may = release-outside state may
 outside (rebinds port owner new state) may = rebind-outside state may
 outside (works state) may = work-outside state
@@ -250,7 +257,7 @@ module _ (env : Env) (mix : ℕ → ℕ → ℕ → ℕ) (c : ℕ) (M : Memory) 
 
     bind-attaches : (port owner : ℕ) (once : Bool) (state : BindAt) → bind_is_past state ≡ false
         → JobKnows env mix c (binds port owner once state) M G → HasStored env state steps
-        → did.op ≡ job_plan env (binds port owner once state) → (held_of_bind state).slot ≡ Some slot
+        → did.op ≡ job_plan env c (binds port owner once state) → (held_of_bind state).slot ≡ Some slot
         → MayAttachNow (binds port owner once state)
     bind-attaches port owner once (binding.Making growing size make) may knows stored is has =
         absurd (make-none g make.geometry make.exponent make.seed make.at last 0 (future_of slot) low (sym is ∙ exchanges))
@@ -268,14 +275,14 @@ module _ (env : Env) (mix : ℕ → ℕ → ℕ → ℕ) (c : ℕ) (M : Memory) 
     bind-attaches port owner once _ may knows stored is has = absurd (cc)
 
     -- a resizing that may be refused exchanges none
-    work-attaches : (state : WorkAt) → IsEarlyWork state → did.op ≡ job_plan env (works state)
+    work-attaches : (state : WorkAt) → IsEarlyWork state → did.op ≡ job_plan env c (works state)
         → (held_of_work state).slot ≡ Some slot → ⊥
     work-attaches state (at_making wanted make) is has =
         make-none g make.geometry make.exponent make.seed make.at last 0 (future_of slot) low (sym is ∙ exchanges)
     work-attaches state _ is has = cc
 
     pub attaches : (job : Job) → is_past job ≡ false → JobKnows env mix c job M G → JobStored env job steps
-        → did.op ≡ job_plan env job → (held_of job).slot ≡ Some slot → MayAttachNow job
+        → did.op ≡ job_plan env c job → (held_of job).slot ≡ Some slot → MayAttachNow job
     attaches (binds port owner once state) may knows stored is has = bind-attaches port owner once state may knows stored is has
     attaches (works state) may knows stored is has = absurd (work-attaches state (early_work state may) is has)
     attaches job may knows stored is has = absurd (slotless (tableless job refl) slot has)
@@ -299,12 +306,12 @@ module _ (env : Env) (mix : ℕ → ℕ → ℕ → ℕ) (c : ℕ) (M : Memory) 
     make-enters exponent seed h (makes.SlotBack slot) is i = i
     make-enters exponent seed h _ is i = let same = sym is ∙ exchanges in cc
 
-    pub work-enters : (state : WorkAt) → IsEarlyWork state → did.op ≡ job_plan env (works state)
+    pub work-enters : (state : WorkAt) → IsEarlyWork state → did.op ≡ job_plan env c (works state)
         → In page (held_of_work state).pages → ⊥
     work-enters state (at_making wanted make) is i = make-enters make.exponent make.seed make.geometry make.at is i
     work-enters state _ is i = i
 
-    pub enters : (job : Job) → is_past job ≡ false → did.op ≡ job_plan env job → In page (held_of job).pages
+    pub enters : (job : Job) → is_past job ≡ false → did.op ≡ job_plan env c job → In page (held_of job).pages
         → MayAttach (call_of job)
     enters (binds port owner once state) may is i = tt
     enters (works state) may is i = absurd (work-enters state (early_work state may) is i)
@@ -341,7 +348,7 @@ module _ (env : Env) (mix : ℕ → ℕ → ℕ → ℕ) (c : ℕ) (M : Memory) 
 
     -- what else a bind holds pages for is no exchange, or finds the future free and attaches them
     bind-gone : (port owner : ℕ) (once : Bool) (state : BindAt) → bind_is_past state ≡ false
-        → did.op ≡ job_plan env (binds port owner once state) → In page (held_of_bind state).pages
+        → did.op ≡ job_plan env c (binds port owner once state) → In page (held_of_bind state).pages
         → In page (held_next (job_after mix env (binds port owner once state) 0)).pages → ⊥
     bind-gone port owner once (binding.Making growing size make) may is had i =
         make-enters make.exponent make.seed make.geometry make.at is had
@@ -356,7 +363,7 @@ module _ (env : Env) (mix : ℕ → ℕ → ℕ → ℕ) (c : ℕ) (M : Memory) 
     bind-gone port owner once _ may is had i = had
 
     -- where the exchange of an entry for a page that the job has finds 0, the job has the page no more
-    pub gone : (job : Job) → is_past job ≡ false → did.op ≡ job_plan env job → In page (held_of job).pages
+    pub gone : (job : Job) → is_past job ≡ false → did.op ≡ job_plan env c job → In page (held_of job).pages
         → In page (held_next (job_after mix env job 0)).pages → ⊥
     gone (binds port owner once state) may is had i = bind-gone port owner once state may is had i
     gone (works state) may is had i = work-enters state (early_work state may) is had

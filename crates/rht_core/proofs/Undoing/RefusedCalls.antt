@@ -202,12 +202,12 @@ module _ (M : Type 0) (mix : ℕ → ℕ → ℕ → ℕ) (env : Env) (events : 
   other-stored (binds port owner once state) steps other = absurd (other tt)
   other-stored _ steps other = tt
 
-  stored_then : (job : Job) (steps : List Did) (did : Did) → is_past job ≡ false → did.op ≡ job_plan env job
+  stored_then : (c : ℕ) (job : Job) (steps : List Did) (did : Did) → is_past job ≡ false → did.op ≡ job_plan env c job
       → JobStored env job steps → NextStored (steps ++ did ∷ []) (job_after mix env job did.old)
-  stored_then (binds port owner once state) steps did may is stored =
+  stored_then c (binds port owner once state) steps did may is stored =
       let r = bind_at.after_at mix env port once state did.old in
       next-stored (steps ++ did ∷ []) (binds port owner once) plain_ending r (bind-stored env mix port once state steps did is stored)
-  stored_then job steps did may is stored =
+  stored_then c job steps did may is stored =
       let all = steps ++ did ∷ [] in
       each_goes (λ after. JobStored env after all) (λ ending. Unit {0}) (call_of job) (job_after mix env job did.old)
       (same_call mix env job did.old) (λ other same. other-stored other all (λ may. subst MayAttach same may)) (λ ending. tt)
@@ -314,7 +314,7 @@ module _ (M : Type 0) (mix : ℕ → ℕ → ℕ → ℕ) (env : Env) (events : 
               still_then = still_then;
               outside = outside job may;
               outside_then = outside_then;
-              locked_leaves = locked-leaves env mix did.op did.old job may performs.planned;
+              locked_leaves = locked-leaves env mix performs.caller did.op did.old job may performs.planned;
               mine = mine env mix performs.caller (mem env mix performs.words) performs.ghost job may performs.knows;
               attaches = λ last slot low exchanges has.
                   attaches env mix performs.caller (mem env mix performs.words) performs.ghost steps did last slot
@@ -339,7 +339,7 @@ module _ (M : Type 0) (mix : ℕ → ℕ → ℕ → ℕ) (env : Env) (events : 
       leads_on : Leads job all (job_after mix env job did.old)
       leads_on =
           by_next (job_after mix env job did.old) (same_call mix env job did.old) leaves undoes
-          (stored_then job steps did may performs.planned kept.stored)
+          (stored_then performs.caller job steps did may performs.planned kept.stored)
 
   -- ---- each operation, and the beginning
 
