@@ -163,10 +163,10 @@ module _ (env : Env) where
     few_attached : G.attached ≤ 8
     few_attached =
         few_tables (λ τ. (G.table τ).slot) 0 G.attached (record {
-          within = λ τ low l. (whole.tables.each τ l).slot_in;
+          within = λ τ low l. (whole.tables.each τ (omega (arith, l))).slot_in;
           own = λ τ σ low less l same.
               let first = (whole.tables.each τ (omega (arith, less, l))).index in
-              let second = (whole.tables.each σ l).index in
+              let second = (whole.tables.each σ (omega (arith, l))).index in
               let both : τ ≡ σ = sym first ∙ ap (index_at G) same ∙ second in
               omega (arith, less, both);
         })

@@ -225,8 +225,8 @@ module _ (env : Env) (mix : ℕ → ℕ → ℕ → ℕ) (port since : ℕ) (Say
       → StageMeans env mix port since (Says' Missing) M G P stage
   stage_says (Reaching slot) known = (known.0, or_else known.1)
   stage_says (Heading slot j) known = (known.0, or_else known.1)
-  stage_says (AtKey slot j m visited) known = (known.0, known.1.0, or_else known.1.1)
-  stage_says (AtLink slot j m visited) known = (known.0, known.1.0, or_else known.1.1)
+  stage_says (AtKey slot j m visited) known = (known.0, known.1, or_else known.2)
+  stage_says (AtLink slot j m visited) known = (known.0, known.1, or_else known.2)
   stage_says (Ending slot) known = (known.0, or_else known.1)
   stage_says (Owning m) known = known
 

@@ -152,6 +152,7 @@ module _ (L : Type 0) (mix : ℕ → ℕ → ℕ → ℕ) (env : Env) where
         → LookMeans env mix port (begin + 1) Says (mem env mix core.words) placed.ghost placed.places state
         → IsSpent env placed.ghost state made
         → Looks more core' placed' c port begin made state
+    unfolding next
     outlives c port begin made begun Says said state known spent = record {
       begun = omega (arith, longer, begun);
       means = look_stays env mix port (begin + 1) (length events) (mem env mix core.words) placed.ghost placed.places
@@ -465,8 +466,8 @@ module _ (L : Type 0) (mix : ℕ → ℕ → ℕ → ℕ) (env : Env) where
     abbrev makes : Makes events (Step c) looking
     makes = makes_at events (Step c) looking tt
 
-    abbrev more : List Event
-    more = events ++ Step c ∷ []
+    abbrev later : List Event
+    later = events ++ Step c ∷ []
 
     abbrev begin : ℕ
     begin = ((R events).traces c).begin
@@ -475,7 +476,7 @@ module _ (L : Type 0) (mix : ℕ → ℕ → ℕ → ℕ) (env : Env) where
     words = (R events).world.core.words
 
     abbrev Said : ℕ → Answer → Type 0
-    Said port answer = IsSaid L mix env more c (calls.Find port) begin answer
+    Said port answer = IsSaid L mix env later c (calls.Find port) begin answer
 
     -- an answer is known from the state before the last operation on
     done-known : (state : FindAt) (reply : Reply) → says state ≡ Done reply → (held_of_find state).answer ≢ None
@@ -483,7 +484,7 @@ module _ (L : Type 0) (mix : ℕ → ℕ → ℕ → ℕ) (env : Env) where
     done-known _ reply is none = absurd (cc)
 
     said_so : {M : Memory} {G : Ghost} {P : Places} (port : ℕ) (state : FindAt) (answer : Answer)
-        → LookMeans env mix port (begin + 1) (SaysOf more c port begin) M G P state
+        → LookMeans env mix port (begin + 1) (SaysOf later c port begin) M G P state
         → (held_of_find state).answer ≡ Some answer → Said port answer
     said_so port (at.Closing reply) answer means known = let same : plain reply ≡ answer = cc in subst (Said port) same means
     said_so port _ answer means known = absurd (cc)
@@ -491,7 +492,7 @@ module _ (L : Type 0) (mix : ℕ → ℕ → ℕ → ℕ) (env : Env) where
     pub claim_is : (job : Job) → job_of (local_of (R events).world.core c).doing ≡ Some job → JobIn env mix c job
         → (claims : ClaimsAnswer kind c (call_of job) (held_of job).answer
         (held_next (job_after mix env job (old_of words (job_plan env c job)))).answer)
-        → IsSaid L mix env more c (call_of job) begin claims.answer
+        → IsSaid L mix env later c (call_of job) begin claims.answer
     claim_is (finds port state) is within claims = go (says state) refl claims.known
       where
         made : ℕ

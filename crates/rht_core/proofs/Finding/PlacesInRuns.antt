@@ -145,7 +145,7 @@ module _ (env : Env) (mix : ℕ → ℕ → ℕ → ℕ) (L : Type 0) where
         }
 
     -- so the invariant holds behind it
-    pub next : Placed more core'
+    unfoldable pub next : Placed more core'
     next = record {
       ghost = G';
       inv = record {
@@ -190,7 +190,7 @@ module _ (env : Env) (mix : ℕ → ℕ → ℕ → ℕ) (L : Type 0) where
   module _ (events : List Event) (w : World L)
       (stands : bindings_at L mix env events ≡ stands_for env.geometry w.core.words)
       (placed : Placed events w.core) where
-    core : Core L
+    abbrev core : Core L
     core = w.core
 
     abbrev Makes : Event → Type 0
