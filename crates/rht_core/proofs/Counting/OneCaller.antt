@@ -278,6 +278,7 @@ module _ (L : Type 0) (mix : ℕ → ℕ → ℕ → ℕ) (env : Env) (keeps : e
         words = w.core.words;
         ghost = has.ghost;
         low = of.low;
+        few = of.few;
         all = of.all;
         whole = has.inv.whole;
         within = of.within;

@@ -1,4 +1,4 @@
--- What a job holds and does that may still be refused, or that ends without a change: it has raised no count, moves nothing, and is in no read section. Where it
+-- What a job holds and does that may still be refused, or that ends without a change: it has raised no count, and moves nothing. Where it
 -- takes nodes or makes tables it has a node where it has a lock, and else it holds a lock at most. Its pages are its own, the one exchange
 -- of a future is that of a bind which attaches the table that it has made, and a page that it enters is none of its own any more.
 use Rattle.std.proofs.Common.{◌≡◌, ◌≢◌, ℕ, ◌+◌, ◌<◌, Bool, false, List, Option, Some, None, refl, sym, ◌∙◌, subst, arith}
@@ -34,9 +34,6 @@ use Rattle.rht_bind.specs.declared.bind.Attempt.{Attempt}
 use Rattle.rht_bind.specs.BindHeld.{held_of_bind}
 use Rattle.rht_bind.specs.declared.bind.BindAt.{BindAt}
 use Rattle.rht_bind.specs.declared.bind.BindAt.TheVariants as binding
-use Rattle.rht_release.specs.AllHeld.{held_of_all}
-use Rattle.rht_release.specs.declared.all.AllAt.{AllAt}
-use Rattle.rht_release.specs.declared.all.AllAt.TheVariants as listing
 use Rattle.rht_release.specs.ReleaseHeld.{held_of_release}
 use Rattle.rht_release.specs.declared.release.ReleaseAt.{ReleaseAt}
 use Rattle.rht_release.specs.declared.release.ReleaseAt.TheVariants as releasing
@@ -153,37 +150,6 @@ refusable (releases port owner state) may =
     record { low = release-low state may; still = (tableless (releases port owner state) refl).still }
 refusable (works state) may = (work-refusable state (early_work state may)).refusable
 refusable job may = record { low = job-unraised job; still = (tableless job refl).still }
-
--- no machine opens a read section yet
-bind-outside : (state : BindAt) → bind_is_past state ≡ false → (held_of_bind state).section ≡ false
-bind-outside (binding.Replacing list relink) may = absurd (cc)
-bind-outside _ may = refl
-
-release-outside : (state : ReleaseAt) → release_is_past state ≡ false → (held_of_release state).section ≡ false
-release-outside (releasing.Promoting found relink) may = absurd (cc)
-release-outside (releasing.Unlinking found relink) may = absurd (cc)
-release-outside _ may = refl
-
-rebind-outside : (state : RebindAt) → rebind_is_past state ≡ false → (held_of_rebind state).section ≡ false
-rebind-outside (rebinding.Replacing node found relink) may = absurd (cc)
-rebind-outside _ may = refl
-
-list-outside : (owners : List ℕ) (state : AllAt) → (held_of_all owners state).section ≡ false
-list-outside owners (listing.Seeking seek) = refl
-list-outside owners _ = refl
-
-work-outside : (state : WorkAt) → (held_of_work state).section ≡ false
-work-outside working.WorkLock = refl
-work-outside _ = refl
-
-pub outside : (job : Job) → is_past job ≡ false → (held_of job).section ≡ false
-outside (finds port state) may = ?
-outside (binds port owner once state) may = bind-outside state may
-outside (lists port room state) may = list-outside room.items state
-outside (releases port owner state) may = release-outside state may
-outside (rebinds port owner new state) may = rebind-outside state may
-outside (works state) may = work-outside state
-outside _ may = refl
 
 -- what it has stored for a table that it makes
 abbrev pub JobStored : Env → Job → List Did → Type 0
