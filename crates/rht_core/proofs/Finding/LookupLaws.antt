@@ -6,8 +6,8 @@ use Rattle.rht_words.proofs.EachElement.{AllByRecursion-weaker}
 use Rattle.rht_model.specs.declared.history.Call.{Call}
 use Rattle.rht_model.specs.declared.history.Call.TheVariants.{Find}
 use Rattle.rht_model.specs.declared.history.Reply.{Reply}
-use Rattle.rht_model.specs.declared.history.Reply.TheVariants.{Bound, Released, Found}
-use Rattle.rht_model.specs.Answers.{find_reply}
+use Rattle.rht_model.specs.declared.history.Reply.TheVariants.{Bound, Released, Found, Missing}
+use Rattle.rht_model.specs.Answers.{Answer, find_reply}
 use Rattle.rht_model.specs.Histories.{without_kick}
 use Rattle.rht_find.specs.FindBound.{find_bound, table_steps}
 use Rattle.rht_find.proofs.FindBounds.{within_bound}
@@ -29,6 +29,11 @@ plain_reply (Bound kick) (first ∷ others) is = absurd (cc)
 plain_reply (Released kick) [] is = absurd (cc)
 plain_reply (Released kick) (first ∷ others) is = absurd (cc)
 plain_reply _ owners is = sym is
+
+-- the reply of an answer, where there is one
+abbrev reply_in : Option Answer → Reply
+reply_in None = Missing
+reply_in (Some answer) = answer.reply
 
 -- where there is an owner it is found
 found_one : (owners : List ℕ) (reply : Reply) → owners ≢ [] → reply ≡ find_reply owners → (owner : ℕ) × (reply ≡ Found owner)
@@ -75,7 +80,7 @@ module _ (L : Type 0) (mix : ℕ → ℕ → ℕ → ℕ) (env : Env) (events : 
         before = had.before;
         reply = elim had.said [
           | inl legal ↦ elim legal.legal [
-            | inl answered ↦ plain_reply past.done.reply owners (let same = answered in cc)
+            | inl answered ↦ plain_reply past.done.reply owners (ap reply_in answered)
             | inr refused ↦ absurd refused.0
           ]
           | inr not_about ↦ absurd (cc)

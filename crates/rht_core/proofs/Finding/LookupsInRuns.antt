@@ -131,7 +131,7 @@ module _ (L : Type 0) (mix : ℕ → ℕ → ℕ → ℕ) (env : Env) where
     abbrev placed : Placed env mix L events core
     placed = looking.placed
 
-    stands : bindings_at L mix env events ≡ stands_for env.geometry core.words
+    abbrev stands : bindings_at L mix env events ≡ stands_for env.geometry core.words
     stands = end-is L mix env events
 
     abbrev placed' : Placed env mix L more core'
@@ -263,7 +263,7 @@ module _ (L : Type 0) (mix : ℕ → ℕ → ℕ → ℕ) (env : Env) where
       }
       find-then port state (next, Done reply) within looks goes is looked =
           let ended = ends_with c port trace.begin (length trace.steps) state reply is looks in
-          let said = said-later c port trace.begin reply ended.0 in
+          let at = ended.0.at in
           let early = ended.0.so_far in
           record {
             past = AllByRecursion-push (PastLooks more c) trace.past _ (pasts-later c trace.past looked) (λ asked same.
@@ -274,11 +274,12 @@ module _ (L : Type 0) (mix : ℕ → ℕ → ℕ → ℕ) (env : Env) where
                   steps = trace.steps ++ did ∷ [];
                 })) port_is (record {
                   short = (let few = ended.1 in omega (arith, few, length_push trace.steps did));
-                  at = said.at;
-                  begun = said.begun;
+                  at = at;
+                  begun = ended.0.begun;
                   before = omega (arith, early, index, behind_steps-push (trace.begin + 1) trace.steps did);
-                  so_far = said.so_far;
-                  said = said.said;
+                  so_far = omega (arith, longer, early);
+                  said = subst (λ (b : Multimap). IsSaidOn kind c (calls.Find port) b (plain reply))
+                      (sym (behind-more L mix env events event (at + 1) (omega (arith, early)))) ended.0.said;
                 }));
             now = tt;
           }
@@ -459,12 +460,12 @@ module _ (L : Type 0) (mix : ℕ → ℕ → ℕ → ℕ) (env : Env) where
   -- ---- what a look-up claims
 
   -- what a look-up answers while it closes its section was so
-  module _ (events : List Event) (c : ℕ) (admitted : IsAdmitted kind events) where
+  module _ (events : List Event) (c : ℕ) (low : c < env.geometry.callers) (admitted : IsAdmitted kind events) where
     abbrev looking : AreLooking events (R events)
     looking = has_looks events admitted
 
     abbrev makes : Makes events (Step c) looking
-    makes = makes_at events (Step c) looking tt
+    makes = makes_at events (Step c) looking (let few = env.geometry.within.callers_within in omega (arith, low, few.1))
 
     abbrev later : List Event
     later = events ++ Step c ∷ []
@@ -483,11 +484,11 @@ module _ (L : Type 0) (mix : ℕ → ℕ → ℕ → ℕ) (env : Env) where
     done-known (at.Closing told) reply is none = absurd (cc)
     done-known _ reply is none = absurd (cc)
 
-    said_so : {M : Memory} {G : Ghost} {P : Places} (port : ℕ) (state : FindAt) (answer : Answer)
+    said_so : (M : Memory) (G : Ghost) (P : Places) (port : ℕ) (state : FindAt) (answer : Answer)
         → LookMeans env mix port (begin + 1) (SaysOf later c port begin) M G P state
         → (held_of_find state).answer ≡ Some answer → Said port answer
-    said_so port (at.Closing reply) answer means known = let same : plain reply ≡ answer = cc in subst (Said port) same means
-    said_so port _ answer means known = absurd (cc)
+    said_so M G P port (at.Closing reply) answer means known = let same : plain reply ≡ answer = cc in subst (Said port) same means
+    said_so M G P port _ answer means known = absurd (cc)
 
     pub claim_is : (job : Job) → job_of (local_of (R events).world.core c).doing ≡ Some job → JobIn env mix c job
         → (claims : ClaimsAnswer kind c (call_of job) (held_of job).answer
@@ -508,6 +509,6 @@ module _ (L : Type 0) (mix : ℕ → ℕ → ℕ → ℕ) (env : Env) where
             → (held_next (job_next (finds port) plain_ending (after, next))).answer ≡ Some claims.answer
             → Said port claims.answer
         go Go is known =
-            said_so port after claims.answer (goes_on events (Step c) looking makes c port begin made state looks within is).means known
+            said_so _ _ _ port after claims.answer (goes_on events (Step c) looking makes c port begin made state looks within is).means known
         go (Done reply) is known = absurd (done-known state reply is claims.unknown)
     claim_is job is within claims = absurd (let never = claims.may in cc)

@@ -88,7 +88,7 @@ module _ (env : Env) (mix : ℕ → ℕ → ℕ → ℕ) (L : Type 0) where
     more = events ++ event ∷ []
 
     -- there is one event more
-    longer : length events + 1 ≡ length more
+    pub longer : length events + 1 ≡ length more
     longer = sym (length_push events event)
 
     -- the places behind it
@@ -97,7 +97,7 @@ module _ (env : Env) (mix : ℕ → ℕ → ℕ → ℕ) (L : Type 0) where
         (length events) c M G placed.places M' placed.inv.whole placed.right makes.move makes.ready made
 
     -- what a first node's port stands for
-    was_now : (n j : ℕ) → seat_of (G.node n) ≡ Some j → WasFirst more M n (length events)
+    pub was_now : (n j : ℕ) → seat_of (G.node n) ≡ Some j → WasFirst more M n (length events)
     was_now n j sits =
         let at = seated_at env mix M G placed.inv.whole n j sits in
         record {
@@ -110,7 +110,7 @@ module _ (env : Env) (mix : ℕ → ℕ → ℕ → ℕ) (L : Type 0) where
         }
 
     -- a node that has died was a first one right before that
-    was_first : (n t : ℕ) → n < env.geometry.nodes → IsUsed (G.node n) → seat_of (G'.node n) ≡ None
+    pub was_first : (n t : ℕ) → n < env.geometry.nodes → IsUsed (G.node n) → seat_of (G'.node n) ≡ None
         → places_then.places.dead n ≡ Some t → WasFirst more M n t
     was_first n t among used none dead = go (seat_of (G.node n)) refl
       where
@@ -134,7 +134,7 @@ module _ (env : Env) (mix : ℕ → ℕ → ℕ → ℕ) (L : Type 0) where
             }
 
     -- and its words stay
-    words_stay : (n t : ℕ) → n < env.geometry.nodes → IsUsed (G.node n) → WasFirst more M n t
+    pub words_stay : (n t : ℕ) → n < env.geometry.nodes → IsUsed (G.node n) → WasFirst more M n t
         → WasFirst more M' n t
     words_stay n t among used was =
         let rely = made.others (suc c) (λ e. absurd (omega arith)) in

@@ -319,7 +319,7 @@ module _ (M : Type 0) (mix : ℕ → ℕ → ℕ → ℕ) (env : Env) where
             subst (λ o. (claims : ClaimsAnswer kind c (call_of job) (held_of job).answer
             (held_next (job_after mix env job (old_of words o))).answer)
             → IsSaid M mix env after_it c (call_of job) trace.begin claims.answer) (sym of.plan)
-            (claim_is M mix env events c admitted job of.is of.within)
+            (claim_is M mix env events c of.low admitted job of.is of.within)
 
         step : IsNext M mix env events event c (call_of job) trace.begin at.begun trace.steps at.made did
             (count-traced_of M mix env events) history (held_next next_job).answer own.es
