@@ -216,11 +216,11 @@ pub enum BindAt {
 }
 
 /// A bind of one port to one owner. Where the last table is full it attaches a further one, and then
-/// begins anew with the same node. Each attempt has a read section of its own. The answers are `Bound`, `Exists`, `NoNode` and `TooBig`; `Busy` and
-/// `NoTable` where no table is attached; and, of a bind that tries but once, `Again`. `NoTable` comes
-/// also where the port's bucket is missing and no page was free for it. The kernel's counterparts are
-/// `rhashtable_lookup_insert_key` and, in a table of lists, `rhltable_insert_key`, with
-/// `rhashtable_insert_slow` behind them.
+/// begins anew with the same node. Each attempt has a read section of its own. The answers are `Bound`,
+/// `Exists`, `NoNode` and `TooBig`; `Busy` and `NoTable` where no table is attached; and, of a bind
+/// that tries but once, `Again`. `NoTable` comes also where the port's bucket is missing and no page
+/// was free for it. The kernel's counterparts are `rhashtable_lookup_insert_key` and, in a table of
+/// lists, `rhltable_insert_key`, with `rhashtable_insert_slow` behind them.
 #[derive(Drop)]
 pub struct Bind<M: Mix> {
     env: Env,
