@@ -29,7 +29,7 @@ use Rattle.rht_bind.specs.Bind.{plan_at, replacing, IsBindAtIn}
 use Rattle.rht_bind.specs.BindHeld.{holds_section, holds_node, holds_claimed, holds_replacing}
 use Rattle.rht_bind.specs.declared.bind.Claimed.{Claimed}
 use Rattle.rht_bind.specs.declared.bind.FoundList.{FoundList}
-use Rattle.rht_bind.specs.declared.bind.outcome.Outcome.TheVariants as outcomes
+use Rattle.rht_bind.specs.declared.bind.ending.Ending.TheVariants as endings
 use Rattle.rht_bind.specs.declared.bind.BindAt.{BindAt}
 use Rattle.rht_bind.specs.declared.bind.BindAt.TheVariants as at
 use Rattle.rht_ghost.proofs.Theory.Ghosts.{put-same, Ghost, index_at}
@@ -61,7 +61,7 @@ holds_front attached lock =
 
 -- and what comes then
 abbrev bound_in_front : Claimed → BindAt
-bound_in_front claimed = at.Closing (outcomes.Bound claimed.attempt.attached)
+bound_in_front claimed = at.Closing (endings.Bound claimed.attempt.attached)
 
 longer : (o : ℕ) (owners : List ℕ) → o ∷ owners ≡ owners → ⊥
 longer o owners e = let same = ap length e in absurd (omega (arith, same))

@@ -27,7 +27,7 @@ use Rattle.rht_model.specs.declared.history.Reply.TheVariants.{Again, Busy, NoTa
 use Rattle.rht_model.specs.Multimap.{Multimap}
 use Rattle.rht_model.specs.Answers.{plain}
 use Rattle.rht_bind.specs.Bind.{plan_at, IsBindAtIn}
-use Rattle.rht_bind.specs.Outcomes.{answering}
+use Rattle.rht_bind.specs.Endings.{answering}
 use Rattle.rht_bind.specs.Growing.{want_or_busy, making, size_grown, made, ended_attempt, behind_attempt, refused_or_found, has_attached, unmade}
 use Rattle.rht_bind.specs.BindHeld.{held_of_bind, holds_node}
 use Rattle.rht_bind.specs.declared.bind.Attempt.{Attempt}

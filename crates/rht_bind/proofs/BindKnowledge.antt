@@ -23,8 +23,8 @@ use Rattle.rht_model.specs.Answers.{plain}
 use Rattle.rht_model.specs.Answers as answers
 use Rattle.rht_bind.specs.Bind.{plan_at, after_at}
 use Rattle.rht_bind.specs.BindHeld.{holds_node, held_of_bind}
-use Rattle.rht_bind.specs.declared.bind.outcome.Outcome.{Outcome}
-use Rattle.rht_bind.specs.declared.bind.outcome.Outcome.TheVariants as outcomes
+use Rattle.rht_bind.specs.declared.bind.ending.Ending.{Ending}
+use Rattle.rht_bind.specs.declared.bind.ending.Ending.TheVariants as endings
 use Rattle.rht_bind.specs.declared.bind.Claimed.{Claimed}
 use Rattle.rht_bind.specs.declared.bind.growth.Growing.{Growing}
 use Rattle.rht_bind.specs.declared.bind.FoundList.{FoundList}
@@ -93,10 +93,10 @@ module _ (port owner : ℕ) where
   wants_table growing = knows_of (own growing.attempt.node) (InSlot growing.table) Unlocked
 
   -- at the end of an attempt: its node, unless that was linked
-  abbrev pub known_outcome : Outcome → Known
-  known_outcome (outcomes.Bound kick) = known_nothing
-  known_outcome (outcomes.Answered node reply) = knows_of (own node) Nowhere Unlocked
-  known_outcome (outcomes.Anew attempt) = knows_of (own attempt.node) Nowhere Unlocked
+  abbrev pub known_ending : Ending → Known
+  known_ending (endings.Bound kick) = known_nothing
+  known_ending (endings.Answered node reply) = knows_of (own node) Nowhere Unlocked
+  known_ending (endings.Anew attempt) = knows_of (own attempt.node) Nowhere Unlocked
 
   -- what a bind knows in a state
   abbrev pub known_of_bind : BindAt → Known
@@ -146,7 +146,7 @@ module _ (port owner : ℕ) where
       record (knows_of (own attempt.node) Nowhere Unlocked) {
         making = HasTaken (bare_slot unmake.slot) (pages_of_unmake unmake.at);
       }
-  known_of_bind (at.Closing outcome) = known_outcome outcome
+  known_of_bind (at.Closing ending) = known_ending ending
   known_of_bind (at.Giving give reply) = knows_of (own give.node) Nowhere Unlocked
 
 -- a state of the change of the place before, in a bucket whose word was this, to this link
@@ -199,7 +199,7 @@ module _ (env : Env) (mix : ℕ → ℕ → ℕ → ℕ) (c : ℕ) (port owner :
   fits_bind (at.FutureAgain growing refusal) = Unit {0}
   fits_bind (at.Attaching growing slot shape) = Unit {0}
   fits_bind (at.Unmaking attempt unmake answer) = Unit {0}
-  fits_bind (at.Closing outcome) = Unit {0}
+  fits_bind (at.Closing ending) = Unit {0}
   fits_bind (at.Giving give reply) = Unit {0}
 
   pub record BindKnows (at : BindAt) (M : Memory) (G : Ghost) : Type 0 where

@@ -54,6 +54,6 @@ planned_bind env caller (at.Attaching growing slot shape) few within =
     planned-at env.geometry _ (Slot growing.table FutureWord) (within.growing_in.table_in, tt) tt refl
     (omega (arith, within.slot_in))
 planned_bind env caller (at.Unmaking attempt unmake answer) few within = planned_unmake env.geometry unmake within.unmake_in
-planned_bind env caller (at.Closing outcome) few within =
+planned_bind env caller (at.Closing ending) few within =
     planned_leave env.geometry caller (record { caller = caller }) (record { own = refl; within = few })
 planned_bind env caller (at.Giving give reply) few within = planned_give env.geometry give within

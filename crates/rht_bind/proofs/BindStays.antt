@@ -42,11 +42,11 @@ use Rattle.rht_chain.specs.declared.locked.Then.TheVariants.{Table, Answer}
 use Rattle.rht_chain.proofs.PiecesStay.{ProbeIsIn, probe_stays, relink_begins, relink_stays}
 use Rattle.rht_model.specs.declared.history.Reply.{Reply}
 use Rattle.rht_bind.specs.Bind.{after_at, filled, probing, at_bucket, located, behind_page, grown, bound_already, found_or_future, probed, replacing, replaced, unlocking, future_or_count, checked_count, kicks, publishing, published, unlocked, IsClaimedIn, IsListIn, IsReplacingIn, IsBindAtIn}
-use Rattle.rht_bind.specs.Outcomes.{closed, IsOutcomeIn}
+use Rattle.rht_bind.specs.Endings.{closed, IsEndingIn}
 use Rattle.rht_bind.specs.Growing.{unlocking_full, making, size_grown, want_or_busy, made, ended_attempt, behind_attempt, refused_or_found, has_attached, checked_attach, unmade, IsGrowingIn, IsWantingIn, IsAttachingIn}
 use Rattle.rht_bind.specs.declared.bind.Attempt.{Attempt}
-use Rattle.rht_bind.specs.declared.bind.outcome.Outcome.{Outcome}
-use Rattle.rht_bind.specs.declared.bind.outcome.Outcome.TheVariants as outcomes
+use Rattle.rht_bind.specs.declared.bind.ending.Ending.{Ending}
+use Rattle.rht_bind.specs.declared.bind.ending.Ending.TheVariants as endings
 use Rattle.rht_bind.specs.declared.bind.growth.Full.{Full}
 use Rattle.rht_bind.specs.declared.bind.growth.Full.TheVariants as full
 use Rattle.rht_bind.specs.declared.bind.growth.Growing.{Growing}
@@ -299,10 +299,10 @@ module _ (mix : ℕ → ℕ → ℕ → ℕ) (env : Env) (port : ℕ) (once : Bo
   unmade-in attempt answer unmake Go node_in unmake_in = record { node_in = node_in; unmake_in = unmake_in }
   unmade-in attempt answer unmake (Done done) node_in unmake_in = behind-in attempt answer node_in
 
-  closed-in : (outcome : Outcome) → IsOutcomeIn g outcome → IsBindAtIn env (closed env outcome).0
-  closed-in (outcomes.Bound kick) within = tt
-  closed-in (outcomes.Answered node reply) within = record { geometry_same = refl; node_in = within }
-  closed-in (outcomes.Anew attempt) within = within
+  closed-in : (ending : Ending) → IsEndingIn g ending → IsBindAtIn env (closed env ending).0
+  closed-in (endings.Bound kick) within = tt
+  closed-in (endings.Answered node reply) within = record { geometry_same = refl; node_in = within }
+  closed-in (endings.Anew attempt) within = within
 
   pub bind_stays : (state : BindAt) (word : ℕ) → IsBindAtIn env state → IsWord word
       → IsBindAtIn env (after_at mix env port once state word).0
@@ -352,5 +352,5 @@ module _ (mix : ℕ → ℕ → ℕ → ℕ) (env : Env) (port : ℕ) (once : Bo
   bind_stays (at.Unmaking attempt unmake answer) word within told =
       unmade-in attempt answer (unmake_after unmake word).0 (unmake_after unmake word).1 within.node_in
       (unmake_stays g unmake word within.unmake_in)
-  bind_stays (at.Closing outcome) word within told = closed-in outcome within
+  bind_stays (at.Closing ending) word within told = closed-in ending within
   bind_stays (at.Giving give reply) word within told = within

@@ -12,8 +12,8 @@ use Rattle.rht_model.specs.declared.history.Reply.TheVariants.{Bound}
 use Rattle.rht_model.specs.Answers.{plain}
 use Rattle.rht_bind.specs.Bind.{IsBindAtIn}
 use Rattle.rht_bind.specs.BindHeld.{holds_outside, holds_section, holds_node}
-use Rattle.rht_bind.specs.declared.bind.outcome.Outcome.{Outcome}
-use Rattle.rht_bind.specs.declared.bind.outcome.Outcome.TheVariants as outcomes
+use Rattle.rht_bind.specs.declared.bind.ending.Ending.{Ending}
+use Rattle.rht_bind.specs.declared.bind.ending.Ending.TheVariants as endings
 use Rattle.rht_bind.specs.declared.bind.BindAt.{BindAt}
 use Rattle.rht_bind.specs.declared.bind.BindAt.TheVariants as at
 use Rattle.rht_ghost.proofs.Theory.Ghosts.{Ghost}
@@ -52,18 +52,18 @@ module _ (env : Env) (mix : ℕ → ℕ → ℕ → ℕ) (c : ℕ) (port owner :
   has_own n = knows_of port owner (own port owner n) Nowhere Unlocked
 
   -- the section is closed: the bind has ended, or has its node still
-  closing : (outcome : Outcome) → BindKnows (at.Closing outcome) (mem env mix words) G → BindStep (at.Closing outcome)
-  closing (outcomes.Bound kick) known =
+  closing : (ending : Ending) → BindKnows (at.Closing ending) (mem env mix words) G → BindStep (at.Closing ending)
+  closing (endings.Bound kick) known =
       let told = Some (plain (Bound kick)) in
       answered env mix told (inl (keeps told)) (still_has refl)
       (close_step env mix c (holds_section told) known_nothing words G all whole low known.knowing)
-  closing (outcomes.Answered node reply) known =
+  closing (endings.Answered node reply) known =
       let told = Some (plain reply) in
       answered-map env mix told (inl (keeps told)) (still_has refl)
       (λ M' G' w k. record { knowing = k; fits = tt })
       (close_step env mix c (record (holds_section told) { node = Some node }) (has_own node) words G all whole low
       known.knowing)
-  closing (outcomes.Anew attempt) known =
+  closing (endings.Anew attempt) known =
       answered-map env mix None (inl refl) (still_has refl)
       (λ M' G' w k. record { knowing = k; fits = tt })
       (close_step env mix c (holds_node (Some attempt.node) None) (has_own attempt.node) words G all whole low
@@ -139,7 +139,7 @@ module _ (env : Env) (mix : ℕ → ℕ → ℕ → ℕ) (c : ℕ) (port owner :
       attaching env mix c port owner once words G all whole growing slot shape is known
   bind_step (at.Unmaking attempt unmake answer) is known =
       unmaking env mix c port owner once words G all whole attempt unmake answer is known
-  bind_step (at.Closing outcome) is known = closing outcome known
+  bind_step (at.Closing ending) is known = closing ending known
   bind_step (at.Giving give reply) is known =
       let told : Holding = record (holds_outside None) { answer = Some (plain reply) } in
       subst (λ g. Step env mix c call words G (give_node_plan (record { geometry = g; node = give.node }))

@@ -39,12 +39,12 @@ use Rattle.rht_chain.specs.declared.locked.Then.{Then}
 use Rattle.rht_chain.specs.declared.locked.Then.TheVariants.{Table, Answer}
 use Rattle.rht_model.specs.declared.history.Reply.{Reply}
 use Rattle.rht_model.specs.declared.history.Reply.TheVariants.{Exists, TooBig, NoTable, NoNode}
-use Rattle.rht_bind.specs.Outcomes.{answering, closed, IsOutcomeIn}
+use Rattle.rht_bind.specs.Endings.{answering, closed, IsEndingIn}
 use Rattle.rht_bind.specs.Growing.{unlocking_full, want_or_busy, made, refused_or_found, checked_attach, unmade, IsGrowingIn, IsUnlockingFullIn, IsWantingIn, IsMakingIn, IsRefusingIn, IsAttachingIn, IsUnmakingIn}
 use Rattle.rht_bind.specs.declared.bind.Attempt.{Attempt}
 use Rattle.rht_bind.specs.declared.bind.Claimed.{Claimed}
 use Rattle.rht_bind.specs.declared.bind.FoundList.{FoundList}
-use Rattle.rht_bind.specs.declared.bind.outcome.Outcome.TheVariants as outcomes
+use Rattle.rht_bind.specs.declared.bind.ending.Ending.TheVariants as endings
 use Rattle.rht_bind.specs.declared.bind.growth.Full.TheVariants as full
 use Rattle.rht_bind.specs.declared.bind.BindAt.{BindAt}
 use Rattle.rht_bind.specs.declared.bind.BindAt.TheVariants as at
@@ -95,7 +95,7 @@ plan_at env caller (at.FutureAgain growing refusal) = Load (place_of env.geometr
 plan_at env caller (at.Attaching growing slot shape) =
     Exchange (place_of env.geometry (Slot growing.table FutureWord)) 0 (future_of slot)
 plan_at env caller (at.Unmaking attempt unmake answer) = unmake_plan unmake
-plan_at env caller (at.Closing outcome) = turning caller
+plan_at env caller (at.Closing ending) = turning caller
 plan_at env caller (at.Giving give reply) = give_node_plan give
 
 abbrev pub bind_plan : BindModel → Op
@@ -177,7 +177,7 @@ replacing env list =
 -- kick only for a table that the bind has attached
 abbrev pub replaced : FoundList → RelinkModel → Next (Unit {0}) → BindAt
 replaced list relink Go = at.Replacing list relink
-replaced list relink (Done done) = at.Closing (outcomes.Bound list.claimed.attempt.attached)
+replaced list relink (Done done) = at.Closing (endings.Bound list.claimed.attempt.attached)
 
 -- the bucket is unlocked without a change, and then the bind goes on or has its answer
 abbrev pub unlocking : Claimed → Then Reply → BindAt
@@ -214,7 +214,7 @@ publishing env claimed kick =
 -- with the last store the port is bound and the bucket unlocked
 abbrev pub published : ℕ → ℕ → Bool → RelinkModel → Next (Unit {0}) → BindAt
 published node table kick relink Go = at.Publish node table relink kick
-published node table kick relink (Done done) = at.Closing (outcomes.Bound kick)
+published node table kick relink (Done done) = at.Closing (endings.Bound kick)
 
 -- behind the unlocking the bind goes on in the future table, or has its answer
 abbrev pub unlocked : Env → Attempt → Then Reply → BindAt
@@ -257,7 +257,7 @@ after_at mix env port once (at.Attaching growing slot shape) word =
     (checked_attach env once growing slot shape word, Go)
 after_at mix env port once (at.Unmaking attempt unmake answer) word =
     (unmade attempt answer (unmake_after unmake word).0 (unmake_after unmake word).1, Go)
-after_at mix env port once (at.Closing outcome) word = closed env outcome
+after_at mix env port once (at.Closing ending) word = closed env ending
 after_at mix env port once (at.Giving give reply) word = (at.Giving give reply, Done reply)
 
 abbrev pub moved : BindModel → BindAt × Next Reply → BindModel × Next Reply
@@ -355,7 +355,7 @@ IsBindAtIn env (at.Making growing size make) = IsMakingIn env growing make
 IsBindAtIn env (at.FutureAgain growing refusal) = IsRefusingIn env.geometry growing refusal
 IsBindAtIn env (at.Attaching growing slot shape) = IsAttachingIn env.geometry growing slot shape
 IsBindAtIn env (at.Unmaking attempt unmake answer) = IsUnmakingIn env.geometry attempt unmake
-IsBindAtIn env (at.Closing outcome) = IsOutcomeIn env.geometry outcome
+IsBindAtIn env (at.Closing ending) = IsEndingIn env.geometry ending
 IsBindAtIn env (at.Giving give reply) = IsGiveIn env.geometry give
 
 -- a bind of this caller in this table, all that its state names being the table's

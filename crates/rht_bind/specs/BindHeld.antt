@@ -18,8 +18,8 @@ use Rattle.rht_chain.specs.Relink.{has_relinked}
 use Rattle.rht_model.specs.declared.history.Reply.{Reply}
 use Rattle.rht_model.specs.declared.history.Reply.TheVariants.{Bound}
 use Rattle.rht_bind.specs.Bind.{BindModel}
-use Rattle.rht_bind.specs.declared.bind.outcome.Outcome.{Outcome}
-use Rattle.rht_bind.specs.declared.bind.outcome.Outcome.TheVariants as outcomes
+use Rattle.rht_bind.specs.declared.bind.ending.Ending.{Ending}
+use Rattle.rht_bind.specs.declared.bind.ending.Ending.TheVariants as endings
 use Rattle.rht_bind.specs.declared.bind.Claimed.{Claimed}
 use Rattle.rht_bind.specs.declared.bind.BindAt.{BindAt}
 use Rattle.rht_bind.specs.declared.bind.BindAt.TheVariants as at
@@ -51,10 +51,10 @@ abbrev pub holds_table : ℕ → Option ℕ → List ℕ → Held Answer
 holds_table node slot pages = record (holds_section None) { node = Some node; slot = slot; pages = pages }
 
 -- at the end of an attempt the answer, where there is one, and the node, unless it was linked
-abbrev pub holds_outcome : Outcome → Held Answer
-holds_outcome (outcomes.Bound kick) = holds_section (Some (plain (Bound kick)))
-holds_outcome (outcomes.Answered node reply) = record (holds_section (Some (plain reply))) { node = Some node }
-holds_outcome (outcomes.Anew attempt) = holds_node (Some attempt.node) None
+abbrev pub holds_ending : Ending → Held Answer
+holds_ending (endings.Bound kick) = holds_section (Some (plain (Bound kick)))
+holds_ending (endings.Answered node reply) = record (holds_section (Some (plain reply))) { node = Some node }
+holds_ending (endings.Anew attempt) = holds_node (Some attempt.node) None
 
 -- what it holds in a state
 abbrev pub held_of_bind : BindAt → Held Answer
@@ -86,7 +86,7 @@ held_of_bind (at.FutureAgain growing refusal) = holds_node (Some growing.attempt
 held_of_bind (at.Attaching growing slot shape) = holds_table growing.attempt.node (Some slot) (pages_of_shape shape)
 held_of_bind (at.Unmaking attempt unmake answer) =
     record (holds_table attempt.node (Some unmake.slot) (pages_of_unmake unmake.at)) { answer = option_map plain answer }
-held_of_bind (at.Closing outcome) = holds_outcome outcome
+held_of_bind (at.Closing ending) = holds_ending ending
 held_of_bind (at.Giving give reply) = record (holds_outside (Some give.node)) { answer = Some (plain reply) }
 
 -- and after an operation; once it has ended it holds nothing, and its answer is known

@@ -20,8 +20,8 @@ use Rattle.rht_bind.specs.declared.bind.growth.Full.{Full}
 use Rattle.rht_bind.specs.declared.bind.growth.Growing.{Growing}
 use Rattle.rht_bind.specs.declared.bind.growth.Refusal.{Refusal}
 use Rattle.rht_bind.specs.declared.bind.growth.Refusal.TheVariants as refusals
-use Rattle.rht_bind.specs.Outcomes.{answering}
-use Rattle.rht_bind.specs.declared.bind.outcome.Outcome.TheVariants as outcomes
+use Rattle.rht_bind.specs.Endings.{answering}
+use Rattle.rht_bind.specs.declared.bind.ending.Ending.TheVariants as endings
 use Rattle.rht_bind.specs.declared.bind.BindAt.{BindAt}
 use Rattle.rht_bind.specs.declared.bind.BindAt.TheVariants as at
 
@@ -67,7 +67,7 @@ ended_attempt once table = if once then Some (Again table) else None
 
 -- behind an attempt the section is closed; then the bind begins anew where there is no answer, and else it gives its node back
 abbrev pub behind_attempt : Attempt → Option Reply → BindAt
-behind_attempt attempt None = at.Closing (outcomes.Anew attempt)
+behind_attempt attempt None = at.Closing (endings.Anew attempt)
 behind_attempt attempt (Some reply) = answering attempt.node reply
 
 -- the refusal stands where the last table has no future yet

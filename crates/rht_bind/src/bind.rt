@@ -9,12 +9,13 @@ ghost use Rattle.rht_chain.specs.Probe.{probe_after};
 ghost use Rattle.rht_bind.specs.Bind.{bind_new, bind_plan, bind_after, after_at, filled, probed, unlocking, unlocked, IsBindAtIn};
 
 mod bucket;
+mod ending;
 mod growth;
 mod insertion;
-mod outcome;
 
 pub use bucket::{at_bucket, behind_page, locating, probing};
 use bucket::{grown, located};
+pub use ending::{Ending, answering, closed, giving};
 pub use growth::{
     Full, Growing, Refusal, behind_attempt, checked_attach, ended_attempt, making,
     refused_or_found, unlocking_full, want_or_busy,
@@ -24,7 +25,6 @@ pub use insertion::{
     bound_already, checked_count, found_or_future, future_or_count, kicks, publishing, replacing,
 };
 use insertion::{published, replaced};
-pub use outcome::{Outcome, answering, closed, giving};
 use rht_arena::{GiveNode, NewNode};
 use rht_chain::{Locked, Probe, Relink, Then, Unlock};
 use rht_grace::{Enter, Leave};
@@ -206,7 +206,7 @@ pub enum BindAt {
     },
     /// Closes the read section, by one more in the section word.
     Closing {
-        outcome: Outcome,
+        ending: Ending,
     },
     /// Gives the node back.
     Giving {
@@ -403,7 +403,7 @@ fn after<M: Mix>(env: Env, port: Port, once: bool, at: &BindAt, old: u64) -> (Bi
             unmake,
             answer,
         } => unmade(attempt, unmake, answer, old),
-        BindAt::Closing { outcome } => return closed(env, outcome),
+        BindAt::Closing { ending } => return closed(env, ending),
         BindAt::Giving { reply, .. } => return (*at, Next::Done(reply)),
     };
     (next, Next::Go)

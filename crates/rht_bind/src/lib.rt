@@ -8,7 +8,7 @@
 mod bind;
 
 pub use bind::{
-    Attempt, Bind, BindAt, Claimed, FoundList, Full, Growing, Outcome, Refusal, answering,
+    Attempt, Bind, BindAt, Claimed, Ending, FoundList, Full, Growing, Refusal, answering,
     at_bucket, behind_attempt, behind_page, bound_already, checked_attach, checked_count, closed,
     ended_attempt, found_or_future, future_or_count, giving, kicks, locating, making, probing,
     publishing, refused_or_found, replacing, unlocked, unlocking, unlocking_full, want_or_busy,

@@ -6,7 +6,7 @@ ghost use Rattle.rht_nest.specs.Make.{make_after};
 ghost use Rattle.rht_nest.specs.Unmake.{unmake_after};
 ghost use Rattle.rht_bind.specs.Growing.{unlocking_full, making, want_or_busy, made, reply_of, ended_attempt, behind_attempt, refused_or_found, checked_attach, unmade};
 
-use super::{Attempt, BindAt, Claimed, Outcome, answering};
+use super::{Attempt, BindAt, Claimed, Ending, answering};
 use rht_chain::Unlock;
 use rht_model::Reply;
 use rht_nest::{Make, Unmake};
@@ -157,8 +157,8 @@ pub fn behind_attempt(attempt: Attempt, answer: Option<Reply>) -> BindAt
     match answer {
         Some(reply) => answering(attempt.node, reply),
         None => {
-            let outcome = Outcome::Anew { attempt };
-            BindAt::Closing { outcome }
+            let ending = Ending::Anew { attempt };
+            BindAt::Closing { ending }
         }
     }
 }

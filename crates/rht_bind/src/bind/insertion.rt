@@ -6,7 +6,7 @@ ghost use Rattle.rht_chain.specs.LockedWalk.{IsNodeOrNone};
 ghost use Rattle.rht_chain.specs.Relink.{relink_after};
 ghost use Rattle.rht_bind.specs.Bind.{found_or_future, bound_already, replacing, replaced, future_or_count, checked_count, kicks, publishing, published};
 
-use super::{BindAt, Claimed, FoundList, Full, Outcome, unlocking, unlocking_full};
+use super::{BindAt, Claimed, Ending, FoundList, Full, unlocking, unlocking_full};
 use rht_chain::{Locked, Relink, Seen, Then};
 use rht_model::Reply;
 use rht_policy::{above_75, above_100, above_max};
@@ -73,8 +73,8 @@ pub(super) fn replaced(list: FoundList, relink: Relink) -> BindAt
         Next::Go => BindAt::Replacing { list, relink },
         Next::Done(()) => {
             let kick = list.claimed.attempt.attached;
-            let outcome = Outcome::Bound { kick };
-            BindAt::Closing { outcome }
+            let ending = Ending::Bound { kick };
+            BindAt::Closing { ending }
         }
     }
 }
@@ -149,8 +149,8 @@ pub(super) fn published(node: u32, table: u32, kick: bool, relink: Relink) -> Bi
             kick,
         },
         Next::Done(()) => {
-            let outcome = Outcome::Bound { kick };
-            BindAt::Closing { outcome }
+            let ending = Ending::Bound { kick };
+            BindAt::Closing { ending }
         }
     }
 }

@@ -2,7 +2,7 @@
 //! node back, or begins anew.
 
 ghost use Rattle.std.specs.Prelude.{◌≡◌, ◌<◌};
-ghost use Rattle.rht_bind.specs.Outcomes.{answering, closed, giving, IsOutcomeIn};
+ghost use Rattle.rht_bind.specs.Endings.{answering, closed, giving, IsEndingIn};
 
 use super::{Attempt, BindAt};
 use rht_arena::GiveNode;
@@ -11,7 +11,7 @@ use rht_words::{Env, Next};
 
 /// How an attempt has ended, which says what comes behind the closing of its section.
 #[derive(Clone, Copy, Debug, PartialEq, Eq)]
-pub enum Outcome {
+pub enum Ending {
     /// The node is linked and the port bound: the bind ends.
     Bound { kick: bool },
     /// The node is given back, and then the bind has this answer.
@@ -25,23 +25,23 @@ pub enum Outcome {
 pub fn answering(node: u32, reply: Reply) -> BindAt
     ensures { result ≡ answering node reply }
 {
-    let outcome = Outcome::Answered { node, reply };
-    BindAt::Closing { outcome }
+    let ending = Ending::Answered { node, reply };
+    BindAt::Closing { ending }
 }
 
 /// After the section was closed.
 #[inline(always)]
-pub fn closed(env: Env, outcome: Outcome) -> (BindAt, Next<Reply>)
-    requires { IsOutcomeIn env.geometry outcome }
-    ensures { result ≡ closed env outcome }
+pub fn closed(env: Env, ending: Ending) -> (BindAt, Next<Reply>)
+    requires { IsEndingIn env.geometry ending }
+    ensures { result ≡ closed env ending }
 {
-    match outcome {
-        Outcome::Bound { kick } => (
-            BindAt::Closing { outcome },
+    match ending {
+        Ending::Bound { kick } => (
+            BindAt::Closing { ending },
             Next::Done(Reply::Bound { kick }),
         ),
-        Outcome::Answered { node, reply } => (giving(env, node, reply), Next::Go),
-        Outcome::Anew { attempt } => (BindAt::Opening { attempt }, Next::Go),
+        Ending::Answered { node, reply } => (giving(env, node, reply), Next::Go),
+        Ending::Anew { attempt } => (BindAt::Opening { attempt }, Next::Go),
     }
 }
 

@@ -6,27 +6,27 @@ use Rattle.rht_words.specs.declared.env.Env.{Env}
 use Rattle.rht_words.specs.declared.geometry.Geometry.{Geometry}
 use Rattle.rht_model.specs.declared.history.Reply.{Reply}
 use Rattle.rht_model.specs.declared.history.Reply.TheVariants.{Bound}
-use Rattle.rht_bind.specs.declared.bind.outcome.Outcome.{Outcome}
-use Rattle.rht_bind.specs.declared.bind.outcome.Outcome.TheVariants as outcomes
+use Rattle.rht_bind.specs.declared.bind.ending.Ending.{Ending}
+use Rattle.rht_bind.specs.declared.bind.ending.Ending.TheVariants as endings
 use Rattle.rht_bind.specs.declared.bind.BindAt.{BindAt}
 use Rattle.rht_bind.specs.declared.bind.BindAt.TheVariants as at
 
 -- the section is closed, the node given back, and then the bind ends with this reply
 abbrev pub answering : ℕ → Reply → BindAt
-answering node reply = at.Closing (outcomes.Answered node reply)
+answering node reply = at.Closing (endings.Answered node reply)
 
 -- the node is given back, and then the bind ends with this reply
 abbrev pub giving : Env → ℕ → Reply → BindAt
 giving env node reply = at.Giving (record { geometry = env.geometry; node = node }) reply
 
 -- with its section closed a bind that has linked its node has ended, another gives it back, or begins anew with it
-abbrev pub closed : Env → Outcome → BindAt × Next Reply
-closed env (outcomes.Bound kick) = (at.Closing (outcomes.Bound kick), Done (Bound kick))
-closed env (outcomes.Answered node reply) = (giving env node reply, Go)
-closed env (outcomes.Anew attempt) = (at.Opening attempt, Go)
+abbrev pub closed : Env → Ending → BindAt × Next Reply
+closed env (endings.Bound kick) = (at.Closing (endings.Bound kick), Done (Bound kick))
+closed env (endings.Answered node reply) = (giving env node reply, Go)
+closed env (endings.Anew attempt) = (at.Opening attempt, Go)
 
 -- the node that it still has is the table's
-abbrev pub IsOutcomeIn : Geometry → Outcome → Type 0
-IsOutcomeIn g (outcomes.Bound kick) = Unit {0}
-IsOutcomeIn g (outcomes.Answered node reply) = node < g.nodes
-IsOutcomeIn g (outcomes.Anew attempt) = attempt.node < g.nodes
+abbrev pub IsEndingIn : Geometry → Ending → Type 0
+IsEndingIn g (endings.Bound kick) = Unit {0}
+IsEndingIn g (endings.Answered node reply) = node < g.nodes
+IsEndingIn g (endings.Anew attempt) = attempt.node < g.nodes
