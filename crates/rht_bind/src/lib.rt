@@ -1,8 +1,8 @@
 //! Binding a port to an owner, in a table of one owner for each port or of a list for each.
 //!
 //! Stands on `rht_words`, `rht_policy`, `rht_model`, and the pieces of `rht_arena`, `rht_nest`,
-//! `rht_chain` and `rht_grace`; its proofs stand on `rht_ghost`. `rht_callers` has this machine among the others.
-//! Read `specs/Bind.antt` first: it is the machine as a table.
+//! `rht_chain` and `rht_grace`; its proofs stand on `rht_ghost`. `rht_callers` has this machine among
+//! the others. Read `specs/Bind.antt` first: it is the machine as a table.
 #![tactic(auto)]
 
 mod bind;
