@@ -1,6 +1,7 @@
 -- What a bind knows in each state, and how its pieces are for its port and its owner there.
 -- Each of its operations leads from what it knows to what it knows next, which the other files say.
 use Rattle.std.proofs.Common.{◌≡◌, ◌≢◌, ℕ, List, [], length, Option, Some, None, Bool, true, false, refl, inr}
+use Rattle.std.specs.Prelude.{option_map}
 use Rattle.rht_words.specs.declared.env.Env.{Env}
 use Rattle.rht_words.specs.declared.config.Kind.TheVariants.{Single, Listed}
 use Rattle.rht_words.specs.declared.machine.Next.{Next}
@@ -22,9 +23,7 @@ use Rattle.rht_model.specs.declared.history.Reply.TheVariants.{NoNode}
 use Rattle.rht_model.specs.Answers.{plain}
 use Rattle.rht_model.specs.Answers as answers
 use Rattle.rht_bind.specs.Bind.{plan_at, after_at}
-use Rattle.rht_bind.specs.BindHeld.{holds_node, held_of_bind}
-use Rattle.rht_bind.specs.declared.bind.ending.Ending.{Ending}
-use Rattle.rht_bind.specs.declared.bind.ending.Ending.TheVariants as endings
+use Rattle.rht_bind.specs.BindHeld.{holds_node, node_of_ending, held_of_bind}
 use Rattle.rht_bind.specs.declared.bind.Claimed.{Claimed}
 use Rattle.rht_bind.specs.declared.bind.growth.Growing.{Growing}
 use Rattle.rht_bind.specs.declared.bind.FoundList.{FoundList}
@@ -92,12 +91,6 @@ module _ (port owner : ℕ) where
   abbrev pub wants_table : Growing → Known
   wants_table growing = knows_of (own growing.attempt.node) (InSlot growing.table) Unlocked
 
-  -- at the end of an attempt: its node, unless that was linked
-  abbrev pub known_ending : Ending → Known
-  known_ending (endings.Bound kick) = known_nothing
-  known_ending (endings.Answered node reply) = knows_of (own node) Nowhere Unlocked
-  known_ending (endings.Anew attempt) = knows_of (own attempt.node) Nowhere Unlocked
-
   -- what a bind knows in a state
   abbrev pub known_of_bind : BindAt → Known
   known_of_bind (at.Filling new) = knows_plain (nodes.known_at port owner new.at) Nowhere Unlocked
@@ -146,7 +139,7 @@ module _ (port owner : ℕ) where
       record (knows_of (own attempt.node) Nowhere Unlocked) {
         making = HasTaken (bare_slot unmake.slot) (pages_of_unmake unmake.at);
       }
-  known_of_bind (at.Closing ending) = known_ending ending
+  known_of_bind (at.Closing ending) = knows_plain (option_map own (node_of_ending ending)) Nowhere Unlocked
   known_of_bind (at.Giving give reply) = knows_of (own give.node) Nowhere Unlocked
 
 -- a state of the change of the place before, in a bucket whose word was this, to this link

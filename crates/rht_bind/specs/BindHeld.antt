@@ -50,11 +50,16 @@ holds_replacing claimed stored =
 abbrev pub holds_table : ℕ → Option ℕ → List ℕ → Held Answer
 holds_table node slot pages = record (holds_section None) { node = Some node; slot = slot; pages = pages }
 
--- at the end of an attempt the answer, where there is one, and the node, unless it was linked
-abbrev pub holds_ending : Ending → Held Answer
-holds_ending (endings.Bound kick) = holds_section (Some (plain (Bound kick)))
-holds_ending (endings.Answered node reply) = record (holds_section (Some (plain reply))) { node = Some node }
-holds_ending (endings.Anew attempt) = holds_node (Some attempt.node) None
+-- at the end of an attempt the node, unless it was linked, and the answer, where there is one
+abbrev pub node_of_ending : Ending → Option ℕ
+node_of_ending (endings.Bound kick) = None
+node_of_ending (endings.Answered node reply) = Some node
+node_of_ending (endings.Anew attempt) = Some attempt.node
+
+abbrev pub answer_of_ending : Ending → Option Reply
+answer_of_ending (endings.Bound kick) = Some (Bound kick)
+answer_of_ending (endings.Answered node reply) = Some reply
+answer_of_ending (endings.Anew attempt) = None
 
 -- what it holds in a state
 abbrev pub held_of_bind : BindAt → Held Answer
@@ -86,7 +91,8 @@ held_of_bind (at.FutureAgain growing refusal) = holds_node (Some growing.attempt
 held_of_bind (at.Attaching growing slot shape) = holds_table growing.attempt.node (Some slot) (pages_of_shape shape)
 held_of_bind (at.Unmaking attempt unmake answer) =
     record (holds_table attempt.node (Some unmake.slot) (pages_of_unmake unmake.at)) { answer = option_map plain answer }
-held_of_bind (at.Closing ending) = holds_ending ending
+held_of_bind (at.Closing ending) =
+    record (holds_section (option_map plain (answer_of_ending ending))) { node = node_of_ending ending }
 held_of_bind (at.Giving give reply) = record (holds_outside (Some give.node)) { answer = Some (plain reply) }
 
 -- and after an operation; once it has ended it holds nothing, and its answer is known

@@ -19,7 +19,7 @@ use Rattle.rht_move.specs.declared.work.ending.Ending.TheVariants as endings
 use Rattle.rht_move.specs.declared.work.WorkAt.{WorkAt}
 use Rattle.rht_move.specs.declared.work.WorkAt.TheVariants as at
 use Rattle.rht_move.specs.Work.{plan_at, letting_go, retiring, reply_of, IsWorkAtIn}
-use Rattle.rht_move.specs.WorkHeld.{holds_work_lock, has_moved, holds_ending, held_of_work}
+use Rattle.rht_move.specs.WorkHeld.{holds_work_lock, has_moved, holds_outcome, held_of_work}
 use Rattle.rht_ghost.proofs.Theory.Ghosts.{Ghost}
 use Rattle.rht_ghost.proofs.Theory.Wholes.{Whole}
 use Rattle.rht_ghost.proofs.Theory.Knowns.{MakesNothing, NoAim, KnownPlace, Works, LeavesBehind}
@@ -60,13 +60,12 @@ module _ (env : Env) (mix : ℕ → ℕ → ℕ → ℕ) (c : ℕ) (low : c < en
   close_section (endings.Retiring root again) known =
       let answer = Some (plain (replies.Moved again)) in
       leads (at.Retiring root again) (inl (keeps answer)) refl refl refl
-      (close_step env mix c (holds_ending (endings.Retiring root again)) (knows_work MakesNothing (LeavesBehind root))
-      words G all whole low known)
+      (close_step env mix c (holds_outcome (HasMoved again)) (knows_work MakesNothing (LeavesBehind root)) words G all
+      whole low known)
   close_section (endings.LettingGo outcome) known =
       let answer = Some (plain (reply_of outcome)) in
       leads (at.LettingGo outcome) (inl (keeps answer)) refl refl refl
-      (close_step env mix c (holds_ending (endings.LettingGo outcome)) (knows_work MakesNothing Works) words G all whole
-      low known)
+      (close_step env mix c (holds_outcome outcome) (knows_work MakesNothing Works) words G all whole low known)
 
   -- ---- the next bucket, or the table is empty
 

@@ -252,6 +252,11 @@ abbrev pub closed : Ending → WorkAt
 closed (endings.Retiring root again) = at.Retiring root again
 closed (endings.LettingGo outcome) = at.LettingGo outcome
 
+-- and how the call ends then
+abbrev pub outcome_of : Ending → Outcome
+outcome_of (endings.Retiring root again) = Moved again
+outcome_of (endings.LettingGo outcome) = outcome
+
 -- what a call answers that has let go of the work lock
 abbrev pub reply_of : Outcome → Reply
 reply_of Idle = replies.Idle

@@ -11,12 +11,10 @@ use Rattle.rht_nest.specs.Unmake.{pages_of_unmake}
 use Rattle.rht_model.specs.Answers.{Answer, plain}
 use Rattle.rht_model.specs.declared.history.Reply.{Reply}
 use Rattle.rht_model.specs.declared.history.Reply.TheVariants as replies
-use Rattle.rht_move.specs.Work.{WorkModel, reply_of}
+use Rattle.rht_move.specs.Work.{WorkModel, outcome_of, reply_of}
 use Rattle.rht_move.specs.declared.rehash.Emptying.{Emptying}
 use Rattle.rht_move.specs.declared.work.Outcome.{Outcome}
 use Rattle.rht_move.specs.declared.work.Outcome.TheVariants.{Idle, NoTable, Moved}
-use Rattle.rht_move.specs.declared.work.ending.Ending.{Ending}
-use Rattle.rht_move.specs.declared.work.ending.Ending.TheVariants as endings
 use Rattle.rht_move.specs.declared.work.WorkAt.{WorkAt}
 use Rattle.rht_move.specs.declared.work.WorkAt.TheVariants as at
 
@@ -50,12 +48,9 @@ has_moved Idle = false
 has_moved (NoTable size) = false
 has_moved (Moved again) = true
 
--- behind the closing of its section: the work lock, and its answer
-abbrev pub holds_ending : Ending → Held Answer
-holds_ending (endings.Retiring root again) =
-    record holds_work_lock { moving = true; answer = Some (plain (replies.Moved again)) }
-holds_ending (endings.LettingGo outcome) =
-    record holds_work_lock { moving = has_moved outcome; answer = Some (plain (reply_of outcome)) }
+-- of a call that ends so: the work lock, and its answer
+abbrev pub holds_outcome : Outcome → Held Answer
+holds_outcome outcome = record holds_work_lock { moving = has_moved outcome; answer = Some (plain (reply_of outcome)) }
 
 -- what it holds in a state
 abbrev pub held_of_work : WorkAt → Held Answer
@@ -86,9 +81,9 @@ held_of_work (at.Unlocking rehash number unlock stop) =
     record (holds_moving (Some unlock.place) None) { answer = answer_of_stop stop }
 held_of_work (at.Publishing rehash) = holds_moving None None
 held_of_work (at.NewFuture rehash) = holds_moving None None
-held_of_work (at.Closing ending) = record (holds_ending ending) { section = true }
-held_of_work (at.Retiring root again) = holds_ending (endings.Retiring root again)
-held_of_work (at.LettingGo outcome) = holds_ending (endings.LettingGo outcome)
+held_of_work (at.Closing ending) = record (holds_outcome (outcome_of ending)) { section = true }
+held_of_work (at.Retiring root again) = holds_outcome (Moved again)
+held_of_work (at.LettingGo outcome) = holds_outcome outcome
 
 -- and after an operation; once it has ended it holds nothing, and its answer is known
 abbrev pub held_next : WorkModel × Next Reply → Held Answer
