@@ -74,7 +74,7 @@ module _ (env : Env) (mix : ℕ → ℕ → ℕ → ℕ) (c : ℕ) (port owner :
   arms : (claimed : Claimed) (count : ℕ) → G.bound port ≡ [] → index_at G claimed.table + 1 ≡ G.attached
       → BindKnows (at.Future claimed count) M G → BindMoved (at.Future claimed count) (at.Count claimed, Go)
   arms claimed count unbound last known =
-      let op = plan_at env (at.Future claimed count) in
+      let op = plan_at env c (at.Future claimed count) in
       let k = known.knowing in
       let home_is = k.means.table in
       let lock = k.means.bucket.lock in

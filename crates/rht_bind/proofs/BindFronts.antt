@@ -6,8 +6,7 @@ use Rattle.rht_words.specs.declared.op.Op.{Op}
 use Rattle.rht_words.specs.declared.op.Op.TheVariants.{Store}
 use Rattle.rht_words.specs.declared.config.Kind.TheVariants.{Listed}
 use Rattle.rht_words.specs.declared.machine.Next.{Next}
-use Rattle.rht_words.specs.declared.machine.Next.TheVariants.{Go, Done}
-use Rattle.rht_words.specs.Held as held
+use Rattle.rht_words.specs.declared.machine.Next.TheVariants.{Go}
 use Rattle.rht_words.specs.Links.{link_of, plain_of}
 use Rattle.rht_words.specs.Ports.{owner_of}
 use Rattle.rht_words.specs.Operations.{op_place, applied}
@@ -27,9 +26,10 @@ use Rattle.rht_model.specs.declared.history.Reply.TheVariants.{Bound}
 use Rattle.rht_model.specs.Multimap.{Multimap}
 use Rattle.rht_model.specs.Answers.{plain, bind_reply, owners_bound}
 use Rattle.rht_bind.specs.Bind.{plan_at, replacing, IsBindAtIn}
-use Rattle.rht_bind.specs.BindHeld.{holds_node, holds_claimed, holds_replacing}
+use Rattle.rht_bind.specs.BindHeld.{holds_section, holds_node, holds_claimed, holds_replacing}
 use Rattle.rht_bind.specs.declared.bind.Claimed.{Claimed}
 use Rattle.rht_bind.specs.declared.bind.FoundList.{FoundList}
+use Rattle.rht_bind.specs.declared.bind.ending.Ending.TheVariants as endings
 use Rattle.rht_bind.specs.declared.bind.BindAt.{BindAt}
 use Rattle.rht_bind.specs.declared.bind.BindAt.TheVariants as at
 use Rattle.rht_ghost.proofs.Theory.Ghosts.{put-same, Ghost, index_at}
@@ -37,7 +37,7 @@ use Rattle.rht_ghost.proofs.Theory.Wholes.{place_at, word_index, place_at-index,
 use Rattle.rht_ghost.proofs.Theory.Knowns.{Nowhere, FirstLink}
 use Rattle.rht_ghost.proofs.Theory.Knowledge.{plainly, HasOnly, HoldsLock, Knowing, idle_moves_none}
 use Rattle.rht_ghost.proofs.Theory.Answering.{IsRight, keeps}
-use Rattle.rht_ghost.proofs.Theory.Steps.{answered-map, Rebinds, Holding, mem, owners, owners_in, owners_in-stay, still_has, Step, answered, reads}
+use Rattle.rht_ghost.proofs.Theory.Steps.{answered-map, Rebinds, Holding, mem, owners, owners_in, owners_in-stay, still_has, Step, reads}
 use Rattle.rht_ghost.proofs.Moves.Relinking.{relink_address, relink_value}
 use Rattle.rht_ghost.proofs.Pieces.ListFronts.{lock_left, change, fronted, front_known, front_made, front_only, front_locks, front_outs}
 use Rattle.rht_ghost.proofs.Pieces.Rebounds.{node_before_pages}
@@ -57,7 +57,11 @@ begins place word link (Some node) = (refl, refl)
 -- what a bind holds behind the store
 abbrev holds_front : Bool → Option ℕ → Holding
 holds_front attached lock =
-    record held.holds_nothing { lock = lock; answer = Some (plain (Bound attached)) }
+    record (holds_section (Some (plain (Bound attached)))) { lock = lock }
+
+-- and what comes then
+abbrev bound_in_front : Claimed → BindAt
+bound_in_front claimed = at.Closing (endings.Bound claimed.attempt.attached)
 
 longer : (o : ℕ) (owners : List ℕ) → o ∷ owners ≡ owners → ⊥
 longer o owners e = let same = ap length e in absurd (omega (arith, same))
@@ -123,7 +127,7 @@ module _ (env : Env) (mix : ℕ → ℕ → ℕ → ℕ) (c : ℕ) (port owner :
       let place = claimed.bucket.place in
       let first = begins place claimed.bucket.word (link_of claimed.attempt.node) list.before in
       let there = replacing env list in
-      let op = plan_at env (at.LinkBehind list link) in
+      let op = plan_at env c (at.LinkBehind list link) in
       let Next : Memory → Ghost → Type 0 = BindNext (there, Go) in
       let holds = holds_claimed claimed in
       subst (λ t. Step env mix c call words G op holds (holds_replacing claimed t) Next) (sym first.0)
@@ -307,16 +311,12 @@ module _ (env : Env) (mix : ℕ → ℕ → ℕ → ℕ) (c : ℕ) (port owner :
         place_at-index env mix claimed.bucket.place there in
         let value : word ≡ plain_of (place_at env mix j) (link_of claimed.attempt.node) =
         known.fits.at_is ∙ ap (λ p. plain_of p (link_of claimed.attempt.node)) (sym back) in
-        front_stored list op known.knowing
-        (BindNext (
-          at.Replacing list (front_relink env list (relinks.Word word)),
-          Done (Bound claimed.attempt.attached),
-        )) known.fits.listed
+        front_stored list op known.knowing (BindNext (bound_in_front claimed, Go)) known.fits.listed
         (let order = parts_in_order env.geometry in omega (arith, back, order.nodes, order.pages)) (inr (refl, sym back, refl))
         (subst (IsWrite env.geometry M (mem env mix (applied words op)) (PageWord j)) value
         (is_write env.geometry words (PageWord j) op all (index-within env mix claimed.bucket.place there)
         (sym back)))
-        (λ left. plainly env mix left.only tt tt tt)
+        (λ left. record { knowing = plainly env mix left.only tt tt tt; fits = tt })
     front_at claimed first (Some before) (relinks.ChainLink node) is known =
         let list : FoundList = record { claimed = claimed; first = first; before = Some before } in
         let op = Store (place_of env.geometry (Node node ChainLink)) (link_of claimed.attempt.node) in
@@ -331,18 +331,13 @@ module _ (env : Env) (mix : ℕ → ℕ → ℕ → ℕ) (c : ℕ) (port owner :
           fits = record { listed = known.fits.listed; relink_is = refl; at_is = refl };
         })
     front_at claimed first (Some before) (relinks.Word word) is known =
-        let list : FoundList = record { claimed = claimed; first = first; before = Some before } in
         let place = claimed.bucket.place in
         let told = holds_front claimed.attempt.attached None in
-        let Ended : Memory → Ghost → Type 0 =
-        BindNext (
-          at.Replacing list (front_relink env list (relinks.Word word)),
-          Done (Bound claimed.attempt.attached),
-        ) in
+        let Ends : Memory → Ghost → Type 0 = BindNext (bound_in_front claimed, Go) in
         subst (λ v. Step env mix c call words G (Store place v)
-        (holds_front claimed.attempt.attached (Some place)) told Ended) (sym known.fits.at_is)
-        (answered env mix (Some (plain (Bound claimed.attempt.attached)))
-        (inl (keeps (Some (plain (Bound claimed.attempt.attached))))) (still_has refl)
+        (holds_front claimed.attempt.attached (Some place)) told Ends) (sym known.fits.at_is)
+        (answered-map env mix told.answer (inl (keeps told.answer)) (still_has refl)
+        (λ M' G' w k. record { knowing = k; fits = tt })
         (unlock_step env mix c told None Nowhere words G all whole refl place claimed.bucket.word
         known.knowing))
 

@@ -27,7 +27,8 @@ use Rattle.rht_model.specs.declared.history.Reply.TheVariants.{Again, Busy, NoTa
 use Rattle.rht_model.specs.Multimap.{Multimap}
 use Rattle.rht_model.specs.Answers.{plain}
 use Rattle.rht_bind.specs.Bind.{plan_at, IsBindAtIn}
-use Rattle.rht_bind.specs.Growing.{giving, want_or_busy, making, size_grown, made, ended_attempt, behind_attempt, refused_or_found, has_attached, unmade}
+use Rattle.rht_bind.specs.Endings.{answering}
+use Rattle.rht_bind.specs.Growing.{want_or_busy, making, size_grown, made, ended_attempt, behind_attempt, refused_or_found, has_attached, unmade}
 use Rattle.rht_bind.specs.BindHeld.{held_of_bind, holds_node}
 use Rattle.rht_bind.specs.declared.bind.Attempt.{Attempt}
 use Rattle.rht_bind.specs.declared.bind.growth.Growing.{Growing}
@@ -117,14 +118,14 @@ module _ (env : Env) (mix : ℕ → ℕ → ℕ → ℕ) (c : ℕ) (port owner :
 
   -- behind it the bind has its node, and knows nothing of a table
   behind_holds : (attempt : Attempt) (answer : Option Reply)
-      → held_of_bind (behind_attempt env attempt answer) ≡ holds_behind attempt.node answer
+      → held_of_bind (behind_attempt attempt answer) ≡ holds_behind attempt.node answer
   behind_holds attempt None = refl
   behind_holds attempt (Some reply) = refl
 
   behind_knows : (attempt : Attempt) (answer : Option Reply) (M' : Memory) (G' : Ghost)
       → Knowing env mix c (holds_behind attempt.node answer)
       (knows_of port owner (own port owner attempt.node) Nowhere Unlocked) M' G'
-      → BindKnows (behind_attempt env attempt answer) M' G'
+      → BindKnows (behind_attempt attempt answer) M' G'
   behind_knows attempt None M' G' k = record { knowing = k; fits = tt }
   behind_knows attempt (Some reply) M' G' k = record { knowing = k; fits = tt }
 
@@ -132,14 +133,14 @@ module _ (env : Env) (mix : ℕ → ℕ → ℕ → ℕ) (c : ℕ) (port owner :
   refused_by : (growing : Growing) (refusal : Refusal) (reply : Reply)
       → Tells env.config.kind c call (Some growing.attempt.node) now None (Some (plain reply))
       → BindKnows (at.FutureAgain growing refusal) M G
-      → BindMoved (at.FutureAgain growing refusal) (giving env growing.attempt.node reply, Go)
+      → BindMoved (at.FutureAgain growing refusal) (answering growing.attempt.node reply, Go)
   refused_by growing refusal reply tells known =
       reads env mix whole refl refl tells
       (record { knowing = plainly env mix known.knowing.only known.knowing.means.node tt tt; fits = tt })
 
   pub refused_next : (growing : Growing) (refusal : Refusal) (future : Option ℕ)
       → BindKnows (at.FutureAgain growing refusal) M G
-      → BindMoved (at.FutureAgain growing refusal) (refused_or_found env once growing refusal future, Go)
+      → BindMoved (at.FutureAgain growing refusal) (refused_or_found once growing refusal future, Go)
   refused_next growing (refusals.Busy root) None known =
       let n = growing.attempt.node in
       let reply = Busy root growing.table in
@@ -213,7 +214,7 @@ module _ (env : Env) (mix : ℕ → ℕ → ℕ → ℕ) (c : ℕ) (port owner :
       (pages_given env mix c h k words G all whole r)
       (known_given env mix c h k words G all whole unmake.slot r))
       → BindMoved (at.Unmaking attempt unmake answer)
-      (unmade env attempt answer (record unmake { at = r.0 }) r.1, Go)
+      (unmade attempt answer (record unmake { at = r.0 }) r.1, Go)
   unmade_next attempt unmake answer (state, Go) step =
       let told = option_map plain answer in
       answered-map env mix told (inl (keeps told)) (still_has refl)
@@ -239,7 +240,7 @@ module _ (env : Env) (mix : ℕ → ℕ → ℕ → ℕ) (c : ℕ) (port owner :
   module _ (growing : Growing) (slot shape : ℕ) (within : growing.table < 8)
       (known : BindKnows (at.Attaching growing slot shape) M G) where
     abbrev op : Op
-    op = plan_at env (at.Attaching growing slot shape)
+    op = plan_at env c (at.Attaching growing slot shape)
 
     abbrev n : ℕ
     n = growing.attempt.node
@@ -269,7 +270,7 @@ module _ (env : Env) (mix : ℕ → ℕ → ℕ → ℕ) (c : ℕ) (port owner :
     -- where it found none behind it, the table in that slot is the last one
     won : found ≡ 0
         → BindMoved (at.Attaching growing slot shape)
-        (behind_attempt env (has_attached growing.attempt) (ended_attempt once slot), Go)
+        (behind_attempt (has_attached growing.attempt) (ended_attempt once slot), Go)
     won none =
         let is = whole.tables.slots growing.table known.knowing.means.table in
         let made_is = known.knowing.means.making in
@@ -290,7 +291,7 @@ module _ (env : Env) (mix : ℕ → ℕ → ℕ → ℕ) (c : ℕ) (port owner :
         attached_kept env mix c slot shape seed serial τ M M' G whole ready is.attached none_there write in
         let answer = ended_attempt once slot in
         let attempt = has_attached growing.attempt in
-        let next = behind_attempt env attempt answer in
+        let next = behind_attempt attempt answer in
         let k = known.knowing in
         rw (behind_holds attempt answer)
         (answered env mix (option_map plain answer) (attempt_tells n slot) (still_has refl)
@@ -367,7 +368,7 @@ module _ (env : Env) (mix : ℕ → ℕ → ℕ → ℕ) (c : ℕ) (port owner :
       let found = M (Slot growing.table FutureWord) in
       let within = is.growing_in.table_in in
       by_test (λ t. BindMoved (at.Attaching growing slot shape) (
-        cond t (behind_attempt env (has_attached growing.attempt) (ended_attempt once slot))
+        cond t (behind_attempt (has_attached growing.attempt) (ended_attempt once slot))
             (at.Unmaking growing.attempt (unmake_new env.geometry slot shape)
             (ended_attempt once (table_of (found - 1)))),
         Go,

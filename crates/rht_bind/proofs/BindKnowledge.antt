@@ -1,6 +1,7 @@
 -- What a bind knows in each state, and how its pieces are for its port and its owner there.
 -- Each of its operations leads from what it knows to what it knows next, which the other files say.
 use Rattle.std.proofs.Common.{◌≡◌, ◌≢◌, ℕ, List, [], length, Option, Some, None, Bool, true, false, refl, inr}
+use Rattle.std.specs.Prelude.{option_map}
 use Rattle.rht_words.specs.declared.env.Env.{Env}
 use Rattle.rht_words.specs.declared.config.Kind.TheVariants.{Single, Listed}
 use Rattle.rht_words.specs.declared.machine.Next.{Next}
@@ -22,7 +23,7 @@ use Rattle.rht_model.specs.declared.history.Reply.TheVariants.{NoNode}
 use Rattle.rht_model.specs.Answers.{plain}
 use Rattle.rht_model.specs.Answers as answers
 use Rattle.rht_bind.specs.Bind.{plan_at, after_at}
-use Rattle.rht_bind.specs.BindHeld.{held_of_bind}
+use Rattle.rht_bind.specs.BindHeld.{holds_node, node_of_ending, held_of_bind}
 use Rattle.rht_bind.specs.declared.bind.Claimed.{Claimed}
 use Rattle.rht_bind.specs.declared.bind.growth.Growing.{Growing}
 use Rattle.rht_bind.specs.declared.bind.FoundList.{FoundList}
@@ -45,7 +46,7 @@ use Rattle.rht_ghost.proofs.Theory.Knowns.{known_nothing, known_behind}
 
 -- what a call holds that links its node next
 abbrev pub holds_publishing : ℕ → ℕ → Holding
-holds_publishing n place = record held.holds_nothing { node = Some n; lock = Some place; raised = true }
+holds_publishing n place = record (holds_node (Some n) (Some place)) { raised = true }
 
 module _ (port owner : ℕ) where
   -- the node with all its words, but for its link in a chain, and with that link
@@ -93,6 +94,7 @@ module _ (port owner : ℕ) where
   -- what a bind knows in a state
   abbrev pub known_of_bind : BindAt → Known
   known_of_bind (at.Filling new) = knows_plain (nodes.known_at port owner new.at) Nowhere Unlocked
+  known_of_bind (at.Opening attempt) = knows_of (own attempt.node) Nowhere Unlocked
   known_of_bind (at.CurrentTable attempt) = knows_of (own attempt.node) Nowhere Unlocked
   known_of_bind (at.Locating attempt locate) =
       knows_of (own attempt.node) (known_locate port locate.table locate.at) Unlocked
@@ -137,6 +139,7 @@ module _ (port owner : ℕ) where
       record (knows_of (own attempt.node) Nowhere Unlocked) {
         making = HasTaken (bare_slot unmake.slot) (pages_of_unmake unmake.at);
       }
+  known_of_bind (at.Closing ending) = knows_plain (option_map own (node_of_ending ending)) Nowhere Unlocked
   known_of_bind (at.Giving give reply) = knows_of (own give.node) Nowhere Unlocked
 
 -- a state of the change of the place before, in a bucket whose word was this, to this link
@@ -165,6 +168,7 @@ module _ (env : Env) (mix : ℕ → ℕ → ℕ → ℕ) (c : ℕ) (port owner :
   -- how its pieces are for the port, the owner and the kind of the table
   abbrev pub fits_bind : BindAt → Type 0
   fits_bind (at.Filling new) = (new.key ≡ port) × (new.owner ≡ owner)
+  fits_bind (at.Opening attempt) = Unit {0}
   fits_bind (at.CurrentTable attempt) = Unit {0}
   fits_bind (at.Locating attempt locate) = Unit {0}
   fits_bind (at.Entering attempt table shape place grow) = grow.entry ≡ entry_place place
@@ -188,6 +192,7 @@ module _ (env : Env) (mix : ℕ → ℕ → ℕ → ℕ) (c : ℕ) (port owner :
   fits_bind (at.FutureAgain growing refusal) = Unit {0}
   fits_bind (at.Attaching growing slot shape) = Unit {0}
   fits_bind (at.Unmaking attempt unmake answer) = Unit {0}
+  fits_bind (at.Closing ending) = Unit {0}
   fits_bind (at.Giving give reply) = Unit {0}
 
   pub record BindKnows (at : BindAt) (M : Memory) (G : Ghost) : Type 0 where
@@ -207,11 +212,11 @@ module _ (env : Env) (mix : ℕ → ℕ → ℕ → ℕ) (c : ℕ) (port owner :
     -- what an operation leads to from a state
     abbrev pub BindMoved : BindAt → BindAt × Next Reply → Type 0
     BindMoved at r =
-        Step env mix c (calls.Bind port owner once) words G (plan_at env at) (held_of_bind at)
+        Step env mix c (calls.Bind port owner once) words G (plan_at env c at) (held_of_bind at)
         (bind_holds r) (BindNext r)
 
     abbrev pub BindStep : BindAt → Type 0
-    BindStep at = BindMoved at (after_at mix env port once at (old_of words (plan_at env at)))
+    BindStep at = BindMoved at (after_at mix env port once at (old_of words (plan_at env c at)))
 
     -- ---- what a bind is told
 

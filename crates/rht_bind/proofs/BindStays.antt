@@ -42,8 +42,11 @@ use Rattle.rht_chain.specs.declared.locked.Then.TheVariants.{Table, Answer}
 use Rattle.rht_chain.proofs.PiecesStay.{ProbeIsIn, probe_stays, relink_begins, relink_stays}
 use Rattle.rht_model.specs.declared.history.Reply.{Reply}
 use Rattle.rht_bind.specs.Bind.{after_at, filled, probing, at_bucket, located, behind_page, grown, bound_already, found_or_future, probed, replacing, replaced, unlocking, future_or_count, checked_count, kicks, publishing, published, unlocked, IsClaimedIn, IsListIn, IsReplacingIn, IsBindAtIn}
+use Rattle.rht_bind.specs.Endings.{closed, IsEndingIn}
 use Rattle.rht_bind.specs.Growing.{unlocking_full, making, size_grown, want_or_busy, made, ended_attempt, behind_attempt, refused_or_found, has_attached, checked_attach, unmade, IsGrowingIn, IsWantingIn, IsAttachingIn}
 use Rattle.rht_bind.specs.declared.bind.Attempt.{Attempt}
+use Rattle.rht_bind.specs.declared.bind.ending.Ending.{Ending}
+use Rattle.rht_bind.specs.declared.bind.ending.Ending.TheVariants as endings
 use Rattle.rht_bind.specs.declared.bind.growth.Full.{Full}
 use Rattle.rht_bind.specs.declared.bind.growth.Full.TheVariants as full
 use Rattle.rht_bind.specs.declared.bind.growth.Growing.{Growing}
@@ -130,8 +133,7 @@ module _ (mix : ℕ → ℕ → ℕ → ℕ) (env : Env) (port : ℕ) (once : Bo
     place_in = place_in;
     grow_in = stays.grow_in;
   }
-  grown-in attempt table shape place grow (Done None) node_in table_in shape_in place_in stays =
-      record { geometry_same = refl; node_in = node_in }
+  grown-in attempt table shape place grow (Done None) node_in table_in shape_in place_in stays = node_in
   grown-in attempt table shape place grow (Done (Some page)) node_in table_in shape_in place_in stays =
       behind_page-in attempt table shape (entered place page) node_in table_in shape_in
       (entered_in g place page place_in stays.page_in)
@@ -177,9 +179,9 @@ module _ (mix : ℕ → ℕ → ℕ → ℕ) (env : Env) (port : ℕ) (once : Bo
 
   replaced-in : (list : FoundList) (relink : RelinkModel) (next : Next (Unit {0}))
       → IsReplacingIn g list relink
-      → IsBindAtIn env (replaced list relink next).0
+      → IsBindAtIn env (replaced list relink next)
   replaced-in list relink Go within = within
-  replaced-in list relink (Done done) within = within
+  replaced-in list relink (Done done) within = tt
 
   unlocking-in : (claimed : Claimed) (next : Then Reply) → IsClaimedIn g claimed → IsThenIn next
       → IsBindAtIn env (unlocking claimed next)
@@ -220,11 +222,10 @@ module _ (mix : ℕ → ℕ → ℕ → ℕ) (env : Env) (port : ℕ) (once : Bo
   }
 
   published-in : (node table : ℕ) (kick : Bool) (relink : RelinkModel) (next : Next (Unit {0})) → node < g.nodes
-      → table < 8 → IsRelinkIn g relink → IsBindAtIn env (published node table kick relink next).0
+      → table < 8 → IsRelinkIn g relink → IsBindAtIn env (published node table kick relink next)
   published-in node table kick relink Go node_in table_in relink_in =
       record { node_in = node_in; table_in = table_in; relink_in = relink_in }
-  published-in node table kick relink (Done done) node_in table_in relink_in =
-      record { node_in = node_in; table_in = table_in; relink_in = relink_in }
+  published-in node table kick relink (Done done) node_in table_in relink_in = tt
 
   unlocked-in : (attempt : Attempt) (next : Then Reply) → attempt.node < g.nodes → IsThenIn next
       → IsBindAtIn env (unlocked env attempt next)
@@ -232,7 +233,7 @@ module _ (mix : ℕ → ℕ → ℕ → ℕ) (env : Env) (port : ℕ) (once : Bo
     node_in = node_in;
     locate_in = record { geometry_same = refl; table_in = then_in; at_in = tt };
   }
-  unlocked-in attempt (Answer reply) node_in then_in = record { geometry_same = refl; node_in = node_in }
+  unlocked-in attempt (Answer reply) node_in then_in = node_in
 
   -- ---- a further table
 
@@ -276,13 +277,13 @@ module _ (mix : ℕ → ℕ → ℕ → ℕ) (env : Env) (port : ℕ) (once : Bo
   }
 
   behind-in : (attempt : Attempt) (answer : Option Reply) → attempt.node < g.nodes
-      → IsBindAtIn env (behind_attempt env attempt answer)
+      → IsBindAtIn env (behind_attempt attempt answer)
   behind-in attempt None node_in = node_in
-  behind-in attempt (Some reply) node_in = record { geometry_same = refl; node_in = node_in }
+  behind-in attempt (Some reply) node_in = node_in
 
   refused-in : (growing : Growing) (refusal : Refusal) (future : Option ℕ) → IsGrowingIn g growing
-      → IsBindAtIn env (refused_or_found env once growing refusal future)
-  refused-in growing refusal None within = record { geometry_same = refl; node_in = within.node_in }
+      → IsBindAtIn env (refused_or_found once growing refusal future)
+  refused-in growing refusal None within = within.node_in
   refused-in growing refusal (Some table) within =
       behind-in growing.attempt (ended_attempt once table) within.node_in
 
@@ -294,14 +295,20 @@ module _ (mix : ℕ → ℕ → ℕ → ℕ) (env : Env) (port : ℕ) (once : Bo
       (λ f. record { node_in = within.growing_in.node_in; unmake_in = unmake_begins g slot shape within.slot_in })
 
   unmade-in : (attempt : Attempt) (answer : Option Reply) (unmake : UnmakeModel) (next : Next (Unit {0}))
-      → attempt.node < g.nodes → IsUnmakeIn g unmake → IsBindAtIn env (unmade env attempt answer unmake next)
+      → attempt.node < g.nodes → IsUnmakeIn g unmake → IsBindAtIn env (unmade attempt answer unmake next)
   unmade-in attempt answer unmake Go node_in unmake_in = record { node_in = node_in; unmake_in = unmake_in }
   unmade-in attempt answer unmake (Done done) node_in unmake_in = behind-in attempt answer node_in
+
+  closed-in : (ending : Ending) → IsEndingIn g ending → IsBindAtIn env (closed env ending).0
+  closed-in (endings.Bound kick) within = tt
+  closed-in (endings.Answered node reply) within = record { geometry_same = refl; node_in = within }
+  closed-in (endings.Anew attempt) within = within
 
   pub bind_stays : (state : BindAt) (word : ℕ) → IsBindAtIn env state → IsWord word
       → IsBindAtIn env (after_at mix env port once state word).0
   bind_stays (at.Filling new) word within told =
       filled-in (new_node_after new word).0 (new_node_after new word).1 (new_node_stays g new word within)
+  bind_stays (at.Opening attempt) word within told = within
   bind_stays (at.CurrentTable attempt) word within told = record {
     node_in = within;
     locate_in = record { geometry_same = refl; table_in = omega arith; at_in = tt };
@@ -345,4 +352,5 @@ module _ (mix : ℕ → ℕ → ℕ → ℕ) (env : Env) (port : ℕ) (once : Bo
   bind_stays (at.Unmaking attempt unmake answer) word within told =
       unmade-in attempt answer (unmake_after unmake word).0 (unmake_after unmake word).1 within.node_in
       (unmake_stays g unmake word within.unmake_in)
+  bind_stays (at.Closing ending) word within told = closed-in ending within
   bind_stays (at.Giving give reply) word within told = within

@@ -1,7 +1,6 @@
 -- A bind, operation by operation: each leads from what it knows to what it knows next.
 use Rattle.std.proofs.Common.{◌≡◌, ℕ, ◌^◌, ◌<◌, List, length, Some, None, Bool, refl, sym, subst, inl}
 use Rattle.rht_words.specs.declared.env.Env.{Env}
-use Rattle.rht_words.specs.Held as held
 use Rattle.rht_words.specs.Links.{slot_of}
 use Rattle.rht_words.specs.Places.{Slot, FutureWord, words_in}
 use Rattle.rht_words.proofs.Memory.{Memory}
@@ -9,21 +8,25 @@ use Rattle.rht_arena.specs.GiveNode.{give_node_plan}
 use Rattle.rht_chain.specs.declared.locked.Then.TheVariants.{Table, Answer}
 use Rattle.rht_model.specs.declared.history.Call.{Call}
 use Rattle.rht_model.specs.declared.history.Call.TheVariants as calls
+use Rattle.rht_model.specs.declared.history.Reply.TheVariants.{Bound}
 use Rattle.rht_model.specs.Answers.{plain}
 use Rattle.rht_bind.specs.Bind.{IsBindAtIn}
-use Rattle.rht_bind.specs.BindHeld.{holds_node}
+use Rattle.rht_bind.specs.BindHeld.{holds_outside, holds_section, holds_node}
+use Rattle.rht_bind.specs.declared.bind.ending.Ending.{Ending}
+use Rattle.rht_bind.specs.declared.bind.ending.Ending.TheVariants as endings
 use Rattle.rht_bind.specs.declared.bind.BindAt.{BindAt}
 use Rattle.rht_bind.specs.declared.bind.BindAt.TheVariants as at
 use Rattle.rht_ghost.proofs.Theory.Ghosts.{Ghost}
 use Rattle.rht_ghost.proofs.Theory.Wholes.{Whole}
-use Rattle.rht_ghost.proofs.Theory.Knowns.{Nowhere, InSlot, Passes, Unlocked}
+use Rattle.rht_ghost.proofs.Theory.Knowns.{Known, Nowhere, InSlot, Passes, Unlocked}
 use Rattle.rht_ghost.proofs.Theory.Knowledge.{Knowing}
 use Rattle.rht_ghost.proofs.Theory.Answering.{keeps}
 use Rattle.rht_ghost.proofs.Theory.Steps.{answered-map, Holding, mem, still_has, Step, answered, reads}
 use Rattle.rht_ghost.proofs.Pieces.NewNodes as nodes
 use Rattle.rht_ghost.proofs.Pieces.Locks.{unlock_any}
+use Rattle.rht_ghost.proofs.Pieces.OwnSections.{open_step, close_step}
 use Rattle.rht_ghost.proofs.Theory.Knowns.{known_nothing}
-use Rattle.rht_bind.proofs.BindKnowledge.{own}
+use Rattle.rht_bind.proofs.BindKnowledge.{own, knows_of}
 use Rattle.rht_bind.proofs.BindWays.{filling, beginning, locating, entering, probing}
 use Rattle.rht_bind.proofs.BindDecisions.{found_next, future_loaded, count_next}
 use Rattle.rht_bind.proofs.BindLinks.{linking, raising, publish_step}
@@ -44,10 +47,37 @@ module _ (env : Env) (mix : ℕ → ℕ → ℕ → ℕ) (c : ℕ) (port owner :
   abbrev BindStep : BindAt → Type 0
   BindStep = binds.BindStep env mix c port owner once words G
 
+  -- what it knows of its node outside a bucket
+  abbrev has_own : ℕ → Known
+  has_own n = knows_of port owner (own port owner n) Nowhere Unlocked
+
+  -- the section is closed: the bind has ended, or has its node still
+  closing : (ending : Ending) → BindKnows (at.Closing ending) (mem env mix words) G → BindStep (at.Closing ending)
+  closing (endings.Bound kick) known =
+      let told = Some (plain (Bound kick)) in
+      answered env mix told (inl (keeps told)) (still_has refl)
+      (close_step env mix c (holds_section told) known_nothing words G all whole low known.knowing)
+  closing (endings.Answered node reply) known =
+      let told = Some (plain reply) in
+      answered-map env mix told (inl (keeps told)) (still_has refl)
+      (λ M' G' w k. record { knowing = k; fits = tt })
+      (close_step env mix c (record (holds_section told) { node = Some node }) (has_own node) words G all whole low
+      known.knowing)
+  closing (endings.Anew attempt) known =
+      answered-map env mix None (inl refl) (still_has refl)
+      (λ M' G' w k. record { knowing = k; fits = tt })
+      (close_step env mix c (holds_node (Some attempt.node) None) (has_own attempt.node) words G all whole low
+      known.knowing)
+
   -- each operation leads from what the bind knows to what it knows next
   pub bind_step : (at : BindAt) → IsBindAtIn env at → BindKnows at (mem env mix words) G → BindStep at
   bind_step (at.Filling new) is known =
       filling env mix c port owner once words G all whole new is known
+  bind_step (at.Opening attempt) is known =
+      answered-map env mix None (inl refl) (still_has refl)
+      (λ M' G' w k. record { knowing = k; fits = tt })
+      (open_step env mix c (holds_outside (Some attempt.node)) (has_own attempt.node) words G all whole low
+      known.knowing)
   bind_step (at.CurrentTable attempt) is known =
       beginning env mix c port owner once words G all whole attempt is known
   bind_step (at.Locating attempt locate) is known =
@@ -84,7 +114,7 @@ module _ (env : Env) (mix : ℕ → ℕ → ℕ → ℕ) (c : ℕ) (port owner :
       (Passes port next) words G all whole refl unlock.place unlock.word known.knowing)
   bind_step (at.Unlocking attempt table unlock (Answer reply)) is known =
       let told : Holding =
-      record held.holds_nothing { node = Some attempt.node; answer = Some (plain reply) } in
+      record (holds_section (Some (plain reply))) { node = Some attempt.node } in
       answered-map env mix (Some (plain reply)) (inl (keeps (Some (plain reply)))) (still_has refl)
       (λ M' G' w k. record { knowing = k; fits = tt })
       (unlock_any env mix c told (Some (own port owner attempt.node)) Nowhere words G all whole refl
@@ -109,8 +139,9 @@ module _ (env : Env) (mix : ℕ → ℕ → ℕ → ℕ) (c : ℕ) (port owner :
       attaching env mix c port owner once words G all whole growing slot shape is known
   bind_step (at.Unmaking attempt unmake answer) is known =
       unmaking env mix c port owner once words G all whole attempt unmake answer is known
+  bind_step (at.Closing ending) is known = closing ending known
   bind_step (at.Giving give reply) is known =
-      let told : Holding = record held.holds_nothing { answer = Some (plain reply) } in
+      let told : Holding = record (holds_outside None) { answer = Some (plain reply) } in
       subst (λ g. Step env mix c call words G (give_node_plan (record { geometry = g; node = give.node }))
       (record told { node = Some give.node }) told (Knowing env mix c told known_nothing))
       (sym is.geometry_same)

@@ -31,8 +31,7 @@ use Rattle.rht_model.specs.declared.history.Reply.{Reply}
 use Rattle.rht_model.specs.declared.history.Reply.TheVariants.{NoTable, NoNode}
 use Rattle.rht_model.specs.Answers.{plain}
 use Rattle.rht_bind.specs.Bind.{filled, located, at_bucket, behind_page, grown, bound_already, found_or_future, probed, IsBindAtIn}
-use Rattle.rht_bind.specs.Growing.{giving}
-use Rattle.rht_bind.specs.BindHeld.{held_of_bind, holds_node, holds_claimed, holds_table}
+use Rattle.rht_bind.specs.BindHeld.{held_of_bind, holds_outside, holds_node, holds_claimed, holds_table}
 use Rattle.rht_bind.specs.declared.bind.Attempt.{Attempt}
 use Rattle.rht_bind.specs.declared.bind.Claimed.{Claimed}
 use Rattle.rht_bind.specs.declared.bind.BindAt.{BindAt}
@@ -74,8 +73,8 @@ module _ (env : Env) (mix : ℕ → ℕ → ℕ → ℕ) (c : ℕ) (port owner :
   node_made : (new : NewNodeModel) (r : NewNodeModel × Next (Option ℕ)) → r.0.key ≡ port
       → r.0.owner ≡ owner
       → (nodes.made_by (r.0.at, r.1) ≡ None → node_of_new new.at ≡ None)
-      → SilentStep env mix c words G (new_node_plan new) (holds_node (node_of_new new.at) None)
-      (holds_node (nodes.made_by (r.0.at, r.1)) None)
+      → SilentStep env mix c words G (new_node_plan new) (holds_outside (node_of_new new.at))
+      (holds_outside (nodes.made_by (r.0.at, r.1)))
       (nodes.knowing env mix c held.holds_nothing Nowhere Unlocked (nodes.made_by (r.0.at, r.1))
       (nodes.known_made port owner (r.0.at, r.1)))
       → BindMoved (at.Filling new) (filled r.0 r.1)
@@ -105,7 +104,7 @@ module _ (env : Env) (mix : ℕ → ℕ → ℕ → ℕ) (c : ℕ) (port owner :
   filling new is known =
       let r = new_node_after new (old_of words (new_node_plan new)) in
       let Made : ℕ → ℕ → Type 0 = λ key o. SilentStep env mix c words G (new_node_plan new)
-      (holds_node (node_of_new new.at) None) (holds_node (nodes.made_by (r.0.at, r.1)) None)
+      (holds_outside (node_of_new new.at)) (holds_outside (nodes.made_by (r.0.at, r.1)))
       (nodes.knowing env mix c held.holds_nothing Nowhere Unlocked (nodes.made_by (r.0.at, r.1))
       (nodes.known_made key o (r.0.at, r.1))) in
       let Knows : ℕ → ℕ → Type 0 = λ key o. nodes.knowing env mix c held.holds_nothing Nowhere Unlocked
@@ -267,7 +266,6 @@ module _ (env : Env) (mix : ℕ → ℕ → ℕ → ℕ) (c : ℕ) (port owner :
   grown_next attempt table shape place grow (state, Done None) there step =
       let n = attempt.node in
       let reply = NoTable (size_of (unpacked shape)) in
-      let next = giving env n reply in
       answered-map env mix (Some (plain reply))
       (binds.refused env mix c port owner once words G n reply tt refl refl (λ e. cc) refl tt refl)
       (still_has refl)

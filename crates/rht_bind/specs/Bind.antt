@@ -16,6 +16,7 @@ use Rattle.rht_words.specs.Ports.{word_of, owner_of}
 use Rattle.rht_words.specs.Shapes.{size_of, unpacked}
 use Rattle.rht_words.specs.Places.{CurrentTable, PortCount, Slot, FutureWord, Node, ChainLink, OwnerWord, ListLink, place_of}
 use Rattle.rht_policy.specs.Thresholds.{is_above_75, is_above_100, is_above_max}
+use Rattle.rht_grace.specs.Sections.{turning}
 use Rattle.rht_nest.specs.Locate.{LocateModel, locate_new, locate_plan, locate_after, IsLocateIn}
 use Rattle.rht_nest.specs.declared.locate.Located.{Located}
 use Rattle.rht_nest.specs.declared.locate.LocatedBucket.{LocatedBucket}
@@ -37,11 +38,13 @@ use Rattle.rht_chain.specs.LockedWalk.{IsNodeOrNone}
 use Rattle.rht_chain.specs.declared.locked.Then.{Then}
 use Rattle.rht_chain.specs.declared.locked.Then.TheVariants.{Table, Answer}
 use Rattle.rht_model.specs.declared.history.Reply.{Reply}
-use Rattle.rht_model.specs.declared.history.Reply.TheVariants.{Bound, Exists, TooBig, NoTable, NoNode}
-use Rattle.rht_bind.specs.Growing.{giving, unlocking_full, want_or_busy, made, refused_or_found, checked_attach, unmade, IsGrowingIn, IsUnlockingFullIn, IsWantingIn, IsMakingIn, IsRefusingIn, IsAttachingIn, IsUnmakingIn}
+use Rattle.rht_model.specs.declared.history.Reply.TheVariants.{Exists, TooBig, NoTable, NoNode}
+use Rattle.rht_bind.specs.Endings.{answering, closed, IsEndingIn}
+use Rattle.rht_bind.specs.Growing.{unlocking_full, want_or_busy, made, refused_or_found, checked_attach, unmade, IsGrowingIn, IsUnlockingFullIn, IsWantingIn, IsMakingIn, IsRefusingIn, IsAttachingIn, IsUnmakingIn}
 use Rattle.rht_bind.specs.declared.bind.Attempt.{Attempt}
 use Rattle.rht_bind.specs.declared.bind.Claimed.{Claimed}
 use Rattle.rht_bind.specs.declared.bind.FoundList.{FoundList}
+use Rattle.rht_bind.specs.declared.bind.ending.Ending.TheVariants as endings
 use Rattle.rht_bind.specs.declared.bind.growth.Full.TheVariants as full
 use Rattle.rht_bind.specs.declared.bind.BindAt.{BindAt}
 use Rattle.rht_bind.specs.declared.bind.BindAt.TheVariants as at
@@ -64,47 +67,49 @@ bind_new env caller port owner once =
     record { env = env; caller = caller; port = port; owner = owner; once = once; at = first_state env port owner }
 
 -- the state's one operation
-abbrev pub plan_at : Env → BindAt → Op
-plan_at env (at.Filling new) = new_node_plan new
-plan_at env (at.CurrentTable attempt) = Load (place_of env.geometry CurrentTable)
-plan_at env (at.Locating attempt locate) = locate_plan locate
-plan_at env (at.Entering attempt table shape place grow) = grow_plan grow
-plan_at env (at.Probing attempt table shape probe) = probe_plan probe
-plan_at env (at.FoundOwner claimed found) = Load (place_of env.geometry (Node found OwnerWord))
-plan_at env (at.ListLink list) =
+abbrev pub plan_at : Env → ℕ → BindAt → Op
+plan_at env caller (at.Filling new) = new_node_plan new
+plan_at env caller (at.Opening attempt) = turning caller
+plan_at env caller (at.CurrentTable attempt) = Load (place_of env.geometry CurrentTable)
+plan_at env caller (at.Locating attempt locate) = locate_plan locate
+plan_at env caller (at.Entering attempt table shape place grow) = grow_plan grow
+plan_at env caller (at.Probing attempt table shape probe) = probe_plan probe
+plan_at env caller (at.FoundOwner claimed found) = Load (place_of env.geometry (Node found OwnerWord))
+plan_at env caller (at.ListLink list) =
     Store (place_of env.geometry (Node list.claimed.attempt.node ListLink)) (link_of list.first)
-plan_at env (at.ChainLink list) = Load (place_of env.geometry (Node list.first ChainLink))
-plan_at env (at.LinkBehind list link) = Store (place_of env.geometry (Node list.claimed.attempt.node ChainLink)) link
-plan_at env (at.Replacing list relink) = relink_plan relink
-plan_at env (at.Future claimed length) = Load (place_of env.geometry (Slot claimed.table FutureWord))
-plan_at env (at.Count claimed) = Load (place_of env.geometry PortCount)
-plan_at env (at.Link claimed) =
+plan_at env caller (at.ChainLink list) = Load (place_of env.geometry (Node list.first ChainLink))
+plan_at env caller (at.LinkBehind list link) = Store (place_of env.geometry (Node list.claimed.attempt.node ChainLink)) link
+plan_at env caller (at.Replacing list relink) = relink_plan relink
+plan_at env caller (at.Future claimed length) = Load (place_of env.geometry (Slot claimed.table FutureWord))
+plan_at env caller (at.Count claimed) = Load (place_of env.geometry PortCount)
+plan_at env caller (at.Link claimed) =
     Store (place_of env.geometry (Node claimed.attempt.node ChainLink)) (head_of claimed.bucket.place claimed.bucket.word)
-plan_at env (at.Raise claimed) = Add (place_of env.geometry PortCount) 1
-plan_at env (at.Publish node table relink kick) = relink_plan relink
-plan_at env (at.Unlocking attempt table unlock next) = unlock_plan unlock
-plan_at env (at.UnlockingFull growing unlock) = unlock_plan unlock
-plan_at env (at.Root growing) = Load (place_of env.geometry CurrentTable)
-plan_at env (at.GrowthCount growing root) = Load (place_of env.geometry PortCount)
-plan_at env (at.Making growing size make) = make_plan make
-plan_at env (at.FutureAgain growing refusal) = Load (place_of env.geometry (Slot growing.table FutureWord))
-plan_at env (at.Attaching growing slot shape) =
+plan_at env caller (at.Raise claimed) = Add (place_of env.geometry PortCount) 1
+plan_at env caller (at.Publish node table relink kick) = relink_plan relink
+plan_at env caller (at.Unlocking attempt table unlock next) = unlock_plan unlock
+plan_at env caller (at.UnlockingFull growing unlock) = unlock_plan unlock
+plan_at env caller (at.Root growing) = Load (place_of env.geometry CurrentTable)
+plan_at env caller (at.GrowthCount growing root) = Load (place_of env.geometry PortCount)
+plan_at env caller (at.Making growing size make) = make_plan make
+plan_at env caller (at.FutureAgain growing refusal) = Load (place_of env.geometry (Slot growing.table FutureWord))
+plan_at env caller (at.Attaching growing slot shape) =
     Exchange (place_of env.geometry (Slot growing.table FutureWord)) 0 (future_of slot)
-plan_at env (at.Unmaking attempt unmake answer) = unmake_plan unmake
-plan_at env (at.Giving give reply) = give_node_plan give
+plan_at env caller (at.Unmaking attempt unmake answer) = unmake_plan unmake
+plan_at env caller (at.Closing ending) = turning caller
+plan_at env caller (at.Giving give reply) = give_node_plan give
 
 abbrev pub bind_plan : BindModel → Op
-bind_plan m = plan_at m.env m.at
+bind_plan m = plan_at m.env m.caller m.at
 
 -- a new node, by a bind that has attached no table yet
 abbrev pub first_attempt : ℕ → Attempt
 first_attempt node = record { node = node; attached = false }
 
--- with a new node the current table is looked for; where no node was free the bind ends
+-- with a new node the section is opened; where no node was free the bind ends
 abbrev pub filled : NewNodeModel → Next (Option ℕ) → BindAt × Next Reply
 filled new Go = (at.Filling new, Go)
 filled new (Done None) = (at.Filling new, Done NoNode)
-filled new (Done (Some node)) = (at.CurrentTable (first_attempt node), Go)
+filled new (Done (Some node)) = (at.Opening (first_attempt node), Go)
 
 -- the port's bucket in the table of this slot is looked for
 abbrev pub locating : Env → Attempt → ℕ → BindAt
@@ -139,7 +144,7 @@ behind_page env port attempt table shape (starts.Done place) = probing env port 
 abbrev pub grown : Env → ℕ → Attempt → ℕ → ℕ → PlaceModel → GrowModel → Next (Option ℕ) → BindAt
 grown env port attempt table shape place grow Go = at.Entering attempt table shape place grow
 grown env port attempt table shape place grow (Done None) =
-    giving env attempt.node (NoTable (size_of (unpacked shape)))
+    answering attempt.node (NoTable (size_of (unpacked shape)))
 grown env port attempt table shape place grow (Done (Some page)) =
     behind_page env port attempt table shape (entered place page)
 
@@ -170,11 +175,11 @@ replacing env list =
 
 -- with the last store the owner is the port's first one, and the bucket unlocked; no count was raised, so there is a
 -- kick only for a table that the bind has attached
-abbrev pub replaced : FoundList → RelinkModel → Next (Unit {0}) → BindAt × Next Reply
-replaced list relink Go = (at.Replacing list relink, Go)
-replaced list relink (Done done) = (at.Replacing list relink, Done (Bound list.claimed.attempt.attached))
+abbrev pub replaced : FoundList → RelinkModel → Next (Unit {0}) → BindAt
+replaced list relink Go = at.Replacing list relink
+replaced list relink (Done done) = at.Closing (endings.Bound list.claimed.attempt.attached)
 
--- the bucket is unlocked without a change, and then the bind goes on or gives its node back
+-- the bucket is unlocked without a change, and then the bind goes on or has its answer
 abbrev pub unlocking : Claimed → Then Reply → BindAt
 unlocking claimed next =
     at.Unlocking claimed.attempt claimed.table (record { place = claimed.bucket.place; word = claimed.bucket.word }) next
@@ -207,18 +212,19 @@ publishing env claimed kick =
     at.Publish node claimed.table (relink_new env.geometry bucket.place bucket.word None (link_of node)) kick
 
 -- with the last store the port is bound and the bucket unlocked
-abbrev pub published : ℕ → ℕ → Bool → RelinkModel → Next (Unit {0}) → BindAt × Next Reply
-published node table kick relink Go = (at.Publish node table relink kick, Go)
-published node table kick relink (Done done) = (at.Publish node table relink kick, Done (Bound kick))
+abbrev pub published : ℕ → ℕ → Bool → RelinkModel → Next (Unit {0}) → BindAt
+published node table kick relink Go = at.Publish node table relink kick
+published node table kick relink (Done done) = at.Closing (endings.Bound kick)
 
--- behind the unlocking the bind goes on in the future table, or gives its node back
+-- behind the unlocking the bind goes on in the future table, or has its answer
 abbrev pub unlocked : Env → Attempt → Then Reply → BindAt
 unlocked env attempt (Table table) = locating env attempt table
-unlocked env attempt (Answer reply) = giving env attempt.node reply
+unlocked env attempt (Answer reply) = answering attempt.node reply
 
 -- where the bind stands after a state that found this word, and what it says
 abbrev pub after_at : (ℕ → ℕ → ℕ → ℕ) → Env → ℕ → Bool → BindAt → ℕ → BindAt × Next Reply
 after_at mix env port once (at.Filling new) word = filled (new_node_after new word).0 (new_node_after new word).1
+after_at mix env port once (at.Opening attempt) word = (at.CurrentTable attempt, Go)
 after_at mix env port once (at.CurrentTable attempt) word = (locating env attempt (table_of word), Go)
 after_at mix env port once (at.Locating attempt locate) word =
     (located env port attempt (locate_after mix port locate word).0 (locate_after mix port locate word).1, Go)
@@ -232,13 +238,13 @@ after_at mix env port once (at.ListLink list) word = (at.ChainLink list, Go)
 after_at mix env port once (at.ChainLink list) word = (at.LinkBehind list word, Go)
 after_at mix env port once (at.LinkBehind list link) word = (replacing env list, Go)
 after_at mix env port once (at.Replacing list relink) word =
-    replaced list (relink_after relink).0 (relink_after relink).1
+    (replaced list (relink_after relink).0 (relink_after relink).1, Go)
 after_at mix env port once (at.Future claimed length) word = (future_or_count claimed length (slot_of word), Go)
 after_at mix env port once (at.Count claimed) word = (checked_count env claimed word, Go)
 after_at mix env port once (at.Link claimed) word = (at.Raise claimed, Go)
 after_at mix env port once (at.Raise claimed) word = (publishing env claimed (kicks env claimed word), Go)
 after_at mix env port once (at.Publish node table relink kick) word =
-    published node table kick (relink_after relink).0 (relink_after relink).1
+    (published node table kick (relink_after relink).0 (relink_after relink).1, Go)
 after_at mix env port once (at.Unlocking attempt table unlock next) word = (unlocked env attempt next, Go)
 after_at mix env port once (at.UnlockingFull growing unlock) word = (at.Root growing, Go)
 after_at mix env port once (at.Root growing) word = (at.GrowthCount growing (table_of word), Go)
@@ -246,11 +252,12 @@ after_at mix env port once (at.GrowthCount growing root) word = (want_or_busy en
 after_at mix env port once (at.Making growing size make) word =
     (made growing size (make_after make word).0 (make_after make word).1, Go)
 after_at mix env port once (at.FutureAgain growing refusal) word =
-    (refused_or_found env once growing refusal (slot_of word), Go)
+    (refused_or_found once growing refusal (slot_of word), Go)
 after_at mix env port once (at.Attaching growing slot shape) word =
     (checked_attach env once growing slot shape word, Go)
 after_at mix env port once (at.Unmaking attempt unmake answer) word =
-    (unmade env attempt answer (unmake_after unmake word).0 (unmake_after unmake word).1, Go)
+    (unmade attempt answer (unmake_after unmake word).0 (unmake_after unmake word).1, Go)
+after_at mix env port once (at.Closing ending) word = closed env ending
 after_at mix env port once (at.Giving give reply) word = (at.Giving give reply, Done reply)
 
 abbrev pub moved : BindModel → BindAt × Next Reply → BindModel × Next Reply
@@ -325,6 +332,7 @@ pub record IsUnlockingIn (g : Geometry) (attempt : Attempt) (table : ℕ) (unloc
 -- all that the state names is the table's: slots, nodes and buckets; and the words that it keeps are words
 abbrev pub IsBindAtIn : Env → BindAt → Type 0
 IsBindAtIn env (at.Filling new) = IsNewNodeIn env.geometry new
+IsBindAtIn env (at.Opening attempt) = attempt.node < env.geometry.nodes
 IsBindAtIn env (at.CurrentTable attempt) = attempt.node < env.geometry.nodes
 IsBindAtIn env (at.Locating attempt locate) = IsLocatingIn env.geometry attempt locate
 IsBindAtIn env (at.Entering attempt table shape place grow) = IsEnteringIn env.geometry attempt table shape place grow
@@ -347,6 +355,7 @@ IsBindAtIn env (at.Making growing size make) = IsMakingIn env growing make
 IsBindAtIn env (at.FutureAgain growing refusal) = IsRefusingIn env.geometry growing refusal
 IsBindAtIn env (at.Attaching growing slot shape) = IsAttachingIn env.geometry growing slot shape
 IsBindAtIn env (at.Unmaking attempt unmake answer) = IsUnmakingIn env.geometry attempt unmake
+IsBindAtIn env (at.Closing ending) = IsEndingIn env.geometry ending
 IsBindAtIn env (at.Giving give reply) = IsGiveIn env.geometry give
 
 -- a bind of this caller in this table, all that its state names being the table's

@@ -20,12 +20,10 @@ use Rattle.rht_bind.specs.declared.bind.growth.Full.{Full}
 use Rattle.rht_bind.specs.declared.bind.growth.Growing.{Growing}
 use Rattle.rht_bind.specs.declared.bind.growth.Refusal.{Refusal}
 use Rattle.rht_bind.specs.declared.bind.growth.Refusal.TheVariants as refusals
+use Rattle.rht_bind.specs.Endings.{answering}
+use Rattle.rht_bind.specs.declared.bind.ending.Ending.TheVariants as endings
 use Rattle.rht_bind.specs.declared.bind.BindAt.{BindAt}
 use Rattle.rht_bind.specs.declared.bind.BindAt.TheVariants as at
-
--- the node is given back, and then the bind ends with this reply
-abbrev pub giving : Env → ℕ → Reply → BindAt
-giving env node reply = at.Giving (record { geometry = env.geometry; node = node }) reply
 
 -- the bucket is unlocked without a change, and then a further table is wanted
 abbrev pub growing_of : Claimed → Full → Growing
@@ -67,16 +65,16 @@ reply_of (refusals.NoTable size) last = NoTable size
 abbrev pub ended_attempt : Bool → ℕ → Option Reply
 ended_attempt once table = if once then Some (Again table) else None
 
--- behind an attempt without an answer the bind begins anew with its node, and behind another it gives the node back
-abbrev pub behind_attempt : Env → Attempt → Option Reply → BindAt
-behind_attempt env attempt None = at.CurrentTable attempt
-behind_attempt env attempt (Some reply) = giving env attempt.node reply
+-- behind an attempt the section is closed; then the bind begins anew where there is no answer, and else it gives its node back
+abbrev pub behind_attempt : Attempt → Option Reply → BindAt
+behind_attempt attempt None = at.Closing (endings.Anew attempt)
+behind_attempt attempt (Some reply) = answering attempt.node reply
 
 -- the refusal stands where the last table has no future yet
-abbrev pub refused_or_found : Env → Bool → Growing → Refusal → Option ℕ → BindAt
-refused_or_found env once growing refusal None = giving env growing.attempt.node (reply_of refusal growing.table)
-refused_or_found env once growing refusal (Some table) =
-    behind_attempt env growing.attempt (ended_attempt once table)
+abbrev pub refused_or_found : Bool → Growing → Refusal → Option ℕ → BindAt
+refused_or_found once growing refusal None = answering growing.attempt.node (reply_of refusal growing.table)
+refused_or_found once growing refusal (Some table) =
+    behind_attempt growing.attempt (ended_attempt once table)
 
 -- its node, by a bind that has attached a table
 abbrev pub has_attached : Attempt → Attempt
@@ -86,13 +84,13 @@ has_attached attempt = record attempt { attached = true }
 -- attached before, and this one is given back.
 abbrev pub checked_attach : Env → Bool → Growing → ℕ → ℕ → ℕ → BindAt
 checked_attach env once growing slot shape found =
-    if found == 0 then behind_attempt env (has_attached growing.attempt) (ended_attempt once slot)
+    if found == 0 then behind_attempt (has_attached growing.attempt) (ended_attempt once slot)
     else at.Unmaking growing.attempt (unmake_new env.geometry slot shape) (ended_attempt once (table_of (found - 1)))
 
 -- with the table given back the attempt has ended
-abbrev pub unmade : Env → Attempt → Option Reply → UnmakeModel → Next (Unit {0}) → BindAt
-unmade env attempt answer unmake Go = at.Unmaking attempt unmake answer
-unmade env attempt answer unmake (Done done) = behind_attempt env attempt answer
+abbrev pub unmade : Attempt → Option Reply → UnmakeModel → Next (Unit {0}) → BindAt
+unmade attempt answer unmake Go = at.Unmaking attempt unmake answer
+unmade attempt answer unmake (Done done) = behind_attempt attempt answer
 
 -- ---- what a bind names that wants a table
 

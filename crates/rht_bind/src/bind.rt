@@ -9,13 +9,15 @@ ghost use Rattle.rht_chain.specs.Probe.{probe_after};
 ghost use Rattle.rht_bind.specs.Bind.{bind_new, bind_plan, bind_after, after_at, filled, probed, unlocking, unlocked, IsBindAtIn};
 
 mod bucket;
+mod ending;
 mod growth;
 mod insertion;
 
 pub use bucket::{at_bucket, behind_page, locating, probing};
 use bucket::{grown, located};
+pub use ending::{Ending, answering, closed, giving};
 pub use growth::{
-    Full, Growing, Refusal, behind_attempt, checked_attach, ended_attempt, giving, making,
+    Full, Growing, Refusal, behind_attempt, checked_attach, ended_attempt, making,
     refused_or_found, unlocking_full, want_or_busy,
 };
 use growth::{made, unmade};
@@ -25,6 +27,7 @@ pub use insertion::{
 use insertion::{published, replaced};
 use rht_arena::{GiveNode, NewNode};
 use rht_chain::{Locked, Probe, Relink, Then, Unlock};
+use rht_grace::{Enter, Leave};
 use rht_model::Reply;
 use rht_nest::{Grow, Locate, Make, Place, Unmake};
 use rht_policy::Mix;
@@ -73,6 +76,10 @@ pub enum BindAt {
     /// Takes a free node and stores the port and the owner in it.
     Filling {
         new: NewNode,
+    },
+    /// Opens the read section of an attempt, by one more in its caller's section word.
+    Opening {
+        attempt: Attempt,
     },
     /// Loads which table is the current one.
     CurrentTable {
@@ -197,6 +204,10 @@ pub enum BindAt {
         unmake: Unmake,
         answer: Option<Reply>,
     },
+    /// Closes the read section, by one more in the section word.
+    Closing {
+        ending: Ending,
+    },
     /// Gives the node back.
     Giving {
         give: GiveNode,
@@ -205,11 +216,11 @@ pub enum BindAt {
 }
 
 /// A bind of one port to one owner. Where the last table is full it attaches a further one, and then
-/// begins anew with the same node. The answers are `Bound`, `Exists`, `NoNode` and `TooBig`; `Busy` and
-/// `NoTable` where no table is attached; and, of a bind that tries but once, `Again`. `NoTable` comes
-/// also where the port's bucket is missing and no page was free for it. The kernel's counterparts are
-/// `rhashtable_lookup_insert_key` and, in a table of lists, `rhltable_insert_key`, with
-/// `rhashtable_insert_slow` behind them.
+/// begins anew with the same node. Each attempt has a read section of its own. The answers are `Bound`,
+/// `Exists`, `NoNode` and `TooBig`; `Busy` and `NoTable` where no table is attached; and, of a bind
+/// that tries but once, `Again`. `NoTable` comes also where the port's bucket is missing and no page
+/// was free for it. The kernel's counterparts are `rhashtable_lookup_insert_key` and, in a table of
+/// lists, `rhltable_insert_key`, with `rhashtable_insert_slow` behind them.
 #[derive(Drop)]
 pub struct Bind<M: Mix> {
     env: Env,
@@ -222,19 +233,21 @@ pub struct Bind<M: Mix> {
 }
 
 impl<M: Mix> Model for Bind<M> {
+    ghost use Rattle.std.specs.Prelude.{◌<◌};
     ghost use Rattle.rht_bind.specs.Bind.{BindModel, IsBindAtIn};
 
     ghost Value = { BindModel };
 
     ghost view = { λ m. record { env = m.env; caller = m.caller; port = m.port; owner = m.owner; once = m.once; at = m.at } };
 
-    ghost invariant = { λ m. IsBindAtIn m.env m.at };
+    ghost invariant = { λ m. (m.caller < 16) × IsBindAtIn m.env m.at };
 }
 
 impl<M: Mix> Bind<M> {
     /// Before the first operation. With `once` the bind answers `Again` where it would begin anew.
     #[inline(always)]
     pub fn new(env: Env, caller: u32, port: Port, owner: u32, once: bool) -> Bind<M>
+        requires { caller < 16 }
         ensures { result ≡ bind_new env caller port owner once }
     {
         Bind {
@@ -268,6 +281,7 @@ impl<M: Mix> Bind<M> {
         let geometry = self.env.geometry;
         match self.at {
             BindAt::Filling { new } => new.plan(),
+            BindAt::Opening { .. } => Enter::new(self.caller).plan(),
             BindAt::CurrentTable { .. } => Op::load(places::current_table()),
             BindAt::Locating { locate, .. } => locate.plan(),
             BindAt::Entering { grow, .. } => grow.plan(),
@@ -305,6 +319,7 @@ impl<M: Mix> Bind<M> {
                 Op::exchange(places::future(growing.table), 0, future_of(slot))
             }
             BindAt::Unmaking { unmake, .. } => unmake.plan(),
+            BindAt::Closing { .. } => Leave::new(self.caller).plan(),
             BindAt::Giving { give, .. } => give.plan(),
         }
     }
@@ -329,6 +344,7 @@ fn after<M: Mix>(env: Env, port: Port, once: bool, at: &BindAt, old: u64) -> (Bi
 {
     let next = match *at {
         BindAt::Filling { new } => return filled(new, old),
+        BindAt::Opening { attempt } => BindAt::CurrentTable { attempt },
         BindAt::CurrentTable { attempt } => locating(env, attempt, table_of(old)),
         BindAt::Locating { attempt, locate } => located::<M>(env, port, attempt, locate, old),
         BindAt::Entering {
@@ -351,7 +367,7 @@ fn after<M: Mix>(env: Env, port: Port, once: bool, at: &BindAt, old: u64) -> (Bi
         BindAt::ListLink { list } => BindAt::ChainLink { list },
         BindAt::ChainLink { list } => BindAt::LinkBehind { list, link: old },
         BindAt::LinkBehind { list, .. } => replacing(env, list),
-        BindAt::Replacing { list, relink } => return replaced(list, relink),
+        BindAt::Replacing { list, relink } => replaced(list, relink),
         BindAt::Future { claimed, length } => future_or_count(claimed, length, slot_of(old)),
         BindAt::Count { claimed } => checked_count(env, claimed, old),
         BindAt::Link { claimed } => BindAt::Raise { claimed },
@@ -361,7 +377,7 @@ fn after<M: Mix>(env: Env, port: Port, once: bool, at: &BindAt, old: u64) -> (Bi
             table,
             relink,
             kick,
-        } => return published(node, table, kick, relink),
+        } => published(node, table, kick, relink),
         BindAt::Unlocking { attempt, then, .. } => unlocked(env, attempt, then),
         BindAt::UnlockingFull { growing, .. } => BindAt::Root { growing },
         BindAt::Root { growing } => BindAt::GrowthCount {
@@ -375,7 +391,7 @@ fn after<M: Mix>(env: Env, port: Port, once: bool, at: &BindAt, old: u64) -> (Bi
             make,
         } => made(growing, size, make, old),
         BindAt::FutureAgain { growing, refusal } => {
-            refused_or_found(env, once, growing, refusal, slot_of(old))
+            refused_or_found(once, growing, refusal, slot_of(old))
         }
         BindAt::Attaching {
             growing,
@@ -386,7 +402,8 @@ fn after<M: Mix>(env: Env, port: Port, once: bool, at: &BindAt, old: u64) -> (Bi
             attempt,
             unmake,
             answer,
-        } => unmade(env, attempt, unmake, answer, old),
+        } => unmade(attempt, unmake, answer, old),
+        BindAt::Closing { ending } => return closed(env, ending),
         BindAt::Giving { reply, .. } => return (*at, Next::Done(reply)),
     };
     (next, Next::Go)
@@ -405,7 +422,7 @@ fn filled(new: NewNode, old: u64) -> (BindAt, Next<Reply>)
                 node,
                 attached: false,
             };
-            (BindAt::CurrentTable { attempt }, Next::Go)
+            (BindAt::Opening { attempt }, Next::Go)
         }
         Next::Done(None) => (BindAt::Filling { new }, Next::Done(Reply::NoNode)),
     }
@@ -449,16 +466,15 @@ pub fn unlocking(claimed: Claimed, then: Then<Reply>) -> BindAt
     }
 }
 
-/// After the bucket was unlocked without a change: the bind goes on in the future table, or gives
-/// its node back.
+/// After the bucket was unlocked without a change: the bind goes on in the future table, or has its
+/// answer.
 #[inline(always)]
 pub fn unlocked(env: Env, attempt: Attempt, then: Then<Reply>) -> BindAt
-    requires node { attempt.node < env.geometry.nodes }
-    requires table { IsThenIn then }
+    requires { IsThenIn then }
     ensures { result ≡ unlocked env attempt then }
 {
     match then {
         Then::Table(table) => locating(env, attempt, table),
-        Then::Answer(reply) => giving(env, attempt.node, reply),
+        Then::Answer(reply) => answering(attempt.node, reply),
     }
 }

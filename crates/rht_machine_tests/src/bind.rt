@@ -1,6 +1,6 @@
 //! The bind alone, told old values by hand. In a table of 8 nodes and 4 pages the node map is
 //! at 280, the page map at 281, node n from 282 + 4 * n on, slot t from 24 + 32 * t on, and the pages
-//! from 314 on; with 32 nodes the pages are from 410 on.
+//! from 314 on; with 32 nodes the pages are from 410 on. The section word of caller 2 is at 10.
 
 mod nested;
 
@@ -11,15 +11,16 @@ use rht_policy::Low;
 use rht_words::{Config, Env, Hash, Kind, Next, Op, Port};
 use std::process::Abort;
 
-/// The operations that take node 0 and fill it, with what each finds, and behind them the load that
-/// says that the current table is in slot 0.
-fn node_0_filled() -> [(Op, u64); 6] {
+/// The operations that take node 0 and fill it, with what each finds. Behind them the section is
+/// opened, and then comes the load that says that the current table is in slot 0.
+fn node_0_filled() -> [(Op, u64); 7] {
     [
         (Op::load(280), 1),
         (Op::and(280, !1), 1),
         (Op::store(283, 5), 0),
         (Op::store(284, 9), 0),
         (Op::store(285, 0), 0),
+        (Op::add(10, 1), 4),
         (Op::load(0), 0),
     ]
 }
@@ -39,7 +40,7 @@ fn small(kind: Kind, max: u32) -> Config {
 /// A bind of the port to owner 9 in this table, before its first operation.
 fn begun(rt: &impl Abort, config: Config, port: Port, once: bool) -> Bind<Low> {
     assert!(rt; config.is_settled());
-    Bind::new(Env::new(config), 0, port, 9, once)
+    Bind::new(Env::new(config), 2, port, 9, once)
 }
 
 impl Machine for Bind<Low> {
@@ -82,6 +83,7 @@ fn binds_that_are_not_made(rt: HostRuntime) {
         (Op::store(295, 5), 0), // 282 + 4 * 3 + 1
         (Op::store(296, 9), 0),
         (Op::store(297, 0), 0),
+        (Op::add(10, 1), 4),
         (Op::load(0), 0),
     ];
     let exists = [
@@ -95,6 +97,7 @@ fn binds_that_are_not_made(rt: HostRuntime) {
         (Op::load(283), 5),
         (Op::load(284), 7),
         (Op::store(319, 4), 5),
+        (Op::add(10, 1), 5),
         (Op::or(280, 8), 0),
     ];
     let single = small(Kind::Single, 0);
@@ -114,6 +117,7 @@ fn binds_that_are_not_made(rt: HostRuntime) {
         (Op::load(26), 0),
         (Op::load(2), 8),
         (Op::store(315, 0), 1),
+        (Op::add(10, 1), 5),
         (Op::or(280, 1), 0),
     ];
     assert_bind(
@@ -138,6 +142,7 @@ fn binds_that_are_made(rt: HostRuntime) {
         (Op::store(282, 639), 0), // the marker of 319
         (Op::add(2, 1), 48),
         (Op::store(319, 2), 1),
+        (Op::add(10, 1), 5),
     ];
     for kind in [Kind::Single, Kind::Listed] {
         let reply = Reply::Bound { kick: true };
@@ -162,6 +167,7 @@ fn binds_that_are_made(rt: HostRuntime) {
         (Op::store(282, 895), 0), // the marker of 447
         (Op::add(2, 1), 95),
         (Op::store(447, 2), 1),
+        (Op::add(10, 1), 5),
     ];
     for kind in [Kind::Single, Kind::Listed] {
         let reply = Reply::Bound { kick: false };
@@ -183,6 +189,7 @@ fn binds_in_front_of_a_list(rt: HostRuntime) {
         (Op::load(286), 639),
         (Op::store(282, 639), 0),
         (Op::store(319, 2), 5),
+        (Op::add(10, 1), 5),
     ];
     let bound = Reply::Bound { kick: false };
     assert_bind(&rt, listed, &node_0_filled(), &first, bound);
@@ -200,6 +207,7 @@ fn binds_in_front_of_a_list(rt: HostRuntime) {
         (Op::store(282, 8), 0),
         (Op::store(290, 2), 4),
         (Op::store(319, 6), 7),
+        (Op::add(10, 1), 5),
     ];
     assert_bind(&rt, listed, &node_0_filled(), &between, bound);
 }
@@ -228,15 +236,10 @@ fn walk_of_16() -> [(Op, u64); 36] {
 }
 
 /// In the roomy table a bind of port 5 to owner 9 into a chain of 16 nodes performs the operations
-/// behind the walk, which find these words. The last one has this reply.
-fn assert_grows(
-    rt: &impl Abort,
-    once: bool,
-    steps: &[(Op, u64)],
-    behind: &[(Op, u64)],
-    reply: Reply,
-) {
-    let parts: [&[(Op, u64)]; 4] = [&node_0_filled(), &walk_of_16(), steps, behind];
+/// behind the walk, part by part, which find these words. The last one has this reply.
+fn assert_grows(rt: &impl Abort, once: bool, behind: [&[(Op, u64)]; 3], reply: Reply) {
+    let [growing, ended, anew] = behind;
+    let parts: [&[(Op, u64)]; 5] = [&node_0_filled(), &walk_of_16(), growing, ended, anew];
     assert_parts(rt, begun(rt, roomy(), 5, once), &parts, reply);
 }
 
@@ -261,9 +264,17 @@ fn table_made() -> [(Op, u64); 14] {
     ]
 }
 
-/// The node goes into bucket 5 of the table in slot 1, which is the current one by now.
-fn bound_in_slot_1() -> [(Op, u64); 10] {
+/// The section of an attempt is closed, and the node given back.
+fn node_given() -> [(Op, u64); 2] {
+    [(Op::add(10, 1), 5), (Op::or(280, 1), 0)]
+}
+
+/// The section is closed and opened again. The node goes into bucket 5 of the table in slot 1, which is
+/// the current one by now.
+fn bound_in_slot_1() -> [(Op, u64); 13] {
     [
+        (Op::add(10, 1), 5),
+        (Op::add(10, 1), 6),
         (Op::load(0), 1),
         (Op::load(56), 1_030),
         (Op::load(57), 2),
@@ -274,18 +285,19 @@ fn bound_in_slot_1() -> [(Op, u64); 10] {
         (Op::store(282, 959), 0), // the marker of 479
         (Op::add(2, 1), 16),
         (Op::store(479, 2), 1),
+        (Op::add(10, 1), 7),
     ]
 }
 
 #[test]
 fn the_seventeenth_bind_in_a_chain_attaches_a_table(rt: HostRuntime) {
     let made = table_made();
-    let once = [(Op::exchange(26, 0, 2), 0), (Op::or(280, 1), 0)];
-    assert_grows(&rt, true, &made, &once, Reply::Again { table: 1 });
+    let attached = [(Op::exchange(26, 0, 2), 0)];
+    let again = Reply::Again { table: 1 };
+    assert_grows(&rt, true, [&made, &attached, &node_given()], again);
     // Who has attached a table has a kick, with few ports too.
-    let [a, b, c, d, e, f, g, h, i, j] = bound_in_slot_1();
-    let anew = [(Op::exchange(26, 0, 2), 0), a, b, c, d, e, f, g, h, i, j];
-    assert_grows(&rt, false, &made, &anew, Reply::Bound { kick: true });
+    let bound = Reply::Bound { kick: true };
+    assert_grows(&rt, false, [&made, &attached, &bound_in_slot_1()], bound);
 }
 
 #[test]
@@ -296,13 +308,11 @@ fn a_table_that_is_not_attached_is_given_back(rt: HostRuntime) {
         (Op::exchange(26, 0, 2), 3),
         (Op::or(281, 2), 12),
         (Op::store(60, 0), 1),
-        (Op::or(280, 1), 0),
     ];
-    assert_grows(&rt, true, &made, &lost, Reply::Again { table: 2 });
-    let [a, b, c, d, e, f, g, h, i, j] = bound_in_slot_1();
-    let [attach, pages, slot, _] = lost;
-    let anew = [attach, pages, slot, a, b, c, d, e, f, g, h, i, j];
-    assert_grows(&rt, false, &made, &anew, Reply::Bound { kick: false });
+    let again = Reply::Again { table: 2 };
+    assert_grows(&rt, true, [&made, &lost, &node_given()], again);
+    let bound = Reply::Bound { kick: false };
+    assert_grows(&rt, false, [&made, &lost, &bound_in_slot_1()], bound);
 }
 
 #[test]
@@ -314,13 +324,15 @@ fn binds_that_attach_no_table(rt: HostRuntime) {
         (Op::load(0), 2),
         (Op::load(2), 48),
     ];
-    let none = [(Op::load(26), 0), (Op::or(280, 1), 0)];
+    let none = [(Op::load(26), 0)];
+    let given = node_given();
     for once in [false, true] {
         let busy = Reply::Busy { root: 2, last: 0 };
-        assert_grows(&rt, once, &moved, &none, busy);
+        assert_grows(&rt, once, [&moved, &none, &given], busy);
     }
-    let found = [(Op::load(26), 4), (Op::or(280, 1), 0)];
-    assert_grows(&rt, true, &moved, &found, Reply::Again { table: 3 });
+    let found = [(Op::load(26), 4)];
+    let again = Reply::Again { table: 3 };
+    assert_grows(&rt, true, [&moved, &found, &given], again);
     // No slot is free, and above three quarters a table of 128 buckets is wanted.
     let slots = [
         (Op::load(26), 0),
@@ -338,7 +350,7 @@ fn binds_that_attach_no_table(rt: HostRuntime) {
     ];
     for once in [false, true] {
         let no_table = Reply::NoTable { size: 128 };
-        assert_grows(&rt, once, &slots, &none, no_table);
+        assert_grows(&rt, once, [&slots, &none, &given], no_table);
     }
 }
 
@@ -367,6 +379,8 @@ fn a_table_of_twice_the_size_above_the_size(rt: HostRuntime) {
         (Op::store(59, 9), 0),
         (Op::exchange(26, 0, 2), 0),
         // Anew, and on to the table of 8 buckets.
+        (Op::add(10, 1), 5),
+        (Op::add(10, 1), 6),
         (Op::load(0), 0),
         (Op::load(24), 2),
         (Op::load(25), 1),
@@ -383,6 +397,7 @@ fn a_table_of_twice_the_size_above_the_size(rt: HostRuntime) {
         (Op::store(282, 767), 0), // the marker of 383
         (Op::add(2, 1), 4),
         (Op::store(383, 2), 1),
+        (Op::add(10, 1), 7),
     ];
     let reply = Reply::Bound { kick: true };
     assert_bind(&rt, small(Kind::Single, 0), &node_0_filled(), &above, reply);

@@ -1,7 +1,8 @@
 //! The resizing alone, told old values by hand. In a table of 8 nodes and 4 pages the node map is at
 //! 280, the page map at 281, node n from 282 + 4 * n on (its chain link, key, owner and list link),
 //! slot t from 24 + 32 * t on (shape, seed, future, serial and state), and the pages from 314 on. The
-//! current table is in slot 0, with 4 buckets in page 0 (so its shape is 2), from 314 to 317.
+//! current table is in slot 0, with 4 buckets in page 0 (so its shape is 2), from 314 to 317. The
+//! section word of caller 1 is at 9.
 
 mod nested;
 
@@ -31,7 +32,7 @@ fn small(shrink: bool) -> Config {
 /// A worker in this table, before its first operation.
 fn begun(rt: &impl Abort, config: Config) -> Work<Low> {
     assert!(rt; config.is_settled());
-    Work::new(Env::new(config), 0)
+    Work::new(Env::new(config), 1)
 }
 
 impl Machine for Work<Low> {
@@ -51,10 +52,12 @@ fn assert_work(rt: &impl Abort, config: Config, steps: &[&[(Op, u64)]], reply: R
     assert_parts(rt, begun(rt, config), steps, reply);
 }
 
-/// The current table has this shape and is the only one, and so many ports are bound.
-fn alone(shape: u64, count: u64) -> [(Op, u64); 5] {
+/// The work lock is taken and the section opened. The current table has this shape and is the only one,
+/// and so many ports are bound.
+fn alone(shape: u64, count: u64) -> [(Op, u64); 6] {
     [
         (Op::exchange(1, 0, 1), 0),
+        (Op::add(9, 1), 4),
         (Op::load(0), 0),
         (Op::load(26), 0),
         (Op::load(24), shape),
@@ -62,10 +65,11 @@ fn alone(shape: u64, count: u64) -> [(Op, u64); 5] {
     ]
 }
 
-/// Behind the current table is one in slot 1, which has this shape and is the last one.
-fn two(shape: u64, count: u64) -> [(Op, u64); 6] {
+/// The same where behind the current table is one in slot 1, which has this shape and is the last one.
+fn two(shape: u64, count: u64) -> [(Op, u64); 7] {
     [
         (Op::exchange(1, 0, 1), 0),
+        (Op::add(9, 1), 4),
         (Op::load(0), 0),
         (Op::load(26), 2),
         (Op::load(58), 0),
@@ -140,14 +144,19 @@ fn emptied(place: usize, shape: u64) -> [(Op, u64); 8] {
 /// The current table's future is the table in slot 1, to which its entries are moved.
 const BEGUN: [(Op, u64); 2] = [(Op::Load { place: 26 }, 2), (Op::Load { place: 24 }, 2)];
 
-/// The work lock is let go.
-const LET_GO: [(Op, u64); 1] = [(Op::Store { place: 1, value: 0 }, 1)];
+/// The section is closed, and the work lock let go.
+const LET_GO: [(Op, u64); 2] = [
+    (Op::Add { place: 9, by: 1 }, 5),
+    (Op::Store { place: 1, value: 0 }, 1),
+];
 
-/// The table in slot 1 is the current one, with this word for its future, and slot 0 is retired.
-fn published(future: u64) -> [(Op, u64); 4] {
+/// The table in slot 1 is the current one, with this word for its future. The section is closed, and
+/// slot 0 retired.
+fn published(future: u64) -> [(Op, u64); 5] {
     [
         (Op::store(0, 1), 0),
         (Op::load(58), future),
+        (Op::add(9, 1), 5),
         (Op::store(28, 2), 1),
         (Op::store(1, 0), 1),
     ]

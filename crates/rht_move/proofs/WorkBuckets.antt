@@ -9,7 +9,6 @@ use Rattle.rht_words.specs.declared.machine.Next.{Next}
 use Rattle.rht_words.specs.declared.machine.Next.TheVariants.{Go, Done}
 use Rattle.rht_words.specs.declared.machine.Start.{Start}
 use Rattle.rht_words.specs.declared.machine.Start.TheVariants as starts
-use Rattle.rht_words.specs.Held as held
 use Rattle.rht_words.specs.Links.{slot_of, page_of}
 use Rattle.rht_words.specs.Shapes.{unpacked, size_of}
 use Rattle.rht_words.specs.Operations.{old_of}
@@ -30,7 +29,7 @@ use Rattle.rht_move.specs.declared.work.WorkAt.{WorkAt}
 use Rattle.rht_move.specs.declared.work.WorkAt.TheVariants as at
 use Rattle.rht_nest.specs.Tables.{is_nested}
 use Rattle.rht_move.specs.LastTable.{last_table_new}
-use Rattle.rht_move.specs.Work.{plan_at, future_or_idle, is_later, entry_passed, locked, next_bucket, bucket_of_root, IsWorkAtIn}
+use Rattle.rht_move.specs.Work.{plan_at, letting_go, future_or_idle, is_later, entry_passed, locked, next_bucket, bucket_of_root, IsWorkAtIn}
 use Rattle.rht_move.specs.WorkHeld.{holds_work, held_of_work}
 use Rattle.rht_ghost.proofs.Theory.Ghosts.{Ghost}
 use Rattle.rht_ghost.proofs.Theory.Wholes.{Whole}
@@ -75,8 +74,8 @@ module _ (env : Env) (mix : ℕ → ℕ → ℕ → ℕ) (c : ℕ) (words : List
       → WorkKnows (at.RootFuture root due) M G
       → WorkMoved (at.RootFuture root due) (future_or_idle root due next, Go)
   root_future root due None is known =
-      let op = plan_at env (at.RootFuture root due) in
-      leads (at.LettingGo Idle) (says replies.Idle tt refl refl refl) refl refl refl
+      let op = plan_at env c (at.RootFuture root due) in
+      leads (letting_go Idle) (says replies.Idle tt refl refl refl) refl refl refl
       (work_loads env mix c holds_work words G all whole None MakesNothing op
       (Rooted root (due_aim due)) Works refl known
       (λ k. record { works = k.works; more = tt }))
@@ -140,8 +139,8 @@ module _ (env : Env) (mix : ℕ → ℕ → ℕ → ℕ) (c : ℕ) (words : List
       let shape = M (Slot root ShapeWord) in
       let rehash : Rehash = record { root = root; future = future; shape = shape; again = again } in
       let least = (IsSizeUpTo-size_of (unpacked shape)).least in
-      bucket_leads rehash 0 (plan_at env state) holds_work (inl refl) refl (omega (arith, least))
-      (begin_moving_step env mix c held.holds_nothing words G all whole (plan_at env state)
+      bucket_leads rehash 0 (plan_at env c state) holds_work (inl refl) refl (omega (arith, least))
+      (begin_moving_step env mix c holds_work words G all whole (plan_at env c state)
       (Follows root future)
       (Empties (known_rehash rehash) 0) refl known.means.work.works.0 known
       (shape_seen env mix c M G whole root future))

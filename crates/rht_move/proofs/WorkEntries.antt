@@ -149,7 +149,7 @@ module _ (env : Env) (mix : ℕ → ℕ → ℕ → ℕ) (c : ℕ) (words : List
       → WorkStep (at.BucketWord emptying target)
   bucket_word emptying target known =
       let state = at.BucketWord emptying target in
-      let op = plan_at env state in
+      let op = plan_at env c state in
       let root = known_rehash emptying.rehash in
       let place = known_place emptying in
       let lock = known.means.work.more.next.lock in
@@ -306,13 +306,13 @@ module _ (env : Env) (mix : ℕ → ℕ → ℕ → ℕ) (c : ℕ) (words : List
       WorkKnows state M G → WorkStep state
   cutting emptying node None known =
       cut_leads emptying (with_word emptying 0)
-      (plan_at env (at.CuttingOff emptying (record { node = node; before = None }))) 0 refl
+      (plan_at env c (at.CuttingOff emptying (record { node = node; before = None }))) 0 refl
       (cut_step env mix c (moving_at None) words G all whole refl (known_rehash emptying.rehash)
       (known_place emptying)
       (record { node = node; before = None }) known)
   cutting emptying node (Some before) known =
       cut_leads emptying emptying
-      (plan_at env (at.CuttingOff emptying (record { node = node; before = Some before })))
+      (plan_at env c (at.CuttingOff emptying (record { node = node; before = Some before })))
       emptying.bucket.word refl
       (cut_step env mix c (moving_at None) words G all whole refl (known_rehash emptying.rehash)
       (known_place emptying)

@@ -19,6 +19,8 @@ use Rattle.rht_move.specs.declared.rehash.Emptying.{Emptying}
 use Rattle.rht_move.specs.declared.rehash.Target.{Target}
 use Rattle.rht_move.specs.declared.work.Due.{Due}
 use Rattle.rht_move.specs.declared.work.Due.TheVariants as dues
+use Rattle.rht_move.specs.declared.work.ending.Ending.{Ending}
+use Rattle.rht_move.specs.declared.work.ending.Ending.TheVariants as endings
 use Rattle.rht_move.specs.declared.work.WorkAt.{WorkAt}
 use Rattle.rht_move.specs.declared.work.WorkAt.TheVariants as at
 use Rattle.rht_move.specs.Work.{plan_at, after_at}
@@ -70,9 +72,15 @@ due_aim dues.Nothing = NoAim
 due_aim dues.Attached = Onward
 due_aim dues.Later = Onward
 
+-- behind the closing of its section a table that is left behind is still to be retired
+abbrev pub known_ending : Ending → KnownWork
+known_ending (endings.Retiring root again) = LeavesBehind root
+known_ending (endings.LettingGo outcome) = Works
+
 -- what is known of the work in a state
 abbrev pub known_at_work : WorkAt → KnownWork
 known_at_work at.WorkLock = NoWork
+known_at_work at.Opening = Works
 known_at_work at.CurrentTable = Works
 known_at_work (at.LastTable root seek) = Rooted root (last_aim seek.at)
 known_at_work (at.Count root last) = Rooted root (From last.table)
@@ -105,12 +113,14 @@ known_at_work (at.Unlocking rehash number unlock stop) =
     known_unlocking rehash (record { number = number; place = unlock.place; word = unlock.word }) stop
 known_at_work (at.Publishing rehash) = Empties (known_rehash rehash) (size_of (unpacked rehash.shape))
 known_at_work (at.NewFuture rehash) = LeavesBehind rehash.root
+known_at_work (at.Closing ending) = known_ending ending
 known_at_work (at.Retiring root again) = LeavesBehind root
 known_at_work (at.LettingGo outcome) = Works
 
 -- and of a table that is made
 abbrev pub made_at_work : WorkAt → KnownMaking
 made_at_work at.WorkLock = MakesNothing
+made_at_work at.Opening = MakesNothing
 made_at_work at.CurrentTable = MakesNothing
 made_at_work (at.LastTable root seek) = MakesNothing
 made_at_work (at.Count root last) = MakesNothing
@@ -133,6 +143,7 @@ made_at_work (at.CuttingOff emptying entry) = MakesNothing
 made_at_work (at.Unlocking rehash number unlock stop) = MakesNothing
 made_at_work (at.Publishing rehash) = MakesNothing
 made_at_work (at.NewFuture rehash) = MakesNothing
+made_at_work (at.Closing ending) = MakesNothing
 made_at_work (at.Retiring root again) = MakesNothing
 made_at_work (at.LettingGo outcome) = MakesNothing
 
@@ -156,8 +167,8 @@ module _ (env : Env) (mix : ℕ → ℕ → ℕ → ℕ) (c : ℕ) where
     -- what an operation leads to from a state
     abbrev pub WorkMoved : WorkAt → WorkAt × Next Reply → Type 0
     WorkMoved state r =
-        Step env mix c calls.Work words G (plan_at env state) (held_of_work state) (work_holds r)
+        Step env mix c calls.Work words G (plan_at env c state) (held_of_work state) (work_holds r)
         (WorkNext r)
 
     abbrev pub WorkStep : WorkAt → Type 0
-    WorkStep state = WorkMoved state (after_at mix env state (old_of words (plan_at env state)))
+    WorkStep state = WorkMoved state (after_at mix env state (old_of words (plan_at env c state)))

@@ -14,16 +14,19 @@ use Rattle.rht_model.specs.Answers.{plain}
 use Rattle.rht_move.specs.declared.rehash.Rehash.{Rehash}
 use Rattle.rht_move.specs.declared.work.Outcome.{Outcome}
 use Rattle.rht_move.specs.declared.work.Outcome.TheVariants.{Moved as HasMoved}
+use Rattle.rht_move.specs.declared.work.ending.Ending.{Ending}
+use Rattle.rht_move.specs.declared.work.ending.Ending.TheVariants as endings
 use Rattle.rht_move.specs.declared.work.WorkAt.{WorkAt}
 use Rattle.rht_move.specs.declared.work.WorkAt.TheVariants as at
-use Rattle.rht_move.specs.Work.{plan_at, retiring, reply_of, IsWorkAtIn}
-use Rattle.rht_move.specs.WorkHeld.{has_moved, held_of_work}
+use Rattle.rht_move.specs.Work.{plan_at, letting_go, retiring, reply_of, IsWorkAtIn}
+use Rattle.rht_move.specs.WorkHeld.{holds_work_lock, has_moved, holds_outcome, held_of_work}
 use Rattle.rht_ghost.proofs.Theory.Ghosts.{Ghost}
 use Rattle.rht_ghost.proofs.Theory.Wholes.{Whole}
-use Rattle.rht_ghost.proofs.Theory.Knowns.{NoAim, KnownPlace, LeavesBehind}
+use Rattle.rht_ghost.proofs.Theory.Knowns.{MakesNothing, NoAim, KnownPlace, Works, LeavesBehind}
 use Rattle.rht_ghost.proofs.Theory.Answering.{keeps}
 use Rattle.rht_ghost.proofs.Theory.Steps.{answered-map, Holding, mem, still_has}
-use Rattle.rht_ghost.proofs.Pieces.WorkSteps.{unlock_work_step}
+use Rattle.rht_ghost.proofs.Pieces.OwnSections.{open_step, close_step}
+use Rattle.rht_ghost.proofs.Pieces.WorkSteps.{knows_work, unlock_work_step}
 use Rattle.rht_ghost.proofs.Pieces.WorkStores.{give_work_step, stop_step, publish_step, retire_step}
 use Rattle.rht_move.proofs.WorkKnowledge.{known_rehash}
 use Rattle.rht_move.proofs.WorkLeads.{moving_at, says, leads, load_moving}
@@ -32,7 +35,7 @@ use Rattle.rht_move.proofs.WorkBuckets.{root_future, next_leads, root_shape, ent
 use Rattle.rht_move.proofs.WorkEntries.{seeking_entry, seed_loaded, bucket_word, walking, key_loaded, locking_second, link_entry, link_bucket, cutting}
 use Rattle.rht_move.proofs.WorkKnowledge as works
 
-module _ (env : Env) (mix : ℕ → ℕ → ℕ → ℕ) (c : ℕ) (words : List ℕ) (G : Ghost)
+module _ (env : Env) (mix : ℕ → ℕ → ℕ → ℕ) (c : ℕ) (low : c < env.geometry.callers) (words : List ℕ) (G : Ghost)
     (all : length words ≡ words_in env.geometry) (whole : Whole env mix (mem env mix words) G) where
   abbrev M : Memory
   M = mem env mix words
@@ -46,6 +49,24 @@ module _ (env : Env) (mix : ℕ → ℕ → ℕ → ℕ) (c : ℕ) (words : List
   abbrev WorkStep : WorkAt → Type 0
   WorkStep = works.WorkStep env mix c words G
 
+  -- ---- its section
+
+  open_section : WorkKnows at.Opening M G → WorkStep at.Opening
+  open_section known =
+      leads at.CurrentTable (inl refl) refl refl refl
+      (open_step env mix c holds_work_lock (knows_work MakesNothing Works) words G all whole low known)
+
+  close_section : (ending : Ending) → WorkKnows (at.Closing ending) M G → WorkStep (at.Closing ending)
+  close_section (endings.Retiring root again) known =
+      let answer = Some (plain (replies.Moved again)) in
+      leads (at.Retiring root again) (inl (keeps answer)) refl refl refl
+      (close_step env mix c (holds_outcome (HasMoved again)) (knows_work MakesNothing (LeavesBehind root)) words G all
+      whole low known)
+  close_section (endings.LettingGo outcome) known =
+      let answer = Some (plain (reply_of outcome)) in
+      leads (at.LettingGo outcome) (inl (keeps answer)) refl refl refl
+      (close_step env mix c (holds_outcome outcome) (knows_work MakesNothing Works) words G all whole low known)
+
   -- ---- the next bucket, or the table is empty
 
   unlock : (rehash : Rehash) (number place word : ℕ) (stop : Bool)
@@ -54,14 +75,14 @@ module _ (env : Env) (mix : ℕ → ℕ → ℕ → ℕ) (c : ℕ) (words : List
       WorkKnows state M G → WorkStep state
   unlock rehash number place word true below known =
       let state = at.Unlocking rehash number (record { place = place; word = word }) true in
-      let next = at.LettingGo (HasMoved true) in
+      let next = letting_go (HasMoved true) in
       let at_place : KnownPlace = record { number = number; place = place; word = word } in
       leads next (inl (keeps (Some (plain (replies.Moved true))))) refl refl refl
       (stop_step env mix c (held_of_work next) words G all whole (known_rehash rehash) at_place NoAim known)
   unlock rehash number place word false below known =
       let state = at.Unlocking rehash number (record { place = place; word = word }) false in
       let at_place : KnownPlace = record { number = number; place = place; word = word } in
-      next_leads env mix c words G all whole rehash number (plan_at env state) (moving_at (Some place))
+      next_leads env mix c words G all whole rehash number (plan_at env c state) (moving_at (Some place))
       (inl refl) refl below
       (unlock_work_step env mix c (moving_at None) words G all whole refl
       (known_rehash rehash) at_place known)
@@ -77,11 +98,11 @@ module _ (env : Env) (mix : ℕ → ℕ → ℕ → ℕ) (c : ℕ) (words : List
       → WorkMoved (at.NewFuture rehash) (retiring rehash next, Go)
   retire_next rehash None known =
       load_moving all whole None (LeavesBehind rehash.root) (LeavesBehind rehash.root)
-      (at.Retiring rehash.root rehash.again) refl known (λ k. k)
+      (at.Closing (endings.Retiring rehash.root rehash.again)) refl known (λ k. k)
       (says (replies.Moved rehash.again) tt refl refl refl) refl refl
   retire_next rehash (Some next) known =
       load_moving all whole None (LeavesBehind rehash.root) (LeavesBehind rehash.root)
-      (at.Retiring rehash.root true) refl known (λ k. k)
+      (at.Closing (endings.Retiring rehash.root true)) refl known (λ k. k)
       (says (replies.Moved true) tt refl refl refl) refl refl
 
   retire : (root : ℕ) (again : Bool) → WorkKnows (at.Retiring root again) M G
@@ -105,6 +126,7 @@ module _ (env : Env) (mix : ℕ → ℕ → ℕ → ℕ) (c : ℕ) (words : List
   -- each operation of a resizing leads from what it knows to what it knows next
   pub work_step : (state : WorkAt) → IsWorkAtIn env state → WorkKnows state M G → WorkStep state
   work_step at.WorkLock is known = take_lock env mix c words G all whole known
+  work_step at.Opening is known = open_section known
   work_step at.CurrentTable is known = root_loaded env mix c words G all whole known
   work_step (at.LastTable root seek) is known =
       seeking_last env mix c words G all whole root seek is known
@@ -146,5 +168,6 @@ module _ (env : Env) (mix : ℕ → ℕ → ℕ → ℕ) (c : ℕ) (words : List
   work_step (at.Publishing rehash) is known = publish rehash known
   work_step (at.NewFuture rehash) is known =
       retire_next rehash (slot_of (M (Slot rehash.future FutureWord))) known
+  work_step (at.Closing ending) is known = close_section ending known
   work_step (at.Retiring root again) is known = retire root again known
   work_step (at.LettingGo outcome) is known = let_go outcome known

@@ -1,12 +1,13 @@
--- On which words a worker works, a case a state: the work lock, the current table and the count of ports, words of slots and of
--- the map of pages, the next serial, and words of nodes and buckets. What it stores are words.
-use Rattle.std.proofs.Common.{ℕ, refl, arith}
+-- On which words a worker works, a case a state: the work lock, the section word of its caller, the current table and the count of
+-- ports, words of slots and of the map of pages, the next serial, and words of nodes and buckets. What it stores are words.
+use Rattle.std.proofs.Common.{ℕ, ◌<◌, refl, arith}
 use Rattle.std.specs.Prelude.{Option, Some, None}
 use Rattle.rht_words.specs.declared.env.Env.{Env}
 use Rattle.rht_words.specs.declared.geometry.Geometry.{Geometry}
 use Rattle.rht_words.specs.Places.{CurrentTable, WorkLock, PortCount, Slot, ShapeWord, SeedWord, FutureWord, StateWord, Node, ChainLink, KeyWord, IsBucketPlace}
 use Rattle.rht_words.specs.Planned.{IsPlannedIn}
 use Rattle.rht_words.proofs.PlannedWords.{planned-at, planned_load, planned_bucket, head_of-fits, link_of-fits}
+use Rattle.rht_grace.proofs.SectionsPlanned.{planned_enter, planned_leave}
 use Rattle.rht_nest.proofs.Places.{planned_place}
 use Rattle.rht_nest.proofs.MakesPlanned.{planned_make, planned_unmake}
 use Rattle.rht_chain.specs.LockedWalk.{IsNodeOrNone}
@@ -24,45 +25,50 @@ planned_cut g place None place_in before_in = planned_bucket g _ place_in (omega
 planned_cut g place (Some before) place_in before_in =
     planned-at g _ (Node before ChainLink) before_in tt refl (omega arith)
 
-pub planned_work : (env : Env) (state : WorkAt) → IsWorkAtIn env state → IsPlannedIn env.geometry (plan_at env state)
-planned_work env at.WorkLock within = planned-at env.geometry _ WorkLock tt tt refl (omega arith)
-planned_work env at.CurrentTable within = planned_load env.geometry CurrentTable tt tt
-planned_work env (at.LastTable root seek) within = planned_last_table env.geometry seek within.seek_in
-planned_work env (at.Count root last) within = planned_load env.geometry PortCount tt tt
-planned_work env (at.Making wanted make) within = planned_make env.geometry make within.make_in
-planned_work env (at.Attaching root last slot shape) within =
+pub planned_work : (env : Env) (caller : ℕ) (state : WorkAt) → caller < 16 → IsWorkAtIn env state
+    → IsPlannedIn env.geometry (plan_at env caller state)
+planned_work env caller at.WorkLock few within = planned-at env.geometry _ WorkLock tt tt refl (omega arith)
+planned_work env caller at.Opening few within =
+    planned_enter env.geometry caller (record { caller = caller }) (record { own = refl; within = few })
+planned_work env caller at.CurrentTable few within = planned_load env.geometry CurrentTable tt tt
+planned_work env caller (at.LastTable root seek) few within = planned_last_table env.geometry seek within.seek_in
+planned_work env caller (at.Count root last) few within = planned_load env.geometry PortCount tt tt
+planned_work env caller (at.Making wanted make) few within = planned_make env.geometry make within.make_in
+planned_work env caller (at.Attaching root last slot shape) few within =
     let slot_in = within.made_in.slot_in in
     planned-at env.geometry _ (Slot last FutureWord) (within.last_in, tt) tt refl (omega (arith, slot_in))
-planned_work env (at.Unmaking root unmake) within = planned_unmake env.geometry unmake within.unmake_in
-planned_work env (at.RootFuture root due) within = planned_load env.geometry (Slot root FutureWord) (within, tt) tt
-planned_work env (at.RootShape root future again) within =
+planned_work env caller (at.Unmaking root unmake) few within = planned_unmake env.geometry unmake within.unmake_in
+planned_work env caller (at.RootFuture root due) few within = planned_load env.geometry (Slot root FutureWord) (within, tt) tt
+planned_work env caller (at.RootShape root future again) few within =
     planned_load env.geometry (Slot root ShapeWord) (within.root_in, tt) tt
-planned_work env (at.Entry rehash number place) within = planned_place env.geometry place within.place_in
-planned_work env (at.Locking rehash number lock) within = planned_lock env.geometry lock within.lock_in
-planned_work env (at.EntryTable emptying seek) within = planned_last_table env.geometry seek within.seek_in
-planned_work env (at.Seed emptying last) within =
+planned_work env caller (at.Entry rehash number place) few within = planned_place env.geometry place within.place_in
+planned_work env caller (at.Locking rehash number lock) few within = planned_lock env.geometry lock within.lock_in
+planned_work env caller (at.EntryTable emptying seek) few within = planned_last_table env.geometry seek within.seek_in
+planned_work env caller (at.Seed emptying last) few within =
     planned_load env.geometry (Slot last.table SeedWord) (within.last_in.table_in, tt) tt
-planned_work env (at.BucketWord emptying target) within =
+planned_work env caller (at.BucketWord emptying target) few within =
     planned_bucket env.geometry _ within.emptying_in.locked_in.place_in (omega arith)
-planned_work env (at.Walking emptying target walk) within = planned_last_entry env.geometry walk within.walk_in
-planned_work env (at.Key emptying target entry) within =
+planned_work env caller (at.Walking emptying target walk) few within = planned_last_entry env.geometry walk within.walk_in
+planned_work env caller (at.Key emptying target entry) few within =
     planned_load env.geometry (Node entry.node KeyWord) within.entry_in.node_in tt
-planned_work env (at.LockingSecond emptying entry table lock) within = planned_lock env.geometry lock within.lock_in
-planned_work env (at.EntryLink emptying entry second) within =
+planned_work env caller (at.LockingSecond emptying entry table lock) few within = planned_lock env.geometry lock within.lock_in
+planned_work env caller (at.EntryLink emptying entry second) few within =
     planned-at env.geometry _ (Node entry.node ChainLink) within.entry_in.node_in tt refl
     (head_of-fits second.bucket.place second.bucket.word within.second_in.bucket_in.word_in)
-planned_work env (at.Linking emptying entry second) within =
+planned_work env caller (at.Linking emptying entry second) few within =
     planned_bucket env.geometry _ within.second_in.bucket_in.place_in
     (link_of-fits env.geometry entry.node within.entry_in.node_in)
-planned_work env (at.CuttingOff emptying entry) within =
+planned_work env caller (at.CuttingOff emptying entry) few within =
     planned_cut env.geometry emptying.bucket.place entry.before within.emptying_in.locked_in.place_in
     within.entry_in.before_in
-planned_work env (at.Unlocking rehash number unlock stop) within = planned_unlock env.geometry unlock within.unlock_in
-planned_work env (at.Publishing rehash) within =
+planned_work env caller (at.Unlocking rehash number unlock stop) few within = planned_unlock env.geometry unlock within.unlock_in
+planned_work env caller (at.Publishing rehash) few within =
     let future_in = within.tables_in.future_in in
     planned-at env.geometry _ CurrentTable tt tt refl (omega (arith, future_in))
-planned_work env (at.NewFuture rehash) within =
+planned_work env caller (at.NewFuture rehash) few within =
     planned_load env.geometry (Slot rehash.future FutureWord) (within.tables_in.future_in, tt) tt
-planned_work env (at.Retiring root again) within =
+planned_work env caller (at.Closing ending) few within =
+    planned_leave env.geometry caller (record { caller = caller }) (record { own = refl; within = few })
+planned_work env caller (at.Retiring root again) few within =
     planned-at env.geometry _ (Slot root StateWord) (within, tt) tt refl (omega arith)
-planned_work env (at.LettingGo outcome) within = planned-at env.geometry _ WorkLock tt tt refl (omega arith)
+planned_work env caller (at.LettingGo outcome) few within = planned-at env.geometry _ WorkLock tt tt refl (omega arith)

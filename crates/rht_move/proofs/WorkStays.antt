@@ -31,7 +31,7 @@ use Rattle.rht_model.specs.declared.history.Reply.{Reply}
 use Rattle.rht_move.specs.LastTable.{LastTableModel, last_table_after}
 use Rattle.rht_move.specs.LastEntry.{LastEntryModel, last_entry_after, IsEntryIn}
 use Rattle.rht_move.specs.Choice.{choice_of}
-use Rattle.rht_move.specs.Work.{after_at, lock_seen, last_seen, begun, not_made, made, attached, unmade, future_or_idle, bucket_of_root, next_bucket, entry_passed, entry_table, locked, unlocking, entry_table_seen, with_word, entry_or_empty, walked, keyed, second_locked, cut_off, unlocked_bucket, retiring, IsCountingIn, IsMakingIn, IsAttachingIn, IsRehashIn, IsBucketIn, IsEmptyingIn, IsTargetIn, IsWorkAtIn}
+use Rattle.rht_move.specs.Work.{after_at, lock_seen, last_seen, begun, not_made, made, attached, unmade, future_or_idle, bucket_of_root, next_bucket, entry_passed, entry_table, locked, unlocking, entry_table_seen, with_word, entry_or_empty, walked, keyed, second_locked, cut_off, unlocked_bucket, retiring, closed, IsCountingIn, IsMakingIn, IsAttachingIn, IsRehashIn, IsBucketIn, IsEmptyingIn, IsTargetIn, IsEndingIn, IsWorkAtIn}
 use Rattle.rht_move.specs.declared.last_table.Last.{Last}
 use Rattle.rht_move.specs.declared.last_entry.Entry.{Entry}
 use Rattle.rht_move.specs.declared.rehash.Rehash.{Rehash}
@@ -41,6 +41,8 @@ use Rattle.rht_move.specs.declared.work.choice.Choice.{Choice}
 use Rattle.rht_move.specs.declared.work.choice.Choice.TheVariants.{Attach, Later, Nothing}
 use Rattle.rht_move.specs.declared.work.Due.{Due}
 use Rattle.rht_move.specs.declared.work.Wanted.{Wanted}
+use Rattle.rht_move.specs.declared.work.ending.Ending.{Ending}
+use Rattle.rht_move.specs.declared.work.ending.Ending.TheVariants as endings
 use Rattle.rht_move.specs.declared.work.WorkAt.{WorkAt}
 use Rattle.rht_move.specs.declared.work.WorkAt.TheVariants as at
 use Rattle.rht_move.proofs.LastTables.{LastTableStays, last_table_stays}
@@ -247,6 +249,10 @@ module _ (mix : ℕ → ℕ → ℕ → ℕ) (env : Env) where
   retiring-in rehash None within = within.tables_in.root_in
   retiring-in rehash (Some next) within = within.tables_in.root_in
 
+  closed-in : (ending : Ending) → IsEndingIn ending → IsWorkAtIn env (closed ending)
+  closed-in (endings.Retiring root again) within = within
+  closed-in (endings.LettingGo outcome) within = tt
+
   -- a table has a first bucket
   first-in : (rehash : Rehash) → IsRehashIn rehash → IsBucketIn rehash 0
   first-in rehash within =
@@ -258,6 +264,7 @@ module _ (mix : ℕ → ℕ → ℕ → ℕ) (env : Env) where
   pub work_stays : (state : WorkAt) (word : ℕ) → IsWorkAtIn env state → IsWord word
       → IsWorkAtIn env (after_at mix env state word).0
   work_stays at.WorkLock word within told = lock_seen-in word
+  work_stays at.Opening word within told = tt
   work_stays at.CurrentTable word within told = record {
     root_in = omega arith;
     seek_in = record { geometry_same = refl; at_in = omega arith };
@@ -325,5 +332,6 @@ module _ (mix : ℕ → ℕ → ℕ → ℕ) (env : Env) where
       unlocked-in rehash number stop within.bucket_in
   work_stays (at.Publishing rehash) word within told = within
   work_stays (at.NewFuture rehash) word within told = retiring-in rehash (slot_of word) within
+  work_stays (at.Closing ending) word within told = closed-in ending within
   work_stays (at.Retiring root again) word within told = tt
   work_stays (at.LettingGo outcome) word within told = tt

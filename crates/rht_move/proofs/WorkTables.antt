@@ -34,7 +34,7 @@ use Rattle.rht_move.specs.declared.work.WorkAt.TheVariants as at
 use Rattle.rht_nest.specs.Tables.{is_nested}
 use Rattle.rht_move.specs.Choice.{chosen, choice_of}
 use Rattle.rht_move.specs.LastTable.{last_table_new, next_or_shape}
-use Rattle.rht_move.specs.Work.{plan_at, begun, made, not_made, unmade, IsWorkAtIn}
+use Rattle.rht_move.specs.Work.{plan_at, letting_go, begun, made, not_made, unmade, IsWorkAtIn}
 use Rattle.rht_move.specs.WorkHeld.{holds_work, holds_table, held_of_work}
 use Rattle.rht_ghost.proofs.Theory.Ghosts.{Ghost}
 use Rattle.rht_ghost.proofs.Theory.Wholes.{Whole}
@@ -94,9 +94,9 @@ module _ (env : Env) (mix : ℕ → ℕ → ℕ → ℕ) (c : ℕ) (words : List
 
   pub take_lock : WorkKnows at.WorkLock M G → WorkStep at.WorkLock
   take_lock known =
-      let word = old_of words (plan_at env at.WorkLock) in
+      let word = old_of words (plan_at env c at.WorkLock) in
       cond_both (word == 0) _ _ (λ r. WorkMoved at.WorkLock r)
-      (λ t. leads at.CurrentTable (inl refl) refl refl refl
+      (λ t. leads at.Opening (inl refl) refl refl refl
       (take_work_step env mix c held.holds_nothing words G all whole (eqb-true word 0 t) known))
       (λ f.
       answered-map env mix (Some (plain replies.Elsewhere)) (says replies.Elsewhere tt refl refl refl)
@@ -135,7 +135,7 @@ module _ (env : Env) (mix : ℕ → ℕ → ℕ → ℕ) (c : ℕ) (words : List
   -- ---- a table that is due
 
   begin_due : (root : ℕ) (last : Last) (choice : Choice)
-      → choice_of env (old_of words (plan_at env (at.Count root last))) last.shape
+      → choice_of env (old_of words (plan_at env c (at.Count root last))) last.shape
       (root == last.table) ≡ choice
       → WorkKnows (at.Count root last) M G → WorkMoved (at.Count root last) (begun env root last choice, Go)
   begin_due root last (Attach size) is known =
@@ -156,7 +156,7 @@ module _ (env : Env) (mix : ℕ → ℕ → ℕ → ℕ) (c : ℕ) (words : List
       WorkKnows here M G → WorkStep here
   count_loaded root last known =
       begin_due root last
-      (choice_of env (old_of words (plan_at env (at.Count root last))) last.shape (root == last.table))
+      (choice_of env (old_of words (plan_at env c (at.Count root last))) last.shape (root == last.table))
       refl known
 
   -- where there is none the call is refused, or the current table is moved
@@ -169,7 +169,7 @@ module _ (env : Env) (mix : ℕ → ℕ → ℕ → ℕ) (c : ℕ) (words : List
       let known = Rooted wanted.root (From wanted.last.table) in
       cond_both ((wanted.root == wanted.last.table) || is_nested wanted.last.shape) _ _
       (λ next. Step env mix c calls.Work words G op h (held_of_work next) (WorkNext (next, Go)))
-      (λ t. leads (at.LettingGo (NoTable wanted.size))
+      (λ t. leads (letting_go (NoTable wanted.size))
       (told (replies.NoTable wanted.size) (says (replies.NoTable wanted.size) tt refl refl refl))
       (sym node) refl refl
       (learning known Works (λ M' G' w k. record { works = k.works; more = tt }) step))
@@ -226,7 +226,7 @@ module _ (env : Env) (mix : ℕ → ℕ → ℕ → ℕ) (c : ℕ) (words : List
       → WorkStep (at.Attaching root last slot shape)
   attach_due root last slot shape l known =
       let state = at.Attaching root last slot shape in
-      let op = plan_at env state in
+      let op = plan_at env c state in
       let word = old_of words op in
       let about = knows_work MakesNothing (Rooted root (From last)) in
       let is = pages_of_table-shape env.geometry shape known.means.making.fits in

@@ -12,6 +12,7 @@ use Rattle.rht_words.specs.Ports.{port_of}
 use Rattle.rht_words.specs.Shapes.{size_of, unpacked}
 use Rattle.rht_words.specs.Places.{CurrentTable, WorkLock, PortCount, Slot, ShapeWord, SeedWord, FutureWord, StateWord, Node, ChainLink, KeyWord, place_of}
 use Rattle.rht_policy.specs.Mix.{bucket_of}
+use Rattle.rht_grace.specs.Sections.{turning}
 use Rattle.rht_nest.specs.Place.{PlaceModel, flat_place, nested_place, place_plan, place_after, IsPlaceIn}
 use Rattle.rht_nest.specs.Tables.{exponent_made, is_nested}
 use Rattle.rht_nest.specs.declared.place.Bucket.{Bucket}
@@ -40,6 +41,8 @@ use Rattle.rht_move.specs.declared.work.Due.{Due}
 use Rattle.rht_move.specs.declared.work.Due.TheVariants as dues
 use Rattle.rht_move.specs.declared.work.Outcome.{Outcome}
 use Rattle.rht_move.specs.declared.work.Outcome.TheVariants.{Idle, NoTable, Moved}
+use Rattle.rht_move.specs.declared.work.ending.Ending.{Ending}
+use Rattle.rht_move.specs.declared.work.ending.Ending.TheVariants as endings
 use Rattle.rht_move.specs.declared.work.WorkAt.{WorkAt}
 use Rattle.rht_move.specs.declared.work.WorkAt.TheVariants as at
 
@@ -60,43 +63,49 @@ cut_plan g place None = Store place 1
 cut_plan g place (Some before) = Store (place_of g (Node before ChainLink)) (marker_of place)
 
 -- the state's one operation
-abbrev pub plan_at : Env → WorkAt → Op
-plan_at env at.WorkLock = Exchange (place_of env.geometry WorkLock) 0 1
-plan_at env at.CurrentTable = Load (place_of env.geometry CurrentTable)
-plan_at env (at.LastTable root seek) = last_table_plan seek
-plan_at env (at.Count root last) = Load (place_of env.geometry PortCount)
-plan_at env (at.Making wanted make) = make_plan make
-plan_at env (at.Attaching root last slot shape) =
+abbrev pub plan_at : Env → ℕ → WorkAt → Op
+plan_at env caller at.WorkLock = Exchange (place_of env.geometry WorkLock) 0 1
+plan_at env caller at.Opening = turning caller
+plan_at env caller at.CurrentTable = Load (place_of env.geometry CurrentTable)
+plan_at env caller (at.LastTable root seek) = last_table_plan seek
+plan_at env caller (at.Count root last) = Load (place_of env.geometry PortCount)
+plan_at env caller (at.Making wanted make) = make_plan make
+plan_at env caller (at.Attaching root last slot shape) =
     Exchange (place_of env.geometry (Slot last FutureWord)) 0 (future_of slot)
-plan_at env (at.Unmaking root unmake) = unmake_plan unmake
-plan_at env (at.RootFuture root due) = Load (place_of env.geometry (Slot root FutureWord))
-plan_at env (at.RootShape root future again) = Load (place_of env.geometry (Slot root ShapeWord))
-plan_at env (at.Entry rehash number place) = place_plan place
-plan_at env (at.Locking rehash number lock) = lock_plan lock
-plan_at env (at.EntryTable emptying seek) = last_table_plan seek
-plan_at env (at.Seed emptying last) = Load (place_of env.geometry (Slot last.table SeedWord))
-plan_at env (at.BucketWord emptying target) = Load emptying.bucket.place
-plan_at env (at.Walking emptying target walk) = last_entry_plan walk
-plan_at env (at.Key emptying target entry) = Load (place_of env.geometry (Node entry.node KeyWord))
-plan_at env (at.LockingSecond emptying entry table lock) = lock_plan lock
-plan_at env (at.EntryLink emptying entry second) =
+plan_at env caller (at.Unmaking root unmake) = unmake_plan unmake
+plan_at env caller (at.RootFuture root due) = Load (place_of env.geometry (Slot root FutureWord))
+plan_at env caller (at.RootShape root future again) = Load (place_of env.geometry (Slot root ShapeWord))
+plan_at env caller (at.Entry rehash number place) = place_plan place
+plan_at env caller (at.Locking rehash number lock) = lock_plan lock
+plan_at env caller (at.EntryTable emptying seek) = last_table_plan seek
+plan_at env caller (at.Seed emptying last) = Load (place_of env.geometry (Slot last.table SeedWord))
+plan_at env caller (at.BucketWord emptying target) = Load emptying.bucket.place
+plan_at env caller (at.Walking emptying target walk) = last_entry_plan walk
+plan_at env caller (at.Key emptying target entry) = Load (place_of env.geometry (Node entry.node KeyWord))
+plan_at env caller (at.LockingSecond emptying entry table lock) = lock_plan lock
+plan_at env caller (at.EntryLink emptying entry second) =
     Store (place_of env.geometry (Node entry.node ChainLink)) (head_of second.bucket.place second.bucket.word)
-plan_at env (at.Linking emptying entry second) = Store second.bucket.place (link_of entry.node)
-plan_at env (at.CuttingOff emptying entry) = cut_plan env.geometry emptying.bucket.place entry.before
-plan_at env (at.Unlocking rehash number unlock stop) = unlock_plan unlock
-plan_at env (at.Publishing rehash) = Store (place_of env.geometry CurrentTable) rehash.future
-plan_at env (at.NewFuture rehash) = Load (place_of env.geometry (Slot rehash.future FutureWord))
-plan_at env (at.Retiring root again) = Store (place_of env.geometry (Slot root StateWord)) 2
-plan_at env (at.LettingGo outcome) = Store (place_of env.geometry WorkLock) 0
+plan_at env caller (at.Linking emptying entry second) = Store second.bucket.place (link_of entry.node)
+plan_at env caller (at.CuttingOff emptying entry) = cut_plan env.geometry emptying.bucket.place entry.before
+plan_at env caller (at.Unlocking rehash number unlock stop) = unlock_plan unlock
+plan_at env caller (at.Publishing rehash) = Store (place_of env.geometry CurrentTable) rehash.future
+plan_at env caller (at.NewFuture rehash) = Load (place_of env.geometry (Slot rehash.future FutureWord))
+plan_at env caller (at.Closing ending) = turning caller
+plan_at env caller (at.Retiring root again) = Store (place_of env.geometry (Slot root StateWord)) 2
+plan_at env caller (at.LettingGo outcome) = Store (place_of env.geometry WorkLock) 0
 
 abbrev pub work_plan : WorkModel → Op
-work_plan m = plan_at m.env m.at
+work_plan m = plan_at m.env m.caller m.at
 
 -- ---- the work lock, and a table that is due
 
--- where the work lock was free it is taken, and else another caller is at work
+-- where the work lock was free it is taken, and the section opened; else another caller is at work
 abbrev pub lock_seen : ℕ → WorkAt × Next Reply
-lock_seen lock = if lock == 0 then (at.CurrentTable, Go) else (at.WorkLock, Done replies.Elsewhere)
+lock_seen lock = if lock == 0 then (at.Opening, Go) else (at.WorkLock, Done replies.Elsewhere)
+
+-- the section is closed, and then the work lock let go of by a call that ends so
+abbrev pub letting_go : Outcome → WorkAt
+letting_go outcome = at.Closing (endings.LettingGo outcome)
 
 -- the last table is looked for, from the current one on
 abbrev pub seeking : Geometry → ℕ → WorkAt
@@ -120,7 +129,7 @@ counted env root last count = begun env root last (choice_of env count last.shap
 -- where it can't be had the call is refused, if the last table is the current one or nested, and else the current one is moved
 abbrev pub not_made : Wanted → WorkAt
 not_made wanted =
-    if (wanted.root == wanted.last.table) || is_nested wanted.last.shape then at.LettingGo (NoTable wanted.size)
+    if (wanted.root == wanted.last.table) || is_nested wanted.last.shape then letting_go (NoTable wanted.size)
     else at.RootFuture wanted.root dues.Later
 
 -- once it is made it is attached
@@ -147,7 +156,7 @@ is_later dues.Later = true
 
 -- a current table with a future is emptied; where it has none, nothing is to be done
 abbrev pub future_or_idle : ℕ → Due → Option ℕ → WorkAt
-future_or_idle root due None = at.LettingGo Idle
+future_or_idle root due None = letting_go Idle
 future_or_idle root due (Some future) = at.RootShape root future (is_later due)
 
 -- ---- the move of the current table
@@ -231,12 +240,22 @@ cut_off g emptying (Some before) = entry_table g emptying
 -- behind the unlocking the next bucket is emptied, or the move has stopped
 abbrev pub unlocked_bucket : Geometry → Rehash → ℕ → Bool → WorkAt
 unlocked_bucket g rehash number stop =
-    if stop then at.LettingGo (Moved true) else next_bucket g rehash number
+    if stop then letting_go (Moved true) else next_bucket g rehash number
 
--- where the new current table has a future, there is more to do
+-- the section is closed, and then the table before retired; where the new current one has a future, there is more to do
 abbrev pub retiring : Rehash → Option ℕ → WorkAt
-retiring rehash None = at.Retiring rehash.root rehash.again
-retiring rehash (Some next) = at.Retiring rehash.root true
+retiring rehash None = at.Closing (endings.Retiring rehash.root rehash.again)
+retiring rehash (Some next) = at.Closing (endings.Retiring rehash.root true)
+
+-- what comes behind the closing
+abbrev pub closed : Ending → WorkAt
+closed (endings.Retiring root again) = at.Retiring root again
+closed (endings.LettingGo outcome) = at.LettingGo outcome
+
+-- and how the call ends then
+abbrev pub outcome_of : Ending → Outcome
+outcome_of (endings.Retiring root again) = Moved again
+outcome_of (endings.LettingGo outcome) = outcome
 
 -- what a call answers that has let go of the work lock
 abbrev pub reply_of : Outcome → Reply
@@ -249,6 +268,7 @@ reply_of (Moved again) = replies.Moved again
 -- where the worker stands after a state that found this word, and what it says
 abbrev pub after_at : (ℕ → ℕ → ℕ → ℕ) → Env → WorkAt → ℕ → WorkAt × Next Reply
 after_at mix env at.WorkLock word = lock_seen word
+after_at mix env at.Opening word = (at.CurrentTable, Go)
 after_at mix env at.CurrentTable word = (seeking env.geometry (table_of word), Go)
 after_at mix env (at.LastTable root seek) word =
     (last_seen root (last_table_after seek word).0 (last_table_after seek word).1, Go)
@@ -281,6 +301,7 @@ after_at mix env (at.Unlocking rehash number unlock stop) word =
     (unlocked_bucket env.geometry rehash number stop, Go)
 after_at mix env (at.Publishing rehash) word = (at.NewFuture rehash, Go)
 after_at mix env (at.NewFuture rehash) word = (retiring rehash (slot_of word), Go)
+after_at mix env (at.Closing ending) word = (closed ending, Go)
 after_at mix env (at.Retiring root again) word = (at.LettingGo (Moved again), Go)
 after_at mix env (at.LettingGo outcome) word = (at.LettingGo outcome, Done (reply_of outcome))
 
@@ -414,9 +435,15 @@ pub record IsCuttingIn (g : Geometry) (emptying : Emptying) (entry : Entry) : Ty
   pub emptying_in : IsEmptyingIn g emptying
   pub entry_in : IsEntryIn g entry
 
+-- and behind the closing of its section the table that it retires
+abbrev pub IsEndingIn : Ending → Type 0
+IsEndingIn (endings.Retiring root again) = root < 8
+IsEndingIn (endings.LettingGo outcome) = Unit {0}
+
 -- all that the state names is the table's: slots, nodes and buckets; and the words that it keeps are words
 abbrev pub IsWorkAtIn : Env → WorkAt → Type 0
 IsWorkAtIn env at.WorkLock = Unit {0}
+IsWorkAtIn env at.Opening = Unit {0}
 IsWorkAtIn env at.CurrentTable = Unit {0}
 IsWorkAtIn env (at.LastTable root seek) = IsSeekingIn env.geometry root seek
 IsWorkAtIn env (at.Count root last) = IsCountingIn root last
@@ -439,6 +466,7 @@ IsWorkAtIn env (at.CuttingOff emptying entry) = IsCuttingIn env.geometry emptyin
 IsWorkAtIn env (at.Unlocking rehash number unlock stop) = IsUnlockingIn env.geometry rehash number unlock
 IsWorkAtIn env (at.Publishing rehash) = IsRehashIn rehash
 IsWorkAtIn env (at.NewFuture rehash) = IsRehashIn rehash
+IsWorkAtIn env (at.Closing ending) = IsEndingIn ending
 IsWorkAtIn env (at.Retiring root again) = root < 8
 IsWorkAtIn env (at.LettingGo outcome) = Unit {0}
 

@@ -1,6 +1,6 @@
--- What a worker holds in each of its states: the work lock, from the operation that takes it to the one that lets go of it; a slot
--- and pages, until the table is attached or given back; the locks of one bucket or two; and its answer once it is known. It moves
--- entries from the first bucket on, and won't refuse any more.
+-- What a worker holds in each of its states: the work lock, from the operation that takes it to the one that lets go of it; its read
+-- section, while it looks at tables; a slot and pages, until the table is attached or given back; the locks of one bucket or two; and
+-- its answer once it is known. It moves entries from the first bucket on, and won't refuse any more.
 use Rattle.std.specs.Prelude.{ℕ, Bool, true, false, Option, None, Some, List, if◌then◌else◌}
 use Rattle.rht_words.specs.Held.{Held, holds_nothing, ended_with}
 use Rattle.rht_words.specs.declared.machine.Next.{Next}
@@ -11,7 +11,7 @@ use Rattle.rht_nest.specs.Unmake.{pages_of_unmake}
 use Rattle.rht_model.specs.Answers.{Answer, plain}
 use Rattle.rht_model.specs.declared.history.Reply.{Reply}
 use Rattle.rht_model.specs.declared.history.Reply.TheVariants as replies
-use Rattle.rht_move.specs.Work.{WorkModel, reply_of}
+use Rattle.rht_move.specs.Work.{WorkModel, outcome_of, reply_of}
 use Rattle.rht_move.specs.declared.rehash.Emptying.{Emptying}
 use Rattle.rht_move.specs.declared.work.Outcome.{Outcome}
 use Rattle.rht_move.specs.declared.work.Outcome.TheVariants.{Idle, NoTable, Moved}
@@ -19,8 +19,12 @@ use Rattle.rht_move.specs.declared.work.WorkAt.{WorkAt}
 use Rattle.rht_move.specs.declared.work.WorkAt.TheVariants as at
 
 -- the work lock alone
+abbrev pub holds_work_lock : Held Answer
+holds_work_lock = record holds_nothing { worker = true }
+
+-- and the section
 abbrev pub holds_work : Held Answer
-holds_work = record holds_nothing { worker = true }
+holds_work = record holds_work_lock { section = true }
 
 -- and a slot, where it has one, and these pages
 abbrev pub holds_table : Option ℕ → List ℕ → Held Answer
@@ -44,9 +48,14 @@ has_moved Idle = false
 has_moved (NoTable size) = false
 has_moved (Moved again) = true
 
+-- of a call that ends so: the work lock, and its answer
+abbrev pub holds_outcome : Outcome → Held Answer
+holds_outcome outcome = record holds_work_lock { moving = has_moved outcome; answer = Some (plain (reply_of outcome)) }
+
 -- what it holds in a state
 abbrev pub held_of_work : WorkAt → Held Answer
 held_of_work at.WorkLock = holds_nothing
+held_of_work at.Opening = holds_work_lock
 held_of_work at.CurrentTable = holds_work
 held_of_work (at.LastTable root seek) = holds_work
 held_of_work (at.Count root last) = holds_work
@@ -72,10 +81,9 @@ held_of_work (at.Unlocking rehash number unlock stop) =
     record (holds_moving (Some unlock.place) None) { answer = answer_of_stop stop }
 held_of_work (at.Publishing rehash) = holds_moving None None
 held_of_work (at.NewFuture rehash) = holds_moving None None
-held_of_work (at.Retiring root again) =
-    record (holds_moving None None) { answer = Some (plain (replies.Moved again)) }
-held_of_work (at.LettingGo outcome) =
-    record holds_work { moving = has_moved outcome; answer = Some (plain (reply_of outcome)) }
+held_of_work (at.Closing ending) = record (holds_outcome (outcome_of ending)) { section = true }
+held_of_work (at.Retiring root again) = holds_outcome (Moved again)
+held_of_work (at.LettingGo outcome) = holds_outcome outcome
 
 -- and after an operation; once it has ended it holds nothing, and its answer is known
 abbrev pub held_next : WorkModel × Next Reply → Held Answer

@@ -1,9 +1,9 @@
 //! Resizing a table: a larger or a smaller one is attached, and the entries are moved to it.
 //!
-//! Stands on `rht_words`, `rht_policy`, `rht_model`, and the pieces of `rht_arena`, `rht_nest` and
-//! `rht_chain`; its proofs stand on `rht_ghost`. `rht_callers` has this machine among the others.
-//! Read `specs/Work.antt` first: it is the machine as a table. `specs/Choice.antt` says when a
-//! table is due, and `specs/Laws.antt` what the other crates rely on.
+//! Stands on `rht_words`, `rht_policy`, `rht_model`, and the pieces of `rht_arena`, `rht_nest`,
+//! `rht_chain` and `rht_grace`; its proofs stand on `rht_ghost`. `rht_callers` has this machine among
+//! the others. Read `specs/Work.antt` first: it is the machine as a table. `specs/Choice.antt` says
+//! when a table is due, and `specs/Laws.antt` what the other crates rely on.
 #![tactic(auto)]
 
 mod last_entry;
@@ -15,4 +15,5 @@ pub mod work;
 pub use last_entry::{Entry, LastEntry};
 pub use last_table::{Last, LastTable, LastTableAt};
 pub use rehash::{Emptying, Rehash, Second, Target};
+pub use work::ending::Ending;
 pub use work::{Due, Outcome, Wanted, Work, WorkAt};

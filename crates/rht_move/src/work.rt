@@ -9,17 +9,20 @@ ghost use Rattle.rht_move.specs.Work.{work_new, work_plan, work_after, after_at,
 
 pub mod attaching;
 pub mod choice;
+pub mod ending;
 pub mod moving;
 
 use crate::last_entry::{Entry, LastEntry};
 use crate::last_table::{Last, LastTable};
 use crate::rehash::{Emptying, Rehash, Second, Target};
 use crate::work::attaching::{attached, counted, future_or_idle, last_seen, made, seeking, unmade};
+use crate::work::ending::{Ending, closed};
 use crate::work::moving::{
     bucket_of_root, cut_off, entry_passed, entry_table_seen, first_entry, keyed, locked, retiring,
     second_locked, unlocked_bucket, walked,
 };
 use rht_chain::{Lock, Unlock};
+use rht_grace::{Enter, Leave};
 use rht_model::Reply;
 use rht_nest::{Make, Place, Unmake};
 use rht_policy::Mix;
@@ -70,6 +73,8 @@ pub enum WorkAt {
     /// Takes the work lock, where nobody has it. This and the states up to `RootShape` are those of
     /// `rht_deferred_worker`.
     WorkLock,
+    /// Opens the read section, by one more in its caller's section word.
+    Opening,
     /// Loads which table is the current one.
     CurrentTable,
     /// Finds the last table, from the current one on.
@@ -198,6 +203,10 @@ pub enum WorkAt {
     NewFuture {
         rehash: Rehash,
     },
+    /// Closes the read section, by one more in the section word.
+    Closing {
+        ending: Ending,
+    },
     /// Stores that the table before is retired. Its slot and its pages stay taken.
     Retiring {
         root: u32,
@@ -220,19 +229,21 @@ pub struct Work<M: Mix> {
 }
 
 impl<M: Mix> Model for Work<M> {
+    ghost use Rattle.std.specs.Prelude.{◌<◌};
     ghost use Rattle.rht_move.specs.Work.{WorkModel, IsWorkAtIn};
 
     ghost Value = { WorkModel };
 
     ghost view = { λ m. record { env = m.env; caller = m.caller; at = m.at } };
 
-    ghost invariant = { λ m. IsWorkAtIn m.env m.at };
+    ghost invariant = { λ m. (m.caller < 16) × IsWorkAtIn m.env m.at };
 }
 
 impl<M: Mix> Work<M> {
     /// Before the first operation.
     #[inline(always)]
     pub fn new(env: Env, caller: u32) -> Work<M>
+        requires { caller < 16 }
         ensures { result ≡ work_new env caller }
     {
         Work {
@@ -261,6 +272,7 @@ impl<M: Mix> Work<M> {
         let geometry = self.env.geometry;
         match self.at {
             WorkAt::WorkLock => Op::exchange(places::work_lock(), 0, 1),
+            WorkAt::Opening => Enter::new(self.caller).plan(),
             WorkAt::CurrentTable => Op::load(places::current_table()),
             WorkAt::LastTable { seek, .. } | WorkAt::EntryTable { seek, .. } => seek.plan(),
             WorkAt::Count { .. } => Op::load(places::port_count()),
@@ -292,6 +304,7 @@ impl<M: Mix> Work<M> {
                 Op::store(places::current_table(), u64::from(rehash.future))
             }
             WorkAt::NewFuture { rehash } => Op::load(places::future(rehash.future)),
+            WorkAt::Closing { .. } => Leave::new(self.caller).plan(),
             WorkAt::Retiring { root, .. } => Op::store(places::state(root), 2),
             WorkAt::LettingGo { .. } => Op::store(places::work_lock(), 0),
         }
@@ -318,6 +331,7 @@ fn after<M: Mix>(env: Env, at: &WorkAt, old: u64) -> (WorkAt, Next<Reply>)
     let geometry = env.geometry;
     let next = match *at {
         WorkAt::WorkLock => return lock_seen(old),
+        WorkAt::Opening => WorkAt::CurrentTable,
         WorkAt::CurrentTable => seeking(geometry, table_of(old)),
         WorkAt::LastTable { root, seek } => last_seen(root, seek, old),
         WorkAt::Count { root, last } => counted(env, root, last, old),
@@ -402,6 +416,7 @@ fn after<M: Mix>(env: Env, at: &WorkAt, old: u64) -> (WorkAt, Next<Reply>)
         } => unlocked_bucket(geometry, rehash, number, stop),
         WorkAt::Publishing { rehash } => WorkAt::NewFuture { rehash },
         WorkAt::NewFuture { rehash } => retiring(rehash, slot_of(old)),
+        WorkAt::Closing { ending } => closed(ending),
         WorkAt::Retiring { again, .. } => WorkAt::LettingGo {
             outcome: Outcome::Moved { again },
         },
@@ -416,7 +431,7 @@ pub fn lock_seen(lock: u64) -> (WorkAt, Next<Reply>)
     ensures { result ≡ lock_seen lock }
 {
     if lock == 0 {
-        (WorkAt::CurrentTable, Next::Go)
+        (WorkAt::Opening, Next::Go)
     } else {
         (WorkAt::WorkLock, Next::Done(Reply::Elsewhere))
     }

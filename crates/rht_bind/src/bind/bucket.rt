@@ -8,7 +8,7 @@ ghost use Rattle.rht_nest.specs.Place.{IsPlaceIn, IsEnteredIn};
 ghost use Rattle.rht_nest.specs.Grow.{grow_after, IsGrowIn};
 ghost use Rattle.rht_bind.specs.Bind.{locating, located, probing, at_bucket, grown, behind_page};
 
-use super::{Attempt, BindAt, giving};
+use super::{Attempt, BindAt, answering};
 use rht_chain::Probe;
 use rht_model::Reply;
 use rht_nest::{Grow, Locate, LocateAt, LocatedBucket, Place};
@@ -104,7 +104,7 @@ pub fn probing(
     }
 }
 
-/// After an operation that enters a page. Where none was free, the node is given back.
+/// After an operation that enters a page. Where none was free, the bind has its answer.
 #[inline(always)]
 pub(super) fn grown(
     env: Env,
@@ -116,7 +116,6 @@ pub(super) fn grown(
     grow: Grow,
     old: u64,
 ) -> BindAt
-    requires node { attempt.node < env.geometry.nodes }
     requires table { table < 8 }
     requires place { IsPlaceIn env.geometry place }
     requires grow { IsGrowIn env.geometry grow }
@@ -136,7 +135,7 @@ pub(super) fn grown(
         }
         Next::Done(None) => {
             let size = Shape::from(shape).size();
-            giving(env, attempt.node, Reply::NoTable { size })
+            answering(attempt.node, Reply::NoTable { size })
         }
     }
 }

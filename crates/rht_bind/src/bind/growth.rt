@@ -4,10 +4,9 @@ ghost use Rattle.std.specs.Prelude.{◌≡◌, ◌<◌};
 ghost use Rattle.rht_words.specs.Planned.{IsWord};
 ghost use Rattle.rht_nest.specs.Make.{make_after};
 ghost use Rattle.rht_nest.specs.Unmake.{unmake_after};
-ghost use Rattle.rht_bind.specs.Growing.{giving, unlocking_full, making, want_or_busy, made, reply_of, ended_attempt, behind_attempt, refused_or_found, checked_attach, unmade};
+ghost use Rattle.rht_bind.specs.Growing.{unlocking_full, making, want_or_busy, made, reply_of, ended_attempt, behind_attempt, refused_or_found, checked_attach, unmade};
 
-use super::{Attempt, BindAt, Claimed};
-use rht_arena::GiveNode;
+use super::{Attempt, BindAt, Claimed, Ending, answering};
 use rht_chain::Unlock;
 use rht_model::Reply;
 use rht_nest::{Make, Unmake};
@@ -149,34 +148,34 @@ pub fn ended_attempt(once: bool, table: u32) -> Option<Reply>
     }
 }
 
-/// Behind an attempt: where there is an answer the node is given back, and else the bind begins
-/// anew with it, at the current table.
+/// Behind an attempt the section is closed. Then the node is given back where there is an answer, and
+/// else the bind begins anew with it.
 #[inline(always)]
-pub fn behind_attempt(env: Env, attempt: Attempt, answer: Option<Reply>) -> BindAt
-    requires { attempt.node < env.geometry.nodes }
-    ensures { result ≡ behind_attempt env attempt answer }
+pub fn behind_attempt(attempt: Attempt, answer: Option<Reply>) -> BindAt
+    ensures { result ≡ behind_attempt attempt answer }
 {
     match answer {
-        Some(reply) => giving(env, attempt.node, reply),
-        None => BindAt::CurrentTable { attempt },
+        Some(reply) => answering(attempt.node, reply),
+        None => {
+            let ending = Ending::Anew { attempt };
+            BindAt::Closing { ending }
+        }
     }
 }
 
 /// After the future of the last table was loaded again: the refusal stands where there is none yet.
 #[inline(always)]
 pub fn refused_or_found(
-    env: Env,
     once: bool,
     growing: Growing,
     refusal: Refusal,
     future: Option<u32>,
 ) -> BindAt
-    requires { growing.attempt.node < env.geometry.nodes }
-    ensures { result ≡ refused_or_found env once growing refusal future }
+    ensures { result ≡ refused_or_found once growing refusal future }
 {
     match future {
-        Some(table) => behind_attempt(env, growing.attempt, ended_attempt(once, table)),
-        None => giving(env, growing.attempt.node, refusal.reply(growing.table)),
+        Some(table) => behind_attempt(growing.attempt, ended_attempt(once, table)),
+        None => answering(growing.attempt.node, refusal.reply(growing.table)),
     }
 }
 
@@ -191,8 +190,7 @@ pub fn checked_attach(
     shape: u64,
     found: u64,
 ) -> BindAt
-    requires node { growing.attempt.node < env.geometry.nodes }
-    requires slot { slot < 8 }
+    requires { slot < 8 }
     ensures { result ≡ checked_attach env once growing slot shape found }
 {
     if found == 0 {
@@ -200,7 +198,7 @@ pub fn checked_attach(
             attached: true,
             ..growing.attempt
         };
-        behind_attempt(env, attempt, ended_attempt(once, slot))
+        behind_attempt(attempt, ended_attempt(once, slot))
     } else {
         BindAt::Unmaking {
             attempt: growing.attempt,
@@ -212,15 +210,8 @@ pub fn checked_attach(
 
 /// After an operation of the giving back of the table.
 #[inline(always)]
-pub(super) fn unmade(
-    env: Env,
-    attempt: Attempt,
-    unmake: Unmake,
-    answer: Option<Reply>,
-    old: u64,
-) -> BindAt
-    requires { attempt.node < env.geometry.nodes }
-    ensures { result ≡ unmade env attempt answer (unmake_after unmake old).0 (unmake_after unmake old).1 }
+pub(super) fn unmade(attempt: Attempt, unmake: Unmake, answer: Option<Reply>, old: u64) -> BindAt
+    ensures { result ≡ unmade attempt answer (unmake_after unmake old).0 (unmake_after unmake old).1 }
 {
     let (unmake, next) = unmake.after(old);
     match next {
@@ -229,16 +220,6 @@ pub(super) fn unmade(
             unmake,
             answer,
         },
-        Next::Done(()) => behind_attempt(env, attempt, answer),
+        Next::Done(()) => behind_attempt(attempt, answer),
     }
-}
-
-/// The giving back of the node, behind which the bind has this answer.
-#[inline(always)]
-pub fn giving(env: Env, node: u32, reply: Reply) -> BindAt
-    requires { node < env.geometry.nodes }
-    ensures { result ≡ giving env node reply }
-{
-    let give = GiveNode::new(env.geometry, node);
-    BindAt::Giving { give, reply }
 }

@@ -6,7 +6,7 @@ ghost use Rattle.rht_chain.specs.LockedWalk.{IsNodeOrNone};
 ghost use Rattle.rht_chain.specs.Relink.{relink_after};
 ghost use Rattle.rht_bind.specs.Bind.{found_or_future, bound_already, replacing, replaced, future_or_count, checked_count, kicks, publishing, published};
 
-use super::{BindAt, Claimed, FoundList, Full, unlocking, unlocking_full};
+use super::{BindAt, Claimed, Ending, FoundList, Full, unlocking, unlocking_full};
 use rht_chain::{Locked, Relink, Seen, Then};
 use rht_model::Reply;
 use rht_policy::{above_75, above_100, above_max};
@@ -62,18 +62,20 @@ pub fn replacing(env: Env, list: FoundList) -> BindAt
     }
 }
 
-/// After a store of the replacement. With the last one the bind has its answer; it has raised no
+/// After a store of the replacement. With the last one the owner is bound; the bind has raised no
 /// count, so only a table that it has attached is due to be moved into.
 #[inline(always)]
-pub(super) fn replaced(list: FoundList, relink: Relink) -> (BindAt, Next<Reply>)
+pub(super) fn replaced(list: FoundList, relink: Relink) -> BindAt
     ensures { result ≡ replaced list (relink_after relink).0 (relink_after relink).1 }
 {
     let (relink, next) = relink.after();
-    let kick = list.claimed.attempt.attached;
-    let at = BindAt::Replacing { list, relink };
     match next {
-        Next::Go => (at, Next::Go),
-        Next::Done(()) => (at, Next::Done(Reply::Bound { kick })),
+        Next::Go => BindAt::Replacing { list, relink },
+        Next::Done(()) => {
+            let kick = list.claimed.attempt.attached;
+            let ending = Ending::Bound { kick };
+            BindAt::Closing { ending }
+        }
     }
 }
 
@@ -133,20 +135,22 @@ pub fn publishing(env: Env, claimed: Claimed, kick: bool) -> BindAt
     }
 }
 
-/// After a store of the linking. With the last one the bind has its answer.
+/// After a store of the linking. With the last one the port is bound.
 #[inline(always)]
-pub(super) fn published(node: u32, table: u32, kick: bool, relink: Relink) -> (BindAt, Next<Reply>)
+pub(super) fn published(node: u32, table: u32, kick: bool, relink: Relink) -> BindAt
     ensures { result ≡ published node table kick (relink_after relink).0 (relink_after relink).1 }
 {
     let (relink, next) = relink.after();
-    let at = BindAt::Publish {
-        node,
-        table,
-        relink,
-        kick,
-    };
     match next {
-        Next::Go => (at, Next::Go),
-        Next::Done(()) => (at, Next::Done(Reply::Bound { kick })),
+        Next::Go => BindAt::Publish {
+            node,
+            table,
+            relink,
+            kick,
+        },
+        Next::Done(()) => {
+            let ending = Ending::Bound { kick };
+            BindAt::Closing { ending }
+        }
     }
 }

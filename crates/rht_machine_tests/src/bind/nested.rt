@@ -1,7 +1,7 @@
 //! Binds into nested tables. The top page of the table of 128 buckets is page 1. Port 5 has bucket 5
 //! there: the entry at 379, which is 314 + 64 * 1 + 5 % 2, and word 5 / 2 of the page behind it.
 
-use super::{begun, node_0_filled, small};
+use super::{begun, node_0_filled, node_given, small};
 use crate::asserts::{assert_same, said_behind};
 use rht_model::Reply;
 use rht_words::{Kind, Next, Op};
@@ -28,8 +28,9 @@ fn page_2_taken() -> [(Op, u64); 4] {
     ]
 }
 
-/// The node goes into the empty bucket at a place with this marker, in the table of slot 0.
-fn bound_at(place: usize, marker: u64) -> [(Op, u64); 7] {
+/// The node goes into the empty bucket at a place with this marker, in the table of slot 0. Then the
+/// section is closed.
+fn bound_at(place: usize, marker: u64) -> [(Op, u64); 8] {
     [
         (Op::load(place), 0),
         (Op::exchange(place, 0, 1), 0),
@@ -38,6 +39,7 @@ fn bound_at(place: usize, marker: u64) -> [(Op, u64); 7] {
         (Op::store(282, marker), 0),
         (Op::add(2, 1), 40),
         (Op::store(place, 2), 1),
+        (Op::add(10, 1), 5),
     ]
 }
 
@@ -85,7 +87,7 @@ fn a_bind_that_gets_no_page(rt: HostRuntime) {
         (Op::and(281, !4), 0),
         (Op::load(281), 0),
     ];
-    let given = [(Op::or(280, 1), 0)];
+    let given = node_given();
     let reply = Reply::NoTable { size: 128 };
     assert_enters(&rt, 0, &none, &[], &given, reply);
 }
@@ -102,6 +104,7 @@ fn a_bind_past_a_missing_page(rt: HostRuntime) {
         (Op::store(282, 1_023), 0), // the marker of 511
         (Op::add(2, 1), 40),
         (Op::store(511, 2), 1),
+        (Op::add(10, 1), 5),
     ];
     let reply = Reply::Bound { kick: false };
     assert_enters(&rt, 2, &[], &table, &bound, reply);
@@ -153,7 +156,7 @@ fn binds_where_two_pages_are_missing(rt: HostRuntime) {
     assert_enters_two(&rt, &first, &taken, &second, &behind, bound);
     // No page is left for the second entry.
     let none = [(Op::load(281), 0); 4];
-    let given = [(Op::or(280, 1), 0)];
+    let given = node_given();
     let no_table = Reply::NoTable { size: 8_192 };
     assert_enters_two(&rt, &first, &none, &[], &given, no_table);
     // Another caller has entered page 2 in the top page, and page 3 behind it.

@@ -195,9 +195,9 @@ fn moved_on() -> [(Op, u64); 8] {
 #[test]
 fn a_later_call_goes_on_where_that_one_stopped(rt: HostRuntime) {
     let moved = Reply::Moved { again: true };
-    let [lock, current, ..] = alone(2, 4);
+    let [lock, opened, current, ..] = alone(2, 4);
     let steps: [&[(Op, u64)]; 10] = [
-        &[lock, current],
+        &[lock, opened, current],
         &nested_behind(),
         &[(Op::load(2), 4)],
         &attached_behind_two(),

@@ -10,6 +10,7 @@ ghost use Rattle.rht_move.specs.Work.{seeking, last_seen, counted, begun, made, 
 
 use crate::last_table::{Last, LastTable};
 use crate::work::choice::{Choice, choice_of};
+use crate::work::ending::letting_go;
 use crate::work::{Due, Outcome, Wanted, WorkAt};
 use rht_nest::{Make, Unmake, is_nested};
 use rht_words::{Env, Geometry, Next};
@@ -94,9 +95,7 @@ pub fn not_made(wanted: Wanted) -> WorkAt
 {
     let Wanted { root, last, size } = wanted;
     if root == last.table || is_nested(last.shape) {
-        WorkAt::LettingGo {
-            outcome: Outcome::NoTable { size },
-        }
+        letting_go(Outcome::NoTable { size })
     } else {
         WorkAt::RootFuture {
             root,
@@ -151,9 +150,7 @@ pub fn future_or_idle(root: u32, due: Due, future: Option<u32>) -> WorkAt
             future,
             again: is_later(due),
         },
-        None => WorkAt::LettingGo {
-            outcome: Outcome::Idle,
-        },
+        None => letting_go(Outcome::Idle),
     }
 }
 

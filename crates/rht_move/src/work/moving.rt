@@ -12,6 +12,7 @@ ghost use Rattle.rht_move.specs.Work.{bucket_of_root, next_bucket, entry_passed,
 use crate::last_entry::{Entry, LastEntry};
 use crate::last_table::LastTable;
 use crate::rehash::{Emptying, Rehash, Second, Target};
+use crate::work::ending::{Ending, letting_go};
 use crate::work::{Outcome, WorkAt};
 use rht_chain::{Lock, Locked, Unlock};
 use rht_nest::{Bucket, Place, flat_place, is_nested};
@@ -270,27 +271,25 @@ pub fn unlocked_bucket(geometry: Geometry, rehash: Rehash, number: u32, stop: bo
     ensures { result ≡ unlocked_bucket geometry rehash number stop }
 {
     if stop {
-        WorkAt::LettingGo {
-            outcome: Outcome::Moved { again: true },
-        }
+        letting_go(Outcome::Moved { again: true })
     } else {
         next_bucket(geometry, rehash, number)
     }
 }
 
-/// The retiring of the table before. Where the new current table has a future, there is more to do.
+/// The closing of the section, behind which the table before is retired. Where the new current table
+/// has a future, there is more to do.
 #[inline(always)]
 pub fn retiring(rehash: Rehash, future: Option<u32>) -> WorkAt
     ensures { result ≡ retiring rehash future }
 {
-    match future {
-        Some(_) => WorkAt::Retiring {
-            root: rehash.root,
-            again: true,
-        },
-        None => WorkAt::Retiring {
-            root: rehash.root,
+    let root = rehash.root;
+    let ending = match future {
+        Some(_) => Ending::Retiring { root, again: true },
+        None => Ending::Retiring {
+            root,
             again: rehash.again,
         },
-    }
+    };
+    WorkAt::Closing { ending }
 }
