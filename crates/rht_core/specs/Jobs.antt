@@ -20,7 +20,6 @@ use Rattle.rht_find.specs.declared.find.FindAt.TheVariants.{Opening}
 use Rattle.rht_bind.specs.Bind as bind
 use Rattle.rht_bind.specs.declared.bind.BindAt.{BindAt}
 use Rattle.rht_model.specs.Rooms.{Kept}
-use Rattle.rht_release.specs.Seek.{seek_new}
 use Rattle.rht_release.specs.All as all
 use Rattle.rht_release.specs.AllHeld.{listing_of, held_of_all}
 use Rattle.rht_release.specs.declared.all.AllAt.{AllAt}
@@ -36,11 +35,10 @@ use Rattle.rht_callers.specs.declared.local.Doing.{Doing}
 use Rattle.rht_callers.specs.declared.local.Doing.TheVariants.{Idle, Finding, Binding, Releasing, Rebinding, Listing, Working, Counting}
 use Rattle.rht_words.specs.declared.config.Kind.{Kind}
 use Rattle.rht_words.specs.declared.config.Kind.TheVariants.{Single, Listed}
-use Rattle.rht_release.specs.Seek.{seek_new}
 use Rattle.rht_release.specs.Release as release
 use Rattle.rht_release.specs.ReleaseHeld.{held_of_release}
 use Rattle.rht_release.specs.declared.release.ReleaseAt.{ReleaseAt}
-use Rattle.rht_release.specs.declared.release.ReleaseAt.TheVariants.{Seeking}
+use Rattle.rht_release.specs.declared.release.ReleaseAt.TheVariants as releasing
 use Rattle.rht_release.specs.Rebind as rebind
 use Rattle.rht_release.specs.RebindHeld.{held_of_rebind}
 use Rattle.rht_release.specs.declared.rebind.RebindAt.{RebindAt}
@@ -74,8 +72,8 @@ first_rebind env port owner new Listed = None
 abbrev pub first_job : Env → Call → Option Job
 first_job env (Find port) = Some (finds port Opening)
 first_job env (Bind port owner once) = Some (binds port owner once (bind.first_state env port owner))
-first_job env (All port) = Some (lists port (room_for_nodes env) (alls.Seeking (seek_new env.geometry)))
-first_job env (Release port owner) = Some (releases port owner (Seeking (seek_new env.geometry)))
+first_job env (All port) = Some (lists port (room_for_nodes env) alls.Opening)
+first_job env (Release port owner) = Some (releases port owner releasing.Opening)
 first_job env (Rebind port owner new) = first_rebind env port owner new env.config.kind
 first_job env (Walk from limit) = None
 first_job env Work = Some (works works_at.WorkLock)
@@ -85,11 +83,11 @@ first_job env Count = Some counts
 -- the operation that this caller performs next for it
 abbrev pub job_plan : Env → ℕ → Job → Op
 job_plan env caller (finds port state) = find.plan_at env caller state
-job_plan env caller (binds port owner once state) = bind.plan_at env state
-job_plan env caller (lists port room state) = all.plan_at env state
-job_plan env caller (releases port owner state) = release.plan_at env state
-job_plan env caller (rebinds port owner new state) = rebind.plan_at env state
-job_plan env caller (works state) = work.plan_at env state
+job_plan env caller (binds port owner once state) = bind.plan_at env caller state
+job_plan env caller (lists port room state) = all.plan_at env caller state
+job_plan env caller (releases port owner state) = release.plan_at env caller state
+job_plan env caller (rebinds port owner new state) = rebind.plan_at env caller state
+job_plan env caller (works state) = work.plan_at env caller state
 job_plan env caller counts = count_plan_in env
 
 -- the job goes on in its machine's next state, or its call has ended so

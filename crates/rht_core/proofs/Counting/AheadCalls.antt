@@ -94,7 +94,7 @@ bind-keeps kind c port owner once early There before after was now (inr changes)
     (sym (changes.bindings p) ∙ none)
 
 -- no operation of a release adds to the count
-release-none : (g : Geometry) (env : Env) (state : ReleaseAt) → plan_at env state ≢ Add (place_of g PortCount) 1
+release-none : (g : Geometry) (env : Env) (state : ReleaseAt) → plan_at env c state ≢ Add (place_of g PortCount) 1
 release-none g env (at.Seeking seek) is = seek-none seek.geometry seek.at is
   where
     seek-none : (h : Geometry) (state : SeekAt) → seek_plan_at h state ≢ Add (place_of g PortCount) 1

@@ -195,15 +195,15 @@ module _ (env : Env) (mix : ℕ → ℕ → ℕ → ℕ) (c : ℕ) (words : List
     behind job = mem env mix (applied words (job_plan env c job))
 
     bind-on : (port owner : ℕ) (once : Bool) (state : BindAt) → bind.IsBindAtIn env state
-        → (DrawsJob (binds port owner once state) → IsOfDraw now (old_of words (bind.plan_at env state)))
+        → (DrawsJob (binds port owner once state) → IsOfDraw now (old_of words (bind.plan_at env c state)))
         → (IsMakingBind state → (DrawsJob (binds port owner once state) → ⊥) → now ≡ was)
         → DrawnBind (mem env mix words) was state
-        → DrawnBind (behind (binds port owner once state)) now (bind.after_at mix env port once state (old_of words (bind.plan_at env state))).0
+        → DrawnBind (behind (binds port owner once state)) now (bind.after_at mix env port once state (old_of words (bind.plan_at env c state))).0
     bind-on port owner once state within draws same of =
         bind-leads env (λ shape. Unit {0}) (λ make. MakesOf now make.at)
         (λ slot shape. IsOfDraw now (behind (binds port owner once state) (Slot slot SerialWord)))
         mix (λ shape. Unit {0}) (λ make. MakesOf was make.at)
-        (λ slot shape. IsOfDraw was (mem env mix words (Slot slot SerialWord))) port once state (old_of words (bind.plan_at env state)) within of
+        (λ slot shape. IsOfDraw was (mem env mix words (Slot slot SerialWord))) port once state (old_of words (bind.plan_at env c state)) within of
         (record {
           future = λ claimed length is. tt;
           count = λ claimed is. tt;
@@ -211,31 +211,31 @@ module _ (env : Env) (mix : ℕ → ℕ → ℕ → ℕ) (c : ℕ) (words : List
           grows = λ shape full above. tt;
           renews = λ shape full. tt;
           makes = λ growing size make is in_range has.
-              subst (λ s. OnWith (mem env mix (applied words (bind.plan_at env s))) now (make_after make (old_of words (bind.plan_at env s))))
+              subst (λ s. OnWith (mem env mix (applied words (bind.plan_at env c s))) now (make_after make (old_of words (bind.plan_at env c s))))
               (sym is)
               (make-leads was now make in_range.make_in
-              (λ drawing. subst (λ s. DrawsBind s → IsOfDraw now (old_of words (bind.plan_at env s))) is draws drawing)
+              (λ drawing. subst (λ s. DrawsBind s → IsOfDraw now (old_of words (bind.plan_at env c s))) is draws drawing)
               (λ none. subst (λ s. IsMakingBind s → (DrawsBind s → ⊥) → now ≡ was) is same tt none) has);
         })
 
     work-on : (state : WorkAt) → work.IsWorkAtIn env state
-        → (DrawsJob (works state) → IsOfDraw now (old_of words (work.plan_at env state)))
+        → (DrawsJob (works state) → IsOfDraw now (old_of words (work.plan_at env c state)))
         → (IsMakingWork state → (DrawsJob (works state) → ⊥) → now ≡ was)
         → DrawnWork (mem env mix words) was state
-        → DrawnWork (behind (works state)) now (work.after_at mix env state (old_of words (work.plan_at env state))).0
+        → DrawnWork (behind (works state)) now (work.after_at mix env state (old_of words (work.plan_at env c state))).0
     work-on state within draws same of =
         work-leads env (λ shape. Unit {0}) (λ make. MakesOf now make.at)
         (λ slot shape. IsOfDraw now (behind (works state) (Slot slot SerialWord)))
         mix (λ shape. Unit {0}) (λ make. MakesOf was make.at)
-        (λ slot shape. IsOfDraw was (mem env mix words (Slot slot SerialWord))) state (old_of words (work.plan_at env state)) within of
+        (λ slot shape. IsOfDraw was (mem env mix words (Slot slot SerialWord))) state (old_of words (work.plan_at env c state)) within of
         (record {
           last = λ root seek slot is shape. tt;
           chooses = λ root last size known is. tt;
           makes = λ wanted make is in_range has.
-              subst (λ s. OnWith (mem env mix (applied words (work.plan_at env s))) now (make_after make (old_of words (work.plan_at env s))))
+              subst (λ s. OnWith (mem env mix (applied words (work.plan_at env c s))) now (make_after make (old_of words (work.plan_at env c s))))
               (sym is)
               (make-leads was now make in_range.make_in
-              (λ drawing. subst (λ s. DrawsWork s → IsOfDraw now (old_of words (work.plan_at env s))) is draws drawing)
+              (λ drawing. subst (λ s. DrawsWork s → IsOfDraw now (old_of words (work.plan_at env c s))) is draws drawing)
               (λ none. subst (λ s. IsMakingWork s → (DrawsWork s → ⊥) → now ≡ was) is same tt none) has);
         })
 
@@ -245,10 +245,10 @@ module _ (env : Env) (mix : ℕ → ℕ → ℕ → ℕ) (c : ℕ) (words : List
         → DrawnLeft (behind job) now (told (job_after mix env job (old_of words (job_plan env c job)))).0
     job-on (binds port owner once state) within draws same of =
         told-of (behind (binds port owner once state)) now (binds port owner once) plain_ending
-        (bind.after_at mix env port once state (old_of words (bind.plan_at env state)))
+        (bind.after_at mix env port once state (old_of words (bind.plan_at env c state)))
         (bind-on port owner once state within.at_in draws same of)
     job-on (works state) within draws same of =
-        told-of (behind (works state)) now works plain_ending (work.after_at mix env state (old_of words (work.plan_at env state)))
+        told-of (behind (works state)) now works plain_ending (work.after_at mix env state (old_of words (work.plan_at env c state)))
         (work-on state within draws same of)
     job-on job within draws same of = other-of (behind job) now mix env job (old_of words (job_plan env c job)) refl
 

@@ -89,7 +89,7 @@ module _ (env : Env) (mix : ℕ → ℕ → ℕ → ℕ) where
   last-spares (last_tables.Future table) = by_load _ _ refl
   last-spares (last_tables.Shape table) = by_load _ _ refl
 
-  work-spares : (state : WorkAt) → work.IsWorkAtIn env state → CalmWork env state → SparesSlots (work.plan_at env state)
+  work-spares : (state : WorkAt) → work.IsWorkAtIn env state → CalmWork env state → SparesSlots (work.plan_at env c state)
   work-spares work_at.WorkLock within calm = inr (inl refl)
   work-spares work_at.CurrentTable within calm = by_load _ _ refl
   work-spares (work_at.LastTable root seek) within calm =

@@ -77,13 +77,13 @@ module _ (env : Env) (Good Fit : ℕ → Type 0) (keeps_works : AreMadeGood env 
     -- and so has the last one that a resizing finds
     work-seen : (state : WorkAt) → JobKnows env mix c (works state) M G → (root : ℕ) (seek : LastTableModel) (slot : ℕ)
         → state ≡ work_at.LastTable root seek → seek.at ≡ last_tables.Shape slot → work.IsWorkAtIn env state
-        → Good (old_of words (work.plan_at env state))
+        → Good (old_of words (work.plan_at env c state))
     work-seen state knows root seek slot is shape within =
         let known = subst (λ s. JobKnows env mix c (works s) M G) is knows in
         let aim = subst (λ s. AimMeans env mix G (last_aim s)) shape known.knowing.means.work.more.aim_is in
         let seek_in = (subst (work.IsWorkAtIn env) is within).seek_in in
-        let found : old_of words (work.plan_at env state) ≡ M (Slot slot ShapeWord) =
-        ap (λ s. old_of words (work.plan_at env s)) is
+        let found : old_of words (work.plan_at env c state) ≡ M (Slot slot ShapeWord) =
+        ap (λ s. old_of words (work.plan_at env c s)) is
         ∙ ap (λ g. old_of words (last_table_plan_at g seek.at)) seek_in.geometry_same
         ∙ ap (λ s. old_of words (last_table_plan_at env.geometry s)) shape in
         subst Good (sym found) (slot-good env mix Good words G whole good slot aim.table)
@@ -93,12 +93,12 @@ module _ (env : Env) (Good Fit : ℕ → Type 0) (keeps_works : AreMadeGood env 
         → Left (told (job_after mix env job (old_of words (job_plan env c job)))).0
     goes-good (binds port owner once state) within knows now =
         told-makes Good Fits Has (binds port owner once) plain_ending
-        (bind.after_at mix env port once state (old_of words (bind.plan_at env state)))
-        (good-bind env Good Fit keeps_binds mix port once state (old_of words (bind.plan_at env state)) within.at_in now
+        (bind.after_at mix env port once state (old_of words (bind.plan_at env c state)))
+        (good-bind env Good Fit keeps_binds mix port once state (old_of words (bind.plan_at env c state)) within.at_in now
         (bind-seen c words G whole good port owner once state knows))
     goes-good (works state) within knows now =
-        told-makes Good Fits Has works plain_ending (work.after_at mix env state (old_of words (work.plan_at env state)))
-        (good-work env Good Fit keeps_works mix state (old_of words (work.plan_at env state)) within now
+        told-makes Good Fits Has works plain_ending (work.after_at mix env state (old_of words (work.plan_at env c state)))
+        (good-work env Good Fit keeps_works mix state (old_of words (work.plan_at env c state)) within now
         (λ root seek slot is shape. work-seen c words G whole good state knows root seek slot is shape within))
     goes-good job within knows now =
         others-make Good Fits Has mix env job (old_of words (job_plan env c job)) refl

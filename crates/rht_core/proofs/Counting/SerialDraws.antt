@@ -115,7 +115,7 @@ module _ (env : Env) where
     | inr at ↦ inr (record { slot = at.0; nested = at.1; page = at.2; is = at.3 })
   ]
 
-  bind-draws : (state : BindAt) → bind.IsBindAtIn env state → SparesSerial (bind.plan_at env state) ⊎ DrawsBind state
+  bind-draws : (state : BindAt) → bind.IsBindAtIn env state → SparesSerial (bind.plan_at env c state) ⊎ DrawsBind state
   bind-draws (bind_at.Making growing size make) within = making-draws make
   bind-draws (bind_at.Filling new) within = inl (by_slots _ (new_node-spares new.geometry new.key new.owner new.at))
   bind-draws (bind_at.Locating attempt locate) within = inl (by_slots _ (locate-spares locate.geometry locate.table locate.at))
@@ -149,7 +149,7 @@ module _ (env : Env) where
   last-serial h (last_tables.Future table) = inl (_, refl)
   last-serial h (last_tables.Shape table) = inl (_, refl)
 
-  work-draws : (state : WorkAt) → work.IsWorkAtIn env state → SparesSerial (work.plan_at env state) ⊎ DrawsWork state
+  work-draws : (state : WorkAt) → work.IsWorkAtIn env state → SparesSerial (work.plan_at env c state) ⊎ DrawsWork state
   work-draws (work_at.Making wanted make) within = making-draws make
   work-draws work_at.WorkLock within = inl (inr (λ e. omega (arith, e)))
   work-draws (work_at.LastTable root seek) within = inl (last-serial seek.geometry seek.at)
@@ -183,11 +183,11 @@ module _ (env : Env) where
   make-adds : (make : MakeModel) → IsDrawing make → make_plan_at make.geometry make.exponent make.seed make.at ≡ Add 3 1
   make-adds make drawing = ap (make_plan_at make.geometry make.exponent make.seed) drawing.is
 
-  bind-adds : (state : BindAt) → DrawsBind state → bind.plan_at env state ≡ Add 3 1
+  bind-adds : (state : BindAt) → DrawsBind state → bind.plan_at env c state ≡ Add 3 1
   bind-adds (bind_at.Making growing size make) drawing = make-adds make drawing
   bind-adds _ drawing = absurd drawing
 
-  work-adds : (state : WorkAt) → DrawsWork state → work.plan_at env state ≡ Add 3 1
+  work-adds : (state : WorkAt) → DrawsWork state → work.plan_at env c state ≡ Add 3 1
   work-adds (work_at.Making wanted make) drawing = make-adds make drawing
   work-adds _ drawing = absurd drawing
 

@@ -163,13 +163,13 @@ module _ (env : Env) (c : ℕ) where
   find-spares few (finds.Closing reply) = at_section few _ refl
   find-spares few _ = by_load _ _ refl
 
-  all-spares : (state : AllAt) → all.IsAllAtIn env state → SparesSlots (all.plan_at env state)
+  all-spares : (state : AllAt) → all.IsAllAtIn env state → SparesSlots (all.plan_at env c state)
   all-spares (alls.Seeking seek) within = seek-spares g seek.geometry seek.at within.at_in
   all-spares (alls.Owner found node) within = by_load _ _ refl
   all-spares (alls.ListLink found node) within = by_load _ _ refl
   all-spares (alls.Unlocking table unlock) within = unlock-spares g unlock within.unlock_in
 
-  release-spares : (state : ReleaseAt) → release.IsReleaseAtIn env state → SparesSlots (release.plan_at env state)
+  release-spares : (state : ReleaseAt) → release.IsReleaseAtIn env state → SparesSlots (release.plan_at env c state)
   release-spares (releases.Seeking seek) within = seek-spares g seek.geometry seek.at within.at_in
   release-spares (releases.CuttingOut found node before link) within = at_node g before ListLink _ refl
   release-spares (releases.SecondLink found second link) within = at_node g second ChainLink _ refl
@@ -179,7 +179,7 @@ module _ (env : Env) (c : ℕ) where
   release-spares (releases.Unlocking table unlock removed) within = unlock-spares g unlock within.unlock_in
   release-spares _ within = by_load _ _ refl
 
-  rebind-spares : (state : RebindAt) → rebind.IsRebindAtIn env state → SparesSlots (rebind.plan_at env state)
+  rebind-spares : (state : RebindAt) → rebind.IsRebindAtIn env state → SparesSlots (rebind.plan_at env c state)
   rebind-spares (rebinds.Filling new) within = new_node-spares new.geometry new.key new.owner new.at
   rebind-spares (rebinds.Seeking node seek) within = seek-spares g seek.geometry seek.at within.seek_in.at_in
   rebind-spares (rebinds.Owner node found) within = by_load _ _ refl

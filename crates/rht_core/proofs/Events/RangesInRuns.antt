@@ -98,11 +98,11 @@ first_map_word g = let within = g.within.nodes_within in omega arith
 pub planned_job : (env : Env) (mix : ℕ → ℕ → ℕ → ℕ) (c : ℕ) (job : Job) → c < 16 → JobIn env mix c job
     → IsPlannedIn env.geometry (job_plan env c job)
 planned_job env mix c (finds port state) few within = planned_find env c state few within
-planned_job env mix c (binds port owner once state) few within = planned_bind env state within.at_in
-planned_job env mix c (lists port room state) few within = planned_all env state within.at_in
-planned_job env mix c (releases port owner state) few within = planned_release env state within
-planned_job env mix c (rebinds port owner new state) few within = planned_rebind env state within.at_in
-planned_job env mix c (works state) few within = planned_work env state within
+planned_job env mix c (binds port owner once state) few within = planned_bind env c state few within.at_in
+planned_job env mix c (lists port room state) few within = planned_all env c state few within.at_in
+planned_job env mix c (releases port owner state) few within = planned_release env c state few within
+planned_job env mix c (rebinds port owner new state) few within = planned_rebind env c state few within.at_in
+planned_job env mix c (works state) few within = planned_work env c state few within
 planned_job env mix c counts few within = planned_count env
 
 module _ (M : Type 0) where
@@ -124,19 +124,13 @@ module _ (M : Type 0) where
           at_in = record { geometry_same = refl; at_in = first_map_word env.geometry };
         };
       })
-      (λ port admitted. record {
-        same_env = refl;
-        same_caller = refl;
-        port_in = admitted;
-        at_in = record { geometry_same = refl; at_in = tt };
-        room_in = refl;
-      })
+      (λ port admitted. record { same_env = refl; same_caller = refl; port_in = admitted; at_in = tt; room_in = refl })
       (λ port owner admitted. record {
         same_env = refl;
         same_caller = refl;
         port_in = admitted.0;
         owner_in = admitted.1;
-        at_in = seek_begins-in env.geometry;
+        at_in = tt;
       })
       (λ port owner new single admitted. record {
         same_env = refl;

@@ -179,7 +179,7 @@ module _ (env : Env) (mix : ℕ → ℕ → ℕ → ℕ) (c : ℕ) where
     finds_so port state (next, Done reply) step = step
 
     binds_so : (port owner : ℕ) (once : Bool) (state : BindAt) (r : BindAt × Next Reply)
-        → Step env mix c (call_of (binds port owner once state)) words G (bind_at.plan_at env state) (held_of (binds port owner once state)) (bind_holds env mix c port owner once r) (BindNext env mix c port owner once r)
+        → Step env mix c (call_of (binds port owner once state)) words G (bind_at.plan_at env c state) (held_of (binds port owner once state)) (bind_holds env mix c port owner once r) (BindNext env mix c port owner once r)
         → JobStepOf words G (job_plan env c (binds port owner once state)) (binds port owner once state) (job_next (binds port owner once) plain_ending r)
     binds_so port owner once state (next, Go) step =
         step-map env mix (λ M G' w k. record { built = tt; knowing = k.knowing; fits = k.fits }) step
@@ -213,7 +213,7 @@ module _ (env : Env) (mix : ℕ → ℕ → ℕ → ℕ) (c : ℕ) where
         step-map env mix (λ M G' w k. nothing_known env mix c after end.1 M G' k) step
 
     works_so : (state : WorkAt) (r : WorkAt × Next Reply)
-        → Step env mix c Work words G (work_at.plan_at env state) (held_of (works state)) (work_holds r) (WorkNext env mix c r)
+        → Step env mix c Work words G (work_at.plan_at env c state) (held_of (works state)) (work_holds r) (WorkNext env mix c r)
         → JobStepOf words G (job_plan env c (works state)) (works state) (job_next works plain_ending r)
     works_so state (next, Go) step =
         step-map env mix (λ M G' w k. record { built = tt; knowing = k; fits = tt }) step
@@ -225,25 +225,25 @@ module _ (env : Env) (mix : ℕ → ℕ → ℕ → ℕ) (c : ℕ) where
         finds_so port state (find_at.after_at mix env port state (old_of words (find_at.plan_at env c state)))
         (find_step env mix c port words G all whole low state knows.knowing)
     job_step (binds port owner once state) within knows =
-        binds_so port owner once state (bind_at.after_at mix env port once state (old_of words (bind_at.plan_at env state)))
+        binds_so port owner once state (bind_at.after_at mix env port once state (old_of words (bind_at.plan_at env c state)))
         (bind_step env mix c port owner once within.port_in within.owner_in low words G all whole state within.at_in (record { knowing = knows.knowing; fits = knows.fits }))
     job_step (lists port room state) within knows =
-        let old = old_of words (all_at.plan_at env state) in
+        let old = old_of words (all_at.plan_at env c state) in
         lists_so port room within.roomy state (all_at.room_after state room old)
         (all_at.after_at mix env port state old)
-        (all_step env mix c port room within.roomy words G all whole state within.at_in
+        (all_step env mix c port room within.roomy words G all whole low state within.at_in
         (record { knowing = knows.knowing; fits = knows.fits }))
     job_step (releases port owner state) within knows =
-        releases_so port owner state (release_at.after_at mix env port owner state (old_of words (release_at.plan_at env state)))
+        releases_so port owner state (release_at.after_at mix env port owner state (old_of words (release_at.plan_at env c state)))
         (release_step env mix c port owner low words G all whole state within (record { knowing = knows.knowing; fits = knows.fits }))
     job_step (rebinds port owner new state) within knows =
         rebinds_so knows.built port owner new state
-        (rebind_at.after_at mix env port owner state (old_of words (rebind_at.plan_at env state)))
+        (rebind_at.after_at mix env port owner state (old_of words (rebind_at.plan_at env c state)))
         (rebind_step env mix c port owner new knows.built within.new_in low words G all whole state within.at_in
         (record { knowing = knows.knowing; fits = knows.fits }))
     job_step (works state) within knows =
-        works_so state (work_at.after_at mix env state (old_of words (work_at.plan_at env state)))
-        (work_step env mix c words G all whole state within knows.knowing)
+        works_so state (work_at.after_at mix env state (old_of words (work_at.plan_at env c state)))
+        (work_step env mix c low words G all whole state within knows.knowing)
     job_step counts within knows =
         let old = old_of words (count_plan_in env) in
         reads env mix whole refl refl (inr (record {

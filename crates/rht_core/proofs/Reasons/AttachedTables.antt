@@ -330,7 +330,7 @@ module _ (env : Env) where
 
   -- the exchange attaches where it finds that there was no future
   attaching-saw : (once : Bool) (growing : Growing) (slot shape : ℕ) (steps : List Did) (did : Did)
-      → growing.table < 8 → slot < 8 → did.op ≡ plan_at env (at.Attaching growing slot shape)
+      → growing.table < 8 → slot < 8 → did.op ≡ plan_at env c (at.Attaching growing slot shape)
       → AttachedSo g growing.attempt.attached steps
       → SawAttached (checked_attach env once growing slot shape did.old) (steps ++ did ∷ [])
   attaching-saw once growing slot shape steps did table_in slot_in is so =
@@ -352,7 +352,7 @@ module _ (env : Env) where
       (λ some. eqb-false did.old 0 f some.attaches.found) so)
 
   pub attached-saw : (mix : ℕ → ℕ → ℕ → ℕ) (port : ℕ) (once : Bool) (state : BindAt) (steps : List Did) (did : Did)
-      → IsBindAtIn env state → did.op ≡ plan_at env state → SawAttached state steps
+      → IsBindAtIn env state → did.op ≡ plan_at env c state → SawAttached state steps
       → SawAttached (after_at mix env port once state did.old).0 (steps ++ did ∷ [])
   attached-saw mix port once (at.Filling new) steps did within is saw =
       let r = new_node_after new did.old in

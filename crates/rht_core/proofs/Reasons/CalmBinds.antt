@@ -222,7 +222,7 @@ module _ (env : Env) (Good Come : ℕ → Type 0) where
     calm-bind mix port owner once _ steps did does saw calm is = absurd calm
 
   -- its operations leave the words of slots
-  pub bind-spares : (state : BindAt) → IsBindAtIn env state → CalmBind state → SparesSlots (plan_at env state)
+  pub bind-spares : (state : BindAt) → IsBindAtIn env state → CalmBind state → SparesSlots (plan_at env c state)
   bind-spares (at.Filling new) within calm = new_node-spares new.geometry new.key new.owner new.at
   bind-spares (at.CurrentTable attempt) within calm = by_load _ _ refl
   bind-spares (at.Locating attempt locate) within calm = locate-spares locate.geometry locate.table locate.at

@@ -190,13 +190,13 @@ module _ (env : Env) where
           → (does : Performs mix env (binds port owner once state) did) → does.words ≡ words
           → IsCalmAt env IsFirst IsZero state did.old
       few-calm port owner once state does now = record {
-        current = λ attempt is. ap table_of (found ∙ ap (λ s. old_of words (plan_at env s)) is) ∙ current-first;
+        current = λ attempt is. ap table_of (found ∙ ap (λ s. old_of words (plan_at env c s)) is) ∙ current-first;
         shape = λ attempt locate is shape zero.
-            found ∙ ap (λ s. old_of words (plan_at env s)) is ∙ loads locate shape ∙ shape-first locate.table zero;
+            found ∙ ap (λ s. old_of words (plan_at env c s)) is ∙ loads locate shape ∙ shape-first locate.table zero;
         flat = λ attempt locate shape is seed first. first-flat shape first;
         further = λ claimed length next is further.
             let within = subst (IsBindAtIn env) is does.within.at_in in
-            let none = ap slot_of (found ∙ ap (λ s. old_of words (plan_at env s)) is) ∙ future-none claimed.table within.table_in in
+            let none = ap slot_of (found ∙ ap (λ s. old_of words (plan_at env c s)) is) ∙ future-none claimed.table within.table_in in
             let both : ◌≡◌ {A = Option ℕ} None (Some next) = sym none ∙ further in
             absurd (cc);
         few = λ claimed is. below-max did.old (omega (arith, roomy.first)) (low claimed is);
@@ -204,14 +204,14 @@ module _ (env : Env) where
             (omega (arith, low claimed is, first-size claimed.shape first, roomy.first));
       }
         where
-          found : did.old ≡ old_of words (plan_at env state)
-          found = does.found ∙ ap (old_of does.words) does.planned ∙ ap (λ w. old_of w (plan_at env state)) now
+          found : did.old ≡ old_of words (plan_at env c state)
+          found = does.found ∙ ap (old_of does.words) does.planned ∙ ap (λ w. old_of w (plan_at env c state)) now
 
           loads : (m : LocateModel) → m.at ≡ locates.Shape → old_of words (locate_plan m) ≡ word_at env.geometry words (Slot m.table ShapeWord)
           loads m shape = rw shape refl
 
           low : (claimed : Claimed) → state ≡ at.Count claimed → did.old ≤ 31
-          low claimed is = omega (arith, found ∙ ap (λ s. old_of words (plan_at env s)) is, has.count)
+          low claimed is = omega (arith, found ∙ ap (λ s. old_of words (plan_at env c s)) is, has.count)
 
       -- ---- an operation of a resizing
 

@@ -165,7 +165,7 @@ module _ (env : Env) (words_at : ℕ → List ℕ) (mix : ℕ → ℕ → ℕ �
   -- the exchange that attaches
   pub attach-saw : (growing : Growing) (slot shape : ℕ) (steps : List Did) (did : Did) → growing.table < 8
       → slot < 8
-      → did.op ≡ plan_at env (at.Attaching growing slot shape) → did.old ≤ 8
+      → did.op ≡ plan_at env c (at.Attaching growing slot shape) → did.old ≤ 8
       → Behind env.geometry growing.table growing.shape (SawToAttach env words_at mix port growing slot shape) steps
       → Sees (checked_attach env once growing slot shape did.old) (steps ++ did ∷ [])
   attach-saw growing slot shape steps did within slot_in is few made =

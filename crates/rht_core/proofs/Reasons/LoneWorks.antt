@@ -252,13 +252,13 @@ module _ (env : Env) (words_at : ℕ → List ℕ) (mix : ℕ → ℕ → ℕ �
   module _ (state : WorkAt) (did : Did) (does : Performs mix env (works state) did) (now : List ℕ)
       (still : AreSame env (applied does.words did.op) now) where
     -- one that exchanges no future leaves the last table
-    leaves : (slot shape : ℕ) → IsNoFutureExchange env.geometry (plan_at env state) → IsLastIn env mix does.words slot shape
+    leaves : (slot shape : ℕ) → IsNoFutureExchange env.geometry (plan_at env c state) → IsLastIn env mix does.words slot shape
         → IsLastIn env mix now slot shape
     leaves slot shape none last =
         last_stays env mix (works state) did does now still slot shape
         (subst (IsNoFutureExchange env.geometry) (sym does.planned) none) last
 
-    leaves-flat : IsNoFutureExchange env.geometry (plan_at env state) → LastFlat does.words → LastFlat now
+    leaves-flat : IsNoFutureExchange env.geometry (plan_at env c state) → LastFlat does.words → LastFlat now
     leaves-flat none calm = record {
       slot = calm.slot;
       shape = calm.shape;
@@ -267,7 +267,7 @@ module _ (env : Env) (words_at : ℕ → List ℕ) (mix : ℕ → ℕ → ℕ �
     }
 
   -- what a load of a table's words finds
-  found-word : (state : WorkAt) (did : Did) (does : Performs mix env (works state) did) (op : Op) → plan_at env state ≡ op
+  found-word : (state : WorkAt) (did : Did) (does : Performs mix env (works state) did) (op : Op) → plan_at env c state ≡ op
       → did.old ≡ old_of does.words op
   found-word state did does op is = does.found ∙ ap (old_of does.words) (does.planned ∙ is)
 
@@ -289,7 +289,7 @@ module _ (env : Env) (words_at : ℕ → List ℕ) (mix : ℕ → ℕ → ℕ �
   -- the search for the last table
   calm-seek : (state : WorkAt) (did : Did) (does : Performs mix env (works state) did) (now : List ℕ)
       → AreSame env (applied does.words did.op) now → (slot : ℕ) (next : Option ℕ)
-      → plan_at env state ≡ last_table_plan_at env.geometry (seeks.Future slot) → has_table (does.ghost.slot slot) ≡ true
+      → plan_at env c state ≡ last_table_plan_at env.geometry (seeks.Future slot) → has_table (does.ghost.slot slot) ≡ true
       → slot_of did.old ≡ next → CalmSeek (next_or_shape slot next) now
   calm-seek state did does now still slot None plan has finds =
       let found = found-word state did does (last_table_plan_at env.geometry (seeks.Future slot)) plan in
@@ -302,7 +302,7 @@ module _ (env : Env) (words_at : ℕ → List ℕ) (mix : ℕ → ℕ → ℕ �
 
   -- what it loads of the last table's shape is that
   shape-found : (state : WorkAt) (did : Did) (does : Performs mix env (works state) did) (slot shape : ℕ)
-      → plan_at env state ≡ last_table_plan_at env.geometry (seeks.Shape slot) → IsLastIn env mix does.words slot shape
+      → plan_at env c state ≡ last_table_plan_at env.geometry (seeks.Shape slot) → IsLastIn env mix does.words slot shape
       → did.old ≡ shape
   shape-found state did does slot shape plan last =
       found-word state did does (last_table_plan_at env.geometry (seeks.Shape slot)) plan

@@ -121,7 +121,7 @@ module _ (env : Env) where
   -- ---- another table is the current one
 
   pub publish-saw : (rehash : Rehash) (steps : List Did) (did : Did) → rehash.future < 8
-      → did.op ≡ plan_at env (at.Publishing rehash) → RehashSaw env rehash steps
+      → did.op ≡ plan_at env c (at.Publishing rehash) → RehashSaw env rehash steps
       → HasMoved env rehash (steps ++ did ∷ [])
   publish-saw rehash steps did l is saw =
       let quiet = no_attach env.geometry did _ is (λ table old new l e. cc) in
@@ -328,7 +328,7 @@ module _ (env : Env) (words_at : ℕ → List ℕ) where
   -- ---- another table is the current one
 
   pub retiring-saw : (rehash : Rehash) (next : Option ℕ) (steps : List Did) (did : Did) → rehash.future < 8
-      → did.op ≡ plan_at env (at.NewFuture rehash) → slot_of did.old ≡ next → Sees (at.NewFuture rehash) steps
+      → did.op ≡ plan_at env c (at.NewFuture rehash) → slot_of did.old ≡ next → Sees (at.NewFuture rehash) steps
       → Sees (retiring rehash next) (steps ++ did ∷ [])
   unfolding IsPublished-push
   retiring-saw rehash next steps did l is finds saw = go next finds

@@ -311,7 +311,7 @@ module _ (env : Env) where
   both (state, Done end) all saw none = saw
 
   pub release-saw : (mix : ℕ → ℕ → ℕ → ℕ) (port owner : ℕ) (state : ReleaseAt) (steps : List Did) (did : Did)
-      → IsReleaseAtIn env state → did.op ≡ plan_at env state → SawRelease state steps
+      → IsReleaseAtIn env state → did.op ≡ plan_at env c state → SawRelease state steps
       → GoesOrEnds (λ next. SawRelease next (steps ++ did ∷ [])) (λ end. SawForRelease end.0 (steps ++ did ∷ []))
       (after_at mix env port owner state did.old)
   release-saw mix port owner (at.Seeking seek) steps did within is saw =

@@ -66,7 +66,7 @@ module _ (env : Env) (words_at : ℕ → List ℕ) where
   abbrev Sees : WorkAt → List Did → Type 0
   Sees = SawAtWork env words_at
 
-  pub lock-saw : (steps : List Did) (did : Did) → did.op ≡ plan_at env at.WorkLock → steps ≡ []
+  pub lock-saw : (steps : List Did) (did : Did) → did.op ≡ plan_at env c at.WorkLock → steps ≡ []
       → SawNextWork env words_at (steps ++ did ∷ []) (lock_seen did.old)
   lock-saw steps did is none =
       by_test (λ t. SawNextWork env words_at (steps ++ did ∷ [])
@@ -83,7 +83,7 @@ module _ (env : Env) (words_at : ℕ → List ℕ) where
         finds = record { tries = is; taken = eqb-false did.old 0 f };
       })
 
-  pub current-saw : (steps : List Did) (did : Did) → did.op ≡ plan_at env at.CurrentTable → HasLock env steps
+  pub current-saw : (steps : List Did) (did : Did) → did.op ≡ plan_at env c at.CurrentTable → HasLock env steps
       → Sees (seeking env.geometry (table_of did.old)) (steps ++ did ∷ [])
   current-saw steps did is has = record {
     futures = [];
@@ -362,7 +362,7 @@ module _ (env : Env) (words_at : ℕ → List ℕ) where
   -- ---- the table is attached, or another one was
 
   pub attached-saw : (root last slot shape : ℕ) (steps : List Did) (did : Did) → last < 8 → slot < 8
-      → did.op ≡ plan_at env (at.Attaching root last slot shape) → IsToAttach env root last slot shape steps
+      → did.op ≡ plan_at env c (at.Attaching root last slot shape) → IsToAttach env root last slot shape steps
       → Sees (attached env.geometry root slot shape did.old) (steps ++ did ∷ [])
   attached-saw root last slot shape steps did last_in slot_in is (size, since) =
       by_test
@@ -442,7 +442,7 @@ module _ (env : Env) (words_at : ℕ → List ℕ) where
 
   -- there is none only where nothing was due
   pub future-saw : (root : ℕ) (due : Due) (next : Option ℕ) (steps : List Did) (did : Did) → root < 8
-      → did.op ≡ plan_at env (at.RootFuture root due) → slot_of did.old ≡ next
+      → did.op ≡ plan_at env c (at.RootFuture root due) → slot_of did.old ≡ next
       → (next ≡ None → due ≡ dues.Nothing)
       → ((future : ℕ) → slot_of did.old ≡ Some future → root ≢ future)
       → HasDue env root due steps → Sees (future_or_idle root due next) (steps ++ did ∷ [])

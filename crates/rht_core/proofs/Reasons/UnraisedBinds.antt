@@ -135,7 +135,7 @@ module _ (env : Env) where
   published-saw node table kick relink (Done done) all = tt
 
   pub unraised-saw : (mix : ℕ → ℕ → ℕ → ℕ) (port : ℕ) (once : Bool) (state : BindAt) (steps : List Did) (did : Did)
-      → did.op ≡ plan_at env state → SawUnraised state steps
+      → did.op ≡ plan_at env c state → SawUnraised state steps
       → SawUnraised (after_at mix env port once state did.old).0 (steps ++ did ∷ [])
   unraised-saw mix port once (at.Filling new) steps did is saw =
       goes (after_at mix env port once (at.Filling new) did.old).0 _ steps did is

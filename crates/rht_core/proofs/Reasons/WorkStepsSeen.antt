@@ -172,7 +172,7 @@ module _ (env : Env) (words_at : ℕ → List ℕ) where
   }
 
   no_table-push : (size : ℕ) (steps : List Did) (did : Did)
-      → did.op ≡ plan_at env (at.LettingGo (outcomes.NoTable size))
+      → did.op ≡ plan_at env c (at.LettingGo (outcomes.NoTable size))
       → SawNoTableDue env size steps → SawNoTableDue env size (steps ++ did ∷ [])
   unfolding HasChosen-push
   no_table-push size steps did is saw =
@@ -190,7 +190,7 @@ module _ (env : Env) (words_at : ℕ → List ℕ) where
         ];
       }
 
-  idle-push : (steps : List Did) (did : Did) → did.op ≡ plan_at env (at.LettingGo outcomes.Idle)
+  idle-push : (steps : List Did) (did : Did) → did.op ≡ plan_at env c (at.LettingGo outcomes.Idle)
       → SawIdle env steps → SawIdle env (steps ++ did ∷ [])
   idle-push steps did is saw =
       Since-push env Nothing steps did saw (λ of behind idle. record {
@@ -204,7 +204,7 @@ module _ (env : Env) (words_at : ℕ → List ℕ) where
             idle.on_lock (ap op_place is);
       })
 
-  ended-saw : (outcome : Outcome) (steps : List Did) (did : Did) → did.op ≡ plan_at env (at.LettingGo outcome)
+  ended-saw : (outcome : Outcome) (steps : List Did) (did : Did) → did.op ≡ plan_at env c (at.LettingGo outcome)
       → SawForWork env words_at (reply_of outcome) steps
       → SawForWork env words_at (reply_of outcome) (steps ++ did ∷ [])
   ended-saw outcomes.Idle steps did is saw = idle-push steps did is saw

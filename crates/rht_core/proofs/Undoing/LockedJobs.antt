@@ -69,7 +69,7 @@ module _ (env : Env) (mix : ℕ → ℕ → ℕ → ℕ) (c : ℕ) (op : Op) (ol
   all-drops port room h table unlock None = refl
   all-drops port room h table unlock (Some next) = refl
 
-  all-leaves : (port : ℕ) (room : Kept ℕ) (state : AllAt) → op ≡ all_at.plan_at env state
+  all-leaves : (port : ℕ) (room : Kept ℕ) (state : AllAt) → op ≡ all_at.plan_at env c state
       → (held_of_all room.items state).lock ≢ None → LeavesOrDrops (lists port room state)
   all-leaves port room (listing.Seeking seek) is locked =
       seek-leaves (AllDrops port room seek.geometry) seek.geometry seek.at is locked (all-drops port room seek.geometry)
@@ -85,7 +85,7 @@ module _ (env : Env) (mix : ℕ → ℕ → ℕ → ℕ) (c : ℕ) (op : Op) (ol
   release-drops port owner h table unlock None = refl
   release-drops port owner h table unlock (Some next) = refl
 
-  release-leaves : (port owner : ℕ) (state : ReleaseAt) → release_is_past state ≡ false → op ≡ release_at.plan_at env state
+  release-leaves : (port owner : ℕ) (state : ReleaseAt) → release_is_past state ≡ false → op ≡ release_at.plan_at env c state
       → (held_of_release state).lock ≢ None → LeavesOrDrops (releases port owner state)
   release-leaves port owner (releasing.Seeking seek) may is locked =
       seek-leaves (ReleaseDrops port owner seek.geometry) seek.geometry seek.at is locked (release-drops port owner seek.geometry)

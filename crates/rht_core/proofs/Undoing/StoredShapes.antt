@@ -281,7 +281,7 @@ module _ (env : Env) where
   -- ---- an operation of a bind
 
   pub bind-stored : (mix : ℕ → ℕ → ℕ → ℕ) (port : ℕ) (once : Bool) (state : BindAt) (steps : List Did) (did : Did)
-      → did.op ≡ plan_at env state → HasStored state steps
+      → did.op ≡ plan_at env c state → HasStored state steps
       → HasStored (after_at mix env port once state did.old).0 (steps ++ did ∷ [])
   bind-stored mix port once (at.Making growing size make) steps did is stored =
       make-stored growing size make make.at steps did is stored
