@@ -265,15 +265,13 @@ fn assert_event<M: Mix>(rt: &impl Abort, state: &mut State<M>, event: Event, wan
     assert_same(rt, (event, stepped), (event, want));
 }
 
-/// The reply of a line, where the last one ends the call.
-fn reply_at(end: Option<(Call, Reply)>, is_last: bool) -> Option<Reply> {
-    match end {
-        Some((_, reply)) if is_last => Some(reply),
-        _ => None,
-    }
+/// What a call was answered, where its last line is this one.
+fn end_at(end: Option<(Call, Reply)>, is_last: bool) -> Option<(Call, Reply)> {
+    if is_last { end } else { None }
 }
 
-/// The caller's steps perform these operations, and the last one ends the call, where that is said.
+/// The caller's steps perform these operations, and the last one ends the call, where that is said. A
+/// call that changes a binding does so before it closes its read section.
 fn assert_steps<M: Mix>(
     rt: &impl Abort,
     alloc: Global,
@@ -284,16 +282,17 @@ fn assert_steps<M: Mix>(
 ) -> Result<(), Fail> {
     let mut left = lines.len();
     for line in lines {
-        assert_bound(rt, alloc, run)?;
         left = left.saturating_sub(1);
+        let last = end_at(end, left == 0);
+        if let Some((call, reply)) = last {
+            ended(run, call, reply)?;
+        }
+        assert_bound(rt, alloc, run)?;
         let want = Stepped {
             did: Some(*line),
-            reply: reply_at(end, left == 0),
+            reply: last.map(|(_, reply)| reply),
         };
         assert_event(rt, &mut run.state, Event::Step { caller }, want);
-    }
-    if let Some((call, reply)) = end {
-        ended(run, call, reply)?;
     }
     assert_bound(rt, alloc, run)
 }
