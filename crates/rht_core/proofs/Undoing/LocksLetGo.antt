@@ -1,7 +1,7 @@
--- In every run each call that has ended has let go of the work lock and of the locks of buckets.
+-- In every run each call that has ended has let go of the work lock, of the locks of buckets and of its read section.
 --
 -- Of each lock that a call holds it has turned the bit an odd number of times, and of each other one an even number; but for the entries at
--- which it entered pages. Once it has ended it holds none.
+-- which it entered pages. Once it has ended it holds none. So it is with the section, whose word is its caller's.
 use Rattle.std.proofs.Common.{◌≡◌, ◌⊎◌, ℕ, ◌+◌, ◌%◌, ◌<◌, Bool, false, List, [], ◌∷◌, ◌++◌, Some, None, refl, sym, ap, ◌∙◌, subst, inl, inr, arith}
 use Rattle.std.specs.List.{AllByRecursion}
 use Rattle.rht_words.specs.declared.env.Env.{Env}

@@ -3,7 +3,7 @@
 --
 -- While a call may still end so its operations have changed nothing that the words stand for, and the bits that they turned an odd
 -- number of times are those of what it holds, but for those that may be left. An operation that changes bindings tells an answer that
--- says so, and behind that the call doesn't end so. Once it has ended it holds nothing.
+-- says so, and behind that the call doesn't end so. Once it has ended it holds nothing, and its caller is in no section.
 use Rattle.std.proofs.Common.{◌≡◌, ◌≢◌, ◌⊎◌, ℕ, suc, ◌+◌, ◌%◌, ◌<◌, Bool, true, false, List, [], ◌∷◌, ◌++◌, take, refl, sym, ap, ◌∙◌, subst, inl, inr, arith}
 use Rattle.std.specs.Prelude.{Option, Some, None, IfSome}
 use Rattle.std.specs.List.{AllByRecursion}
