@@ -261,7 +261,8 @@ module _ (M : Type 0) (mix : ℕ → ℕ → ℕ → ℕ) (env : Env) (events : 
               (turned-adds (place_of g (Section performs.caller)) place did turning.adds (ap (λ k. place_of g (Section k)) own))
               turning.turns
         ] in
-        ap (λ n. (n + now) % 2) (turns-push place 0 steps did) ∙ one_more (turns place 0 steps) (turned place 0 did) was now kept.1.section even
+        ap (λ n. (n + now) % 2) (turns-push place 0 steps did)
+        ∙ one_more (turns place 0 steps) (turned place 0 did) was now kept.1.section even
 
     node_next : (node : ℕ) → (held_next next).node ≡ Some node → node < g.nodes
     node_next = node_then env mix did.op did.old (held_of job) (held_next next) kept.1.node_in performs.step.move does
