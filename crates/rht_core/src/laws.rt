@@ -244,27 +244,30 @@ pub fn at_rest<M: Mix>()
 
 /// In every run a call that was refused has undone what it did; so has a bind that was answered `Exists`,
 /// and a rebind or a release that was answered `Absent`. And so has a look-up, a listing, a reading of the
-/// count, and a `Work` that was answered `Idle`. None of its operations changed what the words stand for. And
-/// each bit of each word was turned by its operations an even number of times, whatever others did to it
-/// meanwhile: so at its end the call holds no lock, and the node that it took was given back by it.
+/// count, and a `Work` that was answered `Idle`. None of its operations changed what the words stand for.
+/// And each bit of each word was turned by its operations an even number of times, whatever others did to
+/// it meanwhile: so at its end the call holds no lock, and the node that it took was given back by it. And
+/// its caller is in no read section then.
 ///
-/// Left turned may be: the next serial; words of nodes that it gave back; words of slots that it gave back,
-/// but not the one that says whether the slot is free; and where it is a bind, what belongs to the tables
-/// that it attached: the futures that lead to them, the words of their slots, and the bits of their pages, by
-/// the last shape that it stored for each before attaching it; and the entries of nested tables behind which
-/// it entered pages that it had taken, and neither given back nor entered before, with the bits of these
-/// pages. Its operations had come to the table of such an entry, and by the words before the way to one of
-/// that table's buckets ended there. It doesn't say what stands in these words, nor that a refused bind
-/// attached or entered none.
+/// Left turned may be: the next serial; the caller's section word, but not its lowest bit, which says
+/// whether the section is open; words of nodes that it gave back; words of slots that it gave back, but
+/// not the one that says whether the slot is free; and where it is a bind, what belongs to the tables that
+/// it attached: the futures that lead to them, the words of their slots, and the bits of their pages, by
+/// the last shape that it stored for each before attaching it; and the entries of nested tables behind
+/// which it entered pages that it had taken, and neither given back nor entered before, with the bits of
+/// these pages. Its operations had come to the table of such an entry, and by the words before the way to
+/// one of that table's buckets ended there. It doesn't say what stands in these words, nor that a refused
+/// bind attached or entered none.
 pub fn refused<M: Mix>()
     ensures { Refused M M.mix_of }
 {}
 
-/// In every run each call that has ended, whatever its reply, has let go of the work lock, and of the lock of
-/// each bucket: it turned the lowest bit of the word an even number of times. The one exception is the word
-/// of an entry at which the call, a bind, entered a page that it had taken; by the words before, the entry
-/// was one of a nested table to which the call had come, and led to none. It says nothing of a call in
-/// progress, nor that a call ends; and of the work lock it speaks by its lowest bit alone.
+/// In every run each call that has ended, whatever its reply, has let go of the work lock, of the lock of
+/// each bucket, and of its caller's read section: it turned the lowest bit of the word an even number of
+/// times. The one exception is the word of an entry at which the call, a bind, entered a page that it had
+/// taken; by the words before, the entry was one of a nested table to which the call had come, and led to
+/// none. It says nothing of a call in progress, nor that a call ends; and of the work lock it speaks by
+/// its lowest bit alone.
 pub fn let_go<M: Mix>()
     ensures { LetGo M M.mix_of }
 {}
