@@ -1,6 +1,5 @@
 -- A look-up and a reading of the count only load, but for the look-up's own section word; and neither is ever at the work lock.
-use Rattle.std.proofs.Common.{◌≡◌, ◌≢◌, ◌⊎◌, ℕ, ◌+◌, ◌<◌, ◌≤◌, List, [], ◌∷◌, ◌++◌, sym, subst, inl, inr, refl, arith, ◌∙◌}
-use Rattle.std.specs.List.{AllByRecursion}
+use Rattle.std.proofs.Common.{◌≡◌, ◌≢◌, ℕ, ◌+◌, ◌<◌, ◌≤◌, List, [], ◌∷◌, ◌++◌, sym, subst, inl, inr, refl, arith}
 use Rattle.rht_words.specs.declared.op.Op.{Op}
 use Rattle.rht_words.specs.declared.op.Op.TheVariants.{Load, Add}
 use Rattle.rht_words.specs.declared.env.Env.{Env}
@@ -11,7 +10,6 @@ use Rattle.rht_words.proofs.PlacesApart.{parts_in_order}
 use Rattle.rht_words.proofs.EachElement.{AllByRecursion-push}
 use Rattle.rht_model.specs.declared.history.Call.{Call}
 use Rattle.rht_model.specs.Endings.{Ending}
-use Rattle.rht_nest.specs.Place.{entry_place}
 use Rattle.rht_nest.specs.Reach.{ReachModel, reach_plan, reach_plan_at, IsReachIn, IsReachAtIn}
 use Rattle.rht_nest.specs.declared.reach.ReachAt.{ReachAt}
 use Rattle.rht_nest.specs.declared.reach.ReachAt.TheVariants as reaches
@@ -22,7 +20,7 @@ use Rattle.std.specs.Prelude.{Option, Some, None}
 use Rattle.rht_core.specs.declared.book.Book.{Book}
 use Rattle.rht_core.specs.Jobs.{Job, finds, counts, call_of, job_after}
 use Rattle.rht_core.specs.Lookups.{IsHarmless, OnlyReads, IsHarmlessCall, Harmless}
-use Rattle.rht_core.specs.Traces.{Did, traced_of}
+use Rattle.rht_core.specs.Traces.{Did}
 use Rattle.rht_core.proofs.Events.JobsOfCallers.{each_goes, same_call}
 use Rattle.rht_core.proofs.Tracing.TracedJobs.{Performs, LeadsOn, IsAtJob, jobs_keep}
 
