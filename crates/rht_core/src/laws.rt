@@ -8,7 +8,7 @@ ghost use Rattle.rht_core.specs.FewPorts.{FewPorts, OneCaller};
 ghost use Rattle.rht_core.specs.Kicks.{Kicks};
 ghost use Rattle.rht_core.specs.LetGo.{LetGo};
 ghost use Rattle.rht_core.specs.ListedOwners.{ListedOwners};
-ghost use Rattle.rht_core.specs.Lookups.{Bounded, TakesEffect, FindsWhatStays};
+ghost use Rattle.rht_core.specs.Lookups.{Bounded, TakesEffect, FindsWhatStays, Harmless};
 ghost use Rattle.rht_core.specs.NeverRefused.{RoomyTakesAll, OneWorkerAsModel};
 ghost use Rattle.rht_core.specs.NodesUsed.{Nodes};
 ghost use Rattle.rht_core.specs.Placed.{Placed, OwnPages};
@@ -294,6 +294,12 @@ pub fn bounded<M: Mix>()
 pub fn found<M: Mix>()
     ensures moment { TakesEffect M M.mix_of }
     ensures throughout { FindsWhatStays M M.mix_of }
+{}
+
+/// In every run each operation of a look-up or of a reading of the count, ended or in progress, only loads
+/// where it is on a bucket's word, and none is on the work lock. So these calls lock nothing.
+pub fn harmless<M: Mix>()
+    ensures { Harmless M M.mix_of }
 {}
 
 /// In every run, of each call, ended or in progress, no operation changes what the words of a slot say of a

@@ -9,7 +9,7 @@ use Rattle.rht_words.specs.declared.machine.Next.{Next}
 use Rattle.rht_words.specs.declared.machine.Next.TheVariants.{Go, Done}
 use Rattle.rht_words.specs.Held as held
 use Rattle.rht_words.specs.Links.{node_of, slot_of, table_of, head_of, marker_of}
-use Rattle.rht_words.specs.Operations.{old_of, word_after, applied}
+use Rattle.rht_words.specs.Operations.{old_of, word_after}
 use Rattle.rht_words.specs.Places.{words_in}
 use Rattle.rht_words.specs.Ports.{word_of, owner_of}
 use Rattle.rht_words.proofs.Memory.{Memory}
