@@ -2,32 +2,25 @@
 
 ghost use Rattle.std.specs.Prelude.{◌≡◌};
 ghost use Rattle.rht_model.specs.declared.history.Call.TheVariants.{Find as FindCall};
-ghost use Rattle.rht_core.specs.Locals.{doing_after};
-ghost use Rattle.rht_run.specs.Rides.{IsBefore, IsRiding, HasEnded, Stepped, looked_up, owner_in};
-ghost use Rattle.rht_find.specs.declared.find.FindAt.TheVariants.{Locating};
-ghost use Rattle.rht_run.specs.Pieces.{nested_locate};
-ghost use Rattle.rht_run.specs.PieceFrames.{find_at};
+ghost use Rattle.rht_callers.specs.declared.local.Doing.TheVariants.{Finding};
+ghost use Rattle.rht_run.specs.Rides.{IsBefore, IsRiding, HasEnded, looked_up, owner_in};
 
-use crate::locating::{Way, nested_locate};
-use crate::pieces::{FindLocating, FindProbing, Whole};
-use crate::ride::{Ride, never};
+use crate::pieces::{Piece, Whole};
+use crate::ride::Ride;
 use crate::seats::SeatView;
 use crate::table::Table;
 use atomic_table::Seat;
-use rht_chain::{Then, Unlock};
 use rht_find::{Find, FindAt};
 use rht_model::Reply;
 use rht_policy::Mix;
-use rht_words::{Env, Port, node_of, owner_of, slot_of, table_of, word_of};
-use std::sync::Wait;
+use rht_words::{Next, Port};
 
 impl<M: Mix> Table<M> {
     /// Looks the port up, from the first operation to the reply. It answers the port's first owner, which
     /// goes back in registers where a reply would go through memory.
     #[inline(always)]
-    pub(crate) fn drive_find<R: Wait, K: Ride>(
+    pub(crate) fn drive_find<K: Ride>(
         &self,
-        rt: &R,
         seat: &mut Seat<(), SeatView<M>>,
         number: u32,
         port: Port,
@@ -39,135 +32,31 @@ impl<M: Mix> Table<M> {
     {
         let env = self.env;
         let find = Find::<M>::new(env, number, port);
-        let mut table = table_of(self.begin::<K, Reply, Find<M>, Whole>(seat, &Whole, &find));
-        for _ in 0..u64::MAX {
-            let frame = FindLocating {
-                env,
-                caller: number,
-            };
-            let geometry = env.geometry;
-            let way = self.find_way::<K, FindLocating>(seat, &frame, geometry, port, table);
-            let place = match way {
-                Way::Flat { place, .. } => place,
-                Way::Nested { shape, bucket } => {
-                    return self.find_nested::<R, K>(rt, seat, number, port, table, shape, bucket);
-                }
-            };
-            let frame = FindProbing {
-                env,
-                caller: number,
-                port,
-                table,
-            };
-            let key = word_of(port);
-            let Some(probed) = self.probe::<K, FindProbing>(seat, &frame, env.geometry, place, key)
-            else {
-                never(rt);
-                unreachable!()
-            };
-            let bucket = probed.bucket;
-            let unlock = Unlock::new(bucket.place, bucket.word);
-            let Some(node) = probed.seen.found else {
-                let at = FindAt::Future { table, bucket };
-                let future = slot_of(self.finding::<K>(seat, env, number, port, at));
-                let Some(next) = future else {
-                    let then = Then::Answer(Reply::Missing);
-                    let at = FindAt::Unlocking {
-                        table,
-                        unlock,
-                        then,
-                    };
-                    self.finding::<K>(seat, env, number, port, at);
-                    return None;
-                };
-                let then = Then::Table(next);
-                let at = FindAt::Unlocking {
-                    table,
-                    unlock,
-                    then,
-                };
-                self.finding::<K>(seat, env, number, port, at);
-                table = next;
-                continue;
-            };
-            let at = FindAt::FirstOwner {
-                table,
-                bucket,
-                node,
-            };
-            let owner = owner_of(self.finding::<K>(seat, env, number, port, at));
-            let mut node = node;
-            for _ in 0..u64::MAX {
-                let at = FindAt::ListLink {
-                    table,
-                    bucket,
-                    node,
-                    owner,
-                };
-                let link = self.finding::<K>(seat, env, number, port, at);
-                let Some(next) = node_of(env.geometry.nodes, link) else {
-                    let then = Then::Answer(Reply::Found { owner });
-                    let at = FindAt::Unlocking {
-                        table,
-                        unlock,
-                        then,
-                    };
-                    self.finding::<K>(seat, env, number, port, at);
-                    return Some(owner);
-                };
-                let at = FindAt::LaterOwner {
-                    table,
-                    bucket,
-                    node: next,
-                    owner,
-                };
-                self.finding::<K>(seat, env, number, port, at);
-                node = next;
-            }
-            never(rt);
-            unreachable!()
-        }
-        never(rt);
-        unreachable!()
+        self.begin::<K, Reply, Find<M>, Whole>(seat, &Whole, &find);
+        owner_in(self.find_on::<K>(seat, port, find.with(FindAt::CurrentTable)))
     }
 
-    /// Looks the port up from a nested table on.
+    /// Goes on with a look-up from where it stands to its reply, one operation after another.
     #[cold]
     #[inline(never)]
-    fn find_nested<R: Wait, K: Ride>(
+    fn find_on<K: Ride>(
         &self,
-        rt: &R,
         seat: &mut Seat<(), SeatView<M>>,
-        number: u32,
         port: Port,
-        table: u32,
-        shape: u64,
-        bucket: u32,
-    ) -> Option<u32>
+        find: Find<M>,
+    ) -> Reply
         requires call { K.riding.call ≡ FindCall port }
-        requires riding { IsRiding M.mix_of self.now K.riding (find_at self.now.env number port (Locating (nested_locate self.now.env.geometry table shape bucket))) seat.old }
-        ensures { HasEnded M.mix_of self.now K.riding (looked_up result) seat.new }
+        requires riding { IsRiding M.mix_of self.now K.riding (Finding find) seat.old }
+        ensures { HasEnded M.mix_of self.now K.riding result seat.new }
     {
-        let locate = nested_locate(self.env.geometry, table, shape, bucket);
-        let find = Find::<M>::new(self.env, number, port).with(FindAt::Locating { locate });
-        owner_in(self.run_whole::<R, K, Find<M>, Whole>(rt, seat, &Whole, find))
-    }
-
-    /// The operation of the look-up in this state.
-    #[inline(always)]
-    fn finding<K: Ride>(
-        &self,
-        seat: &mut Seat<(), SeatView<M>>,
-        env: Env,
-        number: u32,
-        port: Port,
-        at: FindAt,
-    ) -> u64
-        requires { IsRiding M.mix_of self.now K.riding (find_at env number port at) seat.old }
-        ensures { Stepped M.mix_of self.now K.riding (doing_after M.mix_of (find_at env number port at) result) seat.new }
-    {
-        let find = Find::<M>::new(env, number, port).with(at);
-        self.operate::<K, Reply, Find<M>, Whole>(seat, &Whole, &find)
+        let mut find = find;
+        for rounds in 0..u64::MAX {
+            let old = self.operate::<K, Reply, Find<M>, Whole>(seat, &Whole, &find);
+            if let Next::Done(reply) = find.told(old) {
+                return reply;
+            }
+        }
+        unreachable!()
     }
 }
 
