@@ -11,8 +11,10 @@ use Rattle.rht_model.specs.declared.history.Call.{Call}
 use Rattle.rht_model.specs.declared.history.Call.TheVariants.{Find}
 use Rattle.rht_model.specs.declared.history.Reply.{Reply}
 use Rattle.rht_model.specs.declared.finished.Finished.{Finished}
+use Rattle.rht_find.specs.Find.{FindModel}
 use Rattle.rht_find.specs.FindBound.{find_bound}
 use Rattle.rht_callers.specs.declared.local.Doing.{Doing}
+use Rattle.rht_callers.specs.declared.local.Doing.TheVariants.{Finding}
 use Rattle.rht_core.specs.declared.event.Event.{Event}
 use Rattle.rht_core.specs.Runs.{World, run_of, IsAdmitted}
 use Rattle.rht_core.specs.Traces.{Past, traced_of}
@@ -26,7 +28,7 @@ use Rattle.rht_run.specs.Passes.{HasCalled}
 use Rattle.rht_run.specs.Caused.{IsTracedCall, LooksUp, HasLookedUp}
 use Rattle.rht_run.specs.Rides.{Riding, riding_pass, steps_in, IsRiding}
 use Rattle.rht_run.proofs.CallCauses.{traced_call}
-use Rattle.rht_run.proofs.Performed.{of_run}
+use Rattle.rht_run.proofs.Performed.{of_run, number_few}
 
 -- ---- how many operations
 
@@ -38,7 +40,7 @@ find_bound-small env =
     (omega (arith, env.agrees.nodes_same, env.settled.geometry.nodes_within.1)) in
     omega (arith, most)
 
-module _ {M : Type 0} (mix : ℕ → ℕ → ℕ → ℕ) where
+module _ (M : Type 0) (mix : ℕ → ℕ → ℕ → ℕ) where
   -- the look-up that a caller is in has made no more operations than the bound
   short_now : (env : Env) (events : List Event) (c : ℕ) (port : ℕ) → IsAdmitted env.config.kind events
       → let w : World M = run_of mix env events in
@@ -49,6 +51,7 @@ module _ {M : Type 0} (mix : ℕ → ℕ → ℕ → ℕ) where
       let few = (bounded M mix env events c admitted).now (Find port) same port refl in
       subst (λ n. n ≤ find_bound env) ((traced.traces c).steps ∙ ap (λ (w : World M). (w.books c).steps) traced.world) few
 
+module _ {M : Type 0} (mix : ℕ → ℕ → ℕ → ℕ) where
   -- so none has made as many as a loop has rounds
   pub look_ends : (t : Table M) (r : Riding) (doing : Doing M) (seat : Seat (Unit {0}) (SeatView M)) (port : ℕ) → r.call ≡ Find port
       → IsRiding mix t r doing seat → 18446744073709551615 ≤ steps_in seat → ⊥
@@ -56,8 +59,14 @@ module _ {M : Type 0} (mix : ℕ → ℕ → ℕ → ℕ) where
       let few : steps_in seat ≤ find_bound t.env =
       of_run mix t (riding_pass r doing seat) is.pass
       (λ env c local book. book.call ≡ Some (Find port) → book.steps ≤ find_bound env)
-      (λ env events c admitted. short_now env events c port admitted) (is.call ∙ ap Some looks) in
+      (λ env events c admitted. short_now M mix env events c port admitted) (is.call ∙ ap Some looks) in
       omega (arith, few, many, find_bound-small t.env)
+
+  -- the caller of a look-up that is driven has one of the sixteen numbers
+  pub caller_few : (t : Table M) (r : Riding) (m : FindModel) (seat : Seat (Unit {0}) (SeatView M)) → IsRiding mix t r (Finding m) seat
+      → m.caller < 16
+  caller_few t r m seat is =
+      omega (arith, is.in_range.same_caller, number_few mix t (riding_pass r (Finding m) seat) is.pass)
 
 -- ---- what it has to show
 
@@ -72,14 +81,19 @@ module _ {M : Type 0} (mix : ℕ → ℕ → ℕ → ℕ) (t : Table M) where
   abbrev Looked : Env → List Event → ℕ → Past → Type 0
   Looked env events c past = (port : ℕ) → past.done.call ≡ Find port → LooksUp M mix port env events c past
 
+  abbrev TakesEffectRightly : Env → List Event → Past → Type 0
+  TakesEffectRightly env events past =
+      ((port : ℕ) → past.done.call ≡ Find port → AnswersMoment M mix env events past port)
+      × IsFoundThroughout M mix env events past
+
   all_looked : (c : ℕ) (events : List Event) → IsAdmitted t.env.config.kind events
       → AllByRecursion (Looked t.env events c) ((traced_of {M = M} mix t.env events).traces c).past
   all_looked c events admitted =
-      both_all (λ (past : Past). IsShort t.env past.done.call past.steps) _ _
-      (λ past short both port is. record { short = short port is; moment = both.0 port is; throughout = both.1 }) _
+      both_all (λ (past : Past). IsShort t.env past.done.call past.steps) (TakesEffectRightly t.env events) (Looked t.env events c)
+      (λ past short effect port is. record { short = short port is; moment = effect.0 port is; throughout = effect.1 }) _
       (bounded M mix t.env events c admitted).past
       (both_all (λ (past : Past). (port : ℕ) → past.done.call ≡ Find port → AnswersMoment M mix t.env events past port)
-      (IsFoundThroughout M mix t.env events) _ (λ past moment stays. (moment, stays)) _
+      (IsFoundThroughout M mix t.env events) (TakesEffectRightly t.env events) (λ past moment stays. (moment, stays)) _
       (takes_effect M mix t.env events c admitted) (finds_what_stays M mix t.env events c admitted))
 
   pub looked : (port : ℕ) (reply : Reply) (before now : Pass M) → HasCalled mix t (Find port) reply before now

@@ -1,19 +1,37 @@
 //! The look-up of a port, in straight code.
 
-ghost use Rattle.std.specs.Prelude.{◌≡◌};
+ghost use Rattle.std.specs.Prelude.{◌≡◌, ◌<◌};
 ghost use Rattle.rht_model.specs.declared.history.Call.TheVariants.{Find as FindCall};
 ghost use Rattle.rht_callers.specs.declared.local.Doing.TheVariants.{Finding};
-ghost use Rattle.rht_run.specs.Rides.{IsBefore, IsRiding, HasEnded, looked_up, owner_in};
+ghost use Rattle.rht_core.specs.Locals.{doing_after};
+ghost use Rattle.rht_find.specs.Find.{locating};
+ghost use Rattle.rht_find.specs.declared.find.FindAt.TheVariants.{Heading, Locating};
+ghost use Rattle.rht_run.specs.Looking.{nested_reach, way_on, walked, bucket_begun, bucket_walked};
+ghost use Rattle.rht_run.specs.PieceFrames.{find_at};
+ghost use Rattle.rht_run.specs.Rides.{IsBefore, IsRiding, HasEnded, Stepped, HasCounted, steps_in, looked_up, owner_in};
 
+use crate::locating::Way;
 use crate::pieces::{Piece, Whole};
 use crate::ride::Ride;
 use crate::seats::SeatView;
 use crate::table::Table;
 use atomic_table::Seat;
-use rht_find::{Find, FindAt};
+use rht_find::{Find, FindAt, Head};
 use rht_model::Reply;
-use rht_policy::Mix;
-use rht_words::{Next, Port};
+use rht_nest::{Place, Reach, ReachAt, flat_place, is_nested};
+use rht_policy::{Mix, bucket_of};
+use rht_words::{
+    Env, Geometry, Next, Port, head_of, marker_of, node_of, owner_of, slot_of, table_of, word_of,
+};
+
+/// Where one walk along a chain has come to.
+#[derive(Clone, Copy)]
+pub enum Walked {
+    /// To a node that has the port's key.
+    Found(u32),
+    /// To an end, at this link.
+    Ended(u64),
+}
 
 impl<M: Mix> Table<M> {
     /// Looks the port up, from the first operation to the reply. It answers the port's first owner, which
@@ -33,18 +51,157 @@ impl<M: Mix> Table<M> {
         let env = self.env;
         let find = Find::<M>::new(env, number, port);
         self.begin::<K, Reply, Find<M>, Whole>(seat, &Whole, &find);
-        owner_in(self.find_on::<K>(seat, port, find.with(FindAt::CurrentTable)))
+        let current = self.finding::<K>(seat, env, number, port, FindAt::CurrentTable);
+        let mut table = table_of(current);
+        for rounds in 0..u64::MAX {
+            let place = match self.reach_bucket::<K>(seat, env, number, port, table) {
+                Way::Flat { place, .. } => place,
+                Way::Nested { shape, bucket } => {
+                    return self.find_nested::<K>(seat, number, port, table, shape, bucket);
+                }
+            };
+            if let Some(node) = self.walk_bucket::<K>(seat, env, number, port, table, place) {
+                let owner = owner_of(self.finding::<K>(
+                    seat,
+                    env,
+                    number,
+                    port,
+                    FindAt::Owner { node },
+                ));
+                let reply = Reply::Found { owner };
+                self.finding::<K>(seat, env, number, port, FindAt::Closing { reply });
+                return Some(owner);
+            }
+            let future = self.finding::<K>(seat, env, number, port, FindAt::Future { table });
+            let Some(next) = slot_of(future) else {
+                let reply = Reply::Missing;
+                self.finding::<K>(seat, env, number, port, FindAt::Closing { reply });
+                return None;
+            };
+            table = next;
+        }
+        unreachable!()
+    }
+
+    /// Loads the shape and the seed of the table of this slot, and works out the port's bucket.
+    #[inline(always)]
+    fn reach_bucket<K: Ride>(
+        &self,
+        seat: &mut Seat<(), SeatView<M>>,
+        env: Env,
+        number: u32,
+        port: Port,
+        table: u32,
+    ) -> Way
+        requires { IsRiding M.mix_of self.now K.riding (find_at env number port (locating env table)) seat.old }
+        ensures riding { IsRiding M.mix_of self.now K.riding (find_at env number port (way_on env table result)) seat.new }
+        ensures more { steps_in seat.old < steps_in seat.new }
+    {
+        let reach = Reach::new(env.geometry, table);
+        let shape = self.finding::<K>(seat, env, number, port, FindAt::Locating { reach });
+        let reach = reach.with(ReachAt::Seed { shape });
+        let seed = self.finding::<K>(seat, env, number, port, FindAt::Locating { reach });
+        let bucket = bucket_of::<M>(port, shape, seed);
+        if is_nested(shape) {
+            return Way::Nested { shape, bucket };
+        }
+        let place = flat_place(env.geometry, shape, bucket);
+        Way::Flat { shape, place }
+    }
+
+    /// Walks the bucket whose word is at this place, and behind a strange end anew, where that may be
+    /// still. It answers the node that has the port's key.
+    #[inline(always)]
+    fn walk_bucket<K: Ride>(
+        &self,
+        seat: &mut Seat<(), SeatView<M>>,
+        env: Env,
+        number: u32,
+        port: Port,
+        table: u32,
+        place: usize,
+    ) -> Option<u32>
+        requires { IsRiding M.mix_of self.now K.riding (find_at env number port (bucket_begun env table place)) seat.old }
+        ensures riding { IsRiding M.mix_of self.now K.riding (find_at env number port (bucket_walked table result)) seat.new }
+        ensures more { steps_in seat.old < steps_in seat.new }
+    {
+        let mut left = env.config.rewalks;
+        for walks in 0..u64::MAX {
+            let head = Head { table, place, left };
+            let link = match self.walk_chain::<K>(seat, env, number, port, head) {
+                Walked::Found(node) => return Some(node),
+                Walked::Ended(link) => link,
+            };
+            if link == marker_of(place) || left == 0 {
+                return None;
+            }
+            left -= 1;
+        }
+        unreachable!()
+    }
+
+    /// Walks along the chain of a bucket, over at most as many nodes as there are.
+    #[inline(always)]
+    fn walk_chain<K: Ride>(
+        &self,
+        seat: &mut Seat<(), SeatView<M>>,
+        env: Env,
+        number: u32,
+        port: Port,
+        head: Head,
+    ) -> Walked
+        requires { IsRiding M.mix_of self.now K.riding (find_at env number port (Heading head)) seat.old }
+        ensures riding { IsRiding M.mix_of self.now K.riding (find_at env number port (walked head result)) seat.new }
+        ensures more { steps_in seat.old < steps_in seat.new }
+    {
+        let nodes = env.geometry.nodes;
+        let word = self.finding::<K>(seat, env, number, port, FindAt::Heading { head });
+        let mut link = head_of(head.place, word);
+        for visited in 0..nodes {
+            let Some(node) = node_of(nodes, link) else {
+                return Walked::Ended(link);
+            };
+            let at = FindAt::Key {
+                head,
+                node,
+                visited,
+            };
+            if self.finding::<K>(seat, env, number, port, at) == word_of(port) {
+                return Walked::Found(node);
+            }
+            let at = FindAt::Link {
+                head,
+                node,
+                visited: visited + 1,
+            };
+            link = self.finding::<K>(seat, env, number, port, at);
+        }
+        Walked::Ended(link)
+    }
+
+    /// Looks the port up from a nested table on.
+    #[cold]
+    #[inline(never)]
+    fn find_nested<K: Ride>(
+        &self,
+        seat: &mut Seat<(), SeatView<M>>,
+        number: u32,
+        port: Port,
+        table: u32,
+        shape: u64,
+        bucket: u32,
+    ) -> Option<u32>
+        requires call { K.riding.call ≡ FindCall port }
+        requires riding { IsRiding M.mix_of self.now K.riding (find_at self.now.env number port (Locating (nested_reach self.now.env.geometry table shape bucket))) seat.old }
+        ensures { HasEnded M.mix_of self.now K.riding (looked_up result) seat.new }
+    {
+        let reach = nested_reach(self.env.geometry, table, shape, bucket);
+        let find = Find::<M>::new(self.env, number, port);
+        owner_in(self.find_on::<K>(seat, port, find.with(FindAt::Locating { reach })))
     }
 
     /// Goes on with a look-up from where it stands to its reply, one operation after another.
-    #[cold]
-    #[inline(never)]
-    fn find_on<K: Ride>(
-        &self,
-        seat: &mut Seat<(), SeatView<M>>,
-        port: Port,
-        find: Find<M>,
-    ) -> Reply
+    fn find_on<K: Ride>(&self, seat: &mut Seat<(), SeatView<M>>, port: Port, find: Find<M>) -> Reply
         requires call { K.riding.call ≡ FindCall port }
         requires riding { IsRiding M.mix_of self.now K.riding (Finding find) seat.old }
         ensures { HasEnded M.mix_of self.now K.riding result seat.new }
@@ -58,6 +215,33 @@ impl<M: Mix> Table<M> {
         }
         unreachable!()
     }
+
+    /// The operation of the look-up in this state.
+    #[inline(always)]
+    fn finding<K: Ride>(
+        &self,
+        seat: &mut Seat<(), SeatView<M>>,
+        env: Env,
+        number: u32,
+        port: Port,
+        at: FindAt,
+    ) -> u64
+        requires { IsRiding M.mix_of self.now K.riding (find_at env number port at) seat.old }
+        ensures doing { Stepped M.mix_of self.now K.riding (doing_after M.mix_of (find_at env number port at) result) seat.new }
+        ensures counted { HasCounted seat.old (doing_after {M = M} M.mix_of (find_at env number port at) result).1 seat.new }
+    {
+        let find = Find::<M>::new(env, number, port).with(at);
+        self.operate::<K, Reply, Find<M>, Whole>(seat, &Whole, &find)
+    }
+}
+
+/// The way to a bucket, once the shape and the seed of a nested table were loaded.
+fn nested_reach(geometry: Geometry, table: u32, shape: u64, bucket: u32) -> Reach
+    requires { table < 8 }
+    ensures { result ≡ nested_reach geometry table shape bucket }
+{
+    let place = Place::nested(geometry, shape, bucket);
+    Reach::new(geometry, table).with(ReachAt::Entry { place })
 }
 
 /// The reply of a look-up: this is the port's first owner, or the port is missing.
