@@ -7,7 +7,6 @@ use Rattle.std.specs.Prelude.{Some}
 use Rattle.std.specs.List.{AllByRecursion}
 use Rattle.atomic_table.specs.declared.shared.Seat.{Seat}
 use Rattle.rht_words.specs.declared.env.Env.{Env}
-use Rattle.rht_model.specs.declared.history.Call.{Call}
 use Rattle.rht_model.specs.declared.history.Call.TheVariants.{Find}
 use Rattle.rht_model.specs.declared.history.Reply.{Reply}
 use Rattle.rht_model.specs.declared.finished.Finished.{Finished}
@@ -71,8 +70,8 @@ module _ {M : Type 0} (mix : ℕ → ℕ → ℕ → ℕ) where
 -- ---- what it has to show
 
 -- what is so of each element by two facts that are
-both_all : {X : Type 0} (P Q R : X → Type 0) → ((x : X) → P x → Q x → R x) → (xs : List X) → AllByRecursion P xs → AllByRecursion Q xs
-    → AllByRecursion R xs
+both_all : {X : Type 0} (P Q R : X → Type 0) → ((x : X) → P x → Q x → R x) → (xs : List X) → AllByRecursion P xs
+    → AllByRecursion Q xs → AllByRecursion R xs
 both_all P Q R leads [] first second = tt
 both_all P Q R leads (x ∷ xs) first second = (leads x first.0 second.0, both_all P Q R leads xs first.1 second.1)
 
@@ -81,6 +80,7 @@ module _ {M : Type 0} (mix : ℕ → ℕ → ℕ → ℕ) (t : Table M) where
   abbrev Looked : Env → List Event → ℕ → Past → Type 0
   Looked env events c past = (port : ℕ) → past.done.call ≡ Find port → LooksUp M mix port env events c past
 
+  -- where it is a look-up it took effect at a moment, and found what was bound throughout
   abbrev TakesEffectRightly : Env → List Event → Past → Type 0
   TakesEffectRightly env events past =
       ((port : ℕ) → past.done.call ≡ Find port → AnswersMoment M mix env events past port)

@@ -39,9 +39,10 @@ pub record IsTracedCall {M : Type 0} (mix : ℕ → ℕ → ℕ → ℕ) (t : Ta
 abbrev pub IsCaused : {M : Type 0} → (ℕ → ℕ → ℕ → ℕ) → Table M → Call → Reply → Pass M → Pass M → Type 0
 IsCaused {M} mix t call reply before now = IsTracedCall mix t call reply before now (HasCause M mix)
 
--- What holds of a look-up of this port that has ended: it has no more operations than the bound; at a moment of it the words stood for its
--- answer; and it found the port where that was bound all the while.
-pub record LooksUp (M : Type 0) (mix : ℕ → ℕ → ℕ → ℕ) (port : ℕ) (env : Env) (events : List Event) (c : ℕ) (past : Past) : Type 0 where
+-- What holds of a look-up of this port that has ended: it has no more operations than the bound; at a moment of it the words stood
+-- for its answer; and it found the port where that was bound all the while.
+pub record LooksUp (M : Type 0) (mix : ℕ → ℕ → ℕ → ℕ) (port : ℕ) (env : Env) (events : List Event) (c : ℕ) (past : Past)
+    : Type 0 where
   pub short : length past.steps ≤ find_bound env
   pub moment : AnswersMoment M mix env events past port
   pub throughout : IsFoundThroughout M mix env events past

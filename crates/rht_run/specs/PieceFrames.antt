@@ -3,16 +3,13 @@ use Rattle.std.specs.Prelude.{◌≡◌, ℕ, Bool, refl, Option, Some, None}
 use Rattle.rht_words.specs.declared.env.Env.{Env}
 use Rattle.rht_words.specs.declared.machine.Next.{Next}
 use Rattle.rht_words.specs.declared.machine.Next.TheVariants.{Go, Done}
-use Rattle.rht_words.specs.Ports.{word_of}
 use Rattle.rht_nest.specs.Locate.{LocateModel}
 use Rattle.rht_nest.specs.declared.locate.Located.{Located}
-use Rattle.rht_nest.specs.declared.locate.LocatedBucket.{LocatedBucket}
-use Rattle.rht_nest.specs.declared.locate.LocatedBucket.TheVariants as buckets
 use Rattle.rht_words.specs.declared.machine.Start.{Start}
 use Rattle.rht_words.specs.declared.machine.Start.TheVariants as starts
 use Rattle.rht_chain.specs.Lock.{LockModel, lock_new}
 use Rattle.rht_chain.specs.LockedWalk.{LockedWalkModel, locked_walk_new}
-use Rattle.rht_chain.specs.Probe.{ProbeModel, probe_new, lock_taken, walk_or_seen}
+use Rattle.rht_chain.specs.Probe.{ProbeModel, lock_taken, walk_or_seen}
 use Rattle.rht_chain.specs.declared.locked.Locked.{Locked}
 use Rattle.rht_chain.specs.declared.locked_walk.Seen.{Seen}
 use Rattle.rht_chain.specs.declared.probe.Probed.{Probed}
@@ -26,7 +23,7 @@ use Rattle.rht_bind.specs.declared.bind.BindAt.{BindAt}
 use Rattle.rht_bind.specs.declared.bind.BindAt.TheVariants as binds
 use Rattle.rht_find.specs.declared.find.FindAt.{FindAt}
 use Rattle.rht_model.specs.declared.history.Reply.{Reply}
-use Rattle.rht_model.specs.declared.history.Reply.TheVariants.{Missing, NoNode}
+use Rattle.rht_model.specs.declared.history.Reply.TheVariants.{NoNode}
 use Rattle.rht_callers.specs.declared.local.Doing.{Doing}
 use Rattle.rht_callers.specs.declared.local.Doing.TheVariants.{Idle, Binding, Finding}
 use Rattle.rht_core.specs.Locals.{doing_next}

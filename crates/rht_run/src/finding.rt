@@ -1,11 +1,14 @@
-//! The look-up of a port, in straight code.
+//! The look-up of a port, in straight code. It waits for nobody: its loops end.
+//!
+//! The one over tables has as many rounds as a number has values. Each makes an operation, and no
+//! look-up has so many (`find_bound` of `rht_find`). So nothing stands behind it.
 
 ghost use Rattle.std.specs.Prelude.{◌≡◌, ◌<◌};
 ghost use Rattle.rht_model.specs.declared.history.Call.TheVariants.{Find as FindCall};
 ghost use Rattle.rht_callers.specs.declared.local.Doing.TheVariants.{Finding};
 ghost use Rattle.rht_core.specs.Locals.{doing_after};
 ghost use Rattle.rht_find.specs.Find.{locating};
-ghost use Rattle.rht_find.specs.declared.find.FindAt.TheVariants.{Heading, Locating};
+ghost use Rattle.rht_find.specs.declared.find.FindAt.TheVariants.{Closing, Heading, Locating};
 ghost use Rattle.rht_run.specs.Looking.{nested_reach, way_on, walked, bucket_begun, bucket_walked};
 ghost use Rattle.rht_run.specs.PieceFrames.{find_at};
 ghost use Rattle.rht_run.specs.Rides.{IsBefore, IsRiding, HasEnded, Stepped, HasCounted, steps_in, looked_up, owner_in};
@@ -61,22 +64,12 @@ impl<M: Mix> Table<M> {
                 }
             };
             if let Some(node) = self.walk_bucket::<K>(seat, env, number, port, table, place) {
-                let owner = owner_of(self.finding::<K>(
-                    seat,
-                    env,
-                    number,
-                    port,
-                    FindAt::Owner { node },
-                ));
-                let reply = Reply::Found { owner };
-                self.finding::<K>(seat, env, number, port, FindAt::Closing { reply });
-                return Some(owner);
+                let word = self.finding::<K>(seat, env, number, port, FindAt::Owner { node });
+                return self.answering::<K>(seat, env, number, port, Some(owner_of(word)));
             }
             let future = self.finding::<K>(seat, env, number, port, FindAt::Future { table });
             let Some(next) = slot_of(future) else {
-                let reply = Reply::Missing;
-                self.finding::<K>(seat, env, number, port, FindAt::Closing { reply });
-                return None;
+                return self.answering::<K>(seat, env, number, port, None);
             };
             table = next;
         }
@@ -177,6 +170,24 @@ impl<M: Mix> Table<M> {
             link = self.finding::<K>(seat, env, number, port, at);
         }
         Walked::Ended(link)
+    }
+
+    /// Closes the read section, with which the look-up ends: the port has this first owner, or is missing.
+    #[inline(always)]
+    fn answering<K: Ride>(
+        &self,
+        seat: &mut Seat<(), SeatView<M>>,
+        env: Env,
+        number: u32,
+        port: Port,
+        owner: Option<u32>,
+    ) -> Option<u32>
+        requires { IsRiding M.mix_of self.now K.riding (find_at env number port (Closing (looked_up owner))) seat.old }
+        ensures { HasEnded M.mix_of self.now K.riding (looked_up result) seat.new }
+    {
+        let reply = looked_up(owner);
+        self.finding::<K>(seat, env, number, port, FindAt::Closing { reply });
+        owner
     }
 
     /// Looks the port up from a nested table on.
