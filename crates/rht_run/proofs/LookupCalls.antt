@@ -17,8 +17,9 @@ use Rattle.rht_callers.specs.declared.local.Doing.TheVariants.{Finding}
 use Rattle.rht_core.specs.declared.event.Event.{Event}
 use Rattle.rht_core.specs.Runs.{World, run_of, IsAdmitted}
 use Rattle.rht_core.specs.Traces.{Past, traced_of}
-use Rattle.rht_core.specs.Lookups.{AnswersMoment, IsFoundThroughout, IsShort}
+use Rattle.rht_core.specs.Lookups.{HasRead, AnswersMoment, IsFoundThroughout, IsShort}
 use Rattle.rht_core.proofs.Finding.LookupLaws.{bounded, takes_effect, finds_what_stays}
+use Rattle.rht_core.proofs.Finding.ReadsInside.{reads_inside}
 use Rattle.rht_core.proofs.Tracing.TracesInRuns.{remembers}
 use Rattle.rht_run.specs.declared.seats.SeatView.{SeatView}
 use Rattle.rht_run.specs.declared.table.Table.{Table}
@@ -86,12 +87,25 @@ module _ {M : Type 0} (mix : ℕ → ℕ → ℕ → ℕ) (t : Table M) where
       ((port : ℕ) → past.done.call ≡ Find port → AnswersMoment M mix env events past port)
       × IsFoundThroughout M mix env events past
 
+  -- it was short, and read in its section
+  abbrev ReadsRightly : Env → ℕ → Past → Type 0
+  ReadsRightly env c past =
+      IsShort env past.done.call past.steps × ((port : ℕ) → past.done.call ≡ Find port → HasRead env.geometry c past.steps)
+
   all_looked : (c : ℕ) (events : List Event) → IsAdmitted t.env.config.kind events
       → AllByRecursion (Looked t.env events c) ((traced_of {M = M} mix t.env events).traces c).past
   all_looked c events admitted =
-      both_all (λ (past : Past). IsShort t.env past.done.call past.steps) (TakesEffectRightly t.env events) (Looked t.env events c)
-      (λ past short effect port is. record { short = short port is; moment = effect.0 port is; throughout = effect.1 }) _
-      (bounded M mix t.env events c admitted).past
+      both_all (ReadsRightly t.env c) (TakesEffectRightly t.env events) (Looked t.env events c)
+      (λ past reads effect port is. record {
+        short = reads.0 port is;
+        reads = reads.1 port is;
+        moment = effect.0 port is;
+        throughout = effect.1;
+      }) _
+      (both_all (λ (past : Past). IsShort t.env past.done.call past.steps)
+      (λ past. (port : ℕ) → past.done.call ≡ Find port → HasRead t.env.geometry c past.steps) (ReadsRightly t.env c)
+      (λ past short reads. (short, reads)) _
+      (bounded M mix t.env events c admitted).past (reads_inside M mix t.env events c admitted).past)
       (both_all (λ (past : Past). (port : ℕ) → past.done.call ≡ Find port → AnswersMoment M mix t.env events past port)
       (IsFoundThroughout M mix t.env events) (TakesEffectRightly t.env events) (λ past moment stays. (moment, stays)) _
       (takes_effect M mix t.env events c admitted) (finds_what_stays M mix t.env events c admitted))

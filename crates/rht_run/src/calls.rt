@@ -60,11 +60,11 @@ impl<M: Mix> Table<M> {
         unreachable!()
     }
 
-    /// Looks a port up: `Found` with its first owner, or `Missing`, for which it has nothing further to
-    /// show. It takes no lock, waits for nobody, and makes no more operations than `find_bound` says. The
-    /// answer was so at a moment of the call, and a port that is bound throughout it is found. `cause` and
-    /// `looked` both hold of this call; each speaks of one run. The kernel's counterpart is
-    /// `rhashtable_lookup`.
+    /// Looks a port up: `Found` with its first owner, or `Missing`. It waits for nobody, and makes no more
+    /// operations than `find_bound` says: all are loads, but for the first and the last one, which open and
+    /// close its read section. The answer was so at a moment of the call, and a port that is bound
+    /// throughout it is found (`looked`). Its cause is nothing. `cause` and `looked` both hold of this call;
+    /// each speaks of one run. The kernel's counterpart is `rhashtable_lookup_fast`.
     #[inline(always)]
     pub fn find(&self, pass: &mut Pass<M>, port: Port) -> Reply
         requires pass { IsPassOf M.mix_of self.now pass.old }
