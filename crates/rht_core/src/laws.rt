@@ -8,7 +8,7 @@ ghost use Rattle.rht_core.specs.FewPorts.{FewPorts, OneCaller};
 ghost use Rattle.rht_core.specs.Kicks.{Kicks};
 ghost use Rattle.rht_core.specs.LetGo.{LetGo};
 ghost use Rattle.rht_core.specs.ListedOwners.{ListedOwners};
-ghost use Rattle.rht_core.specs.Lookups.{Bounded, TakesEffect, FindsWhatStays, Harmless};
+ghost use Rattle.rht_core.specs.Lookups.{Bounded, TakesEffect, FindsWhatStays, Harmless, ReadsInside};
 ghost use Rattle.rht_core.specs.NeverRefused.{RoomyTakesAll, OneWorkerAsModel};
 ghost use Rattle.rht_core.specs.NodesUsed.{Nodes};
 ghost use Rattle.rht_core.specs.Placed.{Placed, OwnPages};
@@ -282,8 +282,8 @@ pub fn sections<M: Mix>()
 {}
 
 /// In every run a look-up, ended or in progress, has at most `4 + 8 * (4 + (rewalks + 1) * (4 + 2 * nodes))`
-/// operations: in at most eight tables, `rewalks + 1` walks of at most `nodes` nodes. That is so whatever
-/// other callers do or leave undone, also where one that holds a lock never steps again.
+/// operations, which is enough for `rewalks + 1` walks of `nodes` nodes in each of eight tables. That is so
+/// whatever other callers do or leave undone, also where one that holds a lock never steps again.
 pub fn bounded<M: Mix>()
     ensures { Bounded M M.mix_of }
 {}
@@ -297,9 +297,12 @@ pub fn found<M: Mix>()
 {}
 
 /// In every run each operation of a look-up or of a reading of the count, ended or in progress, only loads
-/// where it is on a bucket's word, and none is on the work lock. So these calls lock nothing.
+/// where it is on a bucket's word, and none is on the work lock. So these calls lock nothing. The first
+/// operation of a look-up adds 1 to its caller's own section word, and so does the last one of a look-up
+/// that has ended; all others load words.
 pub fn harmless<M: Mix>()
-    ensures { Harmless M M.mix_of }
+    ensures locks { Harmless M M.mix_of }
+    ensures reads { ReadsInside M M.mix_of }
 {}
 
 /// In every run, of each call, ended or in progress, no operation changes what the words of a slot say of a

@@ -19,7 +19,7 @@ use Rattle.rht_find.specs.declared.find.FindAt.TheVariants as at
 use Rattle.std.specs.Prelude.{Option, Some, None}
 use Rattle.rht_core.specs.declared.book.Book.{Book}
 use Rattle.rht_core.specs.Jobs.{Job, finds, counts, call_of, job_after}
-use Rattle.rht_core.specs.Lookups.{IsHarmless, OnlyReads, IsHarmlessCall, Harmless}
+use Rattle.rht_core.specs.Lookups.{IsHarmless, LooksOrCounts, IsHarmlessCall, Harmless}
 use Rattle.rht_core.specs.Traces.{Did}
 use Rattle.rht_core.proofs.Events.JobsOfCallers.{each_goes, same_call}
 use Rattle.rht_core.proofs.Tracing.TracedJobs.{Performs, LeadsOn, IsAtJob, jobs_keep}
@@ -92,7 +92,7 @@ module _ (mix : ℕ → ℕ → ℕ → ℕ) (env : Env) where
   by_op did op is harmless =
       let here = subst (IsHarmlessOp env.geometry) (sym is) harmless in record { buckets = here.buckets; work = here.work }
 
-  job_harmless : (job : Job) (did : Did) → Performs mix env job did → OnlyReads (call_of job) → IsHarmless env.geometry did
+  job_harmless : (job : Job) (did : Did) → Performs mix env job did → LooksOrCounts (call_of job) → IsHarmless env.geometry did
   job_harmless (finds port state) did performs reads =
       by_op did (plan_at env performs.caller state) performs.planned
       (find_harmless env performs.caller state performs.few performs.within)
