@@ -21,8 +21,8 @@ pub record HasEnteredAt (g : Geometry) (words_at : ℕ → List ℕ) (call : Cal
   pub entered : EnteredWhenTaken g words_at entry page steps
 
 module _ (M : Type 0) (mix : ℕ → ℕ → ℕ → ℕ) where
-  -- A caller's call has let go of the work lock, of the lock of each bucket, and of its caller's read section. Where the word of a page is an
-  -- entry its lowest bit is no lock: it is left turned only where the call itself entered a page there.
+  -- A caller's call has let go of the work lock, of the lock of each bucket, and of the caller's read section. Where the word of a page is
+  -- an entry its lowest bit is no lock: it is left turned only where the call itself entered a page there.
   pub record HasLetGo (env : Env) (events : List Event) (c : ℕ) (past : Past) : Type 0 where
     pub work : turns (place_of env.geometry WorkLock) 0 past.steps % 2 ≡ 0
     pub buckets : (index : ℕ) → index < 64 * env.geometry.pages

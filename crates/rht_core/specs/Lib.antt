@@ -61,7 +61,7 @@ pub mod Worked
 pub mod FewPorts
 -- what a call leaves that was refused
 pub mod Refused
--- which locks a call has let go
+-- that a call has let go of its locks and its section
 pub mod LetGo
 -- when a table is attached, by whom, and of which size
 pub mod Attached

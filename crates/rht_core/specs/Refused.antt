@@ -206,8 +206,8 @@ IsExcepted g words_at c call steps place bit =
 
 module _ (M : Type 0) (mix : ℕ → ℕ → ℕ → ℕ) where
   -- A caller's call has undone what it did, or did nothing. None of its operations changed what the words stand for, and each bit of each
-  -- word was turned an even number of times, but for those that may be left turned. So the call holds no lock, and gave back the node that it
-  -- took. Behind its last operation the caller is in no read section.
+  -- word was turned an even number of times, but for those that may be left turned. So the call holds no lock, and gave back the node that
+  -- it took. Behind its last operation the caller is in no read section.
   pub record IsUndone (env : Env) (events : List Event) (c : ℕ) (past : Past) : Type 0 where
     pub bindings : AllByRecursion (λ did. ¬ ChangesBindings M mix env events did) past.steps
     pub even : (place bit : ℕ) → place < words_in env.geometry → bit < 64

@@ -129,8 +129,8 @@ fn for_two() -> Config {
     }
 }
 
-/// The steps of a bind up to the load of the current table: of these free nodes it takes this one.
-fn filled(free: u64, node: usize, port: u64, owner: u64) -> [(Op, u64); 6]
+/// The steps of a bind before its read section: of these free nodes it takes this one.
+fn filled(free: u64, node: usize, port: u64, owner: u64) -> [(Op, u64); 5]
     requires { node < 8 }
 {
     let start = 282 + 4 * node;
@@ -140,8 +140,14 @@ fn filled(free: u64, node: usize, port: u64, owner: u64) -> [(Op, u64); 6]
         (Op::store(start + 1, port), 0),
         (Op::store(start + 2, owner), 0),
         (Op::store(start + 3, 0), 0),
-        (Op::load(0), 0),
     ]
+}
+
+/// The caller opens its read section, the word of which was this, and loads the current table.
+fn opened(caller: usize, section: u64) -> [(Op, u64); 2]
+    requires { caller < 16 }
+{
+    [(Op::add(8 + caller, 1), section), (Op::load(0), 0)]
 }
 
 /// The loads of the first table's shape and of its seed. It has 64 buckets.
@@ -149,14 +155,16 @@ fn located(seed: u64) -> [(Op, u64); 2] {
     [(Op::load(24), 6), (Op::load(25), seed)]
 }
 
-/// The steps of a bind that links node 0 into the empty bucket of port 5, in an empty table.
-fn linked() -> [(Op, u64); 5] {
+/// The steps of the first caller's first bind, which links node 0 into the empty bucket of port 5, in an
+/// empty table, and closes its read section.
+fn linked() -> [(Op, u64); 6] {
     [
         (Op::load(26), 0),
         (Op::load(2), 0),
         (Op::store(282, 639), 0),
         (Op::add(2, 1), 0),
         (Op::store(319, 2), 1),
+        (Op::add(8, 1), 1),
     ]
 }
 
@@ -257,15 +265,13 @@ fn assert_event<M: Mix>(rt: &impl Abort, state: &mut State<M>, event: Event, wan
     assert_same(rt, (event, stepped), (event, want));
 }
 
-/// The reply of a line, where the last one ends the call.
-fn reply_at(end: Option<(Call, Reply)>, is_last: bool) -> Option<Reply> {
-    match end {
-        Some((_, reply)) if is_last => Some(reply),
-        _ => None,
-    }
+/// What a call was answered, where its last line is this one.
+fn end_at(end: Option<(Call, Reply)>, is_last: bool) -> Option<(Call, Reply)> {
+    if is_last { end } else { None }
 }
 
-/// The caller's steps perform these operations, and the last one ends the call, where that is said.
+/// The caller's steps perform these operations, and the last one ends the call, where that is said. A
+/// call that changes a binding does so before it closes its read section.
 fn assert_steps<M: Mix>(
     rt: &impl Abort,
     alloc: Global,
@@ -276,16 +282,17 @@ fn assert_steps<M: Mix>(
 ) -> Result<(), Fail> {
     let mut left = lines.len();
     for line in lines {
-        assert_bound(rt, alloc, run)?;
         left = left.saturating_sub(1);
+        let last = end_at(end, left == 0);
+        if let Some((call, reply)) = last {
+            ended(run, call, reply)?;
+        }
+        assert_bound(rt, alloc, run)?;
         let want = Stepped {
             did: Some(*line),
-            reply: reply_at(end, left == 0),
+            reply: last.map(|(_, reply)| reply),
         };
         assert_event(rt, &mut run.state, Event::Step { caller }, want);
-    }
-    if let Some((call, reply)) = end {
-        ended(run, call, reply)?;
     }
     assert_bound(rt, alloc, run)
 }

@@ -1,6 +1,6 @@
 -- Each operation of a look-up keeps what others rely on: it opens its read section, loads words, and closes it. Its answer is only claimed
 -- here. That it is right is shown over whole runs, since it rests on what was so when the call began.
-use Rattle.std.proofs.Common.{◌≡◌, ℕ, ◌<◌, nat_lt, List, length, Option, Some, None, false, refl, sym, subst, inl}
+use Rattle.std.proofs.Common.{◌≡◌, ℕ, ◌<◌, nat_lt, List, length, Option, Some, None, true, false, refl, ap, sym, subst, inl}
 use Rattle.std.specs.Prelude.{◌==◌}
 use Rattle.std.proofs.lemmas.Bool.{cond_both}
 use Rattle.rht_words.specs.declared.env.Env.{Env}
@@ -8,8 +8,9 @@ use Rattle.rht_words.specs.declared.geometry.Geometry.{Geometry}
 use Rattle.rht_words.specs.declared.machine.Next.{Next}
 use Rattle.rht_words.specs.declared.machine.Next.TheVariants.{Go, Done}
 use Rattle.rht_words.specs.Held as held
+use Rattle.rht_words.specs.Held.{Held}
 use Rattle.rht_words.specs.Links.{node_of, slot_of, table_of, head_of, marker_of}
-use Rattle.rht_words.specs.Operations.{old_of, word_after, applied}
+use Rattle.rht_words.specs.Operations.{old_of, word_after}
 use Rattle.rht_words.specs.Places.{words_in}
 use Rattle.rht_words.specs.Ports.{word_of, owner_of}
 use Rattle.rht_words.proofs.Memory.{Memory}
@@ -22,9 +23,9 @@ use Rattle.rht_model.specs.declared.history.Call.{Call}
 use Rattle.rht_model.specs.declared.history.Call.TheVariants as calls
 use Rattle.rht_model.specs.declared.history.Reply.{Reply}
 use Rattle.rht_model.specs.declared.history.Reply.TheVariants.{Found, Missing}
-use Rattle.rht_model.specs.Answers.{plain}
+use Rattle.rht_model.specs.Answers.{Answer, plain}
 use Rattle.rht_model.specs.Replies.{takes_out}
-use Rattle.rht_find.specs.Find.{plan_at, after_at, locating, reached, walked_anew, chain_ended, led_to, compared, next_table}
+use Rattle.rht_find.specs.Find.{plan_at, goes, after_at, locating, reached, walked_anew, chain_ended, led_to, compared, next_table}
 use Rattle.rht_find.specs.FindHeld.{held_of_find, in_section}
 use Rattle.rht_find.specs.declared.find.Head.{Head}
 use Rattle.rht_find.specs.declared.find.FindAt.{FindAt}
@@ -62,6 +63,25 @@ led_to-inside g head visited link (Some node) =
 
 compared-inside : (port : ℕ) (head : Head) (node visited key : ℕ) → IsInside (compared port head node visited key)
 compared-inside port head node visited key = cond_both (key == word_of port) _ _ IsInside (λ t. refl) (λ f. refl)
+
+-- behind any operation but the last one its section is open
+pub stays_open : (mix : ℕ → ℕ → ℕ → ℕ) (env : Env) (port : ℕ) (state : FindAt) (word : ℕ)
+    → (held_of_find (goes mix env port state word)).section ≡ true
+stays_open mix env port (at.Locating reach) word =
+    let r = reach_after mix port reach word in ap (λ (h : Held Answer). h.section) (reached-inside env r.0 r.1)
+stays_open mix env port (at.Heading head) word =
+    let link = head_of head.place word in
+    ap (λ (h : Held Answer). h.section) (led_to-inside env.geometry head 0 link (node_of env.geometry.nodes link))
+stays_open mix env port (at.Key head node visited) word =
+    ap (λ (h : Held Answer). h.section) (compared-inside port head node visited word)
+stays_open mix env port (at.Link head node visited) word =
+    ap (λ (h : Held Answer). h.section) (led_to-inside env.geometry head visited word (node_of env.geometry.nodes word))
+stays_open mix env port (at.Future table) word = next_open (slot_of word)
+  where
+    next_open : (future : Option ℕ) → (held_of_find (next_table env future)).section ≡ true
+    next_open None = refl
+    next_open (Some next) = refl
+stays_open mix env port _ word = refl
 
 -- finding the bucket only loads
 reach_leaves : (m : ReachModel) (word : ℕ) → word_after word (reach_plan m) ≡ word

@@ -77,7 +77,7 @@ table_steps env = 4 + (env.config.rewalks + 1) * walk_steps env.geometry
 abbrev pub find_bound : Env → ℕ
 find_bound env = 4 + 8 * (4 + (env.config.rewalks + 1) * (4 + 2 * env.geometry.nodes))
 
--- whatever words it finds, a look-up that comes to a table is at its future, or at an owner, after at most so many operations
+-- whatever words it finds, a look-up that comes to a table is on the way to a bucket there, or in its chain, for at most so many operations
 abbrev pub LeavesTable : Type 0
 LeavesTable =
     (mix : ℕ → ℕ → ℕ → ℕ) (env : Env) (port table : ℕ) (words : List ℕ) → table < 8 → All IsWord words

@@ -53,7 +53,7 @@ pub enum FindAt {
 }
 
 /// A look-up of one port. The answer is `Found` or `Missing`. The kernel's counterpart is
-/// `rhashtable_lookup`.
+/// `rhashtable_lookup_fast`.
 #[derive(Drop)]
 pub struct Find<M: Mix> {
     env: Env,

@@ -8,9 +8,9 @@ pub fn loads_only()
     ensures { LoadsOnly }
 {}
 
-/// A look-up that comes to a table is at its future, or at the owner of a node that was found, after so
-/// many operations: four on the way to the bucket, and for each walk one load of the bucket's word and
-/// two for each node that there is.
+/// A look-up that comes to a table is on the way to a bucket there, or in its chain, for at most so many
+/// operations: four on the way, and for each walk one load of the bucket's word and two for each node that
+/// there is.
 pub fn leaves_table()
     ensures { LeavesTable }
 {}

@@ -332,8 +332,8 @@ module _ (L : Type 0) (mix : ℕ → ℕ → ℕ → ℕ) (env : Env) (keeps : e
         let does = subst (λ m. Does env mix m op (old_of w.core.words op) (held_of of.job)
         (held_next (job_after mix env of.job (old_of w.core.words op)))) at of.step.does in
         let ready = subst (ReadyFor env mix c (mem env mix w.core.words) has.ghost) at of.step.ready in
-        attach-sized env keeps mix c of.few (mem env mix w.core.words) has.ghost of.job of.within of.knows one does.last slot shape does.within
-        does.has (sym of.plan ∙ does.attaching) ready.made.shape_is)
+        attach-sized env keeps mix c of.few (mem env mix w.core.words) has.ghost of.job of.within of.knows one does.last slot shape
+        does.within does.has (sym of.plan ∙ does.attaching) ready.made.shape_is)
 
     -- ---- one event
 

@@ -1,6 +1,5 @@
 -- The laws of look-ups: their bound, and that each answered what was so at a moment of its call.
-use Rattle.std.proofs.Common.{◌≡◌, ◌≢◌, ℕ, ◌+◌, ◌<◌, ◌≤◌, List, [], ◌∷◌, length, Option, Some, None, refl, sym, ◌∙◌, ap, subst, inl, inr, arith}
-use Rattle.std.specs.List.{AllByRecursion}
+use Rattle.std.proofs.Common.{◌≡◌, ◌≢◌, ℕ, ◌+◌, ◌≤◌, List, [], ◌∷◌, length, Option, Some, None, refl, sym, ap, inl, inr, arith}
 use Rattle.rht_words.specs.declared.env.Env.{Env}
 use Rattle.rht_words.proofs.EachElement.{AllByRecursion-weaker}
 use Rattle.rht_model.specs.declared.history.Call.{Call}
@@ -9,12 +8,12 @@ use Rattle.rht_model.specs.declared.history.Reply.{Reply}
 use Rattle.rht_model.specs.declared.history.Reply.TheVariants.{Bound, Released, Found, Missing}
 use Rattle.rht_model.specs.Answers.{Answer, find_reply}
 use Rattle.rht_model.specs.Histories.{without_kick}
-use Rattle.rht_find.specs.FindBound.{find_bound, table_steps}
+use Rattle.rht_find.specs.FindBound.{find_bound}
 use Rattle.rht_find.proofs.FindBounds.{within_bound}
 use Rattle.rht_core.specs.declared.event.Event.{Event}
-use Rattle.rht_core.specs.Jobs.{Job, finds, call_of, job_of}
+use Rattle.rht_core.specs.Jobs.{Job, finds}
 use Rattle.rht_core.specs.Lookups.{IsShort, AnswersMoment, IsFoundThroughout, Bounded, TakesEffect, FindsWhatStays}
-use Rattle.rht_core.specs.Runs.{IsAdmitted, local_of}
+use Rattle.rht_core.specs.Runs.{IsAdmitted}
 use Rattle.rht_core.specs.RunHistories.{bindings_behind}
 use Rattle.rht_core.specs.Traces.{Past, Traced, traced_of}
 use Rattle.rht_core.proofs.Finding.LookSteps.{spent_most}

@@ -18,7 +18,6 @@ use Rattle.rht_words.proofs.Memory.{Memory}
 use Rattle.rht_model.specs.declared.history.Call.{Call}
 use Rattle.rht_model.specs.declared.history.Call.TheVariants as calls
 use Rattle.rht_model.specs.declared.history.Reply.{Reply}
-use Rattle.rht_model.specs.declared.history.Reply.TheVariants.{Missing}
 use Rattle.rht_model.specs.Answers.{Answer, plain}
 use Rattle.rht_model.specs.Endings.{Ending, ended_with, plain_ending}
 use Rattle.rht_model.specs.Multimap.{Multimap}
@@ -387,8 +386,8 @@ module _ (L : Type 0) (mix : ℕ → ℕ → ℕ → ℕ) (env : Env) where
       let kept = runs-right L mix env events c admitted in
       let none = busy-none local (r.world.books c) (nothing-job local.doing ∙ ap is_no_job of.is) kept.lists in
       let left : ◌≡◌ {A = Option Job × Option Ending}
-          (job_of (local_after mix local old).0.doing, ending_of (local_after mix local old).0 (local_after mix local old).1)
-          (told (job_after mix env of.job old)) =
+      (job_of (local_after mix local old).0.doing, ending_of (local_after mix local old).0 (local_after mix local old).1)
+      (told (job_after mix env of.job old)) =
       local_after-job mix env local of.job old none (sound.stays.locals_of c) of.is in
       let asked : (r.world.books c).call ≡ Some (call_of of.job) =
       (subst (λ (j : Option Job). IsAtJob L mix env (Holds L mix env) (Answered L mix env) j (r.world.books c) (r.traces c).steps)

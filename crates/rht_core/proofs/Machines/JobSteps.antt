@@ -180,7 +180,8 @@ module _ (env : Env) (mix : ℕ → ℕ → ℕ → ℕ) (c : ℕ) where
 
     binds_so : (port owner : ℕ) (once : Bool) (state : BindAt) (r : BindAt × Next Reply)
         → Step env mix c (call_of (binds port owner once state)) words G (bind_at.plan_at env c state) (held_of (binds port owner once state)) (bind_holds env mix c port owner once r) (BindNext env mix c port owner once r)
-        → JobStepOf words G (job_plan env c (binds port owner once state)) (binds port owner once state) (job_next (binds port owner once) plain_ending r)
+        → JobStepOf words G (job_plan env c (binds port owner once state)) (binds port owner once state)
+        (job_next (binds port owner once) plain_ending r)
     binds_so port owner once state (next, Go) step =
         step-map env mix (λ M G' w k. record { built = tt; knowing = k.knowing; fits = k.fits }) step
     binds_so port owner once state (next, Done reply) step = step
@@ -188,14 +189,16 @@ module _ (env : Env) (mix : ℕ → ℕ → ℕ → ℕ) (c : ℕ) where
     lists_so : (port : ℕ) (room : Kept ℕ) (roomy : room.limit ≡ env.geometry.nodes) (state : AllAt)
         (after : Kept ℕ) (r : AllAt × Next (Unit {0}))
         → AllMoved env mix c port room roomy words G all whole state after r
-        → JobStepOf words G (job_plan env c (lists port room state)) (lists port room state) (job_next (lists port after) (listing_ending after) r)
+        → JobStepOf words G (job_plan env c (lists port room state)) (lists port room state)
+        (job_next (lists port after) (listing_ending after) r)
     lists_so port room roomy state after (next, Go) step =
         step-map env mix (λ M' G' w k. record { built = tt; knowing = k.knowing; fits = k.fits }) step
     lists_so port room roomy state after (next, Done done) step = step
 
     releases_so : (port owner : ℕ) (state : ReleaseAt) (r : ReleaseAt × Next (Reply × Option ℕ))
         → ReleaseMoved env mix c port owner words G state r
-        → JobStepOf words G (job_plan env c (releases port owner state)) (releases port owner state) (job_next (releases port owner) node_ending r)
+        → JobStepOf words G (job_plan env c (releases port owner state)) (releases port owner state)
+        (job_next (releases port owner) node_ending r)
     releases_so port owner state (next, Go) step =
         step-map env mix (λ M G' w k. record { built = tt; knowing = k.knowing; fits = k.fits }) step
     releases_so port owner state (next, Done end) step =
@@ -205,7 +208,8 @@ module _ (env : Env) (mix : ℕ → ℕ → ℕ → ℕ) (c : ℕ) where
     rebinds_so : env.config.kind ≡ Single → (port owner new : ℕ) (state : RebindAt)
         (r : RebindAt × Next (Reply × Option ℕ))
         → RebindMoved env mix c port owner new words G state r
-        → JobStepOf words G (job_plan env c (rebinds port owner new state)) (rebinds port owner new state) (job_next (rebinds port owner new) node_ending r)
+        → JobStepOf words G (job_plan env c (rebinds port owner new state)) (rebinds port owner new state)
+        (job_next (rebinds port owner new) node_ending r)
     rebinds_so single port owner new state (next, Go) step =
         step-map env mix (λ M G' w k. record { built = single; knowing = k.knowing; fits = k.fits }) step
     rebinds_so single port owner new state (next, Done end) step =

@@ -158,7 +158,8 @@ module _ (M : Type 0) (mix : ℕ → ℕ → ℕ → ℕ) (env : Env) (events : 
       record {
         found = old;
         left = word_after-fits did.old did.op old
-            (subst (λ op. IsWord (op_value op)) (sym performs.planned) (planned_job env mix performs.caller job performs.few performs.within).fits);
+            (subst (λ op. IsWord (op_value op)) (sym performs.planned)
+            (planned_job env mix performs.caller job performs.few performs.within).fits);
       }
 
   -- the words before each event do
@@ -429,7 +430,8 @@ module _ (M : Type 0) (mix : ℕ → ℕ → ℕ → ℕ) (env : Env) (events : 
                     inl (own_table slot performs.caller performs.words performs.ghost performs.whole now is.held is.taken)
                 | inr here ↦
                     inr (attaching job slot here.made_slot
-                    (attaches_now env performs.caller did here.made_slot slot here.attaches job performs.planned here.has) here.attaches performs now saw going paged)
+                    (attaches_now env performs.caller did here.made_slot slot here.attaches job performs.planned here.has)
+                    here.attaches performs now saw going paged)
               ];
           current = λ changed.
               let publishing = current_by_move env mix performs.caller performs.words performs.ghost did (held_of job) (held_next next)

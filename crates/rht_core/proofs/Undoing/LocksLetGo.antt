@@ -1,7 +1,7 @@
--- In every run each call that has ended has let go of the work lock and of the locks of buckets.
+-- In every run each call that has ended has let go of the work lock, of the locks of buckets and of its read section.
 --
 -- Of each lock that a call holds it has turned the bit an odd number of times, and of each other one an even number; but for the entries at
--- which it entered pages. Once it has ended it holds none.
+-- which it entered pages. Once it has ended it holds none. So it is with the section, whose word is its caller's.
 use Rattle.std.proofs.Common.{◌≡◌, ◌⊎◌, ℕ, ◌+◌, ◌%◌, ◌<◌, Bool, false, List, [], ◌∷◌, ◌++◌, Some, None, refl, sym, ap, ◌∙◌, subst, inl, inr, arith}
 use Rattle.std.specs.List.{AllByRecursion}
 use Rattle.rht_words.specs.declared.env.Env.{Env}
@@ -261,7 +261,8 @@ module _ (M : Type 0) (mix : ℕ → ℕ → ℕ → ℕ) (env : Env) (events : 
               (turned-adds (place_of g (Section performs.caller)) place did turning.adds (ap (λ k. place_of g (Section k)) own))
               turning.turns
         ] in
-        ap (λ n. (n + now) % 2) (turns-push place 0 steps did) ∙ one_more (turns place 0 steps) (turned place 0 did) was now kept.1.section even
+        ap (λ n. (n + now) % 2) (turns-push place 0 steps did)
+        ∙ one_more (turns place 0 steps) (turned place 0 did) was now kept.1.section even
 
     node_next : (node : ℕ) → (held_next next).node ≡ Some node → node < g.nodes
     node_next = node_then env mix did.op did.old (held_of job) (held_next next) kept.1.node_in performs.step.move does

@@ -136,8 +136,8 @@ module _ (env : Env) (mix : ℕ → ℕ → ℕ → ℕ) (c : ℕ) (M : Memory) 
   grow-enters port owner once attempt table shape place grow (grows.Giving there give) same is =
       absurd (let both = sym is ∙ exchanges in cc)
 
-  bind-enters : (port owner : ℕ) (once : Bool) (state : BindAt) → IsBindAtIn env state → did.op ≡ job_plan env c (binds port owner once state)
-      → In page (held_of_bind state).pages → Now (binds port owner once state)
+  bind-enters : (port owner : ℕ) (once : Bool) (state : BindAt) → IsBindAtIn env state
+      → did.op ≡ job_plan env c (binds port owner once state) → In page (held_of_bind state).pages → Now (binds port owner once state)
   bind-enters port owner once (binding.Making growing size make) within is had =
       absurd (make-enters env mix c M G did entry page exchanges make.exponent make.seed make.geometry make.at is had)
   bind-enters port owner once (binding.Attaching growing slot shape) within is had =

@@ -3,7 +3,7 @@
 --
 -- While a call may still end so its operations have changed nothing that the words stand for, and the bits that they turned an odd
 -- number of times are those of what it holds, but for those that may be left. An operation that changes bindings tells an answer that
--- says so, and behind that the call doesn't end so. Once it has ended it holds nothing.
+-- says so, and behind that the call doesn't end so. Once it has ended it holds nothing, and its caller is in no section.
 use Rattle.std.proofs.Common.{◌≡◌, ◌≢◌, ◌⊎◌, ℕ, suc, ◌+◌, ◌%◌, ◌<◌, Bool, true, false, List, [], ◌∷◌, ◌++◌, take, refl, sym, ap, ◌∙◌, subst, inl, inr, arith}
 use Rattle.std.specs.Prelude.{Option, Some, None, IfSome}
 use Rattle.std.specs.List.{AllByRecursion}
@@ -140,7 +140,8 @@ module _ (M : Type 0) (mix : ℕ → ℕ → ℕ → ℕ) (env : Env) (events : 
 
   -- of one that has ended
   pub record HasUndone (call : Call) (steps : List Did) : Type 0 where
-    pub even : (place bit : ℕ) → bit < 64 → IsExcepted g (words_before M mix env events) c call steps place bit ⊎ (turns place bit steps % 2 ≡ 0)
+    pub even : (place bit : ℕ) → bit < 64
+        → IsExcepted g (words_before M mix env events) c call steps place bit ⊎ (turns place bit steps % 2 ≡ 0)
     pub still : AllByRecursion LeavesBindings steps
 
   abbrev pub Undone : Call → Ending → List Did → Type 0
@@ -227,7 +228,8 @@ module _ (M : Type 0) (mix : ℕ → ℕ → ℕ → ℕ) (env : Env) (events : 
 
     abbrev UndoesOr : Holding → Type 0
     UndoesOr after =
-        after.raised ≡ false → after.moving ≡ false → SaysChange after.answer ⊎ Undoes g (words_before M mix env events) c (call_of job) after all
+        after.raised ≡ false → after.moving ≡ false
+        → SaysChange after.answer ⊎ Undoes g (words_before M mix env events) c (call_of job) after all
 
     go_on : (after : Job) → call_of after ≡ call_of job → LeavesOr (held_of after) → UndoesOr (held_of after)
         → JobStored env after all → (t : Bool) → is_past after ≡ t → Going after all
@@ -273,8 +275,8 @@ module _ (M : Type 0) (mix : ℕ → ℕ → ℕ → ℕ) (env : Env) (events : 
     by_next (after, Go) same leaves undoes stored = go_on after same leaves undoes stored (is_past after) refl
     by_next (after, Done ending) same leaves undoes stored = end after ending leaves undoes
 
-    module _ (performs : Performs mix env job did) (own : performs.caller ≡ c) (here : performs.words ≡ words_before M mix env events did.index)
-        (came : CameToEnter g job steps) where
+    module _ (performs : Performs mix env job did) (own : performs.caller ≡ c)
+        (here : performs.words ≡ words_before M mix env events did.index) (came : CameToEnter g job steps) where
       abbrev after : Holding
       after = held_next (job_after mix env job did.old)
 

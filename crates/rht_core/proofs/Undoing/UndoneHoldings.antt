@@ -1,6 +1,6 @@
 -- What the bits that a call has turned come to where it takes or gives back a node, a lock, the work lock or
--- a slot, where it opens or closes its read section, and where it does what others don't see. What an operation finds that gives something back is known
--- from who has it.
+-- a slot, where it opens or closes its read section, and where it does what others don't see. What an operation
+-- finds that gives something back is known from who has it.
 use Rattle.std.proofs.Common.{◌≡◌, ℕ, ◌+◌, ◌/◌, ◌%◌, ◌<◌, Bool, true, false, List, Some, None, refl, sym, ap, ◌∙◌, subst, inl, inr, arith}
 use Rattle.std.specs.Int.{bit_at}
 use Rattle.std.proofs.lemmas.Bool.{cases_eq}

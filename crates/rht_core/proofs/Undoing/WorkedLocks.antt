@@ -1,6 +1,7 @@
 -- Operations after which a call that has ended keeps a lock or its section, the fewest of each kind: a resizing that locks an empty bucket
--- and never stores its word back, so that whoever has loaded the old table waits for ever; a bind that does so; any call that takes the work
--- lock; and one that opens its section and never closes it. Of the first one nothing was said before, since its reply isn't one that changes nothing.
+-- and never stores its word back, so that whoever has loaded the old table waits for ever; a bind that does so; any call that takes the
+-- work lock; and one that opens its section and never closes it. Of the first one nothing was said before, since its reply isn't one that
+-- changes nothing.
 use Rattle.std.proofs.Common.{◌≡◌, ℕ, ◌+◌, ◌*◌, ◌%◌, ◌<◌, List, [], ◌∷◌, true, refl, ap}
 use Rattle.rht_words.specs.declared.geometry.Geometry.{Geometry}
 use Rattle.rht_words.specs.declared.op.Op.TheVariants.{Exchange}

@@ -2,7 +2,7 @@
 
 use super::{
     BOUND, FIND_5, RELEASED, assert_run, begins, bind, ends, enrolls, filled, for_two, linked,
-    located, release, replies, small, steps,
+    located, opened, release, replies, small, steps,
 };
 use rht_model::{Call, Reply};
 use rht_policy::{Lookup3, Low};
@@ -12,13 +12,12 @@ use std::test::Fail;
 #[test]
 fn one_bind_and_one_find(rt: HostRuntime) -> Result<(), Fail> {
     let locked = [(Op::load(319), 0), (Op::exchange(319, 0, 1), 0)];
-    // The look-up opens its section, of word 8, and closes it once it has loaded the owner.
-    let opened = [(Op::add(8, 1), 0), (Op::load(0), 0)];
+    // The look-up closes its section once it has loaded the owner.
     let found = [
         (Op::load(319), 2),
         (Op::load(283), 5),
         (Op::load(284), 9),
-        (Op::add(8, 1), 1),
+        (Op::add(8, 1), 3),
     ];
     assert_run::<Low>(
         &rt,
@@ -28,11 +27,12 @@ fn one_bind_and_one_find(rt: HostRuntime) -> Result<(), Fail> {
             enrolls(0),
             begins(0, bind(5, 9)),
             steps(0, &filled(255, 0, 5, 9)),
+            steps(0, &opened(0, 0)),
             steps(0, &located(1)),
             steps(0, &locked),
             ends(0, &linked(), bind(5, 9), BOUND),
             begins(0, FIND_5),
-            steps(0, &opened),
+            steps(0, &opened(0, 2)),
             steps(0, &located(1)),
             ends(0, &found, FIND_5, Reply::Found { owner: 9 }),
         ],
@@ -92,6 +92,7 @@ fn two_callers_at_one_bucket(rt: HostRuntime) -> Result<(), Fail> {
         (Op::store(286, 2), 0),
         (Op::add(2, 1), 1),
         (Op::store(319, 4), 3),
+        (Op::add(9, 1), 1),
     ];
     let exists = [
         (Op::load(319), 4),
@@ -101,6 +102,7 @@ fn two_callers_at_one_bucket(rt: HostRuntime) -> Result<(), Fail> {
         (Op::load(283), 5),
         (Op::load(284), 9),
         (Op::store(319, 4), 5),
+        (Op::add(8, 1), 3),
         (Op::or(280, 4), 248),
     ];
     assert_run::<Low>(
@@ -112,11 +114,13 @@ fn two_callers_at_one_bucket(rt: HostRuntime) -> Result<(), Fail> {
             enrolls(1),
             begins(0, bind(5, 9)),
             steps(0, &filled(255, 0, 5, 9)),
+            steps(0, &opened(0, 0)),
             steps(0, &located(1)),
             steps(0, &[(Op::load(319), 0)]),
             // Port 69 has bucket 69 - 64 too.
             begins(1, bind(69, 7)),
             steps(1, &filled(254, 1, 69, 7)),
+            steps(1, &opened(1, 0)),
             steps(1, &located(1)),
             steps(1, &[(Op::load(319), 0)]),
             // Both found the bucket unlocked. Caller 0 locks it, and caller 1 waits.
@@ -127,6 +131,7 @@ fn two_callers_at_one_bucket(rt: HostRuntime) -> Result<(), Fail> {
             // The chain is node 1, then node 0. A third node is taken and given back.
             begins(0, bind(5, 3)),
             steps(0, &filled(252, 2, 5, 3)),
+            steps(0, &opened(0, 2)),
             steps(0, &located(1)),
             ends(0, &exists, bind(5, 3), Reply::Exists { owner: 9 }),
         ],
@@ -142,12 +147,11 @@ fn a_table_with_the_mixed_hash(rt: HostRuntime) -> Result<(), Fail> {
     };
     // The published mix of port 1 with the seed 0 is 0x40f3f2be, which is 62 modulo 64: the bucket
     // is at 314 + 62 = 376.
-    let opened = [(Op::add(8, 1), 0), (Op::load(0), 0)];
     let found = [
         (Op::load(376), 2),
         (Op::load(283), 1),
         (Op::load(284), 8),
-        (Op::add(8, 1), 1),
+        (Op::add(8, 1), 3),
     ];
     let find = Call::Find { port: 1 };
     assert_run::<Lookup3>(
@@ -158,7 +162,7 @@ fn a_table_with_the_mixed_hash(rt: HostRuntime) -> Result<(), Fail> {
             enrolls(0),
             replies(bind(1, 8), BOUND),
             begins(0, find),
-            steps(0, &opened),
+            steps(0, &opened(0, 2)),
             steps(0, &located(0)),
             ends(0, &found, find, Reply::Found { owner: 8 }),
             replies(bind(5, 9), BOUND),

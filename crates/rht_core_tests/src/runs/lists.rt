@@ -2,7 +2,7 @@
 
 use super::{
     BOUND, FIND_5, RELEASED, assert_run, assert_same, begin, begins, bind, ends, enrolls, filled,
-    linked, located, release, replies, reply_to, small, steps,
+    linked, located, opened, release, replies, reply_to, small, steps,
 };
 use rht_core::{Event, State};
 use rht_model::{Call, Reply};
@@ -22,14 +22,14 @@ fn a_list_grows_at_its_front(rt: HostRuntime) -> Result<(), Fail> {
         (Op::load(282), 639),
         (Op::store(286, 639), 0),
         (Op::store(319, 4), 3),
+        (Op::add(8, 1), 3),
     ];
-    // The look-up opens its section, of word 8, and loads the owner of the first node alone.
-    let opened = [(Op::add(8, 1), 0), (Op::load(0), 0)];
+    // The look-up loads the owner of the first node alone.
     let found = [
         (Op::load(319), 4),
         (Op::load(287), 5),
         (Op::load(288), 3),
-        (Op::add(8, 1), 1),
+        (Op::add(8, 1), 5),
     ];
     let config = Config {
         kind: Kind::Listed,
@@ -43,15 +43,17 @@ fn a_list_grows_at_its_front(rt: HostRuntime) -> Result<(), Fail> {
             enrolls(0),
             begins(0, bind(5, 9)),
             steps(0, &filled(255, 0, 5, 9)),
+            steps(0, &opened(0, 0)),
             steps(0, &located(1)),
             steps(0, &locked),
             ends(0, &linked(), bind(5, 9), BOUND),
             begins(0, bind(5, 3)),
             steps(0, &filled(254, 1, 5, 3)),
+            steps(0, &opened(0, 2)),
             steps(0, &located(1)),
             ends(0, &in_front, bind(5, 3), BOUND),
             begins(0, FIND_5),
-            steps(0, &opened),
+            steps(0, &opened(0, 4)),
             steps(0, &located(1)),
             ends(0, &found, FIND_5, Reply::Found { owner: 3 }),
             // The node of port 69 is before those of port 5 in the chain; one owner may come twice.

@@ -2,7 +2,7 @@
 
 use super::{
     BOUND, FIND_5, RELEASED, assert_run, assert_same, begins, bind, ends, enrolls, filled,
-    finishes, for_two, release, replies, reply_to, small, steps,
+    finishes, for_two, opened, release, replies, reply_to, small, steps,
 };
 use rht_core::{Event, State};
 use rht_model::{Call, Reply};
@@ -68,6 +68,7 @@ fn two_binds_of_a_port_across_an_attach(rt: HostRuntime) -> Result<(), Fail> {
             replies(bind(6, 4), grows),
             begins(1, mine),
             steps(1, &filled(240, 4, 8, 41)),
+            steps(1, &opened(1, 0)),
             steps(1, &shape_and_seed),
             steps(
                 1,
@@ -85,6 +86,8 @@ fn two_binds_of_a_port_across_an_attach(rt: HostRuntime) -> Result<(), Fail> {
             replies(bind(69, 6), grows),
             begins(0, other),
             steps(0, &filled(128, 7, 8, 40)),
+            // Six binds have opened and closed this section before, the last of them twice.
+            steps(0, &opened(0, 14)),
             steps(0, &shape_and_seed),
             steps(0, &[(Op::load(314), 3), (Op::load(314), 3)]),
             ends(
@@ -93,6 +96,7 @@ fn two_binds_of_a_port_across_an_attach(rt: HostRuntime) -> Result<(), Fail> {
                     (Op::store(298, 2), 0),
                     (Op::add(2, 1), 6),
                     (Op::store(314, 10), 3),
+                    (Op::add(9, 1), 1),
                 ],
                 mine,
                 grows,
@@ -105,6 +109,7 @@ fn two_binds_of_a_port_across_an_attach(rt: HostRuntime) -> Result<(), Fail> {
                     (Op::load(299), 8),
                     (Op::load(300), 41),
                     (Op::store(314, 10), 11),
+                    (Op::add(8, 1), 15),
                     (Op::or(280, 128), 0),
                 ],
                 other,
@@ -128,6 +133,7 @@ fn a_mover_is_overtaken_by_an_attach(rt: HostRuntime) -> Result<(), Fail> {
     let grows = Reply::Bound { kick: true };
     let begun = [
         (Op::exchange(1, 0, 1), 0),
+        (Op::add(9, 1), 0),
         (Op::load(0), 0),
         (Op::load(26), 0),
         (Op::load(24), 2),
@@ -268,7 +274,7 @@ fn one_caller_works_at_a_time(rt: HostRuntime) -> Result<(), Fail> {
             enrolls(1),
             begins(0, Call::Work),
             begins(1, Call::Work),
-            steps(0, &[(Op::exchange(1, 0, 1), 0), (Op::load(0), 0)]),
+            steps(0, &[(Op::exchange(1, 0, 1), 0), (Op::add(8, 1), 0)]),
             ends(1, &taken, Call::Work, Reply::Elsewhere),
         ],
     )
