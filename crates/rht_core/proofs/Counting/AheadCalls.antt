@@ -3,7 +3,7 @@
 --
 -- By induction over the operations: each makes the caller one that has raised the count, or ends that, or does neither (`StepsAhead`), and
 -- shows so by itself. What the caller has raised its job says, and its trace has its operations.
-use Rattle.std.proofs.Common.{◌≡◌, ◌≢◌, ◌⊎◌, ℕ, ◌+◌, Bool, true, false, List, [], ◌∷◌, ◌++◌, refl, sym, ap, ◌∙◌, subst, inl, inr, append_assoc, cond}
+use Rattle.std.proofs.Common.{◌≡◌, ◌≢◌, ◌⊎◌, ℕ, ◌+◌, Bool, true, false, List, [], ◌∷◌, ◌++◌, refl, sym, ap, ◌∙◌, subst, inl, inr, append_assoc, cond, arith}
 use Rattle.std.specs.Prelude.{Option, Some, None}
 use Rattle.std.specs.List.{AllByRecursion}
 use Rattle.rht_words.specs.declared.env.Env.{Env}
@@ -13,7 +13,7 @@ use Rattle.rht_words.proofs.EachElement.{AllByRecursion-push, AllByRecursion-cut
 use Rattle.rht_words.proofs.Members.{count_below, In-AllByRecursion}
 use Rattle.rht_words.specs.declared.config.Kind.{Kind}
 use Rattle.rht_words.specs.declared.config.Kind.TheVariants.{Single, Listed}
-use Rattle.rht_words.specs.Operations.{applied}
+use Rattle.rht_words.specs.Operations.{op_place, applied}
 use Rattle.rht_words.specs.Held.{Held}
 use Rattle.rht_model.specs.Endings.{Ending}
 use Rattle.rht_model.specs.declared.history.Call.{Call}
@@ -31,7 +31,7 @@ use Rattle.rht_model.specs.Answers.{Answer, owners_bound, bindings_after, is_ref
 use Rattle.rht_model.specs.Multimap.{Multimap, same_port}
 use Rattle.rht_words.specs.declared.op.Op.TheVariants.{Add}
 use Rattle.rht_words.specs.declared.geometry.Geometry.{Geometry}
-use Rattle.rht_words.specs.Places.{PortCount, place_of}
+use Rattle.rht_words.specs.Places.{PortCount, Section, place_of}
 use Rattle.rht_release.specs.Release.{plan_at}
 use Rattle.rht_release.specs.declared.release.ReleaseAt.{ReleaseAt}
 use Rattle.rht_release.specs.declared.release.ReleaseAt.TheVariants as at
@@ -93,17 +93,23 @@ bind-keeps kind c port owner once early There before after was now (inr changes)
     (λ t left. absurd (bound-some kind owner (before port) left)) (λ other left. left))
     (sym (changes.bindings p) ∙ none)
 
+-- what opens or closes a section adds to no count of ports
+turning-none : (g : Geometry) (c : ℕ) → Add (place_of g (Section c)) 1 ≢ Add (place_of g PortCount) 1
+turning-none g c is = let at : 8 + c ≡ 2 = ap op_place is in omega (arith, at)
+
 -- no operation of a release adds to the count
-release-none : (g : Geometry) (env : Env) (state : ReleaseAt) → plan_at env c state ≢ Add (place_of g PortCount) 1
-release-none g env (at.Seeking seek) is = seek-none seek.geometry seek.at is
+release-none : (g : Geometry) (env : Env) (c : ℕ) (state : ReleaseAt) → plan_at env c state ≢ Add (place_of g PortCount) 1
+release-none g env c at.Opening is = turning-none g c is
+release-none g env c (at.Closing reply removed) is = turning-none g c is
+release-none g env c (at.Seeking seek) is = seek-none seek.geometry seek.at is
   where
     seek-none : (h : Geometry) (state : SeekAt) → seek_plan_at h state ≢ Add (place_of g PortCount) 1
     seek-none h (seeks.Locating locate) is = locate-none g locate.geometry locate.table locate.at is
     seek-none h (seeks.Probing table shape probe) is = probe-none g probe.at is
     seek-none h _ is = cc
-release-none g env (at.Promoting found relink) is = relink-none g relink relink.at is
-release-none g env (at.Unlinking found relink) is = relink-none g relink relink.at is
-release-none g env _ is = cc
+release-none g env c (at.Promoting found relink) is = relink-none g relink relink.at is
+release-none g env c (at.Unlinking found relink) is = relink-none g relink relink.at is
+release-none g env c _ is = cc
 
 module _ (M : Type 0) (mix : ℕ → ℕ → ℕ → ℕ) (env : Env) (events : List Event) where
   -- the words before the event with each number
@@ -191,7 +197,7 @@ module _ (M : Type 0) (mix : ℕ → ℕ → ℕ → ℕ) (env : Env) (events : 
       (before ∙ bind-keeps env.config.kind performs.caller port owner once _ _ _ _ _ _ performs.step.says p
       (sym after ∙ subst (λ ws. stands_for env.geometry ws p ≡ []) (sym stands.next) none)))
   job_keeps (releases port owner state) did performs stands = λ raise.
-      release-none env.geometry env state (sym performs.planned ∙ raise)
+      release-none env.geometry env performs.caller state (sym performs.planned ∙ raise)
   job_keeps _ did performs stands = tt
 
   -- ---- jobs

@@ -163,40 +163,46 @@ module _ (env : Env) (c : ℕ) where
   find-spares few (finds.Closing reply) = at_section few _ refl
   find-spares few _ = by_load _ _ refl
 
-  all-spares : (state : AllAt) → all.IsAllAtIn env state → SparesSlots (all.plan_at env c state)
-  all-spares (alls.Seeking seek) within = seek-spares g seek.geometry seek.at within.at_in
-  all-spares (alls.Owner found node) within = by_load _ _ refl
-  all-spares (alls.ListLink found node) within = by_load _ _ refl
-  all-spares (alls.Unlocking table unlock) within = unlock-spares g unlock within.unlock_in
+  all-spares : c < 16 → (state : AllAt) → all.IsAllAtIn env state → SparesSlots (all.plan_at env c state)
+  all-spares few alls.Opening within = at_section few _ refl
+  all-spares few (alls.Seeking seek) within = seek-spares g seek.geometry seek.at within.at_in
+  all-spares few (alls.Owner found node) within = by_load _ _ refl
+  all-spares few (alls.ListLink found node) within = by_load _ _ refl
+  all-spares few (alls.Unlocking table unlock) within = unlock-spares g unlock within.unlock_in
+  all-spares few alls.Closing within = at_section few _ refl
 
-  release-spares : (state : ReleaseAt) → release.IsReleaseAtIn env state → SparesSlots (release.plan_at env c state)
-  release-spares (releases.Seeking seek) within = seek-spares g seek.geometry seek.at within.at_in
-  release-spares (releases.CuttingOut found node before link) within = at_node g before ListLink _ refl
-  release-spares (releases.SecondLink found second link) within = at_node g second ChainLink _ refl
-  release-spares (releases.Promoting found relink) within = relink-spares g relink relink.at within.relink_in.place_in
-  release-spares (releases.Unlinking found relink) within = relink-spares g relink relink.at within.relink_in.place_in
-  release-spares (releases.Lowering node shape) within = inr (inr (inl refl))
-  release-spares (releases.Unlocking table unlock removed) within = unlock-spares g unlock within.unlock_in
-  release-spares _ within = by_load _ _ refl
+  release-spares : c < 16 → (state : ReleaseAt) → release.IsReleaseAtIn env state → SparesSlots (release.plan_at env c state)
+  release-spares few releases.Opening within = at_section few _ refl
+  release-spares few (releases.Seeking seek) within = seek-spares g seek.geometry seek.at within.at_in
+  release-spares few (releases.CuttingOut found node before link) within = at_node g before ListLink _ refl
+  release-spares few (releases.SecondLink found second link) within = at_node g second ChainLink _ refl
+  release-spares few (releases.Promoting found relink) within = relink-spares g relink relink.at within.relink_in.place_in
+  release-spares few (releases.Unlinking found relink) within = relink-spares g relink relink.at within.relink_in.place_in
+  release-spares few (releases.Lowering node shape) within = inr (inr (inl refl))
+  release-spares few (releases.Unlocking table unlock removed) within = unlock-spares g unlock within.unlock_in
+  release-spares few (releases.Closing reply removed) within = at_section few _ refl
+  release-spares few _ within = by_load _ _ refl
 
-  rebind-spares : (state : RebindAt) → rebind.IsRebindAtIn env state → SparesSlots (rebind.plan_at env c state)
-  rebind-spares (rebinds.Filling new) within = new_node-spares new.geometry new.key new.owner new.at
-  rebind-spares (rebinds.Seeking node seek) within = seek-spares g seek.geometry seek.at within.seek_in.at_in
-  rebind-spares (rebinds.Owner node found) within = by_load _ _ refl
-  rebind-spares (rebinds.ChainLink node found) within = by_load _ _ refl
-  rebind-spares (rebinds.Link node found link) within = at_node g node ChainLink _ refl
-  rebind-spares (rebinds.Replacing node found relink) within = relink-spares g relink relink.at within.relink_in.place_in
-  rebind-spares (rebinds.Unlocking node table unlock) within = unlock-spares g unlock within.unlock_in
-  rebind-spares (rebinds.Giving give) within = give_node-spares give
+  rebind-spares : c < 16 → (state : RebindAt) → rebind.IsRebindAtIn env state → SparesSlots (rebind.plan_at env c state)
+  rebind-spares few (rebinds.Filling new) within = new_node-spares new.geometry new.key new.owner new.at
+  rebind-spares few (rebinds.Opening node) within = at_section few _ refl
+  rebind-spares few (rebinds.Seeking node seek) within = seek-spares g seek.geometry seek.at within.seek_in.at_in
+  rebind-spares few (rebinds.Owner node found) within = by_load _ _ refl
+  rebind-spares few (rebinds.ChainLink node found) within = by_load _ _ refl
+  rebind-spares few (rebinds.Link node found link) within = at_node g node ChainLink _ refl
+  rebind-spares few (rebinds.Replacing node found relink) within = relink-spares g relink relink.at within.relink_in.place_in
+  rebind-spares few (rebinds.Unlocking node table unlock) within = unlock-spares g unlock within.unlock_in
+  rebind-spares few (rebinds.Closing end) within = at_section few _ refl
+  rebind-spares few (rebinds.Giving give) within = give_node-spares give
 
 -- nor has any job of a call that makes no table
 pub other-spares : (env : Env) (mix : ℕ → ℕ → ℕ → ℕ) (c : ℕ) → c < 16 → (job : Job) → JobIn env mix c job
     → may_make (call_of job) ≡ false → SparesSlots (job_plan env c job)
 other-spares env mix c few (jobs.finds port state) within none = find-spares env c few state
 other-spares env mix c few (jobs.binds port owner once state) within none = absurd (cc)
-other-spares env mix c few (jobs.lists port room state) within none = all-spares env c state within.at_in
-other-spares env mix c few (jobs.releases port owner state) within none = release-spares env c state within
-other-spares env mix c few (jobs.rebinds port owner new state) within none = rebind-spares env c state within.at_in
+other-spares env mix c few (jobs.lists port room state) within none = all-spares env c few state within.at_in
+other-spares env mix c few (jobs.releases port owner state) within none = release-spares env c few state within
+other-spares env mix c few (jobs.rebinds port owner new state) within none = rebind-spares env c few state within.at_in
 other-spares env mix c few (jobs.works state) within none = absurd (cc)
 other-spares env mix c few _ within none = by_load _ _ refl
 

@@ -25,6 +25,7 @@ use Rattle.rht_release.specs.RebindHeld as rebind_held
 use Rattle.rht_release.specs.RebindHeld.{held_of_rebind}
 use Rattle.rht_release.specs.declared.rebind.RebindAt.{RebindAt}
 use Rattle.rht_release.specs.declared.rebind.RebindAt.TheVariants as rebinding
+use Rattle.rht_release.specs.declared.rebind.RebindEnd.TheVariants as ends
 use Rattle.rht_move.specs.WorkHeld.{held_of_work}
 use Rattle.rht_move.specs.declared.work.WorkAt.{WorkAt}
 use Rattle.rht_move.specs.declared.work.WorkAt.TheVariants as working
@@ -100,6 +101,7 @@ replacing-tableless node found false = no_table refl refl refl refl
 
 rebind-tableless : (state : RebindAt) → HoldsNoTable (held_of_rebind state)
 rebind-tableless (rebinding.Replacing node found relink) = replacing-tableless node found (has_relinked found.before relink.at)
+rebind-tableless (rebinding.Closing (ends.Rebound removed)) = no_table refl refl refl refl
 rebind-tableless _ = no_table refl refl refl refl
 
 -- nor does a bind hold any that puts its node in front of a list
@@ -136,6 +138,7 @@ replacing-unraised node found true = refl
 
 rebind-unraised : (state : RebindAt) → (held_of_rebind state).raised ≡ false
 rebind-unraised (rebinding.Replacing node found relink) = replacing-unraised node found (has_relinked found.before relink.at)
+rebind-unraised (rebinding.Closing (ends.Rebound removed)) = refl
 rebind-unraised _ = refl
 
 work-unraised : (state : WorkAt) → (held_of_work state).raised ≡ false

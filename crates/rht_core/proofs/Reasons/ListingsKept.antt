@@ -189,6 +189,7 @@ module _ (mix : ℕ → ℕ → ℕ → ℕ) (env : Env) where
 
       listing_keeps : (state : AllAt) → Performs mix env (lists port room state) did
           → (room_after state room did.old).items ≡ owners_loaded g (steps ++ did ∷ [])
+      listing_keeps listing.Opening performs = leaves _ performs.planned refl
       listing_keeps (listing.Seeking seek) performs =
           leaves (seek_plan seek) performs.planned (seek_loads_none g seek performs.within.at_in)
       listing_keeps (listing.Owner found node) performs = keeps_one found node performs
@@ -196,6 +197,7 @@ module _ (mix : ℕ → ℕ → ℕ → ℕ) (env : Env) where
           leaves (Load (place_of g (Node node ListLink))) performs.planned
           (at_other g (Node node ListLink) performs.within.at_in.node_in refl)
       listing_keeps (listing.Unlocking table unlock) performs = leaves _ performs.planned refl
+      listing_keeps listing.Closing performs = leaves _ performs.planned refl
 
   -- ---- jobs
 

@@ -19,6 +19,8 @@ use Rattle.rht_release.specs.declared.found_port.FoundPort.{FoundPort}
 use Rattle.rht_release.specs.Rebind as rebind
 use Rattle.rht_release.specs.declared.rebind.RebindAt.{RebindAt}
 use Rattle.rht_release.specs.declared.rebind.RebindAt.TheVariants as rebinds_at
+use Rattle.rht_release.specs.declared.rebind.RebindEnd.{RebindEnd}
+use Rattle.rht_release.specs.declared.rebind.RebindEnd.TheVariants as ends
 use Rattle.rht_words.specs.Ports.{owner_of}
 use Rattle.rht_words.specs.Machines.{GoesOrEnds}
 use Rattle.rht_core.proofs.Tracing.TracedJobs.{Performs}
@@ -33,12 +35,14 @@ module _ (env : Env) where
   -- of a rebind only what it has seen while it makes a new node
   abbrev pub SawAtRebind : RebindAt → List Did → Type 0
   SawAtRebind (rebinds_at.Filling new) steps = SawNew env new.at steps
+  SawAtRebind (rebinds_at.Opening node) steps = Unit {0}
   SawAtRebind (rebinds_at.Seeking node seek) steps = Unit {0}
   SawAtRebind (rebinds_at.Owner node found) steps = Unit {0}
   SawAtRebind (rebinds_at.ChainLink node found) steps = Unit {0}
   SawAtRebind (rebinds_at.Link node found link) steps = Unit {0}
   SawAtRebind (rebinds_at.Replacing node found relink) steps = Unit {0}
   SawAtRebind (rebinds_at.Unlocking node table unlock) steps = Unit {0}
+  SawAtRebind (rebinds_at.Closing end) steps = Unit {0}
   SawAtRebind (rebinds_at.Giving give) steps = Unit {0}
 
   abbrev SawNextRebind : List Did → RebindAt × Next (Reply × Option ℕ) → Type 0
@@ -46,13 +50,13 @@ module _ (env : Env) where
 
   rebind_made-saw : (new : NewNodeModel) (r : NewNodeAt × Next (Option ℕ)) (all : List Did)
       → SawMade env all r
-      → SawNextRebind all (rebind.filled env.geometry (record new { at = r.0 }) r.1)
+      → SawNextRebind all (rebind.filled (record new { at = r.0 }) r.1)
   rebind_made-saw new (state, Go) all saw = saw
   rebind_made-saw new (state, Done None) all saw = saw
   rebind_made-saw new (state, Done (Some node)) all saw = tt
 
   rebind_sought-saw : (node : ℕ) (seek : SeekModel) (next : Next (Option FoundPort)) (all : List Did)
-      → SawAtRebind (rebind.sought env.geometry node seek next) all
+      → SawAtRebind (rebind.sought node seek next) all
   rebind_sought-saw node seek Go all = tt
   rebind_sought-saw node seek (Done None) all = tt
   rebind_sought-saw node seek (Done (Some found)) all = tt
@@ -64,9 +68,13 @@ module _ (env : Env) where
 
   rebind_replaced-saw : (node : ℕ) (found : FoundPort) (relink : RelinkModel) (next : Next (Unit {0}))
       (all : List Did)
-      → SawNextRebind all (rebind.replaced node found relink next)
+      → SawAtRebind (rebind.replaced node found relink next) all
   rebind_replaced-saw node found relink Go all = tt
   rebind_replaced-saw node found relink (Done done) all = tt
+
+  rebind_closed-saw : (end : RebindEnd) (all : List Did) → SawNextRebind all (rebind.closed env.geometry end)
+  rebind_closed-saw (ends.Rebound removed) all = tt
+  rebind_closed-saw (ends.Absent node) all = tt
 
   pub rebind-saw : (mix : ℕ → ℕ → ℕ → ℕ) (port owner new : ℕ) (state : RebindAt) (steps : List Did)
       (did : Did)
@@ -82,4 +90,5 @@ module _ (env : Env) where
       rebind_compared-saw node found (owner_of did.old == owner) (steps ++ did ∷ [])
   rebind-saw mix port owner new (rebinds_at.Replacing node found relink) steps did does saw =
       rebind_replaced-saw node found (relink_after relink).0 (relink_after relink).1 (steps ++ did ∷ [])
+  rebind-saw mix port owner new (rebinds_at.Closing end) steps did does saw = rebind_closed-saw end (steps ++ did ∷ [])
   rebind-saw mix port owner new _ steps did does saw = tt

@@ -16,7 +16,7 @@ use Rattle.rht_words.specs.Machines.{GoesOrEnds}
 use Rattle.rht_words.specs.Places.{PortCount, Slot, FutureWord, ChainLink, ListLink, OwnerWord, place_of}
 use Rattle.rht_words.specs.Ports.{owner_of}
 use Rattle.rht_words.specs.Shapes.{unpacked, size_of}
-use Rattle.rht_words.proofs.EachElement.{AllByRecursion-push, AllByRecursion-cut}
+use Rattle.rht_words.proofs.EachElement.{AllByRecursion-push, AllByRecursion-cut, AllByRecursion-append, AllByRecursion-weaker, Any-append_left}
 use Rattle.rht_model.specs.declared.history.Reply.{Reply}
 use Rattle.rht_model.specs.declared.history.Reply.TheVariants.{Released}
 use Rattle.rht_nest.specs.Locate.{LocateModel, locate_plan_at, locate_after}
@@ -50,6 +50,7 @@ use Rattle.rht_move.specs.Choice.{is_sparse}
 use Rattle.rht_core.specs.Traces.{Did}
 use Rattle.rht_core.specs.Seen.{CameTo, IsNoShapeLoad, LastWalked, IsNoCurrentLoad}
 use Rattle.rht_core.specs.Causes.{IsLowering, IsSparseBy, KicksOnRelease}
+use Rattle.rht_core.proofs.Reasons.RaisesSeen.{turning-still}
 use Rattle.rht_core.proofs.Reasons.TablesWalked.{IsAside, aside, node_loads, probe_loads, relink_stores, CameTo-append, came-current, came-future, walked-came, Walked, Walked-push, WalkedAt, CameBehind, CameBeyond, WalkedNext, TellsNone, same_table, locate-walked}
 
 -- ---- which operations lower a count
@@ -123,7 +124,50 @@ module _ (env : Env) where
     pub table : ℕ
     pub walked : Walked env.geometry table shape steps
 
+  -- the operation lowers no count, and tells nothing of the last table that was walked
+  pub record IsQuiet (did : Did) : Type 0 where
+    pub aside : IsAside env.geometry did
+    pub none : IsNoLowering did
+
+  -- It lowered the count with this operation, and by this the table that it walked last is due to shrink or isn't; or it lowered
+  -- none with it, and there is nothing to do. Since then it lowered none.
+  pub record SawKick (kick : Bool) (steps : List Did) : Type 0 where
+    pub before : List Did
+    pub last : Did
+    pub rest : List Did
+    pub split : steps ≡ before ++ last ∷ rest
+    pub unlowered : AllByRecursion IsNoLowering before
+    pub table : ℕ
+    pub shape : ℕ
+    pub walked : LastWalked env.geometry table shape before
+    pub still : IsAside env.geometry last
+    pub last_says : (IsLowering env.geometry last × (kick ≡ kicks env shape last.old)) ⊎ (IsNoLowering last × (kick ≡ false))
+    pub quiet : AllByRecursion IsQuiet rest
+
+  abbrev pub SawForRelease : Reply → List Did → Type 0
+  SawForRelease (Released kick) steps = SawKick kick steps
+  SawForRelease _ steps = Unit {0}
+
+  -- and this stays so behind the closing of its section
+  closed-saw : (reply : Reply) (steps : List Did) (did : Did) → IsQuiet did → SawForRelease reply steps
+      → SawForRelease reply (steps ++ did ∷ [])
+  closed-saw (Released kick) steps did quiet saw = record {
+    before = saw.before;
+    last = saw.last;
+    rest = saw.rest ++ did ∷ [];
+    split = ap (λ l. l ++ did ∷ []) saw.split ∙ append_assoc saw.before (saw.last ∷ saw.rest) (did ∷ []);
+    unlowered = saw.unlowered;
+    table = saw.table;
+    shape = saw.shape;
+    walked = saw.walked;
+    still = saw.still;
+    last_says = saw.last_says;
+    quiet = AllByRecursion-push IsQuiet saw.rest did saw.quiet quiet;
+  }
+  closed-saw _ steps did quiet saw = tt
+
   abbrev SawAtRelease : ReleaseAt → List Did → Type 0
+  SawAtRelease at.Opening steps = Unit {0}
   SawAtRelease (at.Seeking seek) steps = SawSeek seek.at steps
   SawAtRelease (at.Owner found node before) steps = InFound found steps
   SawAtRelease (at.ListLink found node) steps = InFound found steps
@@ -135,51 +179,40 @@ module _ (env : Env) where
   SawAtRelease (at.Unlinking found relink) steps = InFound found steps
   SawAtRelease (at.Lowering node shape) steps = WalkedShape shape steps
   SawAtRelease (at.Unlocking table unlock removed) steps = SawRemoved removed steps
+  SawAtRelease (at.Closing reply removed) steps = SawForRelease reply steps
 
-  -- so far it has lowered no count
+  -- up to the closing of its section it has lowered no count, unless it goes there by that
+  abbrev Unlowered : ReleaseAt → List Did → Type 0
+  Unlowered (at.Closing reply removed) steps = Unit {0}
+  Unlowered _ steps = AllByRecursion IsNoLowering steps
+
+  unlowered-so : (state : ReleaseAt) (steps : List Did) → AllByRecursion IsNoLowering steps → Unlowered state steps
+  unlowered-so (at.Closing reply removed) steps none = tt
+  unlowered-so _ steps none = none
+
   abbrev pub SawRelease : ReleaseAt → List Did → Type 0
-  SawRelease state steps = SawAtRelease state steps × AllByRecursion IsNoLowering steps
-
-  -- It lowered the count with its last operation, and by this the table that it walked last is due to shrink or isn't; or it lowered
-  -- none, and there is nothing to do.
-  pub record SawKick (kick : Bool) (steps : List Did) : Type 0 where
-    pub before : List Did
-    pub last : Did
-    pub split : steps ≡ before ++ last ∷ []
-    pub unlowered : AllByRecursion IsNoLowering before
-    pub table : ℕ
-    pub shape : ℕ
-    pub walked : LastWalked env.geometry table shape before
-    pub still : IsAside env.geometry last
-    pub last_says : (IsLowering env.geometry last × (kick ≡ kicks env shape last.old)) ⊎ (IsNoLowering last × (kick ≡ false))
-
-  abbrev pub SawForRelease : Reply → List Did → Type 0
-  SawForRelease (Released kick) steps = SawKick kick steps
-  SawForRelease _ steps = Unit {0}
-
-  abbrev SawNextRelease : List Did → ReleaseAt × Next (Reply × Option ℕ) → Type 0
-  SawNextRelease all next = GoesOrEnds (λ state. SawAtRelease state all) (λ end. SawForRelease end.0 all) next
+  SawRelease state steps = SawAtRelease state steps × Unlowered state steps
 
   -- ---- the way to the port
 
   early-saw : (g : Geometry) (port : ℕ) (locate : LocateModel) (early : Option ℕ) (h : Geometry) (all : List Did)
       → CameBehind env.geometry early all
       → let next = early_or_none g locate early in
-      SawNextRelease all (sought (record { geometry = h; at = next.0 }) next.1)
+      SawAtRelease (sought (record { geometry = h; at = next.0 }) next.1) all
   early-saw g port locate None h all came = tt
   early-saw g port locate (Some next) h all came = came
 
   bucket-saw : (g : Geometry) (port : ℕ) (locate : LocateModel) (shape : ℕ) (bucket : LocatedBucket) (h : Geometry) (all : List Did)
       → Walked env.geometry locate.table shape all → CameBeyond env.geometry bucket all
       → let next = bucket_or_early g port locate shape bucket in
-      SawNextRelease all (sought (record { geometry = h; at = next.0 }) next.1)
+      SawAtRelease (sought (record { geometry = h; at = next.0 }) next.1) all
   bucket-saw g port locate shape (buckets.At place) h all walked came = walked
   bucket-saw g port locate shape (buckets.Missing place early) h all walked came = early-saw g port locate early h all came
 
   located-saw : (mix : ℕ → ℕ → ℕ → ℕ) (g : Geometry) (port : ℕ) (table : ℕ) (locate : LocateModel) (end : Next Located) (h : Geometry) (all : List Did)
       → locate.table ≡ table → WalkedNext env.geometry NothingOfNone table (locate, end) all
       → let next = located g port locate end in
-      SawNextRelease all (sought (record { geometry = h; at = next.0 }) next.1)
+      SawAtRelease (sought (record { geometry = h; at = next.0 }) next.1) all
   located-saw mix g port table locate Go h all same walked =
       subst (λ t. WalkedAt env.geometry NothingOfNone t locate.at all) (sym same) walked
   located-saw mix g port table locate (Done there) h all same walked =
@@ -189,14 +222,14 @@ module _ (env : Env) where
   seen-saw : (table shape : ℕ) (probe : ProbeModel) (end : Probed) (found : Option ℕ) (h : Geometry) (all : List Did)
       → Walked env.geometry table shape all
       → let next = found_or_future table shape probe end found in
-      SawNextRelease all (sought (record { geometry = h; at = next.0 }) next.1)
+      SawAtRelease (sought (record { geometry = h; at = next.0 }) next.1) all
   seen-saw table shape probe end None h all walked = walked-came env.geometry table shape all walked
   seen-saw table shape probe end (Some node) h all walked = walked
 
   probed-saw : (table shape : ℕ) (probe : ProbeModel) (end : Next Probed) (h : Geometry) (all : List Did)
       → Walked env.geometry table shape all
       → let next = probed table shape probe end in
-      SawNextRelease all (sought (record { geometry = h; at = next.0 }) next.1)
+      SawAtRelease (sought (record { geometry = h; at = next.0 }) next.1) all
   probed-saw table shape probe Go h all walked = walked
   probed-saw table shape probe (Done end) h all walked = seen-saw table shape probe end end.seen.found h all walked
 
@@ -211,7 +244,7 @@ module _ (env : Env) where
   left-saw : (g : Geometry) (table : ℕ) (unlock : Unlock) (future : Option ℕ) (h : Geometry) (steps : List Did) (did : Did)
       → IsNoCurrentLoad env.geometry did → IfSome future (λ next. CameTo env.geometry next steps)
       → let next = left g table unlock future in
-      SawNextRelease (steps ++ did ∷ []) (sought (record { geometry = h; at = next.0 }) next.1)
+      SawAtRelease (sought (record { geometry = h; at = next.0 }) next.1) (steps ++ did ∷ [])
   left-saw g table unlock None h steps did none came = tt
   left-saw g table unlock (Some next) h steps did none came = CameTo-append env.geometry next steps (did ∷ []) (none, tt) came
 
@@ -223,7 +256,7 @@ module _ (env : Env) where
   seek-saw : (mix : ℕ → ℕ → ℕ → ℕ) (port : ℕ) (h : Geometry) (state : SeekAt) (steps : List Did) (did : Did)
       → IsSeekAtIn env.geometry state → did.op ≡ seek_plan_at h state → SawSeek state steps
       → let next = seek_after mix port (record { geometry = h; at = state }) did.old in
-      SawNextRelease (steps ++ did ∷ []) (sought next.0 next.1)
+      SawAtRelease (sought next.0 next.1) (steps ++ did ∷ [])
   seek-saw mix port h seeks.CurrentTable steps did within is saw = came-current env.geometry steps did is
   seek-saw mix port h (seeks.Locating locate) steps did within is saw =
       let next = locate_after mix port locate did.old in
@@ -262,12 +295,13 @@ module _ (env : Env) where
   second-saw found link None all walked = walked
   second-saw found link (Some second) all walked = walked
 
-  -- a release that lowers no count ends with this operation
+  -- a release that lowers no count has its answer with this operation
   ended-saw : (table shape : ℕ) (steps : List Did) (did : Did) → Walked env.geometry table shape steps → IsAside env.geometry did
       → AllByRecursion IsNoLowering steps → IsNoLowering did → SawKick false (steps ++ did ∷ [])
   ended-saw table shape steps did walked still unlowered none = record {
     before = steps;
     last = did;
+    rest = [];
     split = refl;
     unlowered = unlowered;
     table = table;
@@ -275,11 +309,12 @@ module _ (env : Env) where
     walked = walked.last;
     still = still;
     last_says = inr (none, refl);
+    quiet = tt;
   }
 
   promoted-saw : (found : FoundPort) (relink : RelinkModel) (next : Next (Unit {0})) (steps : List Did) (did : Did)
       → InFound found steps → IsAside env.geometry did → AllByRecursion IsNoLowering steps → IsNoLowering did
-      → SawNextRelease (steps ++ did ∷ []) (promoted found relink next)
+      → SawAtRelease (promoted found relink next) (steps ++ did ∷ [])
   promoted-saw found relink Go steps did walked still unlowered none =
       Walked-push env.geometry found.table found.shape steps did still walked
   promoted-saw found relink (Done done) steps did walked still unlowered none =
@@ -304,37 +339,36 @@ module _ (env : Env) where
   stores did place value is = aside env.geometry did _ is (λ other load. cc) (λ other by adds. cc)
 
   -- what the operation showed, and that it lowered no count
-  both : (next : ReleaseAt × Next (Reply × Option ℕ)) (all : List Did) → SawNextRelease all next
-      → AllByRecursion IsNoLowering all
-      → GoesOrEnds (λ state. SawRelease state all) (λ end. SawForRelease end.0 all) next
-  both (state, Go) all saw none = (saw, none)
-  both (state, Done end) all saw none = saw
+  both : (next : ReleaseAt) (all : List Did) → SawAtRelease next all → AllByRecursion IsNoLowering all → SawRelease next all
+  both next all saw none = (saw, unlowered-so next all none)
 
-  pub release-saw : (mix : ℕ → ℕ → ℕ → ℕ) (port owner : ℕ) (state : ReleaseAt) (steps : List Did) (did : Did)
+  pub release-saw : (mix : ℕ → ℕ → ℕ → ℕ) (c port owner : ℕ) (state : ReleaseAt) (steps : List Did) (did : Did)
       → IsReleaseAtIn env state → did.op ≡ plan_at env c state → SawRelease state steps
       → GoesOrEnds (λ next. SawRelease next (steps ++ did ∷ [])) (λ end. SawForRelease end.0 (steps ++ did ∷ []))
       (after_at mix env port owner state did.old)
-  release-saw mix port owner (at.Seeking seek) steps did within is saw =
+  release-saw mix c port owner at.Opening steps did within is saw =
+      (tt, AllByRecursion-push IsNoLowering steps did saw.1 (no_sub did _ is (λ place value same. cc)))
+  release-saw mix c port owner (at.Seeking seek) steps did within is saw =
       let all = steps ++ did ∷ [] in
       let next = seek_after mix port seek did.old in
       both (sought next.0 next.1) all (seek-saw mix port seek.geometry seek.at steps did within.at_in is saw.0)
       (AllByRecursion-push IsNoLowering steps did saw.1 (no_sub did _ is (seek-none seek.geometry seek.at)))
-  release-saw mix port owner (at.Owner found node before) steps did within is saw = (
-    compared-saw found node before (owner_of did.old == owner) (steps ++ did ∷ [])
-        (Walked-push env.geometry found.table found.shape steps did (node_loads env.geometry did env.geometry node OwnerWord is) saw.0),
-    AllByRecursion-push IsNoLowering steps did saw.1 (no_sub did _ is (λ place value same. cc)),
-  )
-  release-saw mix port owner (at.ListLink found node) steps did within is saw = (
-    followed-saw found node (node_of env.geometry.nodes did.old) (steps ++ did ∷ [])
-        (Walked-push env.geometry found.table found.shape steps did (node_loads env.geometry did env.geometry node ListLink is) saw.0),
-    AllByRecursion-push IsNoLowering steps did saw.1 (no_sub did _ is (λ place value same. cc)),
-  )
-  release-saw mix port owner (at.LinkBehind found node before) steps did within is saw = (
-    behind-saw found node did.old before (steps ++ did ∷ [])
-        (Walked-push env.geometry found.table found.shape steps did (node_loads env.geometry did env.geometry node ListLink is) saw.0),
-    AllByRecursion-push IsNoLowering steps did saw.1 (no_sub did _ is (λ place value same. cc)),
-  )
-  release-saw mix port owner (at.CuttingOut found node before link) steps did within is saw = (
+  release-saw mix c port owner (at.Owner found node before) steps did within is saw =
+      both (owner_compared found node before (owner_of did.old == owner)) (steps ++ did ∷ [])
+      (compared-saw found node before (owner_of did.old == owner) (steps ++ did ∷ [])
+        (Walked-push env.geometry found.table found.shape steps did (node_loads env.geometry did env.geometry node OwnerWord is) saw.0))
+      (AllByRecursion-push IsNoLowering steps did saw.1 (no_sub did _ is (λ place value same. cc)))
+  release-saw mix c port owner (at.ListLink found node) steps did within is saw =
+      both (list_followed found node (node_of env.geometry.nodes did.old)) (steps ++ did ∷ [])
+      (followed-saw found node (node_of env.geometry.nodes did.old) (steps ++ did ∷ [])
+        (Walked-push env.geometry found.table found.shape steps did (node_loads env.geometry did env.geometry node ListLink is) saw.0))
+      (AllByRecursion-push IsNoLowering steps did saw.1 (no_sub did _ is (λ place value same. cc)))
+  release-saw mix c port owner (at.LinkBehind found node before) steps did within is saw =
+      both (cut_or_chain env.geometry found node did.old before) (steps ++ did ∷ [])
+      (behind-saw found node did.old before (steps ++ did ∷ [])
+        (Walked-push env.geometry found.table found.shape steps did (node_loads env.geometry did env.geometry node ListLink is) saw.0))
+      (AllByRecursion-push IsNoLowering steps did saw.1 (no_sub did _ is (λ place value same. cc)))
+  release-saw mix c port owner (at.CuttingOut found node before link) steps did within is saw = (
     record {
       table = found.table;
       shape = found.shape;
@@ -342,40 +376,48 @@ module _ (env : Env) where
     },
     AllByRecursion-push IsNoLowering steps did saw.1 (no_sub did _ is (λ place value same. cc)),
   )
-  release-saw mix port owner (at.ChainLink found second) steps did within is saw = (
-    second-saw found did.old second (steps ++ did ∷ [])
+  release-saw mix c port owner (at.ChainLink found second) steps did within is saw =
+      both (unlink_or_promote env.geometry found did.old second) (steps ++ did ∷ [])
+      (second-saw found did.old second (steps ++ did ∷ [])
         (Walked-push env.geometry found.table found.shape steps did
-        (node_loads env.geometry did env.geometry found.node ChainLink is) saw.0),
-    AllByRecursion-push IsNoLowering steps did saw.1 (no_sub did _ is (λ place value same. cc)),
-  )
-  release-saw mix port owner (at.SecondLink found second link) steps did within is saw = (
+        (node_loads env.geometry did env.geometry found.node ChainLink is) saw.0))
+      (AllByRecursion-push IsNoLowering steps did saw.1 (no_sub did _ is (λ place value same. cc)))
+  release-saw mix c port owner (at.SecondLink found second link) steps did within is saw = (
     Walked-push env.geometry found.table found.shape steps did (stores did _ _ is) saw.0,
     AllByRecursion-push IsNoLowering steps did saw.1 (no_sub did _ is (λ place value same. cc)),
   )
-  release-saw mix port owner (at.Promoting found relink) steps did within is saw =
+  release-saw mix c port owner (at.Promoting found relink) steps did within is saw =
       let still = relink_stores env.geometry did relink relink.at is in
       let none = no_sub did _ is (relink-none relink relink.at) in
       let next = relink_after relink in
       both (promoted found next.0 next.1) (steps ++ did ∷ []) (promoted-saw found next.0 next.1 steps did saw.0 still saw.1 none)
       (AllByRecursion-push IsNoLowering steps did saw.1 none)
-  release-saw mix port owner (at.Unlinking found relink) steps did within is saw = (
-    unlinked-saw found (relink_after relink).0 (relink_after relink).1 (steps ++ did ∷ [])
-        (Walked-push env.geometry found.table found.shape steps did (relink_stores env.geometry did relink relink.at is) saw.0),
-    AllByRecursion-push IsNoLowering steps did saw.1 (no_sub did _ is (relink-none relink relink.at)),
+  release-saw mix c port owner (at.Unlinking found relink) steps did within is saw =
+      both (unlinked found (relink_after relink).0 (relink_after relink).1) (steps ++ did ∷ [])
+      (unlinked-saw found (relink_after relink).0 (relink_after relink).1 (steps ++ did ∷ [])
+        (Walked-push env.geometry found.table found.shape steps did (relink_stores env.geometry did relink relink.at is) saw.0))
+      (AllByRecursion-push IsNoLowering steps did saw.1 (no_sub did _ is (relink-none relink relink.at)))
+  release-saw mix c port owner (at.Lowering node shape) steps did within is saw = (
+    record {
+      before = steps;
+      last = did;
+      rest = [];
+      split = refl;
+      unlowered = saw.1;
+      table = saw.0.table;
+      shape = shape;
+      walked = saw.0.walked.last;
+      still = aside env.geometry did _ is (λ place load. cc) (λ place value adds. cc);
+      last_says = inl (is, refl);
+      quiet = tt;
+    },
+    tt,
   )
-  release-saw mix port owner (at.Lowering node shape) steps did within is saw = record {
-    before = steps;
-    last = did;
-    split = refl;
-    unlowered = saw.1;
-    table = saw.0.table;
-    shape = shape;
-    walked = saw.0.walked.last;
-    still = aside env.geometry did _ is (λ place load. cc) (λ place value adds. cc);
-    last_says = inl (is, refl);
-  }
-  release-saw mix port owner (at.Unlocking table unlock removed) steps did within is saw =
-      unlocked-saw removed steps did saw.0 (stores did _ _ is) saw.1 (no_sub did _ is (λ place value same. cc))
+  release-saw mix c port owner (at.Unlocking table unlock removed) steps did within is saw =
+      (unlocked-saw removed steps did saw.0 (stores did _ _ is) saw.1 (no_sub did _ is (λ place value same. cc)), tt)
+  release-saw mix c port owner (at.Closing reply removed) steps did within is saw =
+      closed-saw reply steps did
+      (record { aside = (turning-still env c did is).aside; none = no_sub did _ is (λ place value same. cc) }) saw.0
 
   -- ---- the kick
 
@@ -395,30 +437,40 @@ module _ (env : Env) where
       let was = saw.walked in
       let last = saw.last in
       let parts = AllByRecursion-cut IsNoLowering was.before (was.at ∷ was.behind) (subst (AllByRecursion IsNoLowering) was.split saw.unlowered) in
-      let each = AllByRecursion-push Kicked was.behind last (none_kicked was.behind parts.1.1) (by_last saw.last_says few) in
+      let tail : AllByRecursion Kicked (last ∷ saw.rest) = (by_last saw.last_says few, none_kicked saw.rest none_behind) in
+      let each = AllByRecursion-append Kicked was.behind (last ∷ saw.rest) (none_kicked was.behind parts.1.1) tail in
       record {
         table = saw.table;
         shape = saw.shape;
         walked = record {
           before = was.before;
           at = was.at;
-          behind = was.behind ++ last ∷ [];
-          split = saw.split ∙ ap (λ l. l ++ last ∷ []) was.split ∙ append_assoc was.before (was.at ∷ was.behind) (last ∷ []);
+          behind = was.behind ++ last ∷ saw.rest;
+          split = saw.split ∙ ap (λ l. l ++ last ∷ saw.rest) was.split ∙ append_assoc was.before (was.at ∷ was.behind) (last ∷ saw.rest);
           reached = was.reached;
           table_in = was.table_in;
           loaded = was.loaded;
           found = was.found;
-          last = AllByRecursion-push (IsNoShapeLoad env.geometry) was.behind last was.last saw.still.no_shape;
+          last = AllByRecursion-append (IsNoShapeLoad env.geometry) was.behind (last ∷ saw.rest) was.last (saw.still.no_shape, none_loaded);
         };
         unlowered = parts.0;
         kicks = (
-          λ is. Any-push (IsSparseBy env saw.shape) was.behind last (due saw.last_says few is),
-          λ any. from_any (was.behind ++ last ∷ []) each any,
+          λ is. subst (Any (IsSparseBy env saw.shape)) (append_assoc was.behind (last ∷ []) saw.rest)
+              (Any-append_left (IsSparseBy env saw.shape) (was.behind ++ last ∷ []) saw.rest
+              (Any-push (IsSparseBy env saw.shape) was.behind last (due saw.last_says few is))),
+          λ any. from_any (was.behind ++ last ∷ saw.rest) each any,
         );
       }
     where
       Kicked : Did → Type 0
       Kicked did = IsSparseBy env saw.shape did → kick ≡ true
+
+      none_behind : AllByRecursion IsNoLowering saw.rest
+      none_behind = AllByRecursion-weaker IsQuiet IsNoLowering (λ did quiet. quiet.none) saw.rest saw.quiet
+
+      none_loaded : AllByRecursion (IsNoShapeLoad env.geometry) saw.rest
+      none_loaded =
+          AllByRecursion-weaker IsQuiet (IsNoShapeLoad env.geometry) (λ did quiet. quiet.aside.no_shape) saw.rest saw.quiet
 
       none_kicked : (dids : List Did) → AllByRecursion IsNoLowering dids → AllByRecursion Kicked dids
       none_kicked [] none = tt

@@ -154,7 +154,7 @@ module _ (M : Type 0) (mix : ℕ → ℕ → ℕ → ℕ) (env : Env) (events : 
       → IsReleaseReply reply
       → AllByRecursion IsRecordedHere past.steps → ReleaseCause env past reply
   release-cause past (Released kick) saw is recorded =
-      let parts = AllByRecursion-cut IsRecordedHere saw.before (saw.last ∷ [])
+      let parts = AllByRecursion-cut IsRecordedHere saw.before (saw.last ∷ saw.rest)
       (subst (AllByRecursion IsRecordedHere) saw.split recorded) in
       kicks_right env kick past.steps saw
       (λ lowers. lower_few env mix M events c saw.last admitted lowers parts.1.0)

@@ -51,6 +51,8 @@ module _ (env : Env) (words_at : ℕ → List ℕ) (mix : ℕ → ℕ → ℕ �
   work-gone : (state : WorkAt) → did.op ≡ job_plan env c (works state)
       → WorkMeans env mix c (mem env mix words) G (known_at_work state) → SawAtWork env words_at state steps → HasGoneOn g slot steps
   work-gone working.WorkLock is means saw = absurd (let both = sym is ∙ stores in cc)
+  work-gone working.Opening is means saw = absurd (let both = sym is ∙ stores in cc)
+  work-gone (working.Closing ending) is means saw = absurd (let both = sym is ∙ stores in cc)
   work-gone (working.Unlocking rehash number unlock stop) is means saw = absurd (unlocking-left rehash _ stop means)
   work-gone (working.NewFuture rehash) is means saw = absurd (let both = sym is ∙ stores in cc)
   work-gone (working.Retiring root again) is means saw =

@@ -73,7 +73,9 @@ module _ (env : Env) (mix : ℕ → ℕ → ℕ → ℕ) (c : ℕ) (op : Op) (ol
       → (held_of_all room.items state).lock ≢ None → LeavesOrDrops (lists port room state)
   all-leaves port room (listing.Seeking seek) is locked =
       seek-leaves (AllDrops port room seek.geometry) seek.geometry seek.at is locked (all-drops port room seek.geometry)
+  all-leaves port room listing.Opening is locked = absurd (locked refl)
   all-leaves port room (listing.Unlocking table unlock) is locked = inr refl
+  all-leaves port room listing.Closing is locked = absurd (locked refl)
   all-leaves port room _ is locked = inl (load-leaves _ is)
 
   abbrev ReleaseDrops : ℕ → ℕ → Geometry → SeekAt → Type 0
@@ -95,6 +97,8 @@ module _ (env : Env) (mix : ℕ → ℕ → ℕ → ℕ) (c : ℕ) (op : Op) (ol
   release-leaves port owner (releasing.Unlinking found relink) may is locked = absurd (cc)
   release-leaves port owner (releasing.Lowering node shape) may is locked = absurd (cc)
   release-leaves port owner (releasing.Unlocking table unlock removed) may is locked = inr refl
+  release-leaves port owner releasing.Opening may is locked = absurd (locked refl)
+  release-leaves port owner (releasing.Closing reply removed) may is locked = absurd (locked refl)
   release-leaves port owner _ may is locked = inl (load-leaves _ is)
 
   pub locked-leaves : (job : Job) → is_past job ≡ false → op ≡ job_plan env c job → (held_of job).lock ≢ None
