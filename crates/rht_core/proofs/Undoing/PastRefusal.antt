@@ -12,6 +12,7 @@ use Rattle.rht_words.specs.Shapes.{size_of, unpacked}
 use Rattle.rht_model.specs.declared.history.Call.{Call}
 use Rattle.rht_model.specs.declared.history.Call.TheVariants.{Bind, Release, Rebind, Work}
 use Rattle.rht_model.specs.declared.history.Reply.{Reply}
+use Rattle.rht_model.specs.declared.history.Reply.TheVariants.{Released}
 use Rattle.rht_nest.specs.Place.{PlaceModel, flat_place, nested_place, place_after}
 use Rattle.rht_nest.specs.declared.place.Bucket.{Bucket}
 use Rattle.rht_nest.specs.declared.place.Bucket.TheVariants.{At, Absent}
@@ -22,6 +23,9 @@ use Rattle.rht_bind.specs.Bind as bind_at
 use Rattle.rht_bind.specs.declared.bind.FoundList.{FoundList}
 use Rattle.rht_bind.specs.declared.bind.BindAt.{BindAt}
 use Rattle.rht_bind.specs.declared.bind.BindAt.TheVariants as binding
+use Rattle.rht_bind.specs.declared.bind.ending.Ending as bind_ending
+use Rattle.rht_bind.specs.declared.bind.ending.Ending.TheVariants as bind_endings
+use Rattle.rht_bind.specs.Endings as bind_ends
 use Rattle.rht_release.specs.Release as release_at
 use Rattle.rht_release.specs.Rebind as rebind_at
 use Rattle.rht_release.specs.declared.found_port.FoundPort.{FoundPort}
@@ -29,10 +33,12 @@ use Rattle.rht_release.specs.declared.release.ReleaseAt.{ReleaseAt}
 use Rattle.rht_release.specs.declared.release.ReleaseAt.TheVariants as releasing
 use Rattle.rht_release.specs.declared.rebind.RebindAt.{RebindAt}
 use Rattle.rht_release.specs.declared.rebind.RebindAt.TheVariants as rebinding
+use Rattle.rht_release.specs.declared.rebind.RebindEnd.{RebindEnd}
+use Rattle.rht_release.specs.declared.rebind.RebindEnd.TheVariants as rebind_ends
 use Rattle.rht_nest.specs.Tables.{is_nested}
 use Rattle.rht_move.specs.LastTable.{LastTableModel, last_table_after}
 use Rattle.rht_move.specs.LastEntry.{LastEntryModel, last_entry_after}
-use Rattle.rht_move.specs.Work.{after_at, bucket_of_root, next_bucket, entry_passed, locked, unlocking, entry_table_seen, with_word, entry_or_empty, walked, second_locked, cut_off, unlocked_bucket, retiring, unmade, future_or_idle}
+use Rattle.rht_move.specs.Work.{after_at, bucket_of_root, next_bucket, entry_passed, locked, unlocking, entry_table_seen, with_word, entry_or_empty, walked, second_locked, cut_off, unlocked_bucket, retiring, closed, outcome_of, unmade, future_or_idle}
 use Rattle.rht_move.specs.declared.last_table.Last.{Last}
 use Rattle.rht_move.specs.declared.last_entry.Entry.{Entry}
 use Rattle.rht_move.specs.declared.rehash.Rehash.{Rehash}
@@ -42,15 +48,24 @@ use Rattle.rht_move.specs.declared.work.Due.{Due}
 use Rattle.rht_move.specs.declared.work.Due.TheVariants as dues
 use Rattle.rht_move.specs.declared.work.Outcome.{Outcome}
 use Rattle.rht_move.specs.declared.work.Outcome.TheVariants.{Idle, NoTable, Moved}
+use Rattle.rht_move.specs.declared.work.ending.Ending.{Ending}
+use Rattle.rht_move.specs.declared.work.ending.Ending.TheVariants as endings
 use Rattle.rht_move.specs.declared.work.WorkAt.{WorkAt}
 use Rattle.rht_move.specs.declared.work.WorkAt.TheVariants as at
 use Rattle.rht_core.specs.Jobs.{Job, finds, binds, lists, releases, rebinds, works, counts}
 use Rattle.rht_core.specs.Refused.{changes_nothing}
 
+-- a bind is past it at the closing of its section where it has linked its node
+abbrev pub ending_is_past : bind_ending.Ending → Bool
+ending_is_past (bind_endings.Bound kick) = true
+ending_is_past (bind_endings.Answered node reply) = false
+ending_is_past (bind_endings.Anew attempt) = false
+
 abbrev pub bind_is_past : BindAt → Bool
 bind_is_past (binding.Replacing list relink) = true
 bind_is_past (binding.Publish node table relink kick) = true
 bind_is_past (binding.Filling new) = false
+bind_is_past (binding.Opening attempt) = false
 bind_is_past (binding.CurrentTable attempt) = false
 bind_is_past (binding.Locating attempt locate) = false
 bind_is_past (binding.Entering attempt table shape place grow) = false
@@ -71,16 +86,24 @@ bind_is_past (binding.Making growing size make) = false
 bind_is_past (binding.FutureAgain growing refusal) = false
 bind_is_past (binding.Attaching growing slot shape) = false
 bind_is_past (binding.Unmaking attempt unmake answer) = false
+bind_is_past (binding.Closing ending) = ending_is_past ending
 bind_is_past (binding.Giving give reply) = false
+
+-- and a rebind where it has put its node in another one's place
+abbrev pub end_is_past : RebindEnd → Bool
+end_is_past (rebind_ends.Rebound removed) = true
+end_is_past (rebind_ends.Absent node) = false
 
 abbrev pub rebind_is_past : RebindAt → Bool
 rebind_is_past (rebinding.Replacing node found relink) = true
 rebind_is_past (rebinding.Filling new) = false
+rebind_is_past (rebinding.Opening node) = false
 rebind_is_past (rebinding.Seeking node seek) = false
 rebind_is_past (rebinding.Owner node found) = false
 rebind_is_past (rebinding.ChainLink node found) = false
 rebind_is_past (rebinding.Link node found link) = false
 rebind_is_past (rebinding.Unlocking node table unlock) = false
+rebind_is_past (rebinding.Closing end) = end_is_past end
 rebind_is_past (rebinding.Giving give) = false
 
 -- a release that has taken a node out
@@ -88,7 +111,13 @@ abbrev pub removed_is_past : Option ℕ → Bool
 removed_is_past None = false
 removed_is_past (Some node) = true
 
+-- its reply says so too
+abbrev pub reply_is_past : Reply → Bool
+reply_is_past (Released kick) = true
+reply_is_past reply = false
+
 abbrev pub release_is_past : ReleaseAt → Bool
+release_is_past releasing.Opening = false
 release_is_past (releasing.Seeking seek) = false
 release_is_past (releasing.Owner found node before) = false
 release_is_past (releasing.ListLink found node) = false
@@ -100,6 +129,7 @@ release_is_past (releasing.Promoting found relink) = true
 release_is_past (releasing.Unlinking found relink) = true
 release_is_past (releasing.Lowering node shape) = true
 release_is_past (releasing.Unlocking table unlock removed) = removed_is_past removed
+release_is_past (releasing.Closing reply removed) = reply_is_past reply
 
 abbrev pub outcome_is_past : Outcome → Bool
 outcome_is_past (NoTable size) = false
@@ -114,6 +144,7 @@ due_is_past dues.Later = true
 
 abbrev pub work_is_past : WorkAt → Bool
 work_is_past at.WorkLock = false
+work_is_past at.Opening = false
 work_is_past at.CurrentTable = false
 work_is_past (at.LastTable root seek) = false
 work_is_past (at.Count root last) = false
@@ -136,6 +167,7 @@ work_is_past (at.CuttingOff emptying entry) = true
 work_is_past (at.Unlocking rehash number unlock stop) = true
 work_is_past (at.Publishing rehash) = true
 work_is_past (at.NewFuture rehash) = true
+work_is_past (at.Closing ending) = outcome_is_past (outcome_of ending)
 work_is_past (at.Retiring root again) = true
 work_is_past (at.LettingGo outcome) = outcome_is_past outcome
 
@@ -166,20 +198,25 @@ module _ (port owner : ℕ) (once : Bool) where
   BindPast r = StaysPast bind_is_past same_reply (Bind port owner once) r
 
   published-past : (node table : ℕ) (kick : Bool) (relink : RelinkModel) (next : Next (Unit {0}))
-      → BindPast (bind_at.published node table kick relink next)
+      → bind_is_past (bind_at.published node table kick relink next) ≡ true
   published-past node table kick relink Go = refl
   published-past node table kick relink (Done done) = refl
 
   replaced-past : (list : FoundList) (relink : RelinkModel) (next : Next (Unit {0}))
-      → BindPast (bind_at.replaced list relink next)
+      → bind_is_past (bind_at.replaced list relink next) ≡ true
   replaced-past list relink Go = refl
   replaced-past list relink (Done done) = refl
+
+  closed-past : (env : Env) (ending : bind_ending.Ending) → ending_is_past ending ≡ true → BindPast (bind_ends.closed env ending)
+  closed-past env (bind_endings.Bound kick) past = refl
+  closed-past env _ past = absurd (cc)
 
   pub bind-past : (mix : ℕ → ℕ → ℕ → ℕ) (env : Env) (state : BindAt) (old : ℕ) → bind_is_past state ≡ true
       → BindPast (bind_at.after_at mix env port once state old)
   bind-past mix env (binding.Replacing list relink) old past = replaced-past list (relink_after relink).0 (relink_after relink).1
   bind-past mix env (binding.Publish node table relink kick) old past =
       published-past node table kick (relink_after relink).0 (relink_after relink).1
+  bind-past mix env (binding.Closing ending) old past = closed-past env ending past
   bind-past mix env _ old past = absurd (cc)
 
 module _ (port owner : ℕ) where
@@ -197,7 +234,7 @@ module _ (port owner : ℕ) where
   linked-past g found link (Some second) = refl
 
   promoted-past : (found : FoundPort) (relink : RelinkModel) (next : Next (Unit {0}))
-      → ReleasePast (release_at.promoted found relink next)
+      → release_is_past (release_at.promoted found relink next) ≡ true
   promoted-past found relink Go = refl
   promoted-past found relink (Done done) = refl
 
@@ -207,12 +244,17 @@ module _ (port owner : ℕ) where
   unlinked-past found relink (Done done) = refl
 
   removed-past : (removed : Option ℕ) → removed_is_past removed ≡ true
-      → changes_nothing (Release port owner) (release_at.removed_reply removed) ≡ false
+      → reply_is_past (release_at.removed_reply removed) ≡ true
   removed-past None past = absurd (cc)
   removed-past (Some node) past = refl
 
+  replied-past : (reply : Reply) → reply_is_past reply ≡ true → changes_nothing (Release port owner) reply ≡ false
+  replied-past (Released kick) past = refl
+  replied-past _ past = absurd (cc)
+
   pub release-past : (mix : ℕ → ℕ → ℕ → ℕ) (env : Env) (state : ReleaseAt) (old : ℕ) → release_is_past state ≡ true
       → ReleasePast (release_at.after_at mix env port owner state old)
+  release-past mix env releasing.Opening old past = absurd (cc)
   release-past mix env (releasing.Seeking seek) old past = absurd (cc)
   release-past mix env (releasing.Owner found node before) old past = absurd (cc)
   release-past mix env (releasing.ListLink found node) old past = absurd (cc)
@@ -223,6 +265,7 @@ module _ (port owner : ℕ) where
   release-past mix env (releasing.Unlinking found relink) old past =
       unlinked-past found (relink_after relink).0 (relink_after relink).1
   release-past mix env (releasing.Unlocking table unlock removed) old past = removed-past removed past
+  release-past mix env (releasing.Closing reply removed) old past = replied-past reply past
   release-past mix env _ old past = refl
 
 module _ (port owner new : ℕ) where
@@ -230,14 +273,19 @@ module _ (port owner new : ℕ) where
   RebindPast r = StaysPast rebind_is_past end_reply (Rebind port owner new) r
 
   rebound-past : (node : ℕ) (found : FoundPort) (relink : RelinkModel) (next : Next (Unit {0}))
-      → RebindPast (rebind_at.replaced node found relink next)
+      → rebind_is_past (rebind_at.replaced node found relink next) ≡ true
   rebound-past node found relink Go = refl
   rebound-past node found relink (Done done) = refl
+
+  left-past : (g : Geometry) (end : RebindEnd) → end_is_past end ≡ true → RebindPast (rebind_at.closed g end)
+  left-past g (rebind_ends.Rebound removed) past = refl
+  left-past g (rebind_ends.Absent node) past = absurd (cc)
 
   pub rebind-past : (mix : ℕ → ℕ → ℕ → ℕ) (env : Env) (state : RebindAt) (old : ℕ) → rebind_is_past state ≡ true
       → RebindPast (rebind_at.after_at mix env port owner state old)
   rebind-past mix env (rebinding.Replacing node found relink) old past =
       rebound-past node found (relink_after relink).0 (relink_after relink).1
+  rebind-past mix env (rebinding.Closing end) old past = left-past env.geometry end past
   rebind-past mix env _ old past = absurd (cc)
 
 -- ---- a resizing
@@ -311,6 +359,10 @@ retiring-past : (rehash : Rehash) (future : Option ℕ) → work_is_past (retiri
 retiring-past rehash None = refl
 retiring-past rehash (Some next) = refl
 
+closing-past : (ending : Ending) → outcome_is_past (outcome_of ending) ≡ true → work_is_past (closed ending) ≡ true
+closing-past (endings.Retiring root again) past = refl
+closing-past (endings.LettingGo outcome) past = past
+
 ended-past : (mix : ℕ → ℕ → ℕ → ℕ) (env : Env) (outcome : Outcome) (old : ℕ) → outcome_is_past outcome ≡ true
     → WorkPast (after_at mix env (at.LettingGo outcome) old)
 ended-past mix env Idle old past = absurd (cc)
@@ -322,6 +374,7 @@ pub work-past : (mix : ℕ → ℕ → ℕ → ℕ) (env : Env) (state : WorkAt)
     → ((root : ℕ) (due : Due) → state ≡ at.RootFuture root due → due_is_past due ≡ true → slot_of old ≢ None)
     → WorkPast (after_at mix env state old)
 work-past mix env at.WorkLock old past some = absurd (cc)
+work-past mix env at.Opening old past some = absurd (cc)
 work-past mix env at.CurrentTable old past some = absurd (cc)
 work-past mix env (at.LastTable root seek) old past some = absurd (cc)
 work-past mix env (at.Count root last) old past some = absurd (cc)
@@ -349,5 +402,6 @@ work-past mix env (at.LockingSecond emptying entry table lock) old past some =
 work-past mix env (at.CuttingOff emptying entry) old past some = cut-past env.geometry emptying entry.before
 work-past mix env (at.Unlocking rehash number unlock stop) old past some = unlocked-past env.geometry rehash number stop
 work-past mix env (at.NewFuture rehash) old past some = retiring-past rehash (slot_of old)
+work-past mix env (at.Closing ending) old past some = closing-past ending past
 work-past mix env (at.LettingGo outcome) old past some = ended-past mix env outcome old past
 work-past mix env _ old past some = refl

@@ -40,12 +40,14 @@ use Rattle.rht_release.specs.declared.release.ReleaseAt.TheVariants as releasing
 use Rattle.rht_release.specs.RebindHeld.{held_of_rebind}
 use Rattle.rht_release.specs.declared.rebind.RebindAt.{RebindAt}
 use Rattle.rht_release.specs.declared.rebind.RebindAt.TheVariants as rebinding
+use Rattle.rht_release.specs.declared.rebind.RebindEnd.TheVariants as ends
 use Rattle.rht_move.specs.WorkHeld.{held_of_work}
 use Rattle.rht_move.specs.LastTable.{LastTableModel}
 use Rattle.rht_move.specs.declared.last_table.Last.{Last}
 use Rattle.rht_move.specs.declared.work.Wanted.{Wanted}
 use Rattle.rht_move.specs.declared.work.Outcome.TheVariants.{NoTable, Idle}
 use Rattle.rht_move.specs.declared.work.Due.TheVariants.{Nothing}
+use Rattle.rht_move.specs.declared.work.ending.Ending.TheVariants.{LettingGo}
 use Rattle.rht_move.specs.declared.work.WorkAt.{WorkAt}
 use Rattle.rht_move.specs.declared.work.WorkAt.TheVariants as working
 use Rattle.rht_core.specs.Jobs.{Job, finds, binds, lists, releases, rebinds, works, counts, call_of, job_plan, job_after, held_of, held_next}
@@ -102,18 +104,22 @@ bind-refusable _ may = has_no_lock refl refl refl
 
 pub rebind-refusable : (state : RebindAt) → rebind_is_past state ≡ false → LocksWithNode (held_of_rebind state)
 rebind-refusable (rebinding.Replacing node found relink) may = absurd (cc)
+rebind-refusable (rebinding.Closing (ends.Rebound removed)) may = absurd (cc)
 rebind-refusable (rebinding.Filling new) may = has_no_lock refl refl refl
+rebind-refusable (rebinding.Opening node) may = has_no_lock refl refl refl
 rebind-refusable (rebinding.Seeking node seek) may = has_node refl refl node refl
 rebind-refusable (rebinding.Owner node found) may = has_node refl refl node refl
 rebind-refusable (rebinding.ChainLink node found) may = has_node refl refl node refl
 rebind-refusable (rebinding.Link node found link) may = has_node refl refl node refl
 rebind-refusable (rebinding.Unlocking node table unlock) may = has_node refl refl node refl
+rebind-refusable (rebinding.Closing (ends.Absent node)) may = has_no_lock refl refl refl
 rebind-refusable (rebinding.Giving give) may = has_no_lock refl refl refl
 
 -- a resizing that may still be refused, or has nothing to do, looks for the last table, makes one, or ends for want of one; or it finds that
 -- none was due, and looks for a future of the current one
 pub data IsEarlyWork : WorkAt → Type 0 where
   at_lock : IsEarlyWork working.WorkLock
+  at_opening : IsEarlyWork working.Opening
   at_current : IsEarlyWork working.CurrentTable
   at_last : (root : ℕ) (seek : LastTableModel) → IsEarlyWork (working.LastTable root seek)
   at_count : (root : ℕ) (last : Last) → IsEarlyWork (working.Count root last)
@@ -121,9 +127,12 @@ pub data IsEarlyWork : WorkAt → Type 0 where
   at_future : (root : ℕ) → IsEarlyWork (working.RootFuture root Nothing)
   at_end : (size : ℕ) → IsEarlyWork (working.LettingGo (NoTable size))
   at_idle : IsEarlyWork (working.LettingGo Idle)
+  closing_end : (size : ℕ) → IsEarlyWork (working.Closing (LettingGo (NoTable size)))
+  closing_idle : IsEarlyWork (working.Closing (LettingGo Idle))
 
 pub early_work : (state : WorkAt) → work_is_past state ≡ false → IsEarlyWork state
 early_work working.WorkLock may = at_lock
+early_work working.Opening may = at_opening
 early_work working.CurrentTable may = at_current
 early_work (working.LastTable root seek) may = at_last root seek
 early_work (working.Count root last) may = at_count root last
@@ -131,6 +140,8 @@ early_work (working.Making wanted make) may = at_making wanted make
 early_work (working.RootFuture root Nothing) may = at_future root
 early_work (working.LettingGo (NoTable size)) may = at_end size
 early_work (working.LettingGo Idle) may = at_idle
+early_work (working.Closing (LettingGo (NoTable size))) may = closing_end size
+early_work (working.Closing (LettingGo Idle)) may = closing_idle
 early_work _ may = absurd (cc)
 
 pub work-refusable : (state : WorkAt) → IsEarlyWork state → LocksWithNode (held_of_work state)
@@ -298,7 +309,7 @@ module _ (env : Env) (mix : ℕ → ℕ → ℕ → ℕ) (c : ℕ) (M : Memory) 
 
     -- nor does it behind an attempt
     answer-none : (attempt : Attempt) (answer : Option Reply)
-        → In page (held_of_bind (behind_attempt env attempt answer)).pages → ⊥
+        → In page (held_of_bind (behind_attempt attempt answer)).pages → ⊥
     answer-none attempt None i = i
     answer-none attempt (Some reply) i = i
 

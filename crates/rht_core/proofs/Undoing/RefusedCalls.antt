@@ -208,7 +208,7 @@ module _ (M : Type 0) (mix : ℕ → ℕ → ℕ → ℕ) (env : Env) (events : 
       → JobStored env job steps → NextStored (steps ++ did ∷ []) (job_after mix env job did.old)
   stored_then c (binds port owner once state) steps did may is stored =
       let r = bind_at.after_at mix env port once state did.old in
-      next-stored (steps ++ did ∷ []) (binds port owner once) plain_ending r (bind-stored env mix port once state steps did is stored)
+      next-stored (steps ++ did ∷ []) (binds port owner once) plain_ending r (bind-stored env mix c port once state steps did is stored)
   stored_then c job steps did may is stored =
       let all = steps ++ did ∷ [] in
       each_goes (λ after. JobStored env after all) (λ ending. Unit {0}) (call_of job) (job_after mix env job did.old)

@@ -44,6 +44,9 @@ use Rattle.rht_bind.specs.declared.bind.Claimed.{Claimed}
 use Rattle.rht_bind.specs.declared.bind.FoundList.{FoundList}
 use Rattle.rht_bind.specs.declared.bind.growth.Growing.{Growing}
 use Rattle.rht_bind.specs.declared.bind.growth.Refusal.{Refusal}
+use Rattle.rht_bind.specs.Endings.{closed}
+use Rattle.rht_bind.specs.declared.bind.ending.Ending.{Ending}
+use Rattle.rht_bind.specs.declared.bind.ending.Ending.TheVariants as endings
 use Rattle.rht_bind.specs.declared.bind.BindAt.{BindAt}
 use Rattle.rht_bind.specs.declared.bind.BindAt.TheVariants as at
 use Rattle.rht_core.specs.Traces.{Did}
@@ -88,6 +91,7 @@ module _ (env : Env) where
   HasStored (at.Making growing size make) steps = StoredIn make.exponent make.at steps
   HasStored (at.Attaching growing slot shape) steps = StoresLast g slot shape steps
   HasStored (at.Filling new) steps = Unit {0}
+  HasStored (at.Opening attempt) steps = Unit {0}
   HasStored (at.CurrentTable attempt) steps = Unit {0}
   HasStored (at.Locating attempt locate) steps = Unit {0}
   HasStored (at.Entering attempt table shape place grow) steps = Unit {0}
@@ -108,6 +112,7 @@ module _ (env : Env) where
   HasStored (at.GrowthCount growing root) steps = Unit {0}
   HasStored (at.FutureAgain growing refusal) steps = Unit {0}
   HasStored (at.Unmaking attempt unmake answer) steps = Unit {0}
+  HasStored (at.Closing ending) steps = Unit {0}
   HasStored (at.Giving give reply) steps = Unit {0}
 
   -- ---- states that have nothing to say of it
@@ -159,12 +164,12 @@ module _ (env : Env) where
         end.seen.before end.seen.length
 
     replaced-stored : (list : FoundList) (relink : RelinkModel) (next : Next (Unit {0}))
-        → HasStored (replaced list relink next).0 all
+        → HasStored (replaced list relink next) all
     replaced-stored list relink Go = tt
     replaced-stored list relink (Done done) = tt
 
     published-stored : (node table : ℕ) (kick : Bool) (relink : RelinkModel) (next : Next (Unit {0}))
-        → HasStored (published node table kick relink next).0 all
+        → HasStored (published node table kick relink next) all
     published-stored node table kick relink Go = tt
     published-stored node table kick relink (Done done) = tt
 
@@ -190,17 +195,17 @@ module _ (env : Env) where
         (λ t. tt)
         (λ f. cond_both (nat_eq root growing.table) _ _ (λ state. HasStored state all) (λ t. tt) (λ f. tt))
 
-    behind-stored : (attempt : Attempt) (answer : Option Reply) → HasStored (behind_attempt env attempt answer) all
+    behind-stored : (attempt : Attempt) (answer : Option Reply) → HasStored (behind_attempt attempt answer) all
     behind-stored attempt None = tt
     behind-stored attempt (Some reply) = tt
 
     refused-stored : (once : Bool) (growing : Growing) (refusal : Refusal) (future : Option ℕ)
-        → HasStored (refused_or_found env once growing refusal future) all
+        → HasStored (refused_or_found once growing refusal future) all
     refused-stored once growing refusal None = tt
     refused-stored once growing refusal (Some table) = behind-stored growing.attempt (ended_attempt once table)
 
     unmade-stored : (attempt : Attempt) (answer : Option Reply) (unmake : UnmakeModel) (next : Next (Unit {0}))
-        → HasStored (unmade env attempt answer unmake next) all
+        → HasStored (unmade attempt answer unmake next) all
     unmade-stored attempt answer unmake Go = tt
     unmade-stored attempt answer unmake (Done done) = behind-stored attempt answer
 
@@ -209,6 +214,11 @@ module _ (env : Env) where
     attach-stored once growing slot shape found =
         cond_both (found == 0) _ _ (λ state. HasStored state all)
         (λ t. behind-stored (has_attached growing.attempt) (ended_attempt once slot)) (λ f. tt)
+
+    closed-stored : (ending : Ending) → HasStored (closed env ending).0 all
+    closed-stored (endings.Bound kick) = tt
+    closed-stored (endings.Answered node reply) = tt
+    closed-stored (endings.Anew attempt) = tt
 
     -- of the making, up to the store of the shape
     no_run-stored : (h : Geometry) (exponent slot : ℕ) (nests : Bool) → StoredIn exponent (no_run h nests slot) all
@@ -280,35 +290,36 @@ module _ (env : Env) where
 
   -- ---- an operation of a bind
 
-  pub bind-stored : (mix : ℕ → ℕ → ℕ → ℕ) (port : ℕ) (once : Bool) (state : BindAt) (steps : List Did) (did : Did)
+  pub bind-stored : (mix : ℕ → ℕ → ℕ → ℕ) (c port : ℕ) (once : Bool) (state : BindAt) (steps : List Did) (did : Did)
       → did.op ≡ plan_at env c state → HasStored state steps
       → HasStored (after_at mix env port once state did.old).0 (steps ++ did ∷ [])
-  bind-stored mix port once (at.Making growing size make) steps did is stored =
+  bind-stored mix c port once (at.Making growing size make) steps did is stored =
       make-stored growing size make make.at steps did is stored
-  bind-stored mix port once (at.Attaching growing slot shape) steps did is stored =
+  bind-stored mix c port once (at.Attaching growing slot shape) steps did is stored =
       attach-stored (steps ++ did ∷ []) once growing slot shape did.old
-  bind-stored mix port once (at.Filling new) steps did is stored =
+  bind-stored mix c port once (at.Filling new) steps did is stored =
       filled-stored (steps ++ did ∷ []) (new_node_after new did.old).0 (new_node_after new did.old).1
-  bind-stored mix port once (at.Locating attempt locate) steps did is stored =
+  bind-stored mix c port once (at.Locating attempt locate) steps did is stored =
       let r = locate_after mix port locate did.old in located-stored (steps ++ did ∷ []) port attempt r.0 r.1
-  bind-stored mix port once (at.Entering attempt table shape place grow) steps did is stored =
+  bind-stored mix c port once (at.Entering attempt table shape place grow) steps did is stored =
       let r = grow_after grow did.old in grown-stored (steps ++ did ∷ []) port attempt table shape place r.0 r.1
-  bind-stored mix port once (at.Probing attempt table shape probe) steps did is stored =
+  bind-stored mix c port once (at.Probing attempt table shape probe) steps did is stored =
       let r = probe_after probe did.old in
       probed-stored (steps ++ did ∷ []) env.config.kind attempt table shape r.0 r.1
-  bind-stored mix port once (at.Replacing list relink) steps did is stored =
+  bind-stored mix c port once (at.Replacing list relink) steps did is stored =
       replaced-stored (steps ++ did ∷ []) list (relink_after relink).0 (relink_after relink).1
-  bind-stored mix port once (at.Future claimed length) steps did is stored =
+  bind-stored mix c port once (at.Future claimed length) steps did is stored =
       future-stored (steps ++ did ∷ []) claimed length (slot_of did.old)
-  bind-stored mix port once (at.Count claimed) steps did is stored = count-stored (steps ++ did ∷ []) claimed did.old
-  bind-stored mix port once (at.Publish node table relink kick) steps did is stored =
+  bind-stored mix c port once (at.Count claimed) steps did is stored = count-stored (steps ++ did ∷ []) claimed did.old
+  bind-stored mix c port once (at.Publish node table relink kick) steps did is stored =
       published-stored (steps ++ did ∷ []) node table kick (relink_after relink).0 (relink_after relink).1
-  bind-stored mix port once (at.Unlocking attempt table unlock next) steps did is stored =
+  bind-stored mix c port once (at.Unlocking attempt table unlock next) steps did is stored =
       unlocked-stored (steps ++ did ∷ []) attempt next
-  bind-stored mix port once (at.GrowthCount growing root) steps did is stored =
+  bind-stored mix c port once (at.GrowthCount growing root) steps did is stored =
       want-stored (steps ++ did ∷ []) growing root did.old
-  bind-stored mix port once (at.FutureAgain growing refusal) steps did is stored =
+  bind-stored mix c port once (at.FutureAgain growing refusal) steps did is stored =
       refused-stored (steps ++ did ∷ []) once growing refusal (slot_of did.old)
-  bind-stored mix port once (at.Unmaking attempt unmake answer) steps did is stored =
+  bind-stored mix c port once (at.Unmaking attempt unmake answer) steps did is stored =
       let r = unmake_after unmake did.old in unmade-stored (steps ++ did ∷ []) attempt answer r.0 r.1
-  bind-stored mix port once _ steps did is stored = tt
+  bind-stored mix c port once (at.Closing ending) steps did is stored = closed-stored (steps ++ did ∷ []) ending
+  bind-stored mix c port once _ steps did is stored = tt
