@@ -155,7 +155,7 @@ module _ (env : Env) (mix : ℕ → ℕ → ℕ → ℕ) where
             (held_next (job_after mix env of.job (old_of w.core.words op)))) at.is of.step.does in
             let ready = subst (ReadyFor env mix c M has.ghost) at.is of.step.ready in
             let there = job-attaches env c does.last at.slot does.within of.job does.has (sym of.plan ∙ does.attaching) in
-            let same : after NextSerial ≡ M NextSerial = elim (job-draws env mix c of.few of.job of.within) [
+            let same : after NextSerial ≡ M NextSerial = elim (job-draws env c mix of.few of.job of.within) [
               | inl spares ↦ spared_serial w.core.words op (subst SparesSerial (sym of.plan) spares)
               | inr draws_it ↦ absurd (attaching-draws at.slot of.job there draws_it)
             ] in
@@ -191,7 +191,7 @@ module _ (env : Env) (mix : ℕ → ℕ → ℕ → ℕ) where
 
         -- or it draws a serial, or none
         quiet-draws : SameSerials has.ghost G' → StepDraws
-        quiet-draws tables = elim (job-draws env mix c of.few of.job of.within) [
+        quiet-draws tables = elim (job-draws env c mix of.few of.job of.within) [
           | inl spares ↦
               let same = spared_serial w.core.words op (subst SparesSerial (sym of.plan) spares) in
               record {

@@ -81,33 +81,33 @@ relink_stores relink (relinks.ChainLink before) place is = cc
 relink_stores relink (relinks.Word word) place is = cc
 
 -- and there it loads nothing
-bind_loads-unraised : (e : Env) (place : ℕ) (state : BindAt) → plan_at e state ≡ Load place
+bind_loads-unraised : (e : Env) (c place : ℕ) (state : BindAt) → plan_at e c state ≡ Load place
     → (held_of_bind state).raised ≡ false
-bind_loads-unraised e place (at.Replacing list relink) is = front-unraised list.claimed
+bind_loads-unraised e c place (at.Replacing list relink) is = front-unraised list.claimed
     (has_relinked list.before relink.at)
-bind_loads-unraised e place (at.Publish node table relink kick) is = absurd
+bind_loads-unraised e c place (at.Publish node table relink kick) is = absurd
     (relink_stores relink relink.at place is)
-bind_loads-unraised e place _ is = refl
+bind_loads-unraised e c place _ is = refl
 
 -- a release that has raised it, and is to lower it, loads nothing either
 pub relinking-unraised : (found : FoundPort) (stored : Bool) → (holds_relinking found false stored).raised ≡ false
 relinking-unraised found false = refl
 relinking-unraised found true = refl
 
-release_loads-unraised : (e : Env) (place : ℕ) (state : ReleaseAt) → release_plan_at e state ≡ Load place
+release_loads-unraised : (e : Env) (c place : ℕ) (state : ReleaseAt) → release_plan_at e c state ≡ Load place
     → (held_of_release state).raised ≡ false
-release_loads-unraised e place (release_at.Promoting found relink) is =
+release_loads-unraised e c place (release_at.Promoting found relink) is =
     relinking-unraised found (has_relinked found.before relink.at)
-release_loads-unraised e place (release_at.Unlinking found relink) is = absurd
+release_loads-unraised e c place (release_at.Unlinking found relink) is = absurd
     (relink_stores relink relink.at place is)
-release_loads-unraised e place (release_at.Lowering node shape) is = absurd (cc)
-release_loads-unraised e place _ is = refl
+release_loads-unraised e c place (release_at.Lowering node shape) is = absurd (cc)
+release_loads-unraised e c place _ is = refl
 
 -- what loads has raised none
 load-unraised : (env : Env) (c : ℕ) (job : Job) (place : ℕ) → job_plan env c job ≡ Load place
     → (held_of job).raised ≡ false
-load-unraised env c (binds port owner once state) place is = bind_loads-unraised env place state is
-load-unraised env c (releases port owner state) place is = release_loads-unraised env place state is
+load-unraised env c (binds port owner once state) place is = bind_loads-unraised env c place state is
+load-unraised env c (releases port owner state) place is = release_loads-unraised env c place state is
 load-unraised env c job place is = job-unraised job
 
 module _ (M : Type 0) (mix : ℕ → ℕ → ℕ → ℕ) (env : Env) where

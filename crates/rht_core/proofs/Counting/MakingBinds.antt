@@ -35,6 +35,9 @@ use Rattle.rht_bind.specs.declared.bind.Claimed.{Claimed}
 use Rattle.rht_bind.specs.declared.bind.FoundList.{FoundList}
 use Rattle.rht_bind.specs.declared.bind.growth.Growing.{Growing}
 use Rattle.rht_bind.specs.declared.bind.growth.Refusal.{Refusal}
+use Rattle.rht_bind.specs.Endings.{closed}
+use Rattle.rht_bind.specs.declared.bind.ending.Ending.{Ending}
+use Rattle.rht_bind.specs.declared.bind.ending.Ending.TheVariants as endings
 use Rattle.rht_bind.specs.declared.bind.BindAt.{BindAt}
 use Rattle.rht_bind.specs.declared.bind.BindAt.TheVariants as at
 use Rattle.rht_core.proofs.Counting.MakingWorks.{MakeGoes}
@@ -97,12 +100,12 @@ module _ (env : Env) (Full : ℕ → Type 0) (Makes : MakeModel → Type 0) (Has
       seen-goes kind (record { attempt = attempt; table = table; shape = shape; bucket = end.bucket }) end.seen.found end.seen.before
       end.seen.length
 
-  replaced-goes : (list : FoundList) (relink : RelinkModel) (next : Next (Unit {0})) → Now (replaced list relink next).0
+  replaced-goes : (list : FoundList) (relink : RelinkModel) (next : Next (Unit {0})) → Now (replaced list relink next)
   replaced-goes list relink Go = tt
   replaced-goes list relink (Done done) = tt
 
   published-goes : (node table : ℕ) (kick : Bool) (relink : RelinkModel) (next : Next (Unit {0}))
-      → Now (published node table kick relink next).0
+      → Now (published node table kick relink next)
   published-goes node table kick relink Go = tt
   published-goes node table kick relink (Done done) = tt
 
@@ -110,23 +113,28 @@ module _ (env : Env) (Full : ℕ → Type 0) (Makes : MakeModel → Type 0) (Has
   unlocked-goes attempt (Table table) = tt
   unlocked-goes attempt (Answer reply) = tt
 
-  behind-goes : (attempt : Attempt) (answer : Option Reply) → Now (behind_attempt env attempt answer)
+  behind-goes : (attempt : Attempt) (answer : Option Reply) → Now (behind_attempt attempt answer)
   behind-goes attempt None = tt
   behind-goes attempt (Some reply) = tt
 
   refused-goes : (once : Bool) (growing : Growing) (refusal : Refusal) (future : Option ℕ)
-      → Now (refused_or_found env once growing refusal future)
+      → Now (refused_or_found once growing refusal future)
   refused-goes once growing refusal None = tt
   refused-goes once growing refusal (Some table) = behind-goes growing.attempt (ended_attempt once table)
 
   unmade-goes : (attempt : Attempt) (answer : Option Reply) (unmake : UnmakeModel) (next : Next (Unit {0}))
-      → Now (unmade env attempt answer unmake next)
+      → Now (unmade attempt answer unmake next)
   unmade-goes attempt answer unmake Go = tt
   unmade-goes attempt answer unmake (Done done) = behind-goes attempt answer
 
   attach-goes : (once : Bool) (growing : Growing) (slot shape found : ℕ) → Now (checked_attach env once growing slot shape found)
   attach-goes once growing slot shape found =
       cond_both (found == 0) _ _ Now (λ t. behind-goes (has_attached growing.attempt) (ended_attempt once slot)) (λ f. tt)
+
+  closed-goes : (ending : Ending) → Now (closed env ending).0
+  closed-goes (endings.Bound kick) = tt
+  closed-goes (endings.Answered node reply) = tt
+  closed-goes (endings.Anew attempt) = tt
 
   -- ---- a table that is found full, and one that is made
 
@@ -194,4 +202,5 @@ module _ (env : Env) (Full : ℕ → Type 0) (Makes : MakeModel → Type 0) (Has
   bind-leads mix FullWas MakesWas HasWas port once (at.Attaching growing slot shape) old within now leads = attach-goes once growing slot shape old
   bind-leads mix FullWas MakesWas HasWas port once (at.Unmaking attempt unmake answer) old within now leads =
       unmade-goes attempt answer (unmake_after unmake old).0 (unmake_after unmake old).1
+  bind-leads mix FullWas MakesWas HasWas port once (at.Closing ending) old within now leads = closed-goes ending
   bind-leads mix FullWas MakesWas HasWas port once _ old within now leads = tt

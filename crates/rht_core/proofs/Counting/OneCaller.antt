@@ -204,7 +204,7 @@ module _ (env : Env) where
           → (held_of job).slot ≡ Some slot → job_plan env c job ≡ Exchange (place_of env.geometry (Slot last FutureWord)) 0 (future_of slot)
           → M (Slot slot ShapeWord) ≡ shape → IsSized shape
       attach-sized (binds port owner once state) within knows one last slot shape l has e is =
-          absurd (spares-none env _ last 0 (future_of slot) (bind-spares env Any Any state within.at_in one) l e)
+          absurd (spares-none env _ last 0 (future_of slot) (bind-spares env Any Any c few state within.at_in one) l e)
       attach-sized (works state) within knows one last slot shape l has e is =
           let at = work-attaches env c last slot l state has e in
           let known = subst (λ s. JobKnows env mix c (works s) M G) at.is knows in

@@ -35,7 +35,7 @@ use Rattle.rht_move.specs.declared.work.WorkAt.TheVariants as work_at
 use Rattle.rht_core.specs.Jobs.{Job, binds, works, job_plan}
 use Rattle.rht_ghost.proofs.Theory.Steps.{unchanged}
 use Rattle.rht_core.proofs.Machines.JobSteps.{JobIn}
-use Rattle.rht_core.proofs.Counting.SparedSlots.{SparesSlots, at_node, lock-spares, new_node-spares, give_node-spares, locate-spares, probe-spares, relink-spares, unlock-spares, other-spares}
+use Rattle.rht_core.proofs.Counting.SparedSlots.{SparesSlots, at_node, at_section, lock-spares, new_node-spares, give_node-spares, locate-spares, probe-spares, relink-spares, unlock-spares, other-spares}
 
 -- the operation is a load, or on another word than the next serial
 abbrev pub SparesSerial : Op → Type 0
@@ -108,36 +108,38 @@ DrawsJob (binds port owner once state) = DrawsBind state
 DrawsJob (works state) = DrawsWork state
 DrawsJob _ = ⊥
 
-module _ (env : Env) where
+module _ (env : Env) (c : ℕ) where
   making-draws : (make : MakeModel) → SparesSerial (make_plan_at make.geometry make.exponent make.seed make.at) ⊎ IsDrawing make
   making-draws make = elim (make-serial make.geometry make.exponent make.seed make.at) [
     | inl spares ↦ inl spares
     | inr at ↦ inr (record { slot = at.0; nested = at.1; page = at.2; is = at.3 })
   ]
 
-  bind-draws : (state : BindAt) → bind.IsBindAtIn env state → SparesSerial (bind.plan_at env c state) ⊎ DrawsBind state
-  bind-draws (bind_at.Making growing size make) within = making-draws make
-  bind-draws (bind_at.Filling new) within = inl (by_slots _ (new_node-spares new.geometry new.key new.owner new.at))
-  bind-draws (bind_at.Locating attempt locate) within = inl (by_slots _ (locate-spares locate.geometry locate.table locate.at))
-  bind-draws (bind_at.Entering attempt table shape place grow) within =
+  bind-draws : c < 16 → (state : BindAt) → bind.IsBindAtIn env state → SparesSerial (bind.plan_at env c state) ⊎ DrawsBind state
+  bind-draws few (bind_at.Making growing size make) within = making-draws make
+  bind-draws few (bind_at.Opening attempt) within = inl (by_slots _ (at_section few _ refl))
+  bind-draws few (bind_at.Closing ending) within = inl (by_slots _ (at_section few _ refl))
+  bind-draws few (bind_at.Filling new) within = inl (by_slots _ (new_node-spares new.geometry new.key new.owner new.at))
+  bind-draws few (bind_at.Locating attempt locate) within = inl (by_slots _ (locate-spares locate.geometry locate.table locate.at))
+  bind-draws few (bind_at.Entering attempt table shape place grow) within =
       inl (grow-serial env.geometry grow.entry grow.at within.grow_in.entry_in)
-  bind-draws (bind_at.Probing attempt table shape probe) within =
+  bind-draws few (bind_at.Probing attempt table shape probe) within =
       inl (by_slots _ (probe-spares env.geometry probe.at within.probe_in.at_in))
-  bind-draws (bind_at.ListLink list) within = inl (by_slots _ (at_node env.geometry list.claimed.attempt.node ListLink _ refl))
-  bind-draws (bind_at.LinkBehind list link) within = inl (by_slots _ (at_node env.geometry list.claimed.attempt.node ChainLink _ refl))
-  bind-draws (bind_at.Replacing list relink) within =
+  bind-draws few (bind_at.ListLink list) within = inl (by_slots _ (at_node env.geometry list.claimed.attempt.node ListLink _ refl))
+  bind-draws few (bind_at.LinkBehind list link) within = inl (by_slots _ (at_node env.geometry list.claimed.attempt.node ChainLink _ refl))
+  bind-draws few (bind_at.Replacing list relink) within =
       inl (by_slots _ (relink-spares env.geometry relink relink.at within.relink_in.place_in))
-  bind-draws (bind_at.Link claimed) within = inl (by_slots _ (at_node env.geometry claimed.attempt.node ChainLink _ refl))
-  bind-draws (bind_at.Raise claimed) within = inl (inr (λ e. omega (arith, e)))
-  bind-draws (bind_at.Publish node table relink kick) within =
+  bind-draws few (bind_at.Link claimed) within = inl (by_slots _ (at_node env.geometry claimed.attempt.node ChainLink _ refl))
+  bind-draws few (bind_at.Raise claimed) within = inl (inr (λ e. omega (arith, e)))
+  bind-draws few (bind_at.Publish node table relink kick) within =
       inl (by_slots _ (relink-spares env.geometry relink relink.at within.relink_in.place_in))
-  bind-draws (bind_at.Unlocking attempt table unlock next) within =
+  bind-draws few (bind_at.Unlocking attempt table unlock next) within =
       inl (by_slots _ (unlock-spares env.geometry unlock within.unlock_in))
-  bind-draws (bind_at.UnlockingFull growing unlock) within = inl (by_slots _ (unlock-spares env.geometry unlock within.unlock_in))
-  bind-draws (bind_at.Attaching growing slot shape) within = inl (inr (λ e. omega (arith, e)))
-  bind-draws (bind_at.Unmaking attempt unmake answer) within = inl (unmake-serial unmake.geometry unmake.slot unmake.at)
-  bind-draws (bind_at.Giving give reply) within = inl (by_slots _ (give_node-spares give))
-  bind-draws _ within = inl (inl (_, refl))
+  bind-draws few (bind_at.UnlockingFull growing unlock) within = inl (by_slots _ (unlock-spares env.geometry unlock within.unlock_in))
+  bind-draws few (bind_at.Attaching growing slot shape) within = inl (inr (λ e. omega (arith, e)))
+  bind-draws few (bind_at.Unmaking attempt unmake answer) within = inl (unmake-serial unmake.geometry unmake.slot unmake.at)
+  bind-draws few (bind_at.Giving give reply) within = inl (by_slots _ (give_node-spares give))
+  bind-draws few _ within = inl (inl (_, refl))
 
   cut-serial : (place : ℕ) (before : Option ℕ) → IsBucketPlace env.geometry place
       → SparesSerial (work.cut_plan env.geometry place before)
@@ -149,35 +151,37 @@ module _ (env : Env) where
   last-serial h (last_tables.Future table) = inl (_, refl)
   last-serial h (last_tables.Shape table) = inl (_, refl)
 
-  work-draws : (state : WorkAt) → work.IsWorkAtIn env state → SparesSerial (work.plan_at env c state) ⊎ DrawsWork state
-  work-draws (work_at.Making wanted make) within = making-draws make
-  work-draws work_at.WorkLock within = inl (inr (λ e. omega (arith, e)))
-  work-draws (work_at.LastTable root seek) within = inl (last-serial seek.geometry seek.at)
-  work-draws (work_at.Attaching root last slot shape) within = inl (inr (λ e. omega (arith, e)))
-  work-draws (work_at.Unmaking root unmake) within = inl (unmake-serial unmake.geometry unmake.slot unmake.at)
-  work-draws (work_at.Locking rehash number lock) within =
+  work-draws : c < 16 → (state : WorkAt) → work.IsWorkAtIn env state → SparesSerial (work.plan_at env c state) ⊎ DrawsWork state
+  work-draws few (work_at.Making wanted make) within = making-draws make
+  work-draws few work_at.Opening within = inl (by_slots _ (at_section few _ refl))
+  work-draws few (work_at.Closing ending) within = inl (by_slots _ (at_section few _ refl))
+  work-draws few work_at.WorkLock within = inl (inr (λ e. omega (arith, e)))
+  work-draws few (work_at.LastTable root seek) within = inl (last-serial seek.geometry seek.at)
+  work-draws few (work_at.Attaching root last slot shape) within = inl (inr (λ e. omega (arith, e)))
+  work-draws few (work_at.Unmaking root unmake) within = inl (unmake-serial unmake.geometry unmake.slot unmake.at)
+  work-draws few (work_at.Locking rehash number lock) within =
       inl (by_slots _ (lock-spares env.geometry lock.place lock.at within.lock_in.place_in))
-  work-draws (work_at.EntryTable emptying seek) within = inl (last-serial seek.geometry seek.at)
-  work-draws (work_at.LockingSecond emptying entry table lock) within =
+  work-draws few (work_at.EntryTable emptying seek) within = inl (last-serial seek.geometry seek.at)
+  work-draws few (work_at.LockingSecond emptying entry table lock) within =
       inl (by_slots _ (lock-spares env.geometry lock.place lock.at within.lock_in.place_in))
-  work-draws (work_at.EntryLink emptying entry second) within = inl (by_slots _ (at_node env.geometry entry.node ChainLink _ refl))
-  work-draws (work_at.Linking emptying entry second) within = inl (inr (λ e.
+  work-draws few (work_at.EntryLink emptying entry second) within = inl (by_slots _ (at_node env.geometry entry.node ChainLink _ refl))
+  work-draws few (work_at.Linking emptying entry second) within = inl (inr (λ e.
       let order = parts_in_order env.geometry in
       omega (arith, e, within.second_in.bucket_in.place_in.0, order.page_map, order.nodes, order.pages)))
-  work-draws (work_at.CuttingOff emptying entry) within =
+  work-draws few (work_at.CuttingOff emptying entry) within =
       inl (cut-serial emptying.bucket.place entry.before within.emptying_in.locked_in.place_in)
-  work-draws (work_at.Unlocking rehash number unlock stop) within =
+  work-draws few (work_at.Unlocking rehash number unlock stop) within =
       inl (by_slots _ (unlock-spares env.geometry unlock within.unlock_in))
-  work-draws (work_at.Publishing rehash) within = inl (inr (λ e. omega (arith, e)))
-  work-draws (work_at.Retiring root again) within = inl (inr (λ e. omega (arith, e)))
-  work-draws (work_at.LettingGo outcome) within = inl (inr (λ e. omega (arith, e)))
-  work-draws _ within = inl (inl (_, refl))
+  work-draws few (work_at.Publishing rehash) within = inl (inr (λ e. omega (arith, e)))
+  work-draws few (work_at.Retiring root again) within = inl (inr (λ e. omega (arith, e)))
+  work-draws few (work_at.LettingGo outcome) within = inl (inr (λ e. omega (arith, e)))
+  work-draws few _ within = inl (inl (_, refl))
 
-  pub job-draws : (mix : ℕ → ℕ → ℕ → ℕ) (c : ℕ) → c < 16 → (job : Job) → JobIn env mix c job
+  pub job-draws : (mix : ℕ → ℕ → ℕ → ℕ) → c < 16 → (job : Job) → JobIn env mix c job
       → SparesSerial (job_plan env c job) ⊎ DrawsJob job
-  job-draws mix c few (binds port owner once state) within = bind-draws state within.at_in
-  job-draws mix c few (works state) within = work-draws state within
-  job-draws mix c few job within = inl (by_slots _ (other-spares env mix c few job within refl))
+  job-draws mix few (binds port owner once state) within = bind-draws few state within.at_in
+  job-draws mix few (works state) within = work-draws few state within
+  job-draws mix few job within = inl (by_slots _ (other-spares env mix c few job within refl))
 
   -- its operation adds one to the next serial
   make-adds : (make : MakeModel) → IsDrawing make → make_plan_at make.geometry make.exponent make.seed make.at ≡ Add 3 1
@@ -191,10 +195,10 @@ module _ (env : Env) where
   work-adds (work_at.Making wanted make) drawing = make-adds make drawing
   work-adds _ drawing = absurd drawing
 
-  pub job-adds : (c : ℕ) (job : Job) → DrawsJob job → job_plan env c job ≡ Add 3 1
-  job-adds c (binds port owner once state) drawing = bind-adds state drawing
-  job-adds c (works state) drawing = work-adds state drawing
-  job-adds c _ drawing = absurd drawing
+  pub job-adds : (job : Job) → DrawsJob job → job_plan env c job ≡ Add 3 1
+  job-adds (binds port owner once state) drawing = bind-adds state drawing
+  job-adds (works state) drawing = work-adds state drawing
+  job-adds _ drawing = absurd drawing
 
 -- such an operation doesn't leave that word
 pub adds-not_spared : (op : Op) → op ≡ Add 3 1 → SparesSerial op → ⊥

@@ -71,6 +71,9 @@ use Rattle.rht_bind.specs.declared.bind.Claimed.{Claimed}
 use Rattle.rht_bind.specs.declared.bind.FoundList.{FoundList}
 use Rattle.rht_bind.specs.declared.bind.growth.Growing.{Growing}
 use Rattle.rht_bind.specs.declared.bind.growth.Refusal.{Refusal}
+use Rattle.rht_bind.specs.Endings.{closed}
+use Rattle.rht_bind.specs.declared.bind.ending.Ending.{Ending}
+use Rattle.rht_bind.specs.declared.bind.ending.Ending.TheVariants as endings
 use Rattle.rht_bind.specs.declared.bind.BindAt.{BindAt}
 use Rattle.rht_bind.specs.declared.bind.BindAt.TheVariants as at
 use Rattle.rht_core.specs.Traces.{Did}
@@ -80,6 +83,7 @@ use Rattle.rht_ghost.proofs.Theory.Steps.{by_test}
 -- whether a bind in this state has attached a table, where it is still to say so
 abbrev pub attached_at : BindAt → Option Bool
 attached_at (at.Filling new) = Some false
+attached_at (at.Opening attempt) = Some attempt.attached
 attached_at (at.CurrentTable attempt) = Some attempt.attached
 attached_at (at.Locating attempt locate) = Some attempt.attached
 attached_at (at.Entering attempt table shape place grow) = Some attempt.attached
@@ -102,6 +106,9 @@ attached_at (at.Making growing size make) = Some growing.attempt.attached
 attached_at (at.FutureAgain growing refusal) = Some growing.attempt.attached
 attached_at (at.Attaching growing slot shape) = Some growing.attempt.attached
 attached_at (at.Unmaking attempt unmake answer) = Some attempt.attached
+attached_at (at.Closing (endings.Bound kick)) = None
+attached_at (at.Closing (endings.Answered node reply)) = None
+attached_at (at.Closing (endings.Anew attempt)) = Some attempt.attached
 attached_at (at.Giving give reply) = None
 
 -- the state has this of it, or nothing
@@ -158,9 +165,9 @@ module _ (env : Env) where
       seen-keeps kind claimed end.seen.found end.seen.before end.seen.length
 
   replaced-keeps : (list : FoundList) (relink : RelinkModel) (next : Next (Unit {0}))
-      → Keeps list.claimed.attempt.attached (replaced list relink next).0
+      → Keeps list.claimed.attempt.attached (replaced list relink next)
   replaced-keeps list relink Go = refl
-  replaced-keeps list relink (Done done) = refl
+  replaced-keeps list relink (Done done) = tt
 
   future-keeps : (claimed : Claimed) (length : ℕ) (future : Option ℕ)
       → Keeps claimed.attempt.attached (future_or_count claimed length future)
@@ -194,17 +201,17 @@ module _ (env : Env) where
   made-keeps growing size make (Done (Some table)) = refl
 
   behind-keeps : (attempt : Attempt) (answer : Option Reply)
-      → Keeps attempt.attached (behind_attempt env attempt answer)
+      → Keeps attempt.attached (behind_attempt attempt answer)
   behind-keeps attempt None = refl
   behind-keeps attempt (Some reply) = tt
 
   refused-keeps : (once : Bool) (growing : Growing) (refusal : Refusal) (future : Option ℕ)
-      → Keeps growing.attempt.attached (refused_or_found env once growing refusal future)
+      → Keeps growing.attempt.attached (refused_or_found once growing refusal future)
   refused-keeps once growing refusal None = tt
   refused-keeps once growing refusal (Some table) = behind-keeps growing.attempt (ended_attempt once table)
 
   unmade-keeps : (attempt : Attempt) (answer : Option Reply) (unmake : UnmakeModel) (next : Next (Unit {0}))
-      → Keeps attempt.attached (unmade env attempt answer unmake next)
+      → Keeps attempt.attached (unmade attempt answer unmake next)
   unmade-keeps attempt answer unmake Go = refl
   unmade-keeps attempt answer unmake (Done done) = behind-keeps attempt answer
 
@@ -324,17 +331,17 @@ module _ (env : Env) where
       (AttachedSo-push g was steps did (no_attach g did op is none) so)
 
   published-saw : (node table : ℕ) (kick : Bool) (relink : RelinkModel) (next : Next (Unit {0})) (all : List Did)
-      → SawAttached (published node table kick relink next).0 all
+      → SawAttached (published node table kick relink next) all
   published-saw node table kick relink Go all = tt
   published-saw node table kick relink (Done done) all = tt
 
   -- the exchange attaches where it finds that there was no future
   attaching-saw : (once : Bool) (growing : Growing) (slot shape : ℕ) (steps : List Did) (did : Did)
-      → growing.table < 8 → slot < 8 → did.op ≡ plan_at env c (at.Attaching growing slot shape)
+      → growing.table < 8 → slot < 8 → did.op ≡ Exchange (place_of g (Slot growing.table FutureWord)) 0 (future_of slot)
       → AttachedSo g growing.attempt.attached steps
       → SawAttached (checked_attach env once growing slot shape did.old) (steps ++ did ∷ [])
   attaching-saw once growing slot shape steps did table_in slot_in is so =
-      let won = behind_attempt env (has_attached growing.attempt) (ended_attempt once slot) in
+      let won = behind_attempt (has_attached growing.attempt) (ended_attempt once slot) in
       let answer = ended_attempt once (table_of (did.old - 1)) in
       let all = steps ++ did ∷ [] in
       by_test (λ t. SawAttached (cond t won (at.Unmaking growing.attempt (unmake_new g slot shape) answer)) all)
@@ -351,71 +358,82 @@ module _ (env : Env) where
       AttachedSo-push g growing.attempt.attached steps did
       (λ some. eqb-false did.old 0 f some.attaches.found) so)
 
-  pub attached-saw : (mix : ℕ → ℕ → ℕ → ℕ) (port : ℕ) (once : Bool) (state : BindAt) (steps : List Did) (did : Did)
+  -- behind the closing of its section a bind that begins anew is to say so still
+  closed-saw : (ending : Ending) (steps : List Did) (did : Did) → IsNoAttach g did → SawAttached (at.Closing ending) steps
+      → SawAttached (closed env ending).0 (steps ++ did ∷ [])
+  closed-saw (endings.Bound kick) steps did none saw = tt
+  closed-saw (endings.Answered node reply) steps did none saw = tt
+  closed-saw (endings.Anew attempt) steps did none saw = AttachedSo-push g attempt.attached steps did none saw
+
+  pub attached-saw : (mix : ℕ → ℕ → ℕ → ℕ) (c port : ℕ) (once : Bool) (state : BindAt) (steps : List Did) (did : Did)
       → IsBindAtIn env state → did.op ≡ plan_at env c state → SawAttached state steps
       → SawAttached (after_at mix env port once state did.old).0 (steps ++ did ∷ [])
-  attached-saw mix port once (at.Filling new) steps did within is saw =
+  attached-saw mix c port once (at.Filling new) steps did within is saw =
       let r = new_node_after new did.old in
       goes false (filled r.0 r.1).0 _ steps did is (new_node-none g new.geometry new.key new.owner new.at)
       (filled-keeps env r.0 r.1) saw
-  attached-saw mix port once (at.CurrentTable attempt) steps did within is saw =
+  attached-saw mix c port once (at.Opening attempt) steps did within is saw =
+      AttachedSo-push g attempt.attached steps did (no_attach g did _ is (λ table old new l e. cc)) saw
+  attached-saw mix c port once (at.CurrentTable attempt) steps did within is saw =
       goes attempt.attached (locating env attempt (table_of did.old)) _ steps did is (λ table old new l e. cc) refl saw
-  attached-saw mix port once (at.Locating attempt locate) steps did within is saw =
+  attached-saw mix c port once (at.Locating attempt locate) steps did within is saw =
       let r = locate_after mix port locate did.old in
       goes attempt.attached (located env port attempt r.0 r.1) _ steps did is
       (locate-none g locate.geometry locate.table locate.at) (located-keeps env port attempt r.0 r.1) saw
-  attached-saw mix port once (at.Entering attempt table shape place grow) steps did within is saw =
+  attached-saw mix c port once (at.Entering attempt table shape place grow) steps did within is saw =
       let r = grow_after grow did.old in
       goes attempt.attached (grown env port attempt table shape place r.0 r.1) _ steps did is
       (grow-none g grow.entry grow.at within.grow_in.entry_in) (grown-keeps env port attempt table shape place r.0 r.1) saw
-  attached-saw mix port once (at.Probing attempt table shape probe) steps did within is saw =
+  attached-saw mix c port once (at.Probing attempt table shape probe) steps did within is saw =
       let r = probe_after probe did.old in
       goes attempt.attached (probed env.config.kind attempt table shape r.0 r.1) _ steps did is
       (probe-none g probe.at within.probe_in.at_in) (probed-keeps env env.config.kind attempt table shape r.0 r.1) saw
-  attached-saw mix port once (at.FoundOwner claimed found) steps did within is saw =
+  attached-saw mix c port once (at.FoundOwner claimed found) steps did within is saw =
       AttachedSo-push g claimed.attempt.attached steps did (no_attach g did _ is (λ table old new l e. cc)) saw
-  attached-saw mix port once (at.ListLink list) steps did within is saw =
+  attached-saw mix c port once (at.ListLink list) steps did within is saw =
       AttachedSo-push g list.claimed.attempt.attached steps did (no_attach g did _ is (λ table old new l e. cc)) saw
-  attached-saw mix port once (at.ChainLink list) steps did within is saw =
+  attached-saw mix c port once (at.ChainLink list) steps did within is saw =
       AttachedSo-push g list.claimed.attempt.attached steps did (no_attach g did _ is (λ table old new l e. cc)) saw
-  attached-saw mix port once (at.LinkBehind list link) steps did within is saw =
+  attached-saw mix c port once (at.LinkBehind list link) steps did within is saw =
       AttachedSo-push g list.claimed.attempt.attached steps did (no_attach g did _ is (λ table old new l e. cc)) saw
-  attached-saw mix port once (at.Replacing list relink) steps did within is saw =
+  attached-saw mix c port once (at.Replacing list relink) steps did within is saw =
       let r = relink_after relink in
-      goes list.claimed.attempt.attached (replaced list r.0 r.1).0 _ steps did is (relink-none g relink relink.at)
+      goes list.claimed.attempt.attached (replaced list r.0 r.1) _ steps did is (relink-none g relink relink.at)
       (replaced-keeps env list r.0 r.1) saw
-  attached-saw mix port once (at.Future claimed length) steps did within is saw =
+  attached-saw mix c port once (at.Future claimed length) steps did within is saw =
       goes claimed.attempt.attached (future_or_count claimed length (slot_of did.old)) _ steps did is
       (λ table old new l e. cc) (future-keeps env claimed length (slot_of did.old)) saw
-  attached-saw mix port once (at.Count claimed) steps did within is saw =
+  attached-saw mix c port once (at.Count claimed) steps did within is saw =
       goes claimed.attempt.attached (checked_count env claimed did.old) _ steps did is (λ table old new l e. cc)
       (count-keeps env claimed did.old) saw
-  attached-saw mix port once (at.Link claimed) steps did within is saw =
+  attached-saw mix c port once (at.Link claimed) steps did within is saw =
       AttachedSo-push g claimed.attempt.attached steps did (no_attach g did _ is (λ table old new l e. cc)) saw
-  attached-saw mix port once (at.Raise claimed) steps did within is saw = tt
-  attached-saw mix port once (at.Publish node table relink kick) steps did within is saw =
+  attached-saw mix c port once (at.Raise claimed) steps did within is saw = tt
+  attached-saw mix c port once (at.Publish node table relink kick) steps did within is saw =
       published-saw node table kick (relink_after relink).0 (relink_after relink).1 (steps ++ did ∷ [])
-  attached-saw mix port once (at.Unlocking attempt table unlock next) steps did within is saw =
+  attached-saw mix c port once (at.Unlocking attempt table unlock next) steps did within is saw =
       goes attempt.attached (unlocked env attempt next) _ steps did is (λ table old new l e. cc)
       (unlocked-keeps env attempt next) saw
-  attached-saw mix port once (at.UnlockingFull growing unlock) steps did within is saw =
+  attached-saw mix c port once (at.UnlockingFull growing unlock) steps did within is saw =
       AttachedSo-push g growing.attempt.attached steps did (no_attach g did _ is (λ table old new l e. cc)) saw
-  attached-saw mix port once (at.Root growing) steps did within is saw =
+  attached-saw mix c port once (at.Root growing) steps did within is saw =
       AttachedSo-push g growing.attempt.attached steps did (no_attach g did _ is (λ table old new l e. cc)) saw
-  attached-saw mix port once (at.GrowthCount growing root) steps did within is saw =
+  attached-saw mix c port once (at.GrowthCount growing root) steps did within is saw =
       goes growing.attempt.attached (want_or_busy env growing root did.old) _ steps did is (λ table old new l e. cc)
       (want-keeps env growing root did.old) saw
-  attached-saw mix port once (at.Making growing size make) steps did within is saw =
+  attached-saw mix c port once (at.Making growing size make) steps did within is saw =
       let r = make_after make did.old in
       goes growing.attempt.attached (made growing size r.0 r.1) _ steps did is
       (make-none g make.geometry make.exponent make.seed make.at) (made-keeps env growing size r.0 r.1) saw
-  attached-saw mix port once (at.FutureAgain growing refusal) steps did within is saw =
-      goes growing.attempt.attached (refused_or_found env once growing refusal (slot_of did.old)) _ steps did is
+  attached-saw mix c port once (at.FutureAgain growing refusal) steps did within is saw =
+      goes growing.attempt.attached (refused_or_found once growing refusal (slot_of did.old)) _ steps did is
       (λ table old new l e. cc) (refused-keeps env once growing refusal (slot_of did.old)) saw
-  attached-saw mix port once (at.Attaching growing slot shape) steps did within is saw =
+  attached-saw mix c port once (at.Attaching growing slot shape) steps did within is saw =
       attaching-saw once growing slot shape steps did within.growing_in.table_in within.slot_in is saw
-  attached-saw mix port once (at.Unmaking attempt unmake answer) steps did within is saw =
+  attached-saw mix c port once (at.Unmaking attempt unmake answer) steps did within is saw =
       let r = unmake_after unmake did.old in
-      goes attempt.attached (unmade env attempt answer r.0 r.1) _ steps did is
+      goes attempt.attached (unmade attempt answer r.0 r.1) _ steps did is
       (unmake-none g unmake.geometry unmake.slot unmake.at) (unmade-keeps env attempt answer r.0 r.1) saw
-  attached-saw mix port once (at.Giving give reply) steps did within is saw = tt
+  attached-saw mix c port once (at.Closing ending) steps did within is saw =
+      closed-saw ending steps did (no_attach g did _ is (λ table old new l e. cc)) saw
+  attached-saw mix c port once (at.Giving give reply) steps did within is saw = tt

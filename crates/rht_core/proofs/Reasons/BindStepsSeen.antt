@@ -19,7 +19,7 @@ use Rattle.rht_policy.specs.Thresholds.{is_above_100, is_above_max}
 use Rattle.rht_words.specs.Shapes.{unpacked, size_of}
 use Rattle.rht_words.specs.Links.{slot_of, table_of}
 use Rattle.rht_model.specs.declared.history.Reply.{Reply}
-use Rattle.rht_model.specs.declared.history.Reply.TheVariants.{TooBig}
+use Rattle.rht_model.specs.declared.history.Reply.TheVariants.{Bound, TooBig}
 use Rattle.rht_arena.specs.NewNode.{NewNodeModel, new_node_after_at}
 use Rattle.rht_arena.specs.declared.new_node.NewNodeAt.{NewNodeAt}
 use Rattle.rht_nest.specs.Make.{make_after_at}
@@ -37,6 +37,9 @@ use Rattle.rht_bind.specs.declared.bind.growth.Full.TheVariants as full
 use Rattle.rht_bind.specs.Bind.{after_at, filled, grown, bound_already, found_or_future, probed, replaced, unlocking, future_or_count, checked_count, published, unlocked}
 use Rattle.rht_bind.specs.declared.bind.Claimed.{Claimed}
 use Rattle.rht_bind.specs.declared.bind.FoundList.{FoundList}
+use Rattle.rht_bind.specs.Endings.{closed}
+use Rattle.rht_bind.specs.declared.bind.ending.Ending.{Ending}
+use Rattle.rht_bind.specs.declared.bind.ending.Ending.TheVariants as endings
 use Rattle.rht_bind.specs.declared.bind.BindAt.{BindAt}
 use Rattle.rht_bind.specs.declared.bind.BindAt.TheVariants as at
 use Rattle.rht_core.specs.Jobs.{binds}
@@ -59,7 +62,7 @@ use Rattle.rht_core.proofs.Reasons.UnraisedBinds.{grow-none, SawUnraised}
 use Rattle.rht_core.proofs.Reasons.RefusedBinds.{no_key-future, Behind-push, SawWhy, SawWhy-push, SawRoot, SawToMake, above-why, root-saw, making-saw}
 use Rattle.rht_ghost.proofs.Theory.Steps.{mem, by_test}
 use Rattle.rht_core.proofs.Reasons.NewNodesSeen.{SawMade, new-saw}
-use Rattle.rht_core.proofs.Reasons.RaisesSeen.{relink-no_load, relink-no_add, unmake-no_load, unmake-no_add, still, Raised, Raised-push, raise-saw, none-raised}
+use Rattle.rht_core.proofs.Reasons.RaisesSeen.{relink-no_load, relink-no_add, unmake-no_load, unmake-no_add, IsStill, still, turning-still, Raised, Raised-push, raise-saw, none-raised}
 use Rattle.rht_core.proofs.Reasons.BindsSeen.{SawThen, SawAt, SawNext, SawFor, SawFor-push, SawForReply-push, SawThen-push}
 use Rattle.rht_core.proofs.Reasons.WaysSeen.{locating-saw, grown-saw}
 use Rattle.rht_core.proofs.Reasons.GrowthsSeen.{unmade-saw, want-saw, made-saw, again-saw, attach-saw, attaching_few, again_few}
@@ -220,14 +223,14 @@ module _ (env : Env) (words_at : ℕ → List ℕ) (mix : ℕ → ℕ → ℕ �
       → Walked env.geometry list.claimed.table list.claimed.shape steps
       → AttachedSo env.geometry list.claimed.attempt.attached steps
       → AllByRecursion (IsNoRaise env.geometry) steps
-      → SeesNext steps (replaced list relink next)
+      → Sees (replaced list relink next) steps
   replaced-saw list relink Go steps listed walked so none = walked
   replaced-saw list relink (Done done) steps listed walked so none =
       none-raised env words_at mix port list.claimed steps listed walked so none
 
   published-saw : (node table : ℕ) (kick : Bool) (relink : RelinkModel) (next : Next (Unit {0}))
       (steps : List Did)
-      → Raised env words_at mix port kick steps → SeesNext steps (published node table kick relink next)
+      → Raised env words_at mix port kick steps → Sees (published node table kick relink next) steps
   published-saw node table kick relink Go steps raised = raised
   published-saw node table kick relink (Done done) steps raised = raised
 
@@ -236,6 +239,13 @@ module _ (env : Env) (words_at : ℕ → List ℕ) (mix : ℕ → ℕ → ℕ �
       → Sees (unlocked env attempt next) steps
   unlocked-saw attempt (Table table) steps came = came
   unlocked-saw attempt (Answer reply) steps saw = saw
+
+  -- what was seen for an answer stays so behind the closing of the section
+  closed-saw : (ending : Ending) (steps : List Did) (did : Did) → IsStill env did → Sees (at.Closing ending) steps
+      → SeesNext (steps ++ did ∷ []) (closed env ending)
+  closed-saw (endings.Bound kick) steps did none saw = SawFor-push env words_at mix port (Bound kick) steps did none saw
+  closed-saw (endings.Answered node reply) steps did none saw = SawFor-push env words_at mix port reply steps did none saw
+  closed-saw (endings.Anew attempt) steps did none saw = tt
 
   -- with whether it has attached a table, and that it has raised no count
   abbrev pub SawAll : List Did → BindAt × Next Reply → Type 0
@@ -258,6 +268,7 @@ module _ (env : Env) (words_at : ℕ → List ℕ) (mix : ℕ → ℕ → ℕ �
     bind-saw (at.Filling new) steps did does now saw so unraised =
         bind_made-saw new (new_node_after_at new.at did.old) (steps ++ did ∷ [])
         (new-saw env new new.at steps did refl does.within.at_in does.planned saw)
+    bind-saw (at.Opening attempt) steps did does now saw so unraised = tt
     bind-saw (at.CurrentTable attempt) steps did does now saw so unraised =
         came-current env.geometry steps did does.planned
     bind-saw (at.Locating attempt locate) steps did does now saw so unraised =
@@ -393,6 +404,8 @@ module _ (env : Env) (words_at : ℕ → List ℕ) (mix : ℕ → ℕ → ℕ �
         (unmake-no_add unmake.geometry unmake.slot unmake.at)
         (unmake-none env.geometry unmake.geometry unmake.slot unmake.at)) saw.0)
         (unmake-own env.geometry unmake.geometry unmake.slot unmake.at steps did does.planned saw.1)
+    bind-saw (at.Closing ending) steps did does now saw so unraised =
+        closed-saw ending steps did (turning-still env does.caller did does.planned) saw
     bind-saw (at.Giving give reply) steps did does now saw so unraised =
         SawFor-push env words_at mix port reply steps did
         (still env did _ does.planned (λ place load. cc) (λ place value adds. cc) (λ table old new l e. cc))

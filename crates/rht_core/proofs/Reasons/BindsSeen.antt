@@ -5,7 +5,7 @@
 -- further table too. While it enters a page, it loaded the table's future as none, and then the entry at
 -- which the way to its port's bucket ends, and these pages were seen taken. Before the raise of the count it
 -- has seen that there is room, and behind it there was that; and while its state holds a refusal, what the refusal says. What is seen for a reply stays
--- so while it unlocks a bucket and gives its node back.
+-- so while it unlocks a bucket, closes its section and gives its node back.
 use Rattle.std.proofs.Common.{◌≡◌, ◌⊎◌, ℕ, ◌≤◌, List, [], ◌∷◌, ◌++◌, map, sym, ap, ◌∙◌, append_assoc, subst, inl, inr}
 use Rattle.std.specs.Prelude.{Option, Some, None, IfSome}
 use Rattle.std.proofs.lemmas.List.{map-append}
@@ -22,6 +22,7 @@ use Rattle.rht_chain.specs.declared.locked.Then.{Then}
 use Rattle.rht_chain.specs.declared.locked.Then.TheVariants.{Table, Answer}
 use Rattle.rht_arena.proofs.NodesSeen.{SawAllBelow, SawAllBelow-push}
 use Rattle.rht_bind.specs.declared.bind.Claimed.{Claimed}
+use Rattle.rht_bind.specs.BindHeld.{answer_of_ending}
 use Rattle.rht_bind.specs.declared.bind.BindAt.{BindAt}
 use Rattle.rht_bind.specs.declared.bind.BindAt.TheVariants as at
 use Rattle.rht_core.specs.Traces.{Did, performed_of}
@@ -102,6 +103,7 @@ module _ (env : Env) (words_at : ℕ → List ℕ) (mix : ℕ → ℕ → ℕ �
 
   abbrev pub SawAt : BindAt → List Did → Type 0
   SawAt (at.Filling new) steps = SawNew env new.at steps
+  SawAt (at.Opening attempt) steps = Unit {0}
   SawAt (at.CurrentTable attempt) steps = Unit {0}
   SawAt (at.Locating attempt locate) steps =
       WalkedAt env.geometry (SeesNoFuture env.geometry words_at mix port) locate.table locate.at steps
@@ -138,6 +140,7 @@ module _ (env : Env) (words_at : ℕ → List ℕ) (mix : ℕ → ℕ → ℕ �
   SawAt (at.Attaching growing slot shape) steps =
       Behind env.geometry growing.table growing.shape (SawToAttach env words_at mix port growing slot shape) steps
   SawAt (at.Unmaking attempt unmake answer) steps = SawForReply answer steps × HasTakenSlot env.geometry unmake.slot steps
+  SawAt (at.Closing ending) steps = SawForReply (answer_of_ending ending) steps
   SawAt (at.Giving give reply) steps = SawFor reply steps
 
   -- what it has seen once it goes on, and once it has answered

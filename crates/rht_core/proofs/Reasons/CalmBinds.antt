@@ -4,8 +4,8 @@
 -- that it loads is above the size of the table in which it is, or as many as the table may hold. In its chains no 16 nodes are counted,
 -- since as many ports would be bound. And it comes to no table that is nested, so its buckets are there. What makes a table good, and to
 -- which ones it comes, is another matter.
-use Rattle.std.proofs.Common.{◌≡◌, ℕ, ◌+◌, ◌≤◌, Bool, true, false, cond, min, nat_le, List, [], ◌∷◌, length, refl, subst, inl, inr, arith}
-use Rattle.std.specs.Prelude.{Option, Some, None}
+use Rattle.std.proofs.Common.{◌≡◌, ℕ, ◌+◌, ◌<◌, ◌≤◌, Bool, true, false, cond, min, nat_le, List, [], ◌∷◌, length, refl, subst, inl, inr, arith}
+use Rattle.std.specs.Prelude.{Option, Some, None, IfSome}
 use Rattle.std.proofs.lemmas.Bool.{cases_eq, leb-true, both_ways}
 use Rattle.rht_words.specs.declared.env.Env.{Env}
 use Rattle.rht_words.specs.declared.config.Kind.{Kind}
@@ -38,6 +38,10 @@ use Rattle.rht_bind.specs.declared.bind.Attempt.{Attempt}
 use Rattle.rht_bind.specs.declared.bind.Claimed.{Claimed}
 use Rattle.rht_bind.specs.declared.bind.FoundList.{FoundList}
 use Rattle.rht_bind.specs.declared.bind.growth.Full.TheVariants as full
+use Rattle.rht_bind.specs.declared.bind.ending.Ending.{Ending}
+use Rattle.rht_bind.specs.declared.bind.ending.Ending.TheVariants as endings
+use Rattle.rht_bind.specs.Endings.{closed}
+use Rattle.rht_bind.specs.BindHeld.{answer_of_ending}
 use Rattle.rht_bind.specs.declared.bind.BindAt.{BindAt}
 use Rattle.rht_bind.specs.declared.bind.BindAt.TheVariants as at
 use Rattle.rht_core.specs.Jobs.{binds}
@@ -47,7 +51,7 @@ use Rattle.rht_core.specs.Traces.{Did}
 use Rattle.rht_ghost.proofs.Theory.Steps.{by_test}
 use Rattle.rht_core.proofs.Tracing.TracedJobs.{Performs}
 use Rattle.rht_core.proofs.Reasons.BindsSeen.{SawAt}
-use Rattle.rht_core.proofs.Counting.SparedSlots.{SparesSlots, by_load, at_node, new_node-spares, give_node-spares, locate-spares, probe-spares, relink-spares, unlock-spares}
+use Rattle.rht_core.proofs.Counting.SparedSlots.{SparesSlots, by_load, at_node, at_section, new_node-spares, give_node-spares, locate-spares, probe-spares, relink-spares, unlock-spares}
 use Rattle.rht_words.specs.Places.{ChainLink, ListLink}
 use Rattle.rht_bind.specs.Bind.{plan_at, IsBindAtIn}
 
@@ -70,6 +74,7 @@ module _ (env : Env) (Good Come : ℕ → Type 0) where
 
   abbrev pub CalmBind : BindAt → Type 0
   CalmBind (at.Filling new) = Unit {0}
+  CalmBind (at.Opening attempt) = Unit {0}
   CalmBind (at.CurrentTable attempt) = Unit {0}
   CalmBind (at.Locating attempt locate) = Come locate.table × CalmLocate locate.at
   CalmBind (at.Entering attempt table shape place grow) = ⊥
@@ -92,6 +97,7 @@ module _ (env : Env) (Good Come : ℕ → Type 0) where
   CalmBind (at.FutureAgain growing refusal) = ⊥
   CalmBind (at.Attaching growing slot shape) = ⊥
   CalmBind (at.Unmaking attempt unmake answer) = ⊥
+  CalmBind (at.Closing ending) = IfSome (answer_of_ending ending) CalmReply
   CalmBind (at.Giving give reply) = CalmReply reply
 
   abbrev pub CalmNext : BindAt × Next Reply → Type 0
@@ -132,12 +138,12 @@ module _ (env : Env) (Good Come : ℕ → Type 0) where
       let claimed : Claimed = record { attempt = attempt; table = table; shape = shape; bucket = end.bucket } in
       calm-found kind claimed end.seen.found end.seen.before end.seen.length good
 
-  calm-replaced : (list : FoundList) (relink : RelinkModel) (next : Next (Unit {0})) → CalmNext (replaced list relink next)
+  calm-replaced : (list : FoundList) (relink : RelinkModel) (next : Next (Unit {0})) → CalmBind (replaced list relink next)
   calm-replaced list relink Go = tt
   calm-replaced list relink (Done done) = λ is. absurd (cc)
 
   calm-published : (node table : ℕ) (kick : Bool) (relink : RelinkModel) (next : Next (Unit {0}))
-      → CalmNext (published node table kick relink next)
+      → CalmBind (published node table kick relink next)
   calm-published node table kick relink Go = tt
   calm-published node table kick relink (Done done) = λ is. absurd (cc)
 
@@ -190,12 +196,18 @@ module _ (env : Env) (Good Come : ℕ → Type 0) where
         counted.counted)
         (λ f. good)
 
+    calm-closed : (ending : Ending) → IfSome (answer_of_ending ending) CalmReply → CalmNext (closed env ending)
+    calm-closed (endings.Bound kick) calm = calm
+    calm-closed (endings.Answered node reply) calm = calm
+    calm-closed (endings.Anew attempt) calm = tt
+
     -- a calm bind stays calm, or ends so
     pub calm-bind : (mix : ℕ → ℕ → ℕ → ℕ) (port owner : ℕ) (once : Bool) (state : BindAt) (steps : List Did) (did : Did)
         → Performs mix env (binds port owner once state) did → SawAt env words_at mix port state steps → CalmBind state
         → IsCalmAt state did.old → CalmNext (after_at mix env port once state did.old)
     calm-bind mix port owner once (at.Filling new) steps did does saw calm is =
         calm-filled (new_node_after new did.old).0 (new_node_after new did.old).1
+    calm-bind mix port owner once (at.Opening attempt) steps did does saw calm is = tt
     calm-bind mix port owner once (at.CurrentTable attempt) steps did does saw calm is = (is.current attempt refl, tt)
     calm-bind mix port owner once (at.Locating attempt locate) steps did does saw calm is =
         calm-located mix port attempt locate locate.at did.old calm.0 calm.1 (λ shape. is.shape attempt locate refl shape calm.0)
@@ -218,25 +230,28 @@ module _ (env : Env) (Good Come : ℕ → Type 0) where
         calm-published node table kick (relink_after relink).0 (relink_after relink).1
     calm-bind mix port owner once (at.Unlocking attempt table unlock next) steps did does saw calm is =
         calm-unlocked attempt next calm
+    calm-bind mix port owner once (at.Closing ending) steps did does saw calm is = calm-closed ending calm
     calm-bind mix port owner once (at.Giving give reply) steps did does saw calm is = calm
     calm-bind mix port owner once _ steps did does saw calm is = absurd calm
 
   -- its operations leave the words of slots
-  pub bind-spares : (state : BindAt) → IsBindAtIn env state → CalmBind state → SparesSlots (plan_at env c state)
-  bind-spares (at.Filling new) within calm = new_node-spares new.geometry new.key new.owner new.at
-  bind-spares (at.CurrentTable attempt) within calm = by_load _ _ refl
-  bind-spares (at.Locating attempt locate) within calm = locate-spares locate.geometry locate.table locate.at
-  bind-spares (at.Probing attempt table shape probe) within calm = probe-spares env.geometry probe.at within.probe_in.at_in
-  bind-spares (at.FoundOwner claimed found) within calm = by_load _ _ refl
-  bind-spares (at.ListLink list) within calm = at_node env.geometry list.claimed.attempt.node ListLink _ refl
-  bind-spares (at.ChainLink list) within calm = by_load _ _ refl
-  bind-spares (at.LinkBehind list link) within calm = at_node env.geometry list.claimed.attempt.node ChainLink _ refl
-  bind-spares (at.Replacing list relink) within calm = relink-spares env.geometry relink relink.at within.relink_in.place_in
-  bind-spares (at.Future claimed length) within calm = by_load _ _ refl
-  bind-spares (at.Count claimed) within calm = by_load _ _ refl
-  bind-spares (at.Link claimed) within calm = at_node env.geometry claimed.attempt.node ChainLink _ refl
-  bind-spares (at.Raise claimed) within calm = inr (inr (inl refl))
-  bind-spares (at.Publish node table relink kick) within calm = relink-spares env.geometry relink relink.at within.relink_in.place_in
-  bind-spares (at.Unlocking attempt table unlock next) within calm = unlock-spares env.geometry unlock within.unlock_in
-  bind-spares (at.Giving give reply) within calm = give_node-spares give
-  bind-spares _ within calm = absurd calm
+  pub bind-spares : (c : ℕ) → c < 16 → (state : BindAt) → IsBindAtIn env state → CalmBind state → SparesSlots (plan_at env c state)
+  bind-spares c few (at.Filling new) within calm = new_node-spares new.geometry new.key new.owner new.at
+  bind-spares c few (at.Opening attempt) within calm = at_section few _ refl
+  bind-spares c few (at.Closing ending) within calm = at_section few _ refl
+  bind-spares c few (at.CurrentTable attempt) within calm = by_load _ _ refl
+  bind-spares c few (at.Locating attempt locate) within calm = locate-spares locate.geometry locate.table locate.at
+  bind-spares c few (at.Probing attempt table shape probe) within calm = probe-spares env.geometry probe.at within.probe_in.at_in
+  bind-spares c few (at.FoundOwner claimed found) within calm = by_load _ _ refl
+  bind-spares c few (at.ListLink list) within calm = at_node env.geometry list.claimed.attempt.node ListLink _ refl
+  bind-spares c few (at.ChainLink list) within calm = by_load _ _ refl
+  bind-spares c few (at.LinkBehind list link) within calm = at_node env.geometry list.claimed.attempt.node ChainLink _ refl
+  bind-spares c few (at.Replacing list relink) within calm = relink-spares env.geometry relink relink.at within.relink_in.place_in
+  bind-spares c few (at.Future claimed length) within calm = by_load _ _ refl
+  bind-spares c few (at.Count claimed) within calm = by_load _ _ refl
+  bind-spares c few (at.Link claimed) within calm = at_node env.geometry claimed.attempt.node ChainLink _ refl
+  bind-spares c few (at.Raise claimed) within calm = inr (inr (inl refl))
+  bind-spares c few (at.Publish node table relink kick) within calm = relink-spares env.geometry relink relink.at within.relink_in.place_in
+  bind-spares c few (at.Unlocking attempt table unlock next) within calm = unlock-spares env.geometry unlock within.unlock_in
+  bind-spares c few (at.Giving give reply) within calm = give_node-spares give
+  bind-spares c few _ within calm = absurd calm

@@ -110,8 +110,8 @@ module _ (M : Type 0) (mix : ℕ → ℕ → ℕ → ℕ) (env : Env) (events : 
       (after_at mix env port once state did.old)
       (all-saw env words_at mix port (after_at mix env port once state did.old) (steps ++ did ∷ [])
       (bind-saw env words_at mix port owner once state steps did performs now saw.0 saw.1.0 saw.1.1)
-      (attached-saw env mix port once state steps did performs.within.at_in performs.planned saw.1.0)
-      (unraised-saw env mix port once state steps did performs.planned saw.1.1))
+      (attached-saw env mix performs.caller port once state steps did performs.within.at_in performs.planned saw.1.0)
+      (unraised-saw env mix performs.caller port once state steps did performs.planned saw.1.1))
   job-leads (lists port room state) steps did performs now saw =
       let after = all.room_after state room did.old in
       let next = all.after_at mix env port state did.old in
@@ -120,7 +120,7 @@ module _ (M : Type 0) (mix : ℕ → ℕ → ℕ → ℕ) (env : Env) (events : 
   job-leads (releases port owner state) steps did performs now saw =
       let next = release.after_at mix env port owner state did.old in
       next-leads (releases port owner state) (releases port owner) node_ending (steps ++ did ∷ []) next
-      (release-saw env mix port owner state steps did performs.within performs.planned saw)
+      (release-saw env mix performs.caller port owner state steps did performs.within performs.planned saw)
   job-leads (rebinds port owner new state) steps did performs now saw =
       next-leads (rebinds port owner new state) (rebinds port owner new) node_ending (steps ++ did ∷ [])
       (rebind.after_at mix env port owner state did.old)

@@ -4,7 +4,7 @@
 use Rattle.std.proofs.Common.{◌≡◌, ℕ, ◌≤◌, Bool, true, cond, ◌<◌, ◌*◌, ◌-◌, nat_eq, List, [], ◌∷◌, ◌++◌, min, sym, ap, ◌∙◌, inl, inr, arith}
 use Rattle.std.specs.Prelude.{Option, Some, None, ◌==◌}
 use Rattle.std.proofs.lemmas.Bool.{eqb-true, eqb-false}
-use Rattle.rht_words.specs.declared.op.Op.TheVariants.{Load}
+use Rattle.rht_words.specs.declared.op.Op.TheVariants.{Load, Exchange}
 use Rattle.rht_words.specs.declared.env.Env.{Env}
 use Rattle.rht_words.specs.declared.machine.Next.{Next}
 use Rattle.rht_words.specs.declared.machine.Next.TheVariants.{Go, Done}
@@ -24,7 +24,6 @@ use Rattle.rht_bind.specs.declared.bind.Attempt.{Attempt}
 use Rattle.rht_bind.specs.declared.bind.growth.Growing.{Growing}
 use Rattle.rht_bind.specs.declared.bind.growth.Refusal.{Refusal}
 use Rattle.rht_bind.specs.declared.bind.growth.Refusal.TheVariants as refusals
-use Rattle.rht_bind.specs.Bind.{plan_at}
 use Rattle.rht_bind.specs.declared.bind.BindAt.TheVariants as at
 use Rattle.rht_core.specs.Jobs.{binds}
 use Rattle.rht_bind.specs.declared.bind.BindAt.{BindAt}
@@ -72,13 +71,13 @@ module _ (env : Env) (words_at : ℕ → List ℕ) (mix : ℕ → ℕ → ℕ �
       by_test (λ t. SeesFor (cond t (Some (Again table)) None) all) once (λ t. followed) (λ f. tt)
 
   behind-saw : (attempt : Attempt) (answer : Option Reply) (all : List Did) → SeesFor answer all
-      → Sees (behind_attempt env attempt answer) all
+      → Sees (behind_attempt attempt answer) all
   behind-saw attempt None all saw = tt
   behind-saw attempt (Some reply) all saw = saw
 
   pub unmade-saw : (attempt : Attempt) (answer : Option Reply) (unmake : UnmakeModel) (next : Next (Unit {0}))
       (all : List Did)
-      → SeesFor answer all → OwnUnmade env.geometry unmake.slot next all → Sees (unmade env attempt answer unmake next) all
+      → SeesFor answer all → OwnUnmade env.geometry unmake.slot next all → Sees (unmade attempt answer unmake next) all
   unmade-saw attempt answer unmake Go all saw own = (saw, own)
   unmade-saw attempt answer unmake (Done done) all saw own = behind-saw attempt answer all saw
 
@@ -141,7 +140,7 @@ module _ (env : Env) (words_at : ℕ → List ℕ) (mix : ℕ → ℕ → ℕ �
       → did.old ≤ 8
       → slot_of did.old ≡ future
       → Behind env.geometry growing.table growing.shape (SawRefusal env words_at mix port growing refusal) steps
-      → Sees (refused_or_found env once growing refusal future) (steps ++ did ∷ [])
+      → Sees (refused_or_found once growing refusal future) (steps ++ did ∷ [])
   again-saw growing (refusals.Busy root) None steps did within is few reads saw =
       busy-saw env words_at mix port growing root steps did
       (other_load env.geometry did _ is (λ other below same. absurd (omega (arith, same)))) within is
@@ -165,7 +164,7 @@ module _ (env : Env) (words_at : ℕ → List ℕ) (mix : ℕ → ℕ → ℕ �
   -- the exchange that attaches
   pub attach-saw : (growing : Growing) (slot shape : ℕ) (steps : List Did) (did : Did) → growing.table < 8
       → slot < 8
-      → did.op ≡ plan_at env c (at.Attaching growing slot shape) → did.old ≤ 8
+      → did.op ≡ Exchange (place_of env.geometry (Slot growing.table FutureWord)) 0 (future_of slot) → did.old ≤ 8
       → Behind env.geometry growing.table growing.shape (SawToAttach env words_at mix port growing slot shape) steps
       → Sees (checked_attach env once growing slot shape did.old) (steps ++ did ∷ [])
   attach-saw growing slot shape steps did within slot_in is few made =
@@ -173,7 +172,7 @@ module _ (env : Env) (words_at : ℕ → List ℕ) (mix : ℕ → ℕ → ℕ �
       let saw : Behind env.geometry growing.table growing.shape (SawWhy env words_at mix port growing.table growing.why growing.shape) steps =
       record { walked = made.walked; saw = made.saw.why } in
       let none = no_load env.geometry did _ is (λ place load. cc) in
-      let won = behind_attempt env (has_attached growing.attempt) (ended_attempt once slot) in
+      let won = behind_attempt (has_attached growing.attempt) (ended_attempt once slot) in
       let other = table_of (did.old - 1) in
       let lost =
       at.Unmaking growing.attempt (unmake_new env.geometry slot shape) (ended_attempt once other) in

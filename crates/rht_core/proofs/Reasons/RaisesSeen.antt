@@ -1,7 +1,7 @@
 -- Behind the last table that it walked a bind raised the count of ports, or it had nothing to raise. By what
 -- the raise found it says whether there is something to do, but where it has attached a table it says so
 -- anyway.
-use Rattle.std.proofs.Common.{◌≡◌, ◌⊎◌, ℕ, ◌+◌, Bool, ◌≢◌, List, [], ◌∷◌, ◌++◌, min, refl, subst, inl, inr}
+use Rattle.std.proofs.Common.{◌≡◌, ◌⊎◌, ℕ, ◌+◌, Bool, ◌≢◌, List, [], ◌∷◌, ◌++◌, min, refl, sym, ap, ◌∙◌, subst, inl, inr, arith}
 use Rattle.std.specs.Prelude.{◌||◌}
 use Rattle.std.specs.List.{AllByRecursion}
 use Rattle.rht_words.specs.declared.op.Op.{Op}
@@ -9,7 +9,8 @@ use Rattle.rht_words.specs.declared.op.Op.TheVariants.{Load, Add}
 use Rattle.rht_words.specs.declared.env.Env.{Env}
 use Rattle.rht_words.specs.declared.config.Kind.TheVariants.{Listed}
 use Rattle.rht_words.specs.declared.geometry.Geometry.{Geometry}
-use Rattle.rht_words.specs.Places.{PortCount, place_of}
+use Rattle.rht_words.specs.Operations.{op_place}
+use Rattle.rht_words.specs.Places.{PortCount, Section, place_of}
 use Rattle.rht_words.proofs.EachElement.{AllByRecursion-cut, AllByRecursion-push}
 use Rattle.rht_policy.specs.Thresholds.{is_above_75}
 use Rattle.rht_words.specs.Shapes.{unpacked, size_of}
@@ -61,6 +62,17 @@ module _ (env : Env) where
   still did op is none no_add apart = record {
     aside = aside env.geometry did op is none no_add;
     no_attach = no_attach env.geometry did op is apart;
+  }
+
+  -- such is what opens or closes a section
+  pub turning-still : (c : ℕ) (did : Did) → did.op ≡ Add (place_of env.geometry (Section c)) 1 → IsStill did
+  turning-still c did is = record {
+    aside = record {
+      no_shape = no_load env.geometry did _ is (λ place load. cc);
+      no_current = λ load. let both = sym is ∙ load in cc;
+      no_raise = λ adds. absurd (let at : 8 + c ≡ 2 = ap op_place (sym is ∙ adds) in omega (arith, at));
+    };
+    no_attach = no_attach env.geometry did _ is (λ table old new l e. cc);
   }
 
   -- what raised no count raised none before the last table was walked, nor behind that

@@ -1,6 +1,6 @@
 -- A bind raises the count of ports with one operation, and behind that it publishes its node and ends: until then it has
 -- raised none, in none of its attempts.
-use Rattle.std.proofs.Common.{◌≡◌, ◌≢◌, ℕ, Bool, List, [], ◌∷◌, ◌++◌, sym, ◌∙◌}
+use Rattle.std.proofs.Common.{◌≡◌, ◌≢◌, ℕ, ◌+◌, Bool, List, [], ◌∷◌, ◌++◌, sym, ap, ◌∙◌, arith}
 use Rattle.std.specs.Prelude.{Option, Some, None, IfSome}
 use Rattle.std.specs.List.{AllByRecursion}
 use Rattle.rht_words.specs.declared.op.Op.{Op}
@@ -9,7 +9,8 @@ use Rattle.rht_words.specs.declared.env.Env.{Env}
 use Rattle.rht_words.specs.declared.geometry.Geometry.{Geometry}
 use Rattle.rht_words.specs.declared.machine.Next.{Next}
 use Rattle.rht_words.specs.declared.machine.Next.TheVariants.{Go, Done}
-use Rattle.rht_words.specs.Places.{PortCount, place_of}
+use Rattle.rht_words.specs.Operations.{op_place}
+use Rattle.rht_words.specs.Places.{PortCount, Section, place_of}
 use Rattle.rht_words.proofs.EachElement.{AllByRecursion-push}
 use Rattle.rht_arena.specs.TakeNode.{plan_at as take_node_plan_at}
 use Rattle.rht_arena.specs.declared.take_node.TakeNodeAt.{TakeNodeAt}
@@ -45,6 +46,9 @@ use Rattle.rht_chain.specs.Relink.{RelinkModel, relink_plan_at, relink_after}
 use Rattle.rht_chain.specs.declared.relink.RelinkAt.{RelinkAt}
 use Rattle.rht_chain.specs.declared.relink.RelinkAt.TheVariants as relinks
 use Rattle.rht_bind.specs.Bind.{plan_at, after_at, published}
+use Rattle.rht_bind.specs.Endings.{closed}
+use Rattle.rht_bind.specs.declared.bind.ending.Ending.{Ending}
+use Rattle.rht_bind.specs.declared.bind.ending.Ending.TheVariants as endings
 use Rattle.rht_bind.specs.declared.bind.BindAt.{BindAt}
 use Rattle.rht_bind.specs.declared.bind.BindAt.TheVariants as at
 use Rattle.rht_core.specs.Traces.{Did}
@@ -130,37 +134,49 @@ module _ (env : Env) where
       (AllByRecursion-push (IsNoRaise g) steps did unraised (λ adds. none (sym is ∙ adds)))
 
   published-saw : (node table : ℕ) (kick : Bool) (relink : RelinkModel) (next : Next (Unit {0})) (all : List Did)
-      → SawUnraised (published node table kick relink next).0 all
+      → SawUnraised (published node table kick relink next) all
   published-saw node table kick relink Go all = tt
   published-saw node table kick relink (Done done) all = tt
 
-  pub unraised-saw : (mix : ℕ → ℕ → ℕ → ℕ) (port : ℕ) (once : Bool) (state : BindAt) (steps : List Did) (did : Did)
+  -- a section word is another word than the count of ports
+  turning-none : (c : ℕ) → IsNoCountAdd g (Add (place_of g (Section c)) 1)
+  turning-none c is = absurd (let at : 8 + c ≡ 2 = ap op_place is in omega (arith, at))
+
+  closed-saw : (c : ℕ) (ending : Ending) (steps : List Did) (did : Did) → did.op ≡ Add (place_of g (Section c)) 1 → SawUnraised (at.Closing ending) steps
+      → SawUnraised (closed env ending).0 (steps ++ did ∷ [])
+  closed-saw c (endings.Bound kick) steps did is saw = tt
+  closed-saw c (endings.Answered node reply) steps did is saw = tt
+  closed-saw c (endings.Anew attempt) steps did is saw = goes (at.Opening attempt) _ steps did is (turning-none c) saw
+
+  pub unraised-saw : (mix : ℕ → ℕ → ℕ → ℕ) (c port : ℕ) (once : Bool) (state : BindAt) (steps : List Did) (did : Did)
       → did.op ≡ plan_at env c state → SawUnraised state steps
       → SawUnraised (after_at mix env port once state did.old).0 (steps ++ did ∷ [])
-  unraised-saw mix port once (at.Filling new) steps did is saw =
+  unraised-saw mix c port once (at.Filling new) steps did is saw =
       goes (after_at mix env port once (at.Filling new) did.old).0 _ steps did is
       (new_node-none g new.geometry new.key new.owner new.at) saw
-  unraised-saw mix port once (at.Locating attempt locate) steps did is saw =
+  unraised-saw mix c port once (at.Locating attempt locate) steps did is saw =
       goes (after_at mix env port once (at.Locating attempt locate) did.old).0 _ steps did is
       (locate-none g locate.geometry locate.table locate.at) saw
-  unraised-saw mix port once (at.Entering attempt table shape place grow) steps did is saw =
+  unraised-saw mix c port once (at.Entering attempt table shape place grow) steps did is saw =
       goes (after_at mix env port once (at.Entering attempt table shape place grow) did.old).0 _ steps did is
       (grow-none g grow.entry grow.at) saw
-  unraised-saw mix port once (at.Probing attempt table shape probe) steps did is saw =
+  unraised-saw mix c port once (at.Probing attempt table shape probe) steps did is saw =
       goes (after_at mix env port once (at.Probing attempt table shape probe) did.old).0 _ steps did is
       (probe-none g probe.at) saw
-  unraised-saw mix port once (at.Replacing list relink) steps did is saw =
+  unraised-saw mix c port once (at.Replacing list relink) steps did is saw =
       goes (after_at mix env port once (at.Replacing list relink) did.old).0 _ steps did is
       (relink-none g relink relink.at) saw
-  unraised-saw mix port once (at.Making growing size make) steps did is saw =
+  unraised-saw mix c port once (at.Making growing size make) steps did is saw =
       goes (after_at mix env port once (at.Making growing size make) did.old).0 _ steps did is
       (make-none g make.geometry make.exponent make.seed make.at) saw
-  unraised-saw mix port once (at.Unmaking attempt unmake answer) steps did is saw =
+  unraised-saw mix c port once (at.Unmaking attempt unmake answer) steps did is saw =
       goes (after_at mix env port once (at.Unmaking attempt unmake answer) did.old).0 _ steps did is
       (unmake-none g unmake.geometry unmake.slot unmake.at) saw
-  unraised-saw mix port once (at.Raise claimed) steps did is saw = tt
-  unraised-saw mix port once (at.Publish node table relink kick) steps did is saw =
+  unraised-saw mix c port once (at.Opening attempt) steps did is saw = goes (at.CurrentTable attempt) _ steps did is (turning-none c) saw
+  unraised-saw mix c port once (at.Closing ending) steps did is saw = closed-saw c ending steps did is saw
+  unraised-saw mix c port once (at.Raise claimed) steps did is saw = tt
+  unraised-saw mix c port once (at.Publish node table relink kick) steps did is saw =
       published-saw node table kick (relink_after relink).0 (relink_after relink).1 (steps ++ did ∷ [])
-  unraised-saw mix port once (at.Giving give reply) steps did is saw = tt
-  unraised-saw mix port once state steps did is saw =
+  unraised-saw mix c port once (at.Giving give reply) steps did is saw = tt
+  unraised-saw mix c port once state steps did is saw =
       goes (after_at mix env port once state did.old).0 _ steps did is (λ adds. cc) saw
