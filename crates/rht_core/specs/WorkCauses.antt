@@ -2,13 +2,13 @@
 -- Every address that a row names is one of the table's words, since places alone don't tell it from a word that isn't there.
 use Rattle.std.specs.Prelude.{◌≡◌, ◌≢◌, ◌↔◌, ℕ, ◌<◌, ◌==◌, ◌⊎◌, Bool, true, false, List, [], ◌∷◌, ◌++◌, map, Option, Some, None}
 use Rattle.std.specs.List.{AllByRecursion, Any}
-use Rattle.rht_words.specs.declared.op.Op.TheVariants.{Store, Exchange}
+use Rattle.rht_words.specs.declared.op.Op.TheVariants.{Add, Store, Exchange}
 use Rattle.rht_words.specs.declared.env.Env.{Env}
 use Rattle.rht_words.specs.declared.geometry.Geometry.{Geometry}
 use Rattle.rht_words.specs.Links.{table_of, slot_of, future_of}
 use Rattle.rht_words.specs.Machines.{Performed}
 use Rattle.rht_words.specs.Operations.{op_place}
-use Rattle.rht_words.specs.Places.{CurrentTable, WorkLock, PortCount, Slot, ShapeWord, FutureWord, place_of, word_at}
+use Rattle.rht_words.specs.Places.{CurrentTable, WorkLock, PortCount, Section, Slot, ShapeWord, FutureWord, place_of, word_at}
 use Rattle.rht_words.specs.Shapes.{unpacked, size_of}
 use Rattle.rht_nest.specs.MakeLaws.{StoresInSlot}
 use Rattle.rht_nest.specs.Tables.{is_nested}
@@ -41,6 +41,12 @@ pub record TakesWorkLock (g : Geometry) (did : Did) : Type 0 where
   pub tries : TriesWorkLock g did
   pub free : did.old ≡ 0
 
+-- the operation opened or closed the read section of a caller
+pub record OpensOrCloses (g : Geometry) (did : Did) : Type 0 where
+  pub caller : ℕ
+  pub within : caller < 16
+  pub turns : did.op ≡ Add (place_of g (Section caller)) 1
+
 -- ---- what was chosen
 
 -- the operation loaded the future of the table of this slot, and found that of this one in it, or none
@@ -54,19 +60,21 @@ AreFuturesRead g root last (did ∷ []) = ReadsFuture g root None did × (root �
 AreFuturesRead g root last (did ∷ next ∷ dids) =
     (slot : ℕ) × ReadsFuture g root (Some slot) did × AreFuturesRead g slot last (next ∷ dids)
 
--- A resizing took the work lock, loaded which table is the current one, looked for the last table behind it, loaded that one's shape
--- and the count of ports, and by these chose what is due.
+-- A resizing took the work lock, opened its read section, loaded which table is the current one, looked for the last table behind it,
+-- loaded that one's shape and the count of ports, and by these chose what is due.
 pub record HasChosen (env : Env) (choice : Choice) (steps : List Did) : Type 0 where
   pub root : ℕ
   pub last : ℕ
   pub lock : Did
+  pub opening : Did
   pub current : Did
   pub futures : List Did
   pub shape : Did
   pub count : Did
   pub behind : List Did
-  pub split : steps ≡ (lock ∷ current ∷ futures) ++ shape ∷ count ∷ behind
+  pub split : steps ≡ (lock ∷ opening ∷ current ∷ futures) ++ shape ∷ count ∷ behind
   pub took : TakesWorkLock env.geometry lock
+  pub opens : OpensOrCloses env.geometry opening
   pub current_read : Loaded env.geometry CurrentTable current.old current
   pub root_is : table_of current.old ≡ root
   pub futures_read : AreFuturesRead env.geometry root last futures
@@ -152,6 +160,10 @@ pub record StoresOther (g : Geometry) (did : Did) : Type 0 where
   pub stores : did.op ≡ Store place value
   pub other : place ≢ place_of g CurrentTable
 
+-- or closed a read section
+abbrev pub StoresOrCloses : Geometry → Did → Type 0
+StoresOrCloses g did = StoresOther g did ⊎ OpensOrCloses g did
+
 -- the operation tried to attach the table of this slot behind that of another, which may have had a future by then
 pub record TriesToAttach (g : Geometry) (table slot : ℕ) (did : Did) : Type 0 where
   pub table_in : table < 8
@@ -176,8 +188,8 @@ HasTriedIfNeeded g root last shape choice steps =
 
 -- Behind its choice a resizing looked anew for the last table behind the current one, which was another one, and loaded that it was
 -- nested; nothing is moved to such a table. There the current table was still the one that it had chosen from, and where it couldn't do
--- without the table that was due it had tried to attach that. Behind that it stored words alone, and left which table is the current
--- one; and it says that there is more to do. `words_at` gives the words before the event with each number.
+-- without the table that was due it had tried to attach that. Behind that it stored words and closed a read section, and left which
+-- table is the current one; and it says that there is more to do. `words_at` gives the words before the event with each number.
 pub record SawStopped (env : Env) (words_at : ℕ → List ℕ) (again : Bool) (steps : List Did) : Type 0 where
   pub more : again ≡ true
   pub choice : Choice
@@ -194,7 +206,7 @@ pub record SawStopped (env : Env) (words_at : ℕ → List ℕ) (again : Bool) (
   pub shape_read : Loaded env.geometry (Slot last ShapeWord) shape.old shape
   pub nested : is_nested shape.old ≡ true
   pub current : table_of (word_at env.geometry (words_at shape.index) CurrentTable) ≡ chose.root
-  pub stores : AllByRecursion (StoresOther env.geometry) behind
+  pub stores : AllByRecursion (StoresOrCloses env.geometry) behind
 
 -- A resizing that moved made another table the current one, or stopped before a nested one.
 abbrev pub SawMoved : Env → (ℕ → List ℕ) → Bool → List Did → Type 0

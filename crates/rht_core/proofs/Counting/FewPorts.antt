@@ -49,7 +49,7 @@ use Rattle.rht_core.proofs.Reasons.CausesInRuns.{JobSaw, EndsSeen, job-leads, fi
 use Rattle.rht_core.proofs.Reasons.CalmBinds.{calm-bind, bind-spares}
 use Rattle.rht_core.proofs.Reasons.CalmCalls.{HasFew, IsRoomy, IsFirst, IsZero, CalmWork, CalmJob, CalmEnd, few-calm, calm-work}
 use Rattle.rht_core.proofs.Counting.FullTables.{taken}
-use Rattle.rht_core.proofs.Counting.SparedSlots.{IsBesideSlots, SparesSlots, spared_slots, by_load, other-spares}
+use Rattle.rht_core.proofs.Counting.SparedSlots.{IsBesideSlots, SparesSlots, spared_slots, by_load, at_section, other-spares}
 use Rattle.rht_core.proofs.Histories.BoundAmong.{few-bound, count-few}
 
 -- ---- the words of slots
@@ -89,19 +89,21 @@ module _ (env : Env) (mix : ℕ → ℕ → ℕ → ℕ) where
   last-spares (last_tables.Future table) = by_load _ _ refl
   last-spares (last_tables.Shape table) = by_load _ _ refl
 
-  work-spares : (state : WorkAt) → work.IsWorkAtIn env state → CalmWork env state → SparesSlots (work.plan_at env c state)
-  work-spares work_at.WorkLock within calm = inr (inl refl)
-  work-spares work_at.CurrentTable within calm = by_load _ _ refl
-  work-spares (work_at.LastTable root seek) within calm =
+  work-spares : (c : ℕ) → c < 16 → (state : WorkAt) → work.IsWorkAtIn env state → CalmWork env state → SparesSlots (work.plan_at env c state)
+  work-spares c few work_at.Opening within calm = at_section few _ refl
+  work-spares c few (work_at.Closing ending) within calm = at_section few _ refl
+  work-spares c few work_at.WorkLock within calm = inr (inl refl)
+  work-spares c few work_at.CurrentTable within calm = by_load _ _ refl
+  work-spares c few (work_at.LastTable root seek) within calm =
       subst (λ h. SparesSlots (last_table_plan_at h seek.at)) (sym within.seek_in.geometry_same) (last-spares seek.at)
-  work-spares (work_at.Count root last) within calm = by_load _ _ refl
-  work-spares (work_at.RootFuture root due) within calm = by_load _ _ refl
-  work-spares (work_at.LettingGo outcome) within calm = inr (inl refl)
-  work-spares _ within calm = absurd calm
+  work-spares c few (work_at.Count root last) within calm = by_load _ _ refl
+  work-spares c few (work_at.RootFuture root due) within calm = by_load _ _ refl
+  work-spares c few (work_at.LettingGo outcome) within calm = inr (inl refl)
+  work-spares c few _ within calm = absurd calm
 
   pub job-spares : (c : ℕ) → c < 16 → (job : Job) → JobIn env mix c job → CalmJob env job → SparesSlots (job_plan env c job)
-  job-spares c few (binds port owner once state) within calm = bind-spares env (IsFirst env) (IsZero env) state within.at_in calm
-  job-spares c few (works state) within calm = work-spares state within calm
+  job-spares c few (binds port owner once state) within calm = bind-spares env (IsFirst env) (IsZero env) c few state within.at_in calm
+  job-spares c few (works state) within calm = work-spares c few state within calm
   job-spares c few job within calm = other-spares env mix c few job within refl
 
 -- ---- what is kept of jobs

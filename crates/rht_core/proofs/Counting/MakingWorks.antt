@@ -32,9 +32,11 @@ use Rattle.rht_move.specs.declared.rehash.Rehash.{Rehash}
 use Rattle.rht_move.specs.declared.rehash.Emptying.{Emptying}
 use Rattle.rht_move.specs.declared.rehash.Target.{Target}
 use Rattle.rht_move.specs.LastEntry.{LastEntryModel, last_entry_after}
+use Rattle.rht_move.specs.declared.work.ending.Ending.{Ending}
+use Rattle.rht_move.specs.declared.work.ending.Ending.TheVariants as endings
 use Rattle.rht_move.specs.declared.work.WorkAt.{WorkAt}
 use Rattle.rht_move.specs.declared.work.WorkAt.TheVariants as at
-use Rattle.rht_move.specs.Work.{after_at, last_seen, begun, not_made, made, unmade, future_or_idle, bucket_of_root, next_bucket, entry_passed, locked, unlocking, entry_table_seen, with_word, entry_or_empty, walked, second_locked, cut_off, unlocked_bucket, retiring, IsMakingIn, IsWorkAtIn}
+use Rattle.rht_move.specs.Work.{after_at, letting_go, closed, last_seen, begun, not_made, made, unmade, future_or_idle, bucket_of_root, next_bucket, entry_passed, locked, unlocking, entry_table_seen, with_word, entry_or_empty, walked, second_locked, cut_off, unlocked_bucket, retiring, IsMakingIn, IsWorkAtIn}
 use Rattle.rht_ghost.proofs.Theory.Steps.{by_test}
 
 -- a making goes on so, or it has made a table of which this is true: its slot and its shape
@@ -69,7 +71,7 @@ module _ (env : Env) (Last : ℕ → Type 0) (Makes : MakeModel → Type 0) (Has
 
   goes-not_made : (wanted : Wanted) → Now (not_made wanted)
   goes-not_made wanted =
-      by_test (λ t. Now (cond t (at.LettingGo (outcomes.NoTable wanted.size)) (at.RootFuture wanted.root dues.Later)))
+      by_test (λ t. Now (cond t (letting_go (outcomes.NoTable wanted.size)) (at.RootFuture wanted.root dues.Later)))
       ((wanted.root == wanted.last.table) || is_nested wanted.last.shape) (λ t. tt) (λ f. tt)
 
   goes-made-next : (wanted : Wanted) (next : MakeModel × Next (Option (ℕ × ℕ))) → MakeGoes Makes Has next
@@ -140,6 +142,10 @@ module _ (env : Env) (Last : ℕ → Type 0) (Makes : MakeModel → Type 0) (Has
   goes-retiring rehash None = tt
   goes-retiring rehash (Some next) = tt
 
+  goes-closed : (ending : Ending) → Now (closed ending)
+  goes-closed (endings.Retiring root again) = tt
+  goes-closed (endings.LettingGo outcome) = tt
+
   -- what leads there: the shape of the last table that it finds, a size that it chooses by the one that it knows, and an operation of the making
   pub record WorkLeads (LastWas : ℕ → Type 0) (MakesWas : MakeModel → Type 0) (state : WorkAt) (old : ℕ) : Type 0 where
     pub last : (root : ℕ) (seek : LastTableModel) (slot : ℕ) → state ≡ at.LastTable root seek → seek.at ≡ last_tables.Shape slot
@@ -161,7 +167,7 @@ module _ (env : Env) (Last : ℕ → Type 0) (Makes : MakeModel → Type 0) (Has
   work-leads mix LastWas MakesWas HasWas (at.Making wanted make) old within now leads =
       goes-made-next wanted (make_after make old) (leads.makes wanted make refl within now)
   work-leads mix LastWas MakesWas HasWas at.WorkLock old within now leads =
-      by_test (λ t. Now (cond {A = WorkAt × Next Reply} t (at.CurrentTable, Go) (at.WorkLock, Done Elsewhere)).0) (old == 0)
+      by_test (λ t. Now (cond {A = WorkAt × Next Reply} t (at.Opening, Go) (at.WorkLock, Done Elsewhere)).0) (old == 0)
       (λ t. tt) (λ f. tt)
   work-leads mix LastWas MakesWas HasWas (at.Attaching root last slot shape) old within now leads =
       by_test (λ t. Now (cond t (at.RootFuture root dues.Attached) (at.Unmaking root (unmake_new env.geometry slot shape))))
@@ -185,4 +191,5 @@ module _ (env : Env) (Last : ℕ → Type 0) (Makes : MakeModel → Type 0) (Has
   work-leads mix LastWas MakesWas HasWas (at.CuttingOff emptying entry) old within now leads = goes-cut emptying entry.before
   work-leads mix LastWas MakesWas HasWas (at.Unlocking rehash number unlock stop) old within now leads = goes-unlocked rehash number stop
   work-leads mix LastWas MakesWas HasWas (at.NewFuture rehash) old within now leads = goes-retiring rehash (slot_of old)
+  work-leads mix LastWas MakesWas HasWas (at.Closing ending) old within now leads = goes-closed ending
   work-leads mix LastWas MakesWas HasWas _ old within now leads = tt

@@ -1,7 +1,7 @@
 -- A resizing that no other caller disturbed and that found nothing due leaves a table in which nothing is due.
--- Its operations are loads, but for the two on the work lock. So all words by which it chose are at its end as it loaded them: the
--- current table, which has no future and so is the only one in force and the last; its shape; and the count, which is that of the ports
--- bound, since nobody is in a call then.
+-- Its operations are loads, but for the two on the work lock and the two on its section word. So all words by which it chose are at its
+-- end as it loaded them: the current table, which has no future and so is the only one in force and the last; its shape; and the count,
+-- which is that of the ports bound, since nobody is in a call then.
 use Rattle.std.proofs.Common.{◌≡◌, ◌≢◌, ℕ, suc, ◌+◌, ◌<◌, ◌≤◌, ◌==◌, Bool, true, false, min, List, [], ◌∷◌, ◌++◌, take, append_assoc, refl, sym, ap, ◌∙◌, subst, inl, inr, arith}
 use Rattle.std.specs.Prelude.{Option, Some, None}
 use Rattle.std.specs.List.{AllByRecursion, Contains}
@@ -11,7 +11,7 @@ use Rattle.rht_words.specs.declared.op.Op.TheVariants.{Load}
 use Rattle.rht_words.specs.declared.env.Env.{Env}
 use Rattle.rht_words.specs.Links.{table_of, slot_of}
 use Rattle.rht_words.specs.Operations.{op_place, word_after}
-use Rattle.rht_words.specs.Places.{Address, CurrentTable, WorkLock, PortCount, EnrolledCallers, Slot, ShapeWord, FutureWord, IsAddress, place_of, word_at}
+use Rattle.rht_words.specs.Places.{Address, CurrentTable, WorkLock, PortCount, EnrolledCallers, Section, Slot, ShapeWord, FutureWord, IsAddress, place_of, word_at}
 use Rattle.rht_words.specs.Shapes.{unpacked, size_of}
 use Rattle.rht_words.proofs.EachElement.{AllByRecursion-append, AllByRecursion-weaker}
 use Rattle.rht_words.proofs.PlacesApart.{place_of-apart}
@@ -30,11 +30,11 @@ use Rattle.rht_core.specs.Runs.{local_of, run_of, IsAdmitted, IsAdmittedEvent}
 use Rattle.rht_core.specs.Traces.{Did, Past, traced_of, IsRising, behind_call}
 use Rattle.rht_core.specs.Seen.{words_before}
 use Rattle.rht_core.specs.ResizeCauses.{Loaded}
-use Rattle.rht_core.specs.WorkCauses.{AreFuturesRead, HasChosen}
+use Rattle.rht_core.specs.WorkCauses.{OpensOrCloses, AreFuturesRead, HasChosen}
 use Rattle.rht_core.specs.Worked.{IsSettled, HasReplaced, IsAloneDuring, words_behind, Worked}
 use Rattle.rht_core.proofs.Tracing.StepsInTraces.{rising_around}
 use Rattle.rht_core.proofs.Reasons.ChoicesMade.{chosen_by}
-use Rattle.rht_core.proofs.Reasons.WorksSeen.{IsIdle, SawIdle, IsPublished, SawReplaced, SawForWork}
+use Rattle.rht_core.proofs.Reasons.WorksSeen.{IsBesideTables, IsIdle, SawIdle, IsPublished, SawReplaced, SawForWork}
 use Rattle.rht_core.proofs.Reasons.CausesInRuns.{SawOf, past-saw}
 use Rattle.rht_core.proofs.Counting.CountedRuns.{counted, at_rest}
 use Rattle.rht_core.proofs.Counting.FullTables.{taken}
@@ -86,20 +86,19 @@ module _ (env : Env) where
     idle = saw.so
 
     -- those of the call, one after another
-    all_steps : steps ≡ (chose.lock ∷ chose.current ∷ chose.futures) ++ chose.shape ∷ chose.count ∷ idle.future ∷ idle.rest
+    all_steps : steps ≡ (chose.lock ∷ chose.opening ∷ chose.current ∷ chose.futures) ++ chose.shape ∷ chose.count ∷ idle.future ∷ idle.rest
     all_steps = chose.split
-        ∙ ap (λ behind. (chose.lock ∷ chose.current ∷ chose.futures) ++ chose.shape ∷ chose.count ∷ behind) idle.behind_is
+        ∙ ap (λ behind. (chose.lock ∷ chose.opening ∷ chose.current ∷ chose.futures) ++ chose.shape ∷ chose.count ∷ behind) idle.behind_is
 
-    -- they leave each word but that of the work lock
-    all_spare : (address : Address) → IsAddress env.geometry address → address ≢ WorkLock
+    -- they leave each word but that of the work lock and those of sections
+    all_spare : (address : Address) → IsAddress env.geometry address → address ≢ WorkLock → ((k : ℕ) → address ≢ Section k)
         → AllByRecursion (Spares (place_of env.geometry address)) steps
-    all_spare address there other =
+    all_spare address there other outside =
         let place = place_of env.geometry address in
         let apart : place_of env.geometry WorkLock ≢ place =
         λ same. other (place_of-apart env.geometry address WorkLock there tt (sym same)) in
         let rest : AllByRecursion (Spares place) idle.rest =
-        AllByRecursion-weaker (λ (did : Did). op_place did.op ≡ place_of env.geometry WorkLock) (Spares place)
-        (λ did on. inl (λ same. apart (sym on ∙ same))) idle.rest idle.on_lock in
+        AllByRecursion-weaker (IsBesideTables env) (Spares place) aside idle.rest idle.beside in
         let end : AllByRecursion (Spares place) (chose.shape ∷ chose.count ∷ idle.future ∷ idle.rest) = (
           inr (ap (word_after chose.shape.old) chose.shape_read.word.loads),
           (
@@ -111,24 +110,33 @@ module _ (env : Env) where
         (loads-spare place chose.futures (futures-load chose.root chose.last chose.futures chose.futures_read)) end in
         subst (AllByRecursion (Spares place)) (sym all_steps) (
           inl (λ same. apart (sym (ap op_place chose.took.tries) ∙ same)),
-          (inr (ap (word_after chose.current.old) chose.current_read.word.loads), futures),
+          (turned chose.opening chose.opens, (inr (ap (word_after chose.current.old) chose.current_read.word.loads), futures)),
         )
+      where
+        turned : (did : Did) → OpensOrCloses env.geometry did → Spares (place_of env.geometry address) did
+        turned did turns = inl (λ same. outside turns.caller
+            (place_of-apart env.geometry address (Section turns.caller) there turns.within
+            (sym same ∙ ap op_place turns.turns)))
+
+        aside : (did : Did) → IsBesideTables env did → Spares (place_of env.geometry address) did
+        aside did (inl on) = inl (λ same. other (place_of-apart env.geometry address WorkLock there tt (sym same ∙ on)))
+        aside did (inr turns) = turned did turns
 
     -- and these are among them
     current_there : Contains steps chose.current
-    current_there = subst (λ s. Contains s chose.current) (sym all_steps) (1, omega arith, refl)
+    current_there = subst (λ s. Contains s chose.current) (sym all_steps) (2, omega arith, refl)
 
     behind_there : (did : Did) → Contains (chose.shape ∷ chose.count ∷ idle.future ∷ idle.rest) did → Contains steps did
     behind_there did there =
         subst (λ s. Contains s did) (sym all_steps)
-        (Contains-append_right (chose.lock ∷ chose.current ∷ chose.futures) (chose.shape ∷ chose.count ∷ idle.future ∷ idle.rest)
+        (Contains-append_right (chose.lock ∷ chose.opening ∷ chose.current ∷ chose.futures) (chose.shape ∷ chose.count ∷ idle.future ∷ idle.rest)
         did there)
 
     future_there : (did : Did) → Contains chose.futures did → Contains steps did
     future_there did (number, within, is) =
         subst (λ s. Contains s did) (sym all_steps)
-        (Contains-append_left (chose.lock ∷ chose.current ∷ chose.futures)
-        (chose.shape ∷ chose.count ∷ idle.future ∷ idle.rest) did (suc (suc number), omega (arith, within), is))
+        (Contains-append_left (chose.lock ∷ chose.opening ∷ chose.current ∷ chose.futures)
+        (chose.shape ∷ chose.count ∷ idle.future ∷ idle.rest) did (suc (suc (suc number)), omega (arith, within), is))
 
 module _ (M : Type 0) (mix : ℕ → ℕ → ℕ → ℕ) (env : Env) (events : List Event) (c : ℕ) (past : Past)
     (admitted : IsAdmitted env.config.kind events)
@@ -152,15 +160,15 @@ module _ (M : Type 0) (mix : ℕ → ℕ → ℕ → ℕ) (env : Env) (events : 
   ]
 
   module _ (saw : SawIdle env past.steps) where
-    -- what it loaded of a word that isn't one of the work lock or the enrolled callers stands there at its end
+    -- what it loaded of a word that isn't one of the work lock, the enrolled callers or sections stands there at its end
     stands : (address : Address) (value : ℕ) (did : Did) → Contains past.steps did
-        → Loaded env.geometry address value did → address ≢ WorkLock → address ≢ EnrolledCallers
+        → Loaded env.geometry address value did → address ≢ WorkLock → ((k : ℕ) → address ≢ Section k) → address ≢ EnrolledCallers
         → word_at env.geometry after address ≡ value
-    stands address value did there loaded unlocked other =
+    stands address value did there loaded unlocked outside other =
         loaded_at_end M mix env events c past admitted ended alone address value did there loaded other
         (AllByRecursion-weaker (Spares (place_of env.geometry address))
         (λ d. did.index ≤ d.index → d.index < behind_call past → Spares (place_of env.geometry address) d)
-        (λ d spares first last. spares) past.steps (all_spare env past.steps saw address loaded.word.there unlocked))
+        (λ d spares first last. spares) past.steps (all_spare env past.steps saw address loaded.word.there unlocked outside))
 
     abbrev root : ℕ
     root = saw.chose.root
@@ -173,7 +181,7 @@ module _ (M : Type 0) (mix : ℕ → ℕ → ℕ → ℕ) (env : Env) (events : 
     no_future =
         ap slot_of
         (stands (Slot root FutureWord) found_idle.future.old found_idle.future
-        (behind_there env past.steps saw found_idle.future (2, omega arith, refl)) found_idle.future_read (λ e. cc) (λ e. cc))
+        (behind_there env past.steps saw found_idle.future (2, omega arith, refl)) found_idle.future_read (λ e. cc) (λ k e. cc) (λ e. cc))
         ∙ found_idle.none
 
     -- so the search for the last table ended at the current one
@@ -182,7 +190,7 @@ module _ (M : Type 0) (mix : ℕ → ℕ → ℕ → ℕ) (env : Env) (events : 
     ends_there last [] read among = absurd read
     ends_there last (did ∷ []) read among = read.1
     ends_there last (did ∷ next ∷ dids) (slot, read, rest) among =
-        let same = stands (Slot root FutureWord) did.old did (among did (0, omega arith, refl)) read.0 (λ e. cc) (λ e. cc) in
+        let same = stands (Slot root FutureWord) did.old did (among did (0, omega arith, refl)) read.0 (λ e. cc) (λ k e. cc) (λ e. cc) in
         let both : ◌≡◌ {A = Option ℕ} None (Some slot) = sym no_future ∙ ap slot_of same ∙ read.1 in
         absurd (cc)
 
@@ -207,15 +215,15 @@ module _ (M : Type 0) (mix : ℕ → ℕ → ℕ → ℕ) (env : Env) (events : 
         let ports = word_at g after PortCount in
         let counts : ports ≡ chose.count.old =
         stands PortCount chose.count.old chose.count (behind_there env past.steps saw chose.count (1, omega arith, refl))
-        chose.count_read (λ e. cc) (λ e. cc) in
+        chose.count_read (λ e. cc) (λ k e. cc) (λ e. cc) in
         let clamp : min chose.count.old 65536 ≡ ports = omega (arith, few, most, counts) in
         let current : table_of (word_at g after CurrentTable) ≡ root =
         ap table_of (stands CurrentTable chose.current.old chose.current (current_there env past.steps saw) chose.current_read
-        (λ e. cc) (λ e. cc)) ∙ chose.root_is in
+        (λ e. cc) (λ k e. cc) (λ e. cc)) ∙ chose.root_is in
         let shape : shape_of g after root ≡ chose.shape.old =
         ap (λ s. word_at g after (Slot s ShapeWord)) last_is
         ∙ stands (Slot chose.last ShapeWord) chose.shape.old chose.shape
-        (behind_there env past.steps saw chose.shape (0, omega arith, refl)) chose.shape_read (λ e. cc) (λ e. cc) in
+        (behind_there env past.steps saw chose.shape (0, omega arith, refl)) chose.shape_read (λ e. cc) (λ k e. cc) (λ e. cc) in
         let size = size_of (unpacked (shape_of g after root)) in
         let none : IsNoneDue (is_above_75 ports size env.config.max) (is_sparse env ports size) (is_nested (shape_of g after root)) =
         chosen-none size (shrunk_size ports env.config.min) (is_above_75 ports size env.config.max) (is_sparse env ports size)
@@ -247,6 +255,9 @@ module _ (M : Type 0) (mix : ℕ → ℕ → ℕ → ℕ) (env : Env) (events : 
     abbrev lock : Did
     lock = chosen_then.lock
 
+    abbrev opening : Did
+    opening = chosen_then.opening
+
     abbrev current : Did
     current = chosen_then.current
 
@@ -258,15 +269,15 @@ module _ (M : Type 0) (mix : ℕ → ℕ → ℕ → ℕ) (env : Env) (events : 
     rest = chosen_then.futures ++ chosen_then.shape ∷ chosen_then.count ∷ chosen_then.behind
 
     abbrev before : List Did
-    before = (lock ∷ current ∷ chosen_then.futures) ++ chosen_then.shape ∷ chosen_then.count ∷ published.published.before
+    before = (lock ∷ opening ∷ current ∷ chosen_then.futures) ++ chosen_then.shape ∷ chosen_then.count ∷ published.published.before
 
-    from_load : past.steps ≡ lock ∷ current ∷ rest
+    from_load : past.steps ≡ lock ∷ opening ∷ current ∷ rest
     from_load = chosen_then.split
 
     to_store : past.steps ≡ before ++ at ∷ published.later
     to_store =
         let chose = chosen_then in
-        let front = lock ∷ current ∷ chose.futures in
+        let front = lock ∷ opening ∷ current ∷ chose.futures in
         chose.split ∙ ap (λ behind. front ++ chose.shape ∷ chose.count ∷ behind) published.published.split
         ∙ sym (append_assoc front (chose.shape ∷ chose.count ∷ published.published.before) (at ∷ published.later))
 
@@ -276,7 +287,7 @@ module _ (M : Type 0) (mix : ℕ → ℕ → ℕ → ℕ) (env : Env) (events : 
         (Contains-append_right before (at ∷ published.later) at (0, omega arith, refl))
 
     loaded_there : Contains past.steps current
-    loaded_there = subst (λ s. Contains s current) (sym from_load) (1, omega arith, refl)
+    loaded_there = subst (λ s. Contains s current) (sym from_load) (2, omega arith, refl)
 
     abbrev place : ℕ
     place = place_of env.geometry CurrentTable
@@ -287,7 +298,7 @@ module _ (M : Type 0) (mix : ℕ → ℕ → ℕ → ℕ) (env : Env) (events : 
     -- no operation stores which table is the current one before this is loaded
     none_before : AllByRecursion (Leaves past.begin current.index) past.steps
     none_before =
-        let rising = rising_around (past.begin + 1) (lock ∷ []) current rest
+        let rising = rising_around (past.begin + 1) (lock ∷ opening ∷ []) current rest
         (subst (IsRising (past.begin + 1)) from_load (steps_rising M mix env events c past admitted ended alone)) in
         let P = Leaves past.begin current.index in
         let later : AllByRecursion P rest =
@@ -296,7 +307,9 @@ module _ (M : Type 0) (mix : ℕ → ℕ → ℕ → ℕ) (env : Env) (events : 
         let here : P current = λ first last. absurd (omega (arith, last)) in
         let first : P lock = λ from to. inl
         (λ same. let both = sym (ap op_place chosen_then.took.tries) ∙ same in absurd (omega (arith, both))) in
-        subst (AllByRecursion P) (sym from_load) (first, (here, later))
+        let second : P opening = λ from to. inl
+        (λ same. let both = sym (ap op_place chosen_then.opens.turns) ∙ same in absurd (omega (arith, both))) in
+        subst (AllByRecursion P) (sym from_load) (first, (second, (here, later)))
 
     -- nor behind the store
     none_behind : AllByRecursion (Leaves (at.index + 1) (behind_call past)) past.steps

@@ -40,6 +40,7 @@ use Rattle.rht_move.specs.declared.work.choice.Choice.{Choice}
 use Rattle.rht_move.specs.declared.work.choice.Choice.TheVariants as choices
 use Rattle.rht_move.specs.declared.work.Due.TheVariants as dues
 use Rattle.rht_move.specs.declared.work.Outcome.TheVariants as outcomes
+use Rattle.rht_move.specs.declared.work.ending.Ending.TheVariants as endings
 use Rattle.rht_move.specs.declared.work.WorkAt.{WorkAt}
 use Rattle.rht_move.specs.declared.work.WorkAt.TheVariants as work_at
 use Rattle.rht_move.specs.Work as work
@@ -154,10 +155,12 @@ module _ (env : Env) where
 
   abbrev pub CalmWork : WorkAt → Type 0
   CalmWork work_at.WorkLock = Unit {0}
+  CalmWork work_at.Opening = Unit {0}
   CalmWork work_at.CurrentTable = Unit {0}
   CalmWork (work_at.LastTable root seek) = CalmSeek seek.at
   CalmWork (work_at.Count root last) = IsFirst last.shape
   CalmWork (work_at.RootFuture root due) = due ≡ dues.Nothing
+  CalmWork (work_at.Closing ending) = ending ≡ endings.LettingGo outcomes.Idle
   CalmWork (work_at.LettingGo outcome) = outcome ≡ outcomes.Idle
   CalmWork _ = ⊥
 
@@ -190,13 +193,13 @@ module _ (env : Env) where
           → (does : Performs mix env (binds port owner once state) did) → does.words ≡ words
           → IsCalmAt env IsFirst IsZero state did.old
       few-calm port owner once state does now = record {
-        current = λ attempt is. ap table_of (found ∙ ap (λ s. old_of words (plan_at env c s)) is) ∙ current-first;
+        current = λ attempt is. ap table_of (found ∙ ap (λ s. old_of words (plan_at env does.caller s)) is) ∙ current-first;
         shape = λ attempt locate is shape zero.
-            found ∙ ap (λ s. old_of words (plan_at env c s)) is ∙ loads locate shape ∙ shape-first locate.table zero;
+            found ∙ ap (λ s. old_of words (plan_at env does.caller s)) is ∙ loads locate shape ∙ shape-first locate.table zero;
         flat = λ attempt locate shape is seed first. first-flat shape first;
         further = λ claimed length next is further.
             let within = subst (IsBindAtIn env) is does.within.at_in in
-            let none = ap slot_of (found ∙ ap (λ s. old_of words (plan_at env c s)) is) ∙ future-none claimed.table within.table_in in
+            let none = ap slot_of (found ∙ ap (λ s. old_of words (plan_at env does.caller s)) is) ∙ future-none claimed.table within.table_in in
             let both : ◌≡◌ {A = Option ℕ} None (Some next) = sym none ∙ further in
             absurd (cc);
         few = λ claimed is. below-max did.old (omega (arith, roomy.first)) (low claimed is);
@@ -204,14 +207,14 @@ module _ (env : Env) where
             (omega (arith, low claimed is, first-size claimed.shape first, roomy.first));
       }
         where
-          found : did.old ≡ old_of words (plan_at env c state)
-          found = does.found ∙ ap (old_of does.words) does.planned ∙ ap (λ w. old_of w (plan_at env c state)) now
+          found : did.old ≡ old_of words (plan_at env does.caller state)
+          found = does.found ∙ ap (old_of does.words) does.planned ∙ ap (λ w. old_of w (plan_at env does.caller state)) now
 
           loads : (m : LocateModel) → m.at ≡ locates.Shape → old_of words (locate_plan m) ≡ word_at env.geometry words (Slot m.table ShapeWord)
           loads m shape = rw shape refl
 
           low : (claimed : Claimed) → state ≡ at.Count claimed → did.old ≤ 31
-          low claimed is = omega (arith, found ∙ ap (λ s. old_of words (plan_at env c s)) is, has.count)
+          low claimed is = omega (arith, found ∙ ap (λ s. old_of words (plan_at env does.caller s)) is, has.count)
 
       -- ---- an operation of a resizing
 
@@ -220,7 +223,7 @@ module _ (env : Env) where
 
       calm-lock : (lock : ℕ) → CalmWorkNext (work.lock_seen lock)
       calm-lock lock =
-          by_test (λ t. CalmWorkNext (cond t (work_at.CurrentTable, Go) (work_at.WorkLock, Done Elsewhere))) (lock == 0)
+          by_test (λ t. CalmWorkNext (cond t (work_at.Opening, Go) (work_at.WorkLock, Done Elsewhere))) (lock == 0)
           (λ t. tt) (λ f is. refl)
 
       calm-last : (root : ℕ) (seek : LastTableModel) (state : LastTableAt) (word : ℕ) → CalmSeek state
@@ -237,6 +240,7 @@ module _ (env : Env) where
       pub calm-work : (state : WorkAt) → (does : Performs mix env (works state) did) → does.words ≡ words → CalmWork state
           → CalmWorkNext (work.after_at mix env state did.old)
       calm-work work_at.WorkLock does now calm = calm-lock did.old
+      calm-work work_at.Opening does now calm = tt
       calm-work work_at.CurrentTable does now calm =
           ap table_of (does.found ∙ ap (old_of does.words) does.planned) ∙ ap (λ w. table_of (word_at env.geometry w CurrentTable)) now
           ∙ current-first
@@ -258,5 +262,6 @@ module _ (env : Env) where
           let found : did.old ≡ word_at env.geometry words (Slot root FutureWord) =
           does.found ∙ ap (old_of does.words) does.planned ∙ ap (λ w. word_at env.geometry w (Slot root FutureWord)) now in
           subst (λ f. CalmWork (work.future_or_idle root due f)) (sym (ap slot_of found ∙ future-none root does.within)) refl
+      calm-work (work_at.Closing ending) does now calm = subst (λ e. CalmWork (work.closed e)) (sym calm) refl
       calm-work (work_at.LettingGo outcome) does now calm = rw calm (λ is. absurd (cc))
       calm-work _ does now calm = absurd calm

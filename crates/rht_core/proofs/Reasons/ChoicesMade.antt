@@ -15,7 +15,7 @@ use Rattle.rht_move.specs.declared.work.choice.Choice.{Choice}
 use Rattle.rht_move.specs.LastTable.{next_or_shape}
 use Rattle.rht_core.specs.Traces.{Did}
 use Rattle.rht_core.specs.ResizeCauses.{Loaded}
-use Rattle.rht_core.specs.WorkCauses.{TakesWorkLock, ReadsFuture, AreFuturesRead, HasChosen}
+use Rattle.rht_core.specs.WorkCauses.{TakesWorkLock, OpensOrCloses, ReadsFuture, AreFuturesRead, HasChosen}
 
 module _ (g : Geometry) where
   -- the futures that were loaded lead from one table to another
@@ -61,12 +61,14 @@ pub record Chosen : Type 0 where
 module _ (env : Env) where
   -- ---- up to the choice
 
-  -- it took the work lock and loaded the current table, and these were its operations behind
+  -- it took the work lock, opened its section and loaded the current table, and these were its operations behind
   pub record Began (root : ℕ) (rest steps : List Did) : Type 0 where
     pub lock : Did
+    pub opening : Did
     pub current : Did
-    pub split : steps ≡ lock ∷ current ∷ rest
+    pub split : steps ≡ lock ∷ opening ∷ current ∷ rest
     pub took : TakesWorkLock env.geometry lock
+    pub opens : OpensOrCloses env.geometry opening
     pub current_read : Loaded env.geometry CurrentTable current.old current
     pub root_is : table_of current.old ≡ root
 
@@ -74,9 +76,11 @@ module _ (env : Env) where
       → Began root (rest ++ did ∷ []) (steps ++ did ∷ [])
   Began-push root rest steps did began = record {
     lock = began.lock;
+    opening = began.opening;
     current = began.current;
     split = ap (λ s. s ++ did ∷ []) began.split;
     took = began.took;
+    opens = began.opens;
     current_read = began.current_read;
     root_is = began.root_is;
   }
@@ -85,6 +89,14 @@ module _ (env : Env) where
     pub lock : Did
     pub only : steps ≡ lock ∷ []
     pub took : TakesWorkLock env.geometry lock
+
+  -- and then opened its section
+  pub record HasOpened (steps : List Did) : Type 0 where
+    pub lock : Did
+    pub opening : Did
+    pub only : steps ≡ lock ∷ opening ∷ []
+    pub took : TakesWorkLock env.geometry lock
+    pub opens : OpensOrCloses env.geometry opening
 
   -- and looks for the last table, or has found it
   pub record SeekSaw (root : ℕ) (at : LastTableAt) (steps : List Did) : Type 0 where
@@ -124,15 +136,17 @@ module _ (env : Env) where
     root = chose.root;
     last = chose.last;
     lock = chose.lock;
+    opening = chose.opening;
     current = chose.current;
     futures = chose.futures;
     shape = chose.shape;
     count = chose.count;
     behind = chose.behind ++ did ∷ [];
     split = ap (λ s. s ++ did ∷ []) chose.split
-        ∙ append_assoc (chose.lock ∷ chose.current ∷ chose.futures) (chose.shape ∷ chose.count ∷ chose.behind)
+        ∙ append_assoc (chose.lock ∷ chose.opening ∷ chose.current ∷ chose.futures) (chose.shape ∷ chose.count ∷ chose.behind)
         (did ∷ []);
     took = chose.took;
+    opens = chose.opens;
     current_read = chose.current_read;
     root_is = chose.root_is;
     futures_read = chose.futures_read;

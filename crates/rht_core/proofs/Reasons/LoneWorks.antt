@@ -43,12 +43,13 @@ use Rattle.rht_move.specs.declared.work.Due.{Due}
 use Rattle.rht_move.specs.declared.work.Due.TheVariants as dues
 use Rattle.rht_move.specs.declared.work.Outcome.{Outcome}
 use Rattle.rht_move.specs.declared.work.Outcome.TheVariants as outcomes
+use Rattle.rht_move.specs.declared.work.ending.Ending.TheVariants as endings
 use Rattle.rht_move.specs.declared.work.WorkAt.{WorkAt}
 use Rattle.rht_move.specs.declared.work.WorkAt.TheVariants as at
 use Rattle.rht_move.specs.Choice.{chosen, choice_of, is_sparse}
 use Rattle.rht_move.specs.LastTable.{LastTableModel, last_table_plan_at, last_table_after, next_or_shape}
 use Rattle.rht_move.specs.LastEntry.{LastEntryModel, last_entry_after}
-use Rattle.rht_move.specs.Work.{plan_at, after_at, lock_seen, last_seen, begun, made, not_made, attached, future_or_idle, bucket_of_root, next_bucket, entry_passed, locked, unlocking, entry_table_seen, with_word, entry_or_empty, walked, second_locked, cut_off, unlocked_bucket, retiring, reply_of}
+use Rattle.rht_move.specs.Work.{plan_at, after_at, lock_seen, letting_go, last_seen, begun, made, not_made, attached, future_or_idle, bucket_of_root, next_bucket, entry_passed, locked, unlocking, entry_table_seen, with_word, entry_or_empty, walked, second_locked, cut_off, unlocked_bucket, retiring, reply_of}
 use Rattle.rht_core.specs.Jobs.{works}
 use Rattle.rht_core.specs.Traces.{Did}
 use Rattle.rht_ghost.proofs.Theory.Ghosts.{has_table, index_at}
@@ -58,7 +59,7 @@ use Rattle.rht_core.proofs.Reasons.AttachedTables.{IsNoFutureExchange, lock-none
 use Rattle.rht_core.proofs.Reasons.MadeSizes.{made_flat}
 use Rattle.rht_core.proofs.Reasons.LastTables.{AreSame, one_shape, IsLastIn, none_last, last_shape, last_in, last_stays, finds_none, attached_last}
 use Rattle.rht_core.proofs.Reasons.WorksSeen.{SawReplaced, SawAtWork}
-use Rattle.rht_core.proofs.Reasons.MovesSeen.{stored-saw, cut-none}
+use Rattle.rht_core.proofs.Reasons.MovesSeen.{stored-saw, turned-saw, cut-none}
 
 -- a choice that attaches no table is one where the last table is flat
 chosen-flat : (size smaller : ℕ) (full sparse alone nested : Bool) (choice : Choice)
@@ -103,6 +104,7 @@ module _ (env : Env) (words_at : ℕ → List ℕ) (mix : ℕ → ℕ → ℕ �
 
   abbrev pub CalmAt : WorkAt → List Did → List ℕ → Type 0
   CalmAt at.WorkLock steps words = Unit {0}
+  CalmAt at.Opening steps words = Unit {0}
   CalmAt at.CurrentTable steps words = Unit {0}
   CalmAt (at.LastTable root seek) steps words = CalmSeek seek.at words
   CalmAt (at.Count root last) steps words = IsLastIn env mix words last.table last.shape
@@ -125,6 +127,8 @@ module _ (env : Env) (words_at : ℕ → List ℕ) (mix : ℕ → ℕ → ℕ �
   CalmAt (at.Unlocking rehash number unlock stop) steps words = CalmStop stop words
   CalmAt (at.Publishing rehash) steps words = Unit {0}
   CalmAt (at.NewFuture rehash) steps words = Unit {0}
+  CalmAt (at.Closing (endings.Retiring root again)) steps words = Unit {0}
+  CalmAt (at.Closing (endings.LettingGo outcome)) steps words = CalmEnd outcome steps
   CalmAt (at.Retiring root again) steps words = Unit {0}
   CalmAt (at.LettingGo outcome) steps words = CalmEnd outcome steps
 
@@ -136,7 +140,7 @@ module _ (env : Env) (words_at : ℕ → List ℕ) (mix : ℕ → ℕ → ℕ �
   module _ (all : List Did) (now : List ℕ) where
     calm-lock : (lock : ℕ) → CalmNext all now (lock_seen lock)
     calm-lock lock =
-        by_test (λ t. CalmNext all now (cond t (at.CurrentTable, Go) (at.WorkLock, Done replies.Elsewhere))) (lock == 0)
+        by_test (λ t. CalmNext all now (cond t (at.Opening, Go) (at.WorkLock, Done replies.Elsewhere))) (lock == 0)
         (λ t. tt) (λ f again is. absurd (cc))
 
     calm-begun : (root : ℕ) (last : Last) (count : ℕ) (choice : Choice)
@@ -170,7 +174,7 @@ module _ (env : Env) (words_at : ℕ → List ℕ) (mix : ℕ → ℕ → ℕ �
     calm-refused wanted calm =
         let one = wanted.root == wanted.last.table in
         let nested = is_nested wanted.last.shape in
-        by_test (λ t. CalmAt (cond t (at.LettingGo (outcomes.NoTable wanted.size)) (at.RootFuture wanted.root dues.Later)) all now)
+        by_test (λ t. CalmAt (cond t (letting_go (outcomes.NoTable wanted.size)) (at.RootFuture wanted.root dues.Later)) all now)
         (one || nested)
         (λ t again is. absurd (cc))
         (λ f. record {
@@ -252,13 +256,13 @@ module _ (env : Env) (words_at : ℕ → List ℕ) (mix : ℕ → ℕ → ℕ �
   module _ (state : WorkAt) (did : Did) (does : Performs mix env (works state) did) (now : List ℕ)
       (still : AreSame env (applied does.words did.op) now) where
     -- one that exchanges no future leaves the last table
-    leaves : (slot shape : ℕ) → IsNoFutureExchange env.geometry (plan_at env c state) → IsLastIn env mix does.words slot shape
+    leaves : (slot shape : ℕ) → IsNoFutureExchange env.geometry (plan_at env does.caller state) → IsLastIn env mix does.words slot shape
         → IsLastIn env mix now slot shape
     leaves slot shape none last =
         last_stays env mix (works state) did does now still slot shape
         (subst (IsNoFutureExchange env.geometry) (sym does.planned) none) last
 
-    leaves-flat : IsNoFutureExchange env.geometry (plan_at env c state) → LastFlat does.words → LastFlat now
+    leaves-flat : IsNoFutureExchange env.geometry (plan_at env does.caller state) → LastFlat does.words → LastFlat now
     leaves-flat none calm = record {
       slot = calm.slot;
       shape = calm.shape;
@@ -267,7 +271,7 @@ module _ (env : Env) (words_at : ℕ → List ℕ) (mix : ℕ → ℕ → ℕ �
     }
 
   -- what a load of a table's words finds
-  found-word : (state : WorkAt) (did : Did) (does : Performs mix env (works state) did) (op : Op) → plan_at env c state ≡ op
+  found-word : (state : WorkAt) (did : Did) (does : Performs mix env (works state) did) (op : Op) → plan_at env does.caller state ≡ op
       → did.old ≡ old_of does.words op
   found-word state did does op is = does.found ∙ ap (old_of does.words) (does.planned ∙ is)
 
@@ -289,7 +293,7 @@ module _ (env : Env) (words_at : ℕ → List ℕ) (mix : ℕ → ℕ → ℕ �
   -- the search for the last table
   calm-seek : (state : WorkAt) (did : Did) (does : Performs mix env (works state) did) (now : List ℕ)
       → AreSame env (applied does.words did.op) now → (slot : ℕ) (next : Option ℕ)
-      → plan_at env c state ≡ last_table_plan_at env.geometry (seeks.Future slot) → has_table (does.ghost.slot slot) ≡ true
+      → plan_at env does.caller state ≡ last_table_plan_at env.geometry (seeks.Future slot) → has_table (does.ghost.slot slot) ≡ true
       → slot_of did.old ≡ next → CalmSeek (next_or_shape slot next) now
   calm-seek state did does now still slot None plan has finds =
       let found = found-word state did does (last_table_plan_at env.geometry (seeks.Future slot)) plan in
@@ -302,7 +306,7 @@ module _ (env : Env) (words_at : ℕ → List ℕ) (mix : ℕ → ℕ → ℕ �
 
   -- what it loads of the last table's shape is that
   shape-found : (state : WorkAt) (did : Did) (does : Performs mix env (works state) did) (slot shape : ℕ)
-      → plan_at env c state ≡ last_table_plan_at env.geometry (seeks.Shape slot) → IsLastIn env mix does.words slot shape
+      → plan_at env does.caller state ≡ last_table_plan_at env.geometry (seeks.Shape slot) → IsLastIn env mix does.words slot shape
       → did.old ≡ shape
   shape-found state did does slot shape plan last =
       found-word state did does (last_table_plan_at env.geometry (seeks.Shape slot)) plan
@@ -366,6 +370,7 @@ module _ (env : Env) (words_at : ℕ → List ℕ) (mix : ℕ → ℕ → ℕ �
       → AreSame env (applied does.words did.op) now → SawAtWork env words_at state steps → CalmAt state steps does.words
       → CalmNext (steps ++ did ∷ []) now (after_at mix env state did.old)
   calm-work at.WorkLock steps did does now still saw calm = calm-lock (steps ++ did ∷ []) now did.old
+  calm-work at.Opening steps did does now still saw calm = tt
   calm-work at.CurrentTable steps did does now still saw calm = tt
   calm-work (at.LastTable root seek) steps did does now still saw calm =
       calm-last root seek.geometry seek.at did does (steps ++ did ∷ []) now still calm
@@ -423,6 +428,9 @@ module _ (env : Env) (words_at : ℕ → List ℕ) (mix : ℕ → ℕ → ℕ �
   calm-work (at.Publishing rehash) steps did does now still saw calm = tt
   calm-work (at.NewFuture rehash) steps did does now still saw calm =
       calm-retiring (steps ++ did ∷ []) now rehash (slot_of did.old)
+  calm-work (at.Closing (endings.Retiring root again)) steps did does now still saw calm = tt
+  calm-work (at.Closing (endings.LettingGo outcome)) steps did does now still saw calm = λ again is.
+      turned-saw env again steps did (record { caller = does.caller; within = does.few; turns = does.planned }) (calm again is)
   calm-work (at.Retiring root again) steps did does now still saw calm = λ answered is.
       let same : again ≡ answered = cc in
       subst (λ a. SawReplaced env a (steps ++ did ∷ [])) same

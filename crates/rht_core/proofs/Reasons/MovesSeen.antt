@@ -7,7 +7,7 @@ use Rattle.std.specs.List.{AllByRecursion, Any}
 use Rattle.std.proofs.lemmas.List.{append-nil}
 use Rattle.std.proofs.lemmas.List.Quantifiers.{Any-push}
 use Rattle.rht_words.specs.declared.op.Op.{Op}
-use Rattle.rht_words.specs.declared.op.Op.TheVariants.{Store}
+use Rattle.rht_words.specs.declared.op.Op.TheVariants.{Load, Store}
 use Rattle.rht_words.specs.declared.env.Env.{Env}
 use Rattle.rht_words.specs.declared.machine.Next.{Next}
 use Rattle.rht_words.specs.declared.machine.Next.TheVariants.{Go, Done}
@@ -34,11 +34,11 @@ use Rattle.rht_move.specs.declared.work.WorkAt.{WorkAt}
 use Rattle.rht_move.specs.declared.work.WorkAt.TheVariants as at
 use Rattle.rht_move.specs.LastTable.{next_or_shape}
 use Rattle.rht_move.specs.LastEntry.{LastEntryModel}
-use Rattle.rht_move.specs.Work.{plan_at, cut_plan, bucket_of_root, next_bucket, entry_passed, locked, unlocking, entry_or_empty, walked, second_locked, cut_off, unlocked_bucket, retiring}
+use Rattle.rht_move.specs.Work.{cut_plan, bucket_of_root, next_bucket, entry_passed, locked, unlocking, entry_or_empty, walked, second_locked, cut_off, unlocked_bucket, retiring}
 use Rattle.rht_core.specs.Traces.{Did}
 use Rattle.rht_core.specs.Seen.{LoadsWord}
 use Rattle.rht_core.specs.ResizeCauses.{Loaded}
-use Rattle.rht_core.specs.WorkCauses.{ReadsFuture, StoresOther, SawStopped}
+use Rattle.rht_core.specs.WorkCauses.{OpensOrCloses, ReadsFuture, StoresOther, StoresOrCloses, SawStopped}
 use Rattle.rht_ghost.proofs.Theory.Steps.{by_test}
 use Rattle.rht_core.proofs.Tracing.LoneCalls.{Spares}
 use Rattle.rht_core.specs.Attached.{HasGoneOn}
@@ -121,7 +121,7 @@ module _ (env : Env) where
   -- ---- another table is the current one
 
   pub publish-saw : (rehash : Rehash) (steps : List Did) (did : Did) → rehash.future < 8
-      → did.op ≡ plan_at env c (at.Publishing rehash) → RehashSaw env rehash steps
+      → did.op ≡ Store (place_of env.geometry CurrentTable) rehash.future → RehashSaw env rehash steps
       → HasMoved env rehash (steps ++ did ∷ [])
   publish-saw rehash steps did l is saw =
       let quiet = no_attach env.geometry did _ is (λ table old new l e. cc) in
@@ -166,16 +166,26 @@ module _ (env : Env) where
             AllByRecursion-push (Spares (place_of env.geometry CurrentTable)) is.later did is.leave spares;
       }
 
-  -- a store of another word attaches nothing and finds nothing
-  pub stored-saw : (again : Bool) (address : Address) (value : ℕ) (steps : List Did) (did : Did)
-      → IsAddress env.geometry address → address ≢ CurrentTable
-      → did.op ≡ Store (place_of env.geometry address) value → SawReplaced env again steps
+  -- it has gone on from that table later too
+  pub HasGoneOn-push : (root : ℕ) (steps : List Did) (did : Did) → HasGoneOn env.geometry root steps
+      → HasGoneOn env.geometry root (steps ++ did ∷ [])
+  HasGoneOn-push root steps did gone = record {
+    before = gone.before;
+    at = gone.at;
+    behind = gone.behind ++ did ∷ [];
+    split = ap (λ s. s ++ did ∷ []) gone.split ∙ append_assoc gone.before (gone.at ∷ gone.behind) (did ∷ []);
+    next = gone.next;
+    stores = gone.stores;
+    from = gone.from;
+    other = gone.other;
+  }
+
+  -- what attaches nothing, loads nothing and leaves the current table finds nothing
+  left-saw : (again : Bool) (steps : List Did) (did : Did) → IsNoAttach env.geometry did → ((place : ℕ) → did.op ≢ Load place)
+      → op_place did.op ≢ place_of env.geometry CurrentTable → SawReplaced env again steps
       → SawReplaced env again (steps ++ did ∷ [])
   unfolding IsPublished-push
-  stored-saw again address value steps did there other is replaced =
-      let quiet = no_attach env.geometry did _ is (λ table old new l e. cc) in
-      let apart = λ (same : op_place did.op ≡ place_of env.geometry CurrentTable).
-      other (place_of-apart env.geometry address CurrentTable there tt (sym (ap op_place is) ∙ same)) in
+  left-saw again steps did quiet no_load apart replaced =
       SinceSome-push env steps did replaced (λ choice of behind saw.
       let published = saw.published in
       let table = published.table in
@@ -190,10 +200,27 @@ module _ (env : Env) where
           | inr says ↦ inr (
             SaysMissing-push env again of.last choice behind did quiet says.0,
             AllByRecursion-push (FindsNoneFurther env table) published.later did says.1
-                (λ finds. let loads = finds.1.0.word.loads in cc),
+                (λ finds. no_load _ finds.1.0.word.loads),
           )
         ];
       })
+
+  -- so does a store of another word
+  pub stored-saw : (again : Bool) (address : Address) (value : ℕ) (steps : List Did) (did : Did)
+      → IsAddress env.geometry address → address ≢ CurrentTable
+      → did.op ≡ Store (place_of env.geometry address) value → SawReplaced env again steps
+      → SawReplaced env again (steps ++ did ∷ [])
+  stored-saw again address value steps did there other is replaced =
+      left-saw again steps did (no_attach env.geometry did _ is (λ table old new l e. cc)) (λ place load. let both = sym is ∙ load in cc)
+      (λ same. other (place_of-apart env.geometry address CurrentTable there tt (sym (ap op_place is) ∙ same))) replaced
+
+  -- and what opens or closes a section
+  pub turned-saw : (again : Bool) (steps : List Did) (did : Did) → OpensOrCloses env.geometry did → SawReplaced env again steps
+      → SawReplaced env again (steps ++ did ∷ [])
+  turned-saw again steps did turns replaced =
+      left-saw again steps did (no_attach env.geometry did _ turns.turns (λ table old new l e. cc))
+      (λ place load. let both = sym turns.turns ∙ load in cc)
+      (λ same. let at : 8 + turns.caller ≡ 0 = sym (ap op_place turns.turns) ∙ same in omega (arith, at)) replaced
 
 module _ (env : Env) (words_at : ℕ → List ℕ) where
   abbrev Sees : WorkAt → List Did → Type 0
@@ -290,8 +317,8 @@ module _ (env : Env) (words_at : ℕ → List ℕ) where
       (λ f. SinceSome-push env steps did saw (λ choice of behind anew.
       IsMoving-push env rehash.root rehash.future rehash.again choice of behind did quiet anew.0))
 
-  -- and then other words are stored alone
-  pub SawStopped-push : (again : Bool) (steps : List Did) (did : Did) → StoresOther env.geometry did
+  -- and then other words are stored alone, and a section closed
+  pub SawStopped-push : (again : Bool) (steps : List Did) (did : Did) → StoresOrCloses env.geometry did
       → SawStopped env words_at again steps
       → SawStopped env words_at again (steps ++ did ∷ [])
   unfolding HasChosen-push
@@ -313,14 +340,14 @@ module _ (env : Env) (words_at : ℕ → List ℕ) where
     shape_read = saw.shape_read;
     nested = saw.nested;
     current = saw.current;
-    stores = AllByRecursion-push (StoresOther env.geometry) saw.behind did saw.stores stores;
+    stores = AllByRecursion-push (StoresOrCloses env.geometry) saw.behind did saw.stores stores;
   }
 
   pub unlocked-saw : (rehash : Rehash) (number : ℕ) (stop : Bool) (steps : List Did) (did : Did)
       → StoresOther env.geometry did → IsNoAttach env.geometry did
       → UnlockingSaw env words_at rehash stop steps
       → Sees (unlocked_bucket env.geometry rehash number stop) (steps ++ did ∷ [])
-  unlocked-saw rehash number true steps did stores quiet saw = inr (SawStopped-push true steps did stores saw)
+  unlocked-saw rehash number true steps did stores quiet saw = inr (SawStopped-push true steps did (inl stores) saw)
   unlocked-saw rehash number false steps did stores quiet saw =
       next-saw rehash number (steps ++ did ∷ [])
       (Moves-push env rehash.root rehash.future rehash.again steps did quiet saw)
@@ -328,7 +355,7 @@ module _ (env : Env) (words_at : ℕ → List ℕ) where
   -- ---- another table is the current one
 
   pub retiring-saw : (rehash : Rehash) (next : Option ℕ) (steps : List Did) (did : Did) → rehash.future < 8
-      → did.op ≡ plan_at env c (at.NewFuture rehash) → slot_of did.old ≡ next → Sees (at.NewFuture rehash) steps
+      → did.op ≡ Load (place_of env.geometry (Slot rehash.future FutureWord)) → slot_of did.old ≡ next → Sees (at.NewFuture rehash) steps
       → Sees (retiring rehash next) (steps ++ did ∷ [])
   unfolding IsPublished-push
   retiring-saw rehash next steps did l is finds saw = go next finds
@@ -345,16 +372,7 @@ module _ (env : Env) (words_at : ℕ → List ℕ) where
           (reads env (Slot rehash.future FutureWord) did (l, tt) is)
 
       gone : HasGoneOn env.geometry rehash.root (steps ++ did ∷ [])
-      gone = record {
-        before = saw.1.before;
-        at = saw.1.at;
-        behind = saw.1.behind ++ did ∷ [];
-        split = ap (λ s. s ++ did ∷ []) saw.1.split ∙ append_assoc saw.1.before (saw.1.at ∷ saw.1.behind) (did ∷ []);
-        next = saw.1.next;
-        stores = saw.1.stores;
-        from = saw.1.from;
-        other = saw.1.other;
-      }
+      gone = HasGoneOn-push env rehash.root steps did saw.1
 
       looked : (table : ℕ) (later : List Did) → table ≡ rehash.future
           → Any (LoadsWord env.geometry (Slot table FutureWord)) (later ++ did ∷ [])

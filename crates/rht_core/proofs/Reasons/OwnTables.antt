@@ -129,7 +129,7 @@ module _ (env : Env) (words_at : ℕ → List ℕ) (mix : ℕ → ℕ → ℕ �
       record {
         taken =
             subst (HasTakenSlot g slot) (sym chose.split)
-            (slot_taken-behind g slot (chose.lock ∷ chose.current ∷ chose.futures) chose.shape (chose.count ∷ chose.behind)
+            (slot_taken-behind g slot (chose.lock ∷ chose.opening ∷ chose.current ∷ chose.futures) chose.shape (chose.count ∷ chose.behind)
             (slot_taken-behind g slot [] chose.count chose.behind making));
         held = make-held make.exponent make.seed make.at knows.knowing.means.making has;
       }

@@ -7,14 +7,14 @@ use Rattle.std.proofs.lemmas.Bool.{eqb-true, eqb-false}
 use Rattle.std.proofs.lemmas.List.{map-append}
 use Rattle.std.proofs.lemmas.List.Quantifiers.{Any-push}
 use Rattle.rht_words.specs.declared.op.Op.{Op}
-use Rattle.rht_words.specs.declared.op.Op.TheVariants.{Load}
+use Rattle.rht_words.specs.declared.op.Op.TheVariants.{Load, Exchange}
 use Rattle.rht_words.specs.declared.env.Env.{Env}
 use Rattle.rht_words.specs.declared.geometry.Geometry.{Geometry}
 use Rattle.rht_words.specs.declared.machine.Next.{Next}
 use Rattle.rht_words.specs.declared.machine.Next.TheVariants.{Go, Done}
-use Rattle.rht_words.specs.Links.{table_of, slot_of}
+use Rattle.rht_words.specs.Links.{table_of, slot_of, future_of}
 use Rattle.rht_words.specs.Machines.{Performed}
-use Rattle.rht_words.specs.Places.{Address, CurrentTable, PortCount, Slot, ShapeWord, FutureWord, IsAddress, place_of}
+use Rattle.rht_words.specs.Places.{Address, CurrentTable, WorkLock, PortCount, Slot, ShapeWord, FutureWord, IsAddress, place_of}
 use Rattle.rht_words.specs.Shapes.{unpacked, size_of}
 use Rattle.rht_words.specs.Sizes.{IsSizeUpTo}
 use Rattle.rht_model.specs.declared.history.Reply.TheVariants.{Elsewhere}
@@ -36,15 +36,15 @@ use Rattle.rht_move.specs.declared.work.WorkAt.TheVariants as at
 use Rattle.rht_move.specs.Choice.{choice_of}
 use Rattle.rht_move.specs.Laws.{IsOfASize}
 use Rattle.rht_move.specs.LastTable.{last_table_plan_at, last_table_after, next_or_shape, IsLastTableAtIn}
-use Rattle.rht_move.specs.Work.{plan_at, lock_seen, seeking, last_seen, begun, made, not_made, attached, unmade, is_later, future_or_idle, IsMakingIn}
+use Rattle.rht_move.specs.Work.{lock_seen, letting_go, seeking, last_seen, begun, made, not_made, attached, unmade, is_later, future_or_idle, IsMakingIn}
 use Rattle.rht_core.specs.Traces.{Did, performed_of}
 use Rattle.rht_core.specs.ResizeCauses.{Loaded, Attaches, AreSlotsTaken, AreRunsTaken, SawNoRoom}
-use Rattle.rht_core.specs.WorkCauses.{ReadsFuture, HasChosen, IsSized, TriesToAttach, HasTried}
+use Rattle.rht_core.specs.WorkCauses.{OpensOrCloses, ReadsFuture, HasChosen, IsSized, TriesToAttach, HasTried}
 use Rattle.rht_ghost.proofs.Theory.Steps.{by_test}
 use Rattle.rht_core.proofs.Reasons.AttachedTables.{IsNoAttach, no_attach, make-none}
 use Rattle.rht_core.proofs.Reasons.MakesSeen.{SawMaking, SawMade, IsShaped, saw_nothing, make-saw}
 use Rattle.rht_core.proofs.Reasons.MadeSizes.{due_size, shaped_flat, size_of-made, pages-sized}
-use Rattle.rht_core.proofs.Reasons.ChoicesMade.{Chosen, futures_next, Began-push, HasLock, SeekSaw, Measures, Since, chosen_by, Since-push, SinceSome-push}
+use Rattle.rht_core.proofs.Reasons.ChoicesMade.{Chosen, futures_next, Began-push, HasLock, HasOpened, SeekSaw, Measures, Since, chosen_by, Since-push, SinceSome-push}
 use Rattle.rht_core.proofs.Reasons.WorksSeen.{NoneAttached, Wants, IsMaking, Makes, IsSupplied, DueSaw, IsTried, IsDue, HasDue, IsMade, IsToAttach, SaysMissing, IsIdle, NoneAttached-push, SaysMissing-push, IsTried-push, SawAtWork, SawNextWork, to_attach-taken}
 use Rattle.rht_core.proofs.Reasons.SlotsTaken.{make-own, slot_taken-push, lost-keeps, OwnUnmade}
 
@@ -66,11 +66,11 @@ module _ (env : Env) (words_at : ℕ → List ℕ) where
   abbrev Sees : WorkAt → List Did → Type 0
   Sees = SawAtWork env words_at
 
-  pub lock-saw : (steps : List Did) (did : Did) → did.op ≡ plan_at env c at.WorkLock → steps ≡ []
+  pub lock-saw : (steps : List Did) (did : Did) → did.op ≡ Exchange (place_of env.geometry WorkLock) 0 1 → steps ≡ []
       → SawNextWork env words_at (steps ++ did ∷ []) (lock_seen did.old)
   lock-saw steps did is none =
       by_test (λ t. SawNextWork env words_at (steps ++ did ∷ [])
-      (cond t (at.CurrentTable, Go) (at.WorkLock, Done Elsewhere)))
+      (cond t (at.Opening, Go) (at.WorkLock, Done Elsewhere)))
       (did.old == 0)
       (λ t. record {
         lock = did;
@@ -83,15 +83,26 @@ module _ (env : Env) (words_at : ℕ → List ℕ) where
         finds = record { tries = is; taken = eqb-false did.old 0 f };
       })
 
-  pub current-saw : (steps : List Did) (did : Did) → did.op ≡ plan_at env c at.CurrentTable → HasLock env steps
+  pub opening-saw : (steps : List Did) (did : Did) → OpensOrCloses env.geometry did → HasLock env steps → HasOpened env (steps ++ did ∷ [])
+  opening-saw steps did opens has = record {
+    lock = has.lock;
+    opening = did;
+    only = ap (λ s. s ++ did ∷ []) has.only;
+    took = has.took;
+    opens = opens;
+  }
+
+  pub current-saw : (steps : List Did) (did : Did) → did.op ≡ Load (place_of env.geometry CurrentTable) → HasOpened env steps
       → Sees (seeking env.geometry (table_of did.old)) (steps ++ did ∷ [])
   current-saw steps did is has = record {
     futures = [];
     began = record {
       lock = has.lock;
+      opening = has.opening;
       current = did;
       split = ap (λ s. s ++ did ∷ []) has.only;
       took = has.took;
+      opens = has.opens;
       current_read = reads env CurrentTable did tt is;
       root_is = refl;
     };
@@ -136,14 +147,16 @@ module _ (env : Env) (words_at : ℕ → List ℕ) where
         root = root;
         last = last.table;
         lock = began.lock;
+        opening = began.opening;
         current = began.current;
         futures = saw.futures;
         shape = saw.shape;
         count = did;
         behind = [];
         split = began.split
-            ∙ ap (λ s. began.lock ∷ began.current ∷ s) (append_assoc saw.futures (saw.shape ∷ []) (did ∷ []));
+            ∙ ap (λ s. began.lock ∷ began.opening ∷ began.current ∷ s) (append_assoc saw.futures (saw.shape ∷ []) (did ∷ []));
         took = began.took;
+        opens = began.opens;
         current_read = began.current_read;
         root_is = began.root_is;
         futures_read = saw.read;
@@ -237,7 +250,7 @@ module _ (env : Env) (words_at : ℕ → List ℕ) where
       let nested = is_nested wanted.last.shape in
       by_test
       (λ t. Sees
-      (cond t (at.LettingGo (outcomes.NoTable wanted.size)) (at.RootFuture wanted.root dues.Later)) all)
+      (cond t (letting_go (outcomes.NoTable wanted.size)) (at.RootFuture wanted.root dues.Later)) all)
       (one || nested)
       (λ t. record {
         chose = chose;
@@ -362,7 +375,7 @@ module _ (env : Env) (words_at : ℕ → List ℕ) where
   -- ---- the table is attached, or another one was
 
   pub attached-saw : (root last slot shape : ℕ) (steps : List Did) (did : Did) → last < 8 → slot < 8
-      → did.op ≡ plan_at env c (at.Attaching root last slot shape) → IsToAttach env root last slot shape steps
+      → did.op ≡ Exchange (place_of env.geometry (Slot last FutureWord)) 0 (future_of slot) → IsToAttach env root last slot shape steps
       → Sees (attached env.geometry root slot shape did.old) (steps ++ did ∷ [])
   attached-saw root last slot shape steps did last_in slot_in is (size, since) =
       by_test
@@ -442,7 +455,7 @@ module _ (env : Env) (words_at : ℕ → List ℕ) where
 
   -- there is none only where nothing was due
   pub future-saw : (root : ℕ) (due : Due) (next : Option ℕ) (steps : List Did) (did : Did) → root < 8
-      → did.op ≡ plan_at env c (at.RootFuture root due) → slot_of did.old ≡ next
+      → did.op ≡ Load (place_of env.geometry (Slot root FutureWord)) → slot_of did.old ≡ next
       → (next ≡ None → due ≡ dues.Nothing)
       → ((future : ℕ) → slot_of did.old ≡ Some future → root ≢ future)
       → HasDue env root due steps → Sees (future_or_idle root due next) (steps ++ did ∷ [])
@@ -466,7 +479,7 @@ module _ (env : Env) (words_at : ℕ → List ℕ) where
             behind_is = ap (λ s. s ++ did ∷ []) (has.at_once refl);
             future_read = loaded of.root has.root_same;
             none = finds;
-            on_lock = tt;
+            beside = tt;
           }))
       go dues.Attached None finds none has = absurd (let e = none refl in cc)
       go dues.Later None finds none has = absurd (let e = none refl in cc)

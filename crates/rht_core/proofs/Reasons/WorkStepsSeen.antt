@@ -3,9 +3,10 @@
 --
 -- Where a table was due there is a future to be found, by what the caller knows; and the last table that is
 -- looked for anew is another one than the current one, which is still the one that is moved.
-use Rattle.std.proofs.Common.{◌≡◌, ◌≢◌, ℕ, ◌≤◌, ◌+◌, ◌^◌, true, List, [], ◌∷◌, ◌++◌, map, refl, sym, ap, ◌∙◌, subst, inl, inr, arith}
+use Rattle.std.proofs.Common.{◌≡◌, ◌≢◌, ℕ, ◌<◌, ◌≤◌, ◌⊎◌, ◌+◌, ◌^◌, Bool, true, List, [], ◌∷◌, ◌++◌, map, refl, sym, ap, ◌∙◌, subst, inl, inr, arith}
 use Rattle.std.specs.Prelude.{Some, None, ◌==◌}
 use Rattle.std.proofs.lemmas.List.{map-append}
+use Rattle.rht_words.specs.declared.op.Op.TheVariants.{Store}
 use Rattle.rht_words.specs.declared.env.Env.{Env}
 use Rattle.rht_words.specs.declared.geometry.Geometry.{Geometry}
 use Rattle.rht_words.specs.Links.{table_of, slot_of, node_of, head_of, unlocked}
@@ -29,16 +30,18 @@ use Rattle.rht_move.specs.declared.work.Due.{Due}
 use Rattle.rht_move.specs.declared.work.Due.TheVariants as dues
 use Rattle.rht_move.specs.declared.work.Outcome.{Outcome}
 use Rattle.rht_move.specs.declared.work.Outcome.TheVariants as outcomes
+use Rattle.rht_move.specs.declared.work.ending.Ending.{Ending}
+use Rattle.rht_move.specs.declared.work.ending.Ending.TheVariants as endings
 use Rattle.rht_move.specs.declared.work.WorkAt.{WorkAt}
 use Rattle.rht_move.specs.declared.work.WorkAt.TheVariants as at
 use Rattle.rht_move.specs.Choice.{choice_of}
 use Rattle.rht_move.specs.LastTable.{LastTableModel, last_table_plan_at, last_table_after}
 use Rattle.rht_move.specs.LastEntry.{last_entry_after}
-use Rattle.rht_move.specs.Work.{plan_at, after_at, entry_table_seen, with_word, reply_of}
+use Rattle.rht_move.specs.Work.{after_at, closed, entry_table_seen, with_word, reply_of}
 use Rattle.rht_core.specs.Jobs.{works}
 use Rattle.rht_core.specs.Traces.{Did, performed_of}
 use Rattle.rht_core.specs.ResizeCauses.{FindsSlotsTaken, AreSlotsTaken, AreRunsTaken}
-use Rattle.rht_core.specs.WorkCauses.{SawNoTableDue}
+use Rattle.rht_core.specs.WorkCauses.{OpensOrCloses, StoresOrCloses, SawNoTableDue}
 use Rattle.rht_ghost.proofs.Theory.Ghosts.{index_at}
 use Rattle.rht_ghost.proofs.Theory.Steps.{mem}
 use Rattle.rht_ghost.proofs.Theory.Knowns.{Onward, Rooted}
@@ -49,9 +52,9 @@ use Rattle.rht_core.proofs.Meaning.TablesInForce.{current_slot, next_apart}
 use Rattle.rht_core.proofs.Reasons.AttachedTables.{no_attach, lock-none, unmake-none}
 use Rattle.rht_core.proofs.Reasons.MakesSeen.{runs_taken-stay}
 use Rattle.rht_core.proofs.Reasons.ChoicesMade.{HasChosen-push, Since-push}
-use Rattle.rht_core.proofs.Reasons.WorksSeen.{SawIdle, AnewSaw, HasDue-push, SawForWork, SawAtWork, SawNextWork}
-use Rattle.rht_core.proofs.Reasons.TablesDue.{reads, lock-saw, current-saw, FindsSmall, last-saw, begun-saw, made-saw, attached-saw, unmade-saw, future-saw}
-use Rattle.rht_core.proofs.Reasons.MovesSeen.{cut-none, publish-saw, stored-saw, goes, root-saw, passed-saw, locked-saw, entry-saw, walked-saw, second_locked-saw, cut-saw, sought-saw, found-saw, SawStopped-push, unlocking-stores, unlocked-saw, retiring-saw}
+use Rattle.rht_core.proofs.Reasons.WorksSeen.{IsBesideTables, SawReplaced, SawIdle, AnewSaw, HasDue-push, SawForWork, SawAtWork, SawNextWork}
+use Rattle.rht_core.proofs.Reasons.TablesDue.{reads, lock-saw, opening-saw, current-saw, FindsSmall, last-saw, begun-saw, made-saw, attached-saw, unmade-saw, future-saw}
+use Rattle.rht_core.proofs.Reasons.MovesSeen.{cut-none, publish-saw, HasGoneOn-push, stored-saw, turned-saw, goes, root-saw, passed-saw, locked-saw, entry-saw, walked-saw, second_locked-saw, cut-saw, sought-saw, found-saw, SawStopped-push, unlocking-stores, unlocked-saw, retiring-saw}
 use Rattle.rht_core.proofs.Reasons.SlotsTaken.{unmake-own}
 
 -- ---- what the caller knows
@@ -160,22 +163,45 @@ module _ (env : Env) (words_at : ℕ → List ℕ) where
       (subst (λ words. table_of (word_at env.geometry words CurrentTable) ≡ emptying.rehash.root) here
       (still_root env mix emptying (record { geometry = h; at = seeks.Shape slot }) did does)) saw
 
-  -- an operation on the work lock finds nothing of slots
+  -- an operation on the work lock or on a section finds nothing of slots
   slots_taken-stay : (steps : List Performed) (step : Performed)
-      → op_place step.op ≡ place_of env.geometry WorkLock
+      → op_place step.op < 24
       → AreSlotsTaken env.geometry steps → AreSlotsTaken env.geometry (steps ++ step ∷ [])
-  slots_taken-stay steps step on_lock slots = record {
+  slots_taken-stay steps step low slots = record {
     seen = λ slot l. Any-append_left (SeesSlotTaken env.geometry slot) steps (step ∷ []) (slots.seen slot l);
     only =
         AllByRecursion-push (FindsSlotsTaken env.geometry) steps step slots.only
-        (λ slot l place. let same = sym on_lock ∙ place in absurd (omega (arith, same)));
+        (λ slot l place. absurd (omega (arith, low, place)));
   }
 
+  -- the operation lets go of the work lock, or closes the section
+  abbrev ClosesOrLets : Did → Type 0
+  ClosesOrLets did = (did.op ≡ Store (place_of env.geometry WorkLock) 0) ⊎ OpensOrCloses env.geometry did
+
+  ends-beside : (did : Did) → ClosesOrLets did → IsBesideTables env did
+  ends-beside did (inl is) = inl (ap op_place is)
+  ends-beside did (inr turns) = inr turns
+
+  ends-other : (did : Did) → ClosesOrLets did → StoresOrCloses env.geometry did
+  ends-other did (inl is) = inl (record { place = _; value = _; stores = is; other = λ e. cc })
+  ends-other did (inr turns) = inr turns
+
+  replaced-more : (again : Bool) (steps : List Did) (did : Did) → ClosesOrLets did → SawReplaced env again steps
+      → SawReplaced env again (steps ++ did ∷ [])
+  replaced-more again steps did (inl is) replaced = stored-saw env again WorkLock 0 steps did tt (λ e. cc) is replaced
+  replaced-more again steps did (inr turns) replaced = turned-saw env again steps did turns replaced
+
+  -- it is on a word before the slots
+  beside-low : (did : Did) → IsBesideTables env did → op_place did.op < 24
+  beside-low did (inl on) = omega (arith, on)
+  beside-low did (inr turns) =
+      let on : op_place did.op ≡ 8 + turns.caller = ap op_place turns.turns in omega (arith, on, turns.within)
+
   no_table-push : (size : ℕ) (steps : List Did) (did : Did)
-      → did.op ≡ plan_at env c (at.LettingGo (outcomes.NoTable size))
+      → IsBesideTables env did
       → SawNoTableDue env size steps → SawNoTableDue env size (steps ++ did ∷ [])
   unfolding HasChosen-push
-  no_table-push size steps did is saw =
+  no_table-push size steps did beside saw =
       let behind = saw.chose.behind in
       let more = map-append performed_of behind (did ∷ []) in
       record {
@@ -183,43 +209,49 @@ module _ (env : Env) (words_at : ℕ → List ℕ) where
         stays = saw.stays;
         room = elim saw.room [
           | inl slots ↦ inl (subst (AreSlotsTaken env.geometry) (sym more)
-              (slots_taken-stay (map performed_of behind) (performed_of did) (ap op_place is) slots))
+              (slots_taken-stay (map performed_of behind) (performed_of did) (beside-low did beside) slots))
           | inr runs ↦ inr (subst (AreRunsTaken env.geometry (pages_due size) 0 []) (sym more)
               (runs_taken-stay env.geometry (pages_due size) 0 [] (map performed_of behind)
               (performed_of did) runs))
         ];
       }
 
-  idle-push : (steps : List Did) (did : Did) → did.op ≡ plan_at env c (at.LettingGo outcomes.Idle)
+  idle-push : (steps : List Did) (did : Did) → IsBesideTables env did
       → SawIdle env steps → SawIdle env (steps ++ did ∷ [])
-  idle-push steps did is saw =
+  idle-push steps did beside saw =
       Since-push env Nothing steps did saw (λ of behind idle. record {
         future = idle.future;
         rest = idle.rest ++ did ∷ [];
         behind_is = ap (λ s. s ++ did ∷ []) idle.behind_is;
         future_read = idle.future_read;
         none = idle.none;
-        on_lock =
-            AllByRecursion-push (λ did. op_place did.op ≡ place_of env.geometry WorkLock) idle.rest did
-            idle.on_lock (ap op_place is);
+        beside = AllByRecursion-push (IsBesideTables env) idle.rest did idle.beside beside;
       })
 
-  ended-saw : (outcome : Outcome) (steps : List Did) (did : Did) → did.op ≡ plan_at env c (at.LettingGo outcome)
+  -- an answer stays seen while the section is closed and the work lock let go of
+  ended-saw : (outcome : Outcome) (steps : List Did) (did : Did) → ClosesOrLets did
       → SawForWork env words_at (reply_of outcome) steps
       → SawForWork env words_at (reply_of outcome) (steps ++ did ∷ [])
-  ended-saw outcomes.Idle steps did is saw = idle-push steps did is saw
-  ended-saw (outcomes.NoTable size) steps did is saw = no_table-push size steps did is saw
-  ended-saw (outcomes.Moved again) steps did is saw = elim saw [
-    | inl replaced ↦ inl (stored-saw env again WorkLock 0 steps did tt (λ e. cc) is replaced)
-    | inr stops ↦
-        inr (SawStopped-push env words_at again steps did
-        (record { place = _; value = _; stores = is; other = λ e. cc }) stops)
+  ended-saw outcomes.Idle steps did ends saw = idle-push steps did (ends-beside did ends) saw
+  ended-saw (outcomes.NoTable size) steps did ends saw = no_table-push size steps did (ends-beside did ends) saw
+  ended-saw (outcomes.Moved again) steps did ends saw = elim saw [
+    | inl replaced ↦ inl (replaced-more again steps did ends replaced)
+    | inr stops ↦ inr (SawStopped-push env words_at again steps did (ends-other did ends) stops)
   ]
+
+  -- the section is closed, and behind that it retires a table, or lets go of the work lock
+  closing-saw : (ending : Ending) (steps : List Did) (did : Did) → OpensOrCloses env.geometry did → Sees (at.Closing ending) steps
+      → Sees (closed ending) (steps ++ did ∷ [])
+  closing-saw (endings.Retiring root again) steps did turns saw =
+      (turned-saw env again steps did turns saw.0, HasGoneOn-push env root steps did saw.1)
+  closing-saw (endings.LettingGo outcome) steps did turns saw = ended-saw outcome steps did (inr turns) saw
 
   pub work-saw : (mix : ℕ → ℕ → ℕ → ℕ) (state : WorkAt) (steps : List Did) (did : Did)
       → (does : Performs mix env (works state) did) → does.words ≡ words_at did.index → Sees state steps
       → SawNextWork env words_at (steps ++ did ∷ []) (after_at mix env state did.old)
   work-saw mix at.WorkLock steps did does here saw = lock-saw env words_at steps did does.planned saw
+  work-saw mix at.Opening steps did does here saw =
+      opening-saw env words_at steps did (record { caller = does.caller; within = does.few; turns = does.planned }) saw
   work-saw mix at.CurrentTable steps did does here saw = current-saw env words_at steps did does.planned saw
   work-saw mix (at.LastTable root seek) steps did does here saw =
       last-saw env words_at root seek.geometry seek.at steps did does.within.seek_in.at_in
@@ -309,4 +341,6 @@ module _ (env : Env) (words_at : ℕ → List ℕ) where
   work-saw mix (at.Retiring root again) steps did does here saw =
       inl
       (stored-saw env again (Slot root StateWord) 2 steps did (does.within, tt) (λ e. cc) does.planned saw.0)
-  work-saw mix (at.LettingGo outcome) steps did does here saw = ended-saw outcome steps did does.planned saw
+  work-saw mix (at.Closing ending) steps did does here saw =
+      closing-saw ending steps did (record { caller = does.caller; within = does.few; turns = does.planned }) saw
+  work-saw mix (at.LettingGo outcome) steps did does here saw = ended-saw outcome steps did (inl does.planned) saw

@@ -27,17 +27,18 @@ use Rattle.rht_move.specs.declared.work.choice.Choice.TheVariants.{Attach, Later
 use Rattle.rht_move.specs.declared.work.Wanted.{Wanted}
 use Rattle.rht_move.specs.declared.work.Due.{Due}
 use Rattle.rht_move.specs.declared.work.Due.TheVariants as dues
+use Rattle.rht_move.specs.declared.work.ending.Ending.TheVariants as endings
 use Rattle.rht_move.specs.declared.work.WorkAt.{WorkAt}
 use Rattle.rht_move.specs.declared.work.WorkAt.TheVariants as at
 use Rattle.rht_move.specs.Work.{reply_of}
 use Rattle.rht_core.specs.Traces.{Did, performed_of}
 use Rattle.rht_core.specs.Seen.{LoadsWord}
 use Rattle.rht_core.specs.ResizeCauses.{Loaded, Attaches}
-use Rattle.rht_core.specs.WorkCauses.{SawElsewhere, ReadsFuture, HasPublished, IsSized, HasAttached, SawNoTableDue, HasTried, HasTriedIfNeeded, SawStopped}
+use Rattle.rht_core.specs.WorkCauses.{SawElsewhere, ReadsFuture, HasPublished, IsSized, HasAttached, SawNoTableDue, OpensOrCloses, HasTried, HasTriedIfNeeded, SawStopped}
 use Rattle.rht_core.proofs.Tracing.LoneCalls.{Spares}
 use Rattle.rht_core.proofs.Reasons.AttachedTables.{IsNoAttach}
 use Rattle.rht_core.proofs.Reasons.MakesSeen.{SawMade}
-use Rattle.rht_core.proofs.Reasons.ChoicesMade.{AreFuturesAt, Chosen, HasLock, SeekSaw, Measures, Since, SinceSome, SinceSome-push}
+use Rattle.rht_core.proofs.Reasons.ChoicesMade.{AreFuturesAt, Chosen, HasLock, HasOpened, SeekSaw, Measures, Since, SinceSome, SinceSome-push}
 use Rattle.rht_core.specs.Refused.{StoresLast}
 use Rattle.rht_core.specs.Attached.{HasTakenSlot, StoresDrawn, HasGoneOn}
 use Rattle.rht_core.proofs.Reasons.SlotsTaken.{Owns, slot_taken-behind}
@@ -117,7 +118,7 @@ module _ (env : Env) where
   to_attach-taken root last slot shape steps (size, since) =
       let chose = since.chose in
       subst (HasTakenSlot env.geometry slot) (sym chose.split)
-      (slot_taken-behind env.geometry slot (chose.lock ∷ chose.current ∷ chose.futures) chose.shape (chose.count ∷ chose.behind)
+      (slot_taken-behind env.geometry slot (chose.lock ∷ chose.opening ∷ chose.current ∷ chose.futures) chose.shape (chose.count ∷ chose.behind)
       (slot_taken-behind env.geometry slot [] chose.count chose.behind since.so.taken))
 
   -- whether it is to say that the table that was due isn't attached
@@ -175,7 +176,11 @@ module _ (env : Env) where
   abbrev pub SawReplaced : Bool → List Did → Type 0
   SawReplaced again = SinceSome env (IsReplaced again)
 
-  -- it found nothing due, loaded that the current table has no future, and has worked on the work lock alone
+  -- the operation is on the work lock, or opens or closes a read section
+  abbrev pub IsBesideTables : Did → Type 0
+  IsBesideTables did = (op_place did.op ≡ place_of env.geometry WorkLock) ⊎ OpensOrCloses env.geometry did
+
+  -- it found nothing due, loaded that the current table has no future, and has left the words of tables alone
   -- since
   pub record IsIdle (of : Chosen) (behind : List Did) : Type 0 where
     pub future : Did
@@ -183,7 +188,7 @@ module _ (env : Env) where
     pub behind_is : behind ≡ future ∷ rest
     pub future_read : Loaded env.geometry (Slot of.root FutureWord) future.old future
     pub none : slot_of future.old ≡ None
-    pub on_lock : AllByRecursion (λ did. op_place did.op ≡ place_of env.geometry WorkLock) rest
+    pub beside : AllByRecursion IsBesideTables rest
 
   abbrev pub SawIdle : List Did → Type 0
   SawIdle = Since env Nothing IsIdle
@@ -309,7 +314,8 @@ module _ (env : Env) (words_at : ℕ → List ℕ) where
 
   abbrev pub SawAtWork : WorkAt → List Did → Type 0
   SawAtWork at.WorkLock steps = steps ≡ []
-  SawAtWork at.CurrentTable steps = HasLock env steps
+  SawAtWork at.Opening steps = HasLock env steps
+  SawAtWork at.CurrentTable steps = HasOpened env steps
   SawAtWork (at.LastTable root seek) steps = SeekSaw env root seek.at steps
   SawAtWork (at.Count root last) steps = Measures env root last steps
   SawAtWork (at.Making wanted make) steps = Makes env wanted make steps
@@ -331,6 +337,8 @@ module _ (env : Env) (words_at : ℕ → List ℕ) where
   SawAtWork (at.Unlocking rehash number unlock stop) steps = UnlockingSaw rehash stop steps
   SawAtWork (at.Publishing rehash) steps = RehashSaw env rehash steps
   SawAtWork (at.NewFuture rehash) steps = HasMoved env rehash steps × HasGoneOn env.geometry rehash.root steps
+  SawAtWork (at.Closing (endings.Retiring root again)) steps = SawReplaced env again steps × HasGoneOn env.geometry root steps
+  SawAtWork (at.Closing (endings.LettingGo outcome)) steps = SawForWork (reply_of outcome) steps
   SawAtWork (at.Retiring root again) steps = SawReplaced env again steps × HasGoneOn env.geometry root steps
   SawAtWork (at.LettingGo outcome) steps = SawForWork (reply_of outcome) steps
 
