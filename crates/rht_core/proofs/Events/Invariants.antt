@@ -72,7 +72,7 @@ module _ (env : Env) (mix : ℕ → ℕ → ℕ → ℕ) where
         begins_so L env c (λ asked first. Knows c (job_of first) M G)
         (λ port. record { built = tt; knowing = record { only = knows.only; means = knows.means }; fits = tt })
         (λ port owner once. record { built = tt; knowing = record { only = knows.only; means = knows.means }; fits = (refl, refl) })
-        (λ port. record { built = tt; knowing = record { only = knows.only; means = knows.means }; fits = (tt, refl) })
+        (λ port. record { built = tt; knowing = record { only = knows.only; means = knows.means }; fits = refl })
         (λ port owner. record { built = tt; knowing = record { only = knows.only; means = knows.means }; fits = tt })
         (λ port owner new single. record {
           built = single;
