@@ -89,7 +89,8 @@ module _ (env : Env) (mix : ℕ → ℕ → ℕ → ℕ) where
   last-spares (last_tables.Future table) = by_load _ _ refl
   last-spares (last_tables.Shape table) = by_load _ _ refl
 
-  work-spares : (c : ℕ) → c < 16 → (state : WorkAt) → work.IsWorkAtIn env state → CalmWork env state → SparesSlots (work.plan_at env c state)
+  work-spares : (c : ℕ) → c < 16 → (state : WorkAt) → work.IsWorkAtIn env state → CalmWork env state
+      → SparesSlots (work.plan_at env c state)
   work-spares c few work_at.Opening within calm = at_section few _ refl
   work-spares c few (work_at.Closing ending) within calm = at_section few _ refl
   work-spares c few work_at.WorkLock within calm = inr (inl refl)

@@ -1,6 +1,6 @@
 -- Which operations leave the words of all slots, of the current table and of the next serial: loads, and those on the work lock, on the
--- count of ports, and on words behind the slots. Look-ups, listings, releases and rebinds have no other; nor have the pieces of a bind but
--- the making of a table.
+-- count of ports, on section words, and on words behind the slots. Look-ups, listings, releases and rebinds have no other; nor have the
+-- pieces of a bind but the making of a table.
 use Rattle.std.proofs.Common.{◌≡◌, ◌⊎◌, ◌+◌, ℕ, false, ◌<◌, ◌≤◌, List, get_or, refl, sym, ap, subst, inl, inr, arith}
 use Rattle.rht_words.specs.declared.op.Op.{Op}
 use Rattle.rht_words.specs.declared.op.Op.TheVariants.{Load, Exchange}

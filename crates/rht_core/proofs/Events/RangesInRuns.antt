@@ -33,7 +33,6 @@ use Rattle.rht_bind.proofs.BindPlanned.{planned_bind}
 use Rattle.rht_release.specs.All.{all_after, IsAllAtIn}
 use Rattle.rht_release.proofs.AllStays.{all_stays, room_stays}
 use Rattle.rht_release.proofs.AllPlanned.{planned_all}
-use Rattle.rht_release.specs.Seek.{seek_new, IsSeekIn}
 use Rattle.rht_release.specs.Release.{release_after, IsReleaseAtIn}
 use Rattle.rht_release.proofs.ReleaseStays.{release_stays}
 use Rattle.rht_release.proofs.ReleasePlanned.{planned_release}
@@ -85,10 +84,6 @@ opening_word-fits env _ = omega arith
 -- the reading of the count is on one of the words
 planned_count : (env : Env) → IsPlannedIn env.geometry (count_plan_in env)
 planned_count env = record { within = omega arith; apart = λ same. absurd (omega arith); fits = omega arith }
-
--- the way to a port begins in range
-seek_begins-in : (g : Geometry) → IsSeekIn g (seek_new g)
-seek_begins-in g = record { geometry_same = refl; at_in = tt }
 
 -- a map of nodes has a first word
 first_map_word : (g : Geometry) → 0 < map_words g.nodes

@@ -129,7 +129,8 @@ module _ (env : Env) where
     behind_there : (did : Did) → Contains (chose.shape ∷ chose.count ∷ idle.future ∷ idle.rest) did → Contains steps did
     behind_there did there =
         subst (λ s. Contains s did) (sym all_steps)
-        (Contains-append_right (chose.lock ∷ chose.opening ∷ chose.current ∷ chose.futures) (chose.shape ∷ chose.count ∷ idle.future ∷ idle.rest)
+        (Contains-append_right (chose.lock ∷ chose.opening ∷ chose.current ∷ chose.futures)
+        (chose.shape ∷ chose.count ∷ idle.future ∷ idle.rest)
         did there)
 
     future_there : (did : Did) → Contains chose.futures did → Contains steps did

@@ -199,7 +199,8 @@ module _ (env : Env) where
         flat = λ attempt locate shape is seed first. first-flat shape first;
         further = λ claimed length next is further.
             let within = subst (IsBindAtIn env) is does.within.at_in in
-            let none = ap slot_of (found ∙ ap (λ s. old_of words (plan_at env does.caller s)) is) ∙ future-none claimed.table within.table_in in
+            let none =
+            ap slot_of (found ∙ ap (λ s. old_of words (plan_at env does.caller s)) is) ∙ future-none claimed.table within.table_in in
             let both : ◌≡◌ {A = Option ℕ} None (Some next) = sym none ∙ further in
             absurd (cc);
         few = λ claimed is. below-max did.old (omega (arith, roomy.first)) (low claimed is);

@@ -4,7 +4,7 @@
 -- A look-up and a listing have nothing to show. A reading of the count loads what it answers by its one
 -- operation. For this and for a release it counts that each recorded operation stands in the run at its
 -- event.
-use Rattle.std.proofs.Common.{◌≡◌, ℕ, List, [], ◌∷◌, subst, inl, inr, ◌↔◌, Bool, true, false, refl, sym, arith}
+use Rattle.std.proofs.Common.{◌≡◌, ℕ, List, ◌∷◌, subst, inl, inr, ◌↔◌, Bool, true, false, refl, sym, arith}
 use Rattle.std.specs.List.{AllByRecursion, Any}
 use Rattle.std.proofs.lemmas.List.Elements.{All-from_recursion}
 use Rattle.rht_words.specs.declared.op.Op.TheVariants.{Load}

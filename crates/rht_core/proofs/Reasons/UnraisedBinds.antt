@@ -1,5 +1,5 @@
--- A bind raises the count of ports with one operation, and behind that it publishes its node and ends: until then it has
--- raised none, in none of its attempts.
+-- A bind raises the count of ports with one operation, and behind that it publishes its node, closes its section and ends: until
+-- then it has raised none, in none of its attempts.
 use Rattle.std.proofs.Common.{◌≡◌, ◌≢◌, ℕ, ◌+◌, Bool, List, [], ◌∷◌, ◌++◌, sym, ap, ◌∙◌, arith}
 use Rattle.std.specs.Prelude.{Option, Some, None, IfSome}
 use Rattle.std.specs.List.{AllByRecursion}
@@ -142,8 +142,8 @@ module _ (env : Env) where
   turning-none : (c : ℕ) → IsNoCountAdd g (Add (place_of g (Section c)) 1)
   turning-none c is = absurd (let at : 8 + c ≡ 2 = ap op_place is in omega (arith, at))
 
-  closed-saw : (c : ℕ) (ending : Ending) (steps : List Did) (did : Did) → did.op ≡ Add (place_of g (Section c)) 1 → SawUnraised (at.Closing ending) steps
-      → SawUnraised (closed env ending).0 (steps ++ did ∷ [])
+  closed-saw : (c : ℕ) (ending : Ending) (steps : List Did) (did : Did) → did.op ≡ Add (place_of g (Section c)) 1
+      → SawUnraised (at.Closing ending) steps → SawUnraised (closed env ending).0 (steps ++ did ∷ [])
   closed-saw c (endings.Bound kick) steps did is saw = tt
   closed-saw c (endings.Answered node reply) steps did is saw = tt
   closed-saw c (endings.Anew attempt) steps did is saw = goes (at.Opening attempt) _ steps did is (turning-none c) saw

@@ -118,7 +118,8 @@ module _ (env : Env) where
   to_attach-taken root last slot shape steps (size, since) =
       let chose = since.chose in
       subst (HasTakenSlot env.geometry slot) (sym chose.split)
-      (slot_taken-behind env.geometry slot (chose.lock ∷ chose.opening ∷ chose.current ∷ chose.futures) chose.shape (chose.count ∷ chose.behind)
+      (slot_taken-behind env.geometry slot (chose.lock ∷ chose.opening ∷ chose.current ∷ chose.futures) chose.shape
+      (chose.count ∷ chose.behind)
       (slot_taken-behind env.geometry slot [] chose.count chose.behind since.so.taken))
 
   -- whether it is to say that the table that was due isn't attached

@@ -1,6 +1,6 @@
 -- The states behind which a call ends with no refusal any more, nor with another reply that says that nothing was changed. In such a state
 -- is a bind and a rebind that publish their node, a release that takes its node out, and a resizing that has made its table or finds one to
--- move. Look-ups, listings and readings of the count come to none.
+-- move; and each stays so while it closes its section. Look-ups, listings and readings of the count come to none.
 use Rattle.std.proofs.Common.{◌≡◌, ◌≢◌, ℕ, ◌+◌, ◌==◌, Bool, true, false, Option, Some, None, refl, nat_lt}
 use Rattle.std.proofs.lemmas.Bool.{cond_both}
 use Rattle.rht_words.specs.declared.env.Env.{Env}
@@ -111,7 +111,7 @@ abbrev pub removed_is_past : Option ℕ → Bool
 removed_is_past None = false
 removed_is_past (Some node) = true
 
--- its reply says so too
+-- and a release where its reply says that it took a node out
 abbrev pub reply_is_past : Reply → Bool
 reply_is_past (Released kick) = true
 reply_is_past reply = false
