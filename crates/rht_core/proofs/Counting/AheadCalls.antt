@@ -3,7 +3,7 @@
 --
 -- By induction over the operations: each makes the caller one that has raised the count, or ends that, or does neither (`StepsAhead`), and
 -- shows so by itself. What the caller has raised its job says, and its trace has its operations.
-use Rattle.std.proofs.Common.{◌≡◌, ◌≢◌, ◌⊎◌, ℕ, ◌+◌, Bool, true, false, List, [], ◌∷◌, ◌++◌, refl, sym, ap, ◌∙◌, subst, inl, inr, append_assoc, cond, arith}
+use Rattle.std.proofs.Common.{◌≡◌, ◌≢◌, ◌⊎◌, ℕ, ◌+◌, Bool, true, false, List, [], ◌∷◌, ◌++◌, refl, sym, ap, ◌∙◌, subst, inl, inr, append_assoc, cond}
 use Rattle.std.specs.Prelude.{Option, Some, None}
 use Rattle.std.specs.List.{AllByRecursion}
 use Rattle.rht_words.specs.declared.env.Env.{Env}
@@ -13,7 +13,7 @@ use Rattle.rht_words.proofs.EachElement.{AllByRecursion-push, AllByRecursion-cut
 use Rattle.rht_words.proofs.Members.{count_below, In-AllByRecursion}
 use Rattle.rht_words.specs.declared.config.Kind.{Kind}
 use Rattle.rht_words.specs.declared.config.Kind.TheVariants.{Single, Listed}
-use Rattle.rht_words.specs.Operations.{op_place, applied}
+use Rattle.rht_words.specs.Operations.{applied}
 use Rattle.rht_words.specs.Held.{Held}
 use Rattle.rht_model.specs.Endings.{Ending}
 use Rattle.rht_model.specs.declared.history.Call.{Call}
@@ -31,7 +31,7 @@ use Rattle.rht_model.specs.Answers.{Answer, owners_bound, bindings_after, is_ref
 use Rattle.rht_model.specs.Multimap.{Multimap, same_port}
 use Rattle.rht_words.specs.declared.op.Op.TheVariants.{Add}
 use Rattle.rht_words.specs.declared.geometry.Geometry.{Geometry}
-use Rattle.rht_words.specs.Places.{PortCount, Section, place_of}
+use Rattle.rht_words.specs.Places.{PortCount, place_of}
 use Rattle.rht_release.specs.Release.{plan_at}
 use Rattle.rht_release.specs.declared.release.ReleaseAt.{ReleaseAt}
 use Rattle.rht_release.specs.declared.release.ReleaseAt.TheVariants as at
@@ -41,7 +41,7 @@ use Rattle.rht_ghost.proofs.Theory.Answering.{Says}
 use Rattle.rht_ghost.proofs.Theory.Steps.{by_test}
 use Rattle.rht_core.proofs.Meaning.BoundPorts.{stands_for_bound}
 use Rattle.rht_core.proofs.Events.JobsOfCallers.{same_call, first_holds}
-use Rattle.rht_core.proofs.Reasons.UnraisedBinds.{locate-none, probe-none, relink-none}
+use Rattle.rht_core.proofs.Reasons.UnraisedBinds.{turning-none, locate-none, probe-none, relink-none}
 use Rattle.rht_stands.specs.StandsFor.{stands_for}
 use Rattle.rht_core.proofs.Machines.JobSteps.{JobStepOf}
 use Rattle.rht_core.proofs.Machines.NeverHeld.{IsUnraised, job-unraised}
@@ -92,10 +92,6 @@ bind-keeps kind c port owner once early There before after was now (inr changes)
     by_test (λ t. cond t (owners_bound kind owner (before port)) (before p) ≡ [] → before p ≡ []) (same_port p port)
     (λ t left. absurd (bound-some kind owner (before port) left)) (λ other left. left))
     (sym (changes.bindings p) ∙ none)
-
--- what opens or closes a section adds to no count of ports
-turning-none : (g : Geometry) (c : ℕ) → Add (place_of g (Section c)) 1 ≢ Add (place_of g PortCount) 1
-turning-none g c is = let at : 8 + c ≡ 2 = ap op_place is in omega (arith, at)
 
 -- no operation of a release adds to the count
 release-none : (g : Geometry) (env : Env) (c : ℕ) (state : ReleaseAt) → plan_at env c state ≢ Add (place_of g PortCount) 1

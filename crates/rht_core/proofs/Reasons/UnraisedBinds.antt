@@ -62,6 +62,10 @@ module _ (g : Geometry) where
 
   -- ---- the pieces
 
+  -- a section word is another word
+  pub turning-none : (c : ℕ) → IsNoCountAdd (Add (place_of g (Section c)) 1)
+  turning-none c is = absurd (let at : 8 + c ≡ 2 = ap op_place is in omega (arith, at))
+
   take_node-none : (h : Geometry) (state : TakeNodeAt) → IsNoCountAdd (take_node_plan_at h state)
   take_node-none h (takes.MapWord index) is = cc
   take_node-none h (takes.Claim index bit) is = cc
@@ -138,15 +142,11 @@ module _ (env : Env) where
   published-saw node table kick relink Go all = tt
   published-saw node table kick relink (Done done) all = tt
 
-  -- a section word is another word than the count of ports
-  turning-none : (c : ℕ) → IsNoCountAdd g (Add (place_of g (Section c)) 1)
-  turning-none c is = absurd (let at : 8 + c ≡ 2 = ap op_place is in omega (arith, at))
-
   closed-saw : (c : ℕ) (ending : Ending) (steps : List Did) (did : Did) → did.op ≡ Add (place_of g (Section c)) 1
       → SawUnraised (at.Closing ending) steps → SawUnraised (closed env ending).0 (steps ++ did ∷ [])
   closed-saw c (endings.Bound kick) steps did is saw = tt
   closed-saw c (endings.Answered node reply) steps did is saw = tt
-  closed-saw c (endings.Anew attempt) steps did is saw = goes (at.Opening attempt) _ steps did is (turning-none c) saw
+  closed-saw c (endings.Anew attempt) steps did is saw = goes (at.Opening attempt) _ steps did is (turning-none g c) saw
 
   pub unraised-saw : (mix : ℕ → ℕ → ℕ → ℕ) (c port : ℕ) (once : Bool) (state : BindAt) (steps : List Did) (did : Did)
       → did.op ≡ plan_at env c state → SawUnraised state steps
@@ -172,7 +172,7 @@ module _ (env : Env) where
   unraised-saw mix c port once (at.Unmaking attempt unmake answer) steps did is saw =
       goes (after_at mix env port once (at.Unmaking attempt unmake answer) did.old).0 _ steps did is
       (unmake-none g unmake.geometry unmake.slot unmake.at) saw
-  unraised-saw mix c port once (at.Opening attempt) steps did is saw = goes (at.CurrentTable attempt) _ steps did is (turning-none c) saw
+  unraised-saw mix c port once (at.Opening attempt) steps did is saw = goes (at.CurrentTable attempt) _ steps did is (turning-none g c) saw
   unraised-saw mix c port once (at.Closing ending) steps did is saw = closed-saw c ending steps did is saw
   unraised-saw mix c port once (at.Raise claimed) steps did is saw = tt
   unraised-saw mix c port once (at.Publish node table relink kick) steps did is saw =
