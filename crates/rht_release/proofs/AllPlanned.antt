@@ -1,5 +1,5 @@
--- On which words a listing works, a case a state: those of slots, nodes and buckets, and the section word of its caller. What it stores
--- is a word.
+-- On which words a listing works, a case a state: those of slots, nodes and buckets, and the section word of its caller. What it stores is
+-- a word.
 use Rattle.std.proofs.Common.{ℕ, ◌<◌, refl}
 use Rattle.rht_words.specs.declared.env.Env.{Env}
 use Rattle.rht_words.specs.Places.{Node, OwnerWord, ListLink}

@@ -307,7 +307,7 @@ module _ (env : Env) (mix : ℕ → ℕ → ℕ → ℕ) (c : ℕ) (port owner n
 
   -- ---- its read section
 
-  -- the node outlives its opening
+  -- it is opened with the new node
   opening_step : (n : ℕ) → RebindKnows (at.Opening n) M G → RebindStep (at.Opening n)
   opening_step n known =
       answered-map env mix None (inl refl) (still_has refl)
@@ -315,7 +315,7 @@ module _ (env : Env) (mix : ℕ → ℕ → ℕ → ℕ) (c : ℕ) (port owner n
       (open_step env mix c (holds_outside n None) (knows_of port owner new n Unlocked) words G all whole low
       known.knowing)
 
-  -- and its closing, where it is given back next
+  -- and closed with it, where it is given back next
   absent_step : (n : ℕ) → RebindKnows (at.Closing (ends.Absent n)) M G → RebindStep (at.Closing (ends.Absent n))
   absent_step n known =
       let answer = Some (plain Absent) in
@@ -324,6 +324,7 @@ module _ (env : Env) (mix : ℕ → ℕ → ℕ → ℕ) (c : ℕ) (port owner n
       (close_step env mix c (holds_outside n answer) (knows_of port owner new n Unlocked) words G all whole low
       known.knowing)
 
+  -- or with the old one taken out
   rebound_step : (removed : ℕ) → RebindKnows (at.Closing (ends.Rebound removed)) M G
       → RebindStep (at.Closing (ends.Rebound removed))
   rebound_step removed known =

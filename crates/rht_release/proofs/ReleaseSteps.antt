@@ -3,7 +3,7 @@ use Rattle.std.proofs.Common.{◌≡◌, ◌≢◌, ℕ, ◌+◌, ◌-◌, ◌%�
 use Rattle.rht_words.specs.declared.env.Env.{Env}
 use Rattle.rht_words.specs.declared.op.Op.TheVariants.{Store}
 use Rattle.rht_words.specs.declared.machine.Next.{Next}
-use Rattle.rht_words.specs.declared.machine.Next.TheVariants.{Go, Done}
+use Rattle.rht_words.specs.declared.machine.Next.TheVariants.{Go}
 use Rattle.rht_words.specs.Held as held
 use Rattle.rht_words.specs.Links.{link_of}
 use Rattle.rht_words.specs.Ports.{owner_of}
@@ -273,12 +273,14 @@ module _ (env : Env) (mix : ℕ → ℕ → ℕ → ℕ) (c : ℕ) (port owner :
 
   -- ---- its read section
 
+  -- it is opened before anything is known
   opening_step : ReleaseKnows at.Opening M G → ReleaseStep at.Opening
   opening_step known =
       answered-map env mix None (inl refl) (still_has refl)
       (λ M' G' w k. record { knowing = k; fits = tt })
       (open_step env mix c held.holds_nothing known_nothing words G all whole low known.knowing)
 
+  -- while it is closed the release knows which node it has taken out, where it has
   closing_step : (reply : Reply) (removed : Option ℕ) → ReleaseKnows (at.Closing reply removed) M G
       → ReleaseStep (at.Closing reply removed)
   closing_step reply removed known =

@@ -1,6 +1,6 @@
--- The way to a port, operation by operation, for any call in its read section: from the current table on to the bucket in which
--- the port is found, or to a future that leads nowhere, where the port is bound to nothing. Where the bucket of a nested table turns out to be
--- missing, and no table was behind, the answer is that of the load of the future before.
+-- The way to a port, operation by operation, for any call in its read section. It leads from the current table on to the bucket in which
+-- the port is found, or to a future that leads nowhere, where the port is bound to nothing. Where the bucket of a nested table turns out
+-- to be missing, and no table was behind, the answer is that of the load of the future before.
 use Rattle.std.proofs.Common.{◌≡◌, ℕ, List, [], length, Option, Some, None, false, refl, sym, ap, subst, inl}
 use Rattle.rht_words.specs.declared.env.Env.{Env}
 use Rattle.rht_words.specs.declared.machine.Next.{Next}

@@ -1,8 +1,7 @@
--- What a listing holds in each of its states: its read section, from its opening to its closing; the lock of a bucket; and its
--- answer once it is known, or early, should the bucket be missing. A
--- listing is answered without owners from the load of a future on that leads nowhere, and with the
--- owners that it has kept from the load of the list link behind the last one on: the bucket has been
--- locked since before the first, so these are all.
+-- What a listing holds in each of its states: its read section, the lock of a bucket, and its answer. The answer is held once it is known,
+-- or early, should the bucket be missing. A listing is answered without owners from the load of a future on that leads nowhere. With the
+-- owners that it has kept it is answered from the load of the list link behind the last one on: the bucket has been locked since before
+-- the first, so these are all.
 use Rattle.std.specs.Prelude.{ℕ, Some, List, length}
 use Rattle.rht_words.specs.Held.{Held, holds_nothing, ended_with}
 use Rattle.rht_words.specs.declared.machine.Next.{Next}

@@ -1,7 +1,7 @@
--- What a rebind holds in each of its states: its node, up to the store that puts it in the old one's place; its read section, from
--- its opening to its closing; the lock of a bucket; and its answer once it is known, or early, should the bucket be missing. A rebind is
--- answered Absent from the load of a future on that leads nowhere, or of another owner. With the first
--- store of the relinking the new owner has the old one's place.
+-- What a rebind holds in each of its states: its node, its read section, the lock of a bucket, and its answer. It has its node up to the
+-- store that puts it in the old one's place. The answer is held once it is known, or early, should the bucket be missing. A rebind is
+-- answered Absent from the load of a future on that leads nowhere, or of another owner. With the first store of the relinking the new
+-- owner has the old one's place.
 use Rattle.std.specs.Prelude.{ℕ, Bool, true, Option, None, Some, if◌then◌else◌}
 use Rattle.rht_words.specs.Held.{Held, holds_nothing, ended_with}
 use Rattle.rht_words.specs.declared.machine.Next.{Next}

@@ -1,8 +1,7 @@
--- What a release holds in each of its states: its read section, from its opening to its closing; the lock of a bucket; the
--- count, from the store that unlinks a port's only node to the lowering; and its answer once it is
--- known, or early, should the bucket be missing. A release is answered Absent from the load of a future on that leads nowhere, or of the list
--- link behind the last owner. It takes a binding out with one store: into the list link before a later
--- node, or with the first store of a relinking.
+-- What a release holds in each of its states: its read section, the lock of a bucket, the raised count, and its answer. The count it has
+-- from the store that unlinks a port's only node to the lowering. The answer is held once it is known, or early, should the bucket be
+-- missing. A release is answered Absent from the load of a future on that leads nowhere, or of the list link behind the last owner. It
+-- takes a binding out with one store: into the list link before a later node, or with the first store of a relinking.
 use Rattle.std.specs.Prelude.{ℕ, Bool, true, false, Option, Some, if◌then◌else◌}
 use Rattle.rht_words.specs.Held.{Held, holds_nothing, ended_with}
 use Rattle.rht_words.specs.declared.machine.Next.{Next}
