@@ -1,7 +1,9 @@
 //! Releases, rebinds and listings, on words made by hand. In a table of 8 nodes and 4 pages the node
 //! map is at 280, node n from 282 + 4 * n on (its chain link, key, owner and list link), slot t from
 //! 24 + 32 * t on, and the pages from 314 on. The ports 5, 69, 133 and 197 have bucket 5 of 64,
-//! which is at 319 and has the marker 639. The link to node n is 2 * n + 2.
+//! which is at 319 and has the marker 639. The link to node n is 2 * n + 2. The caller is 0, whose
+//! section word is at 8: it finds an even one where it opens its read section, and an odd one where it
+//! closes it.
 
 use crate::asserts::assert_same;
 use rht_model::{Reply, Room};
@@ -100,9 +102,15 @@ impl Steps for All<Low> {
     }
 }
 
-/// The way to bucket 5, up to the key of its first node.
-fn way() -> [Op; 6] {
+/// The opening of the read section, and its closing.
+fn turn() -> [Op; 1] {
+    [Op::add(8, 1)]
+}
+
+/// The way to bucket 5 from the opening on, up to the key of its first node.
+fn way() -> [Op; 7] {
     [
+        Op::add(8, 1),
         Op::load(0),
         Op::load(24),
         Op::load(25),
@@ -128,8 +136,9 @@ fn on_to_the_end() -> [Op; 3] {
 
 /// The way to a bucket that is behind the second entry of page 0. It ends here where that leads to no
 /// page.
-fn way_to_entry() -> [Op; 5] {
+fn way_to_entry() -> [Op; 6] {
     [
+        Op::add(8, 1),
         Op::load(0),
         Op::load(24),
         Op::load(25),
@@ -151,8 +160,9 @@ const BEHIND: [(usize, u64); 6] = [
 ];
 
 /// The way to that bucket, up to the key of node 1.
-fn way_behind() -> [Op; 10] {
+fn way_behind() -> [Op; 11] {
     [
+        Op::add(8, 1),
         Op::load(0),
         Op::load(24),
         Op::load(25),
@@ -216,6 +226,7 @@ fn releases_of_ports_with_one_owner(rt: HostRuntime) {
         Op::load(286),
         Op::store(319, 2),
         Op::sub(2, 1),
+        Op::add(8, 1),
     ];
     // Three tenths of 64 buckets are 19.
     let parts: [&[Op]; 2] = [&way(), &of_69];
@@ -236,6 +247,7 @@ fn releases_of_ports_with_one_owner(rt: HostRuntime) {
         Op::store(282, 639),
         Op::store(319, 4),
         Op::sub(2, 1),
+        Op::add(8, 1),
     ];
     let parts: [&[Op]; 3] = [&way(), &on_to_133(), &of_133];
     assert_release(&rt, (133, 2), &[], &parts, (KICK, Some(4)));
@@ -244,9 +256,9 @@ fn releases_of_ports_with_one_owner(rt: HostRuntime) {
 #[test]
 fn releases_of_ports_that_the_first_table_has_not(rt: HostRuntime) {
     let absent = (Reply::Absent, None);
-    let parts: [&[Op]; 1] = [&way_to_entry()];
+    let parts: [&[Op]; 2] = [&way_to_entry(), &turn()];
     assert_release(&rt, (69, 1), &[NESTED], &parts, absent);
-    let parts: [&[Op]; 3] = [&way(), &on_to_133(), &on_to_the_end()];
+    let parts: [&[Op]; 4] = [&way(), &on_to_133(), &on_to_the_end(), &turn()];
     assert_release(&rt, (197, 3), &[], &parts, absent);
     // The future table is in slot 1, with 128 buckets from page 2 on. Port 197 has bucket 69 there,
     // at 314 + 64 * 2 + 69, and is in node 5 with owner 3.
@@ -270,19 +282,21 @@ fn releases_of_ports_that_the_first_table_has_not(rt: HostRuntime) {
         Op::load(302),
         Op::store(511, 0),
         Op::sub(2, 1),
+        Op::add(8, 1),
     ];
     let parts: [&[Op]; 4] = [&way(), &on_to_133(), &on_to_the_end(), &of_197];
     assert_release(&rt, (197, 3), &future, &parts, (KICK, Some(5)));
 }
 
 /// The taking out of node 1 with port 69, which is alone in the bucket at this place.
-fn out_of(place: usize) -> [Op; 5] {
+fn out_of(place: usize) -> [Op; 6] {
     [
         Op::load(288),
         Op::load(289),
         Op::load(286),
         Op::store(place, 0),
         Op::sub(2, 1),
+        Op::add(8, 1),
     ]
 }
 
@@ -303,6 +317,7 @@ fn releases_in_nested_tables(rt: HostRuntime) {
     // page 3, whose first word is the bucket's. It has the marker 1013.
     let deep = [(24, 1_069), (379, 3), (476, 4), (506, 4), (286, 1_013)];
     let way = [
+        Op::add(8, 1),
         Op::load(0),
         Op::load(24),
         Op::load(25),
@@ -338,11 +353,13 @@ fn releases_of_a_port_with_three_owners(rt: HostRuntime) {
         Op::store(290, 10),
         Op::store(286, 6),
         Op::store(319, 4),
+        Op::add(8, 1),
     ];
     let parts: [&[Op]; 3] = [&way(), &on_to_5(), &first];
     assert_release(&rt, (5, 9), &[], &parts, (NO_KICK, Some(0)));
     // Node 0 is the bucket's first: the link to the second owner's node goes into the word.
     let front = [
+        Op::add(8, 1),
         Op::load(0),
         Op::load(24),
         Op::load(25),
@@ -354,6 +371,7 @@ fn releases_of_a_port_with_three_owners(rt: HostRuntime) {
         Op::load(282),
         Op::store(290, 10),
         Op::store(319, 6),
+        Op::add(8, 1),
     ];
     let parts: [&[Op]; 1] = [&front];
     assert_release(&rt, (5, 9), &[(319, 2)], &parts, (NO_KICK, Some(0)));
@@ -364,13 +382,14 @@ fn releases_of_a_port_with_three_owners(rt: HostRuntime) {
         Op::load(293),
         Op::store(285, 8),
         Op::store(319, 4),
+        Op::add(8, 1),
     ];
     let parts: [&[Op]; 3] = [&way(), &on_to_5(), &second];
     assert_release(&rt, (5, 7), &[], &parts, (NO_KICK, Some(2)));
-    let last = [Op::store(293, 0), Op::store(319, 4)];
+    let last = [Op::store(293, 0), Op::store(319, 4), Op::add(8, 1)];
     let parts: [&[Op]; 4] = [&way(), &on_to_5(), &three_owners(), &last];
     assert_release(&rt, (5, 8), &[], &parts, (NO_KICK, Some(3)));
-    let unlock = [Op::store(319, 4)];
+    let unlock = [Op::store(319, 4), Op::add(8, 1)];
     let parts: [&[Op]; 4] = [&way(), &on_to_5(), &three_owners(), &unlock];
     assert_release(&rt, (5, 6), &[], &parts, (Reply::Absent, None));
 }
@@ -406,6 +425,7 @@ fn rebinds_that_are_made(rt: HostRuntime) {
         Op::load(286),
         Op::store(302, 2),
         Op::store(319, 12),
+        Op::add(8, 1),
     ];
     let parts: [&[Op]; 3] = [&new_node(69), &way(), &front];
     assert_rebind(&rt, (69, 1), &[], &parts, (Reply::Rebound, Some(1)));
@@ -415,6 +435,7 @@ fn rebinds_that_are_made(rt: HostRuntime) {
         Op::store(302, 639),
         Op::store(282, 12),
         Op::store(319, 4),
+        Op::add(8, 1),
     ];
     let parts: [&[Op]; 4] = [&new_node(133), &way(), &on_to_133(), &later];
     assert_rebind(&rt, (133, 2), &[], &parts, (Reply::Rebound, Some(4)));
@@ -423,6 +444,7 @@ fn rebinds_that_are_made(rt: HostRuntime) {
         Op::load(286),
         Op::store(302, 1_023),
         Op::store(511, 12),
+        Op::add(8, 1),
     ];
     let parts: [&[Op]; 3] = [&new_node(69), &way_behind(), &behind];
     assert_rebind(&rt, (69, 1), &BEHIND, &parts, (Reply::Rebound, Some(1)));
@@ -431,10 +453,15 @@ fn rebinds_that_are_made(rt: HostRuntime) {
 #[test]
 fn rebinds_that_are_not_made(rt: HostRuntime) {
     let absent = (Reply::Absent, None);
-    let other = [Op::load(288), Op::store(319, 4), Op::or(280, 32)];
+    let other = [
+        Op::load(288),
+        Op::store(319, 4),
+        Op::add(8, 1),
+        Op::or(280, 32),
+    ];
     let parts: [&[Op]; 3] = [&new_node(69), &way(), &other];
     assert_rebind(&rt, (69, 3), &[], &parts, absent);
-    let given = [Op::or(280, 32)];
+    let given = [Op::add(8, 1), Op::or(280, 32)];
     let parts: [&[Op]; 5] = [
         &new_node(197),
         &way(),
@@ -445,7 +472,7 @@ fn rebinds_that_are_not_made(rt: HostRuntime) {
     assert_rebind(&rt, (197, 3), &[], &parts, absent);
     let parts: [&[Op]; 3] = [&new_node(197), &way_to_entry(), &given];
     assert_rebind(&rt, (197, 3), &[NESTED], &parts, absent);
-    // No node is free.
+    // No node is free, so that no read section is opened.
     let none = [Op::load(280)];
     let parts: [&[Op]; 1] = [&none];
     assert_rebind(&rt, (69, 1), &[(280, 0)], &parts, (Reply::NoNode, None));
@@ -473,21 +500,31 @@ fn assert_all(
 #[test]
 fn listings_keep_the_owners(rt: HostRuntime) -> Result<(), Fail> {
     let room = Room::with_limit(rt.alloc(), 8)?;
-    let unlock = [Op::store(319, 4)];
+    let unlock = [Op::store(319, 4), Op::add(8, 1)];
     let parts: [&[Op]; 4] = [&way(), &on_to_5(), &three_owners(), &unlock];
     let room = assert_all(&rt, room, 5, &[], &parts, &[9, 7, 8]);
     // A room for two is full before the third.
     let two = Room::with_limit(rt.alloc(), 2)?;
     assert_all(&rt, two, 5, &[], &parts, &[9, 7]);
     // What was in the room goes.
-    let one = [Op::load(300), Op::load(301), Op::store(319, 4)];
+    let one = [
+        Op::load(300),
+        Op::load(301),
+        Op::store(319, 4),
+        Op::add(8, 1),
+    ];
     let parts: [&[Op]; 3] = [&way(), &on_to_133(), &one];
     let room = assert_all(&rt, room, 133, &[], &parts, &[2]);
-    let parts: [&[Op]; 3] = [&way(), &on_to_133(), &on_to_the_end()];
+    let parts: [&[Op]; 4] = [&way(), &on_to_133(), &on_to_the_end(), &turn()];
     let room = assert_all(&rt, room, 197, &[], &parts, &[]);
-    let parts: [&[Op]; 1] = [&way_to_entry()];
+    let parts: [&[Op]; 2] = [&way_to_entry(), &turn()];
     let room = assert_all(&rt, room, 5, &[NESTED], &parts, &[]);
-    let one = [Op::load(288), Op::load(289), Op::store(511, 4)];
+    let one = [
+        Op::load(288),
+        Op::load(289),
+        Op::store(511, 4),
+        Op::add(8, 1),
+    ];
     let parts: [&[Op]; 2] = [&way_behind(), &one];
     assert_all(&rt, room, 69, &BEHIND, &parts, &[1]);
     Ok(())

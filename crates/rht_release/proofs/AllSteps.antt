@@ -1,6 +1,6 @@
 -- What a listing knows in each state, and that each of its operations leads from what it knows to what it
 -- knows next.
-use Rattle.std.proofs.Common.{◌≡◌, ℕ, suc, ◌+◌, List, [], ◌∷◌, ◌++◌, length, Option, Some, None, cond, refl, sym, ◌∙◌, ap, subst, inl, arith}
+use Rattle.std.proofs.Common.{◌≡◌, ℕ, suc, ◌+◌, ◌<◌, List, [], ◌∷◌, ◌++◌, length, Option, Some, None, cond, refl, sym, ◌∙◌, ap, subst, inl, arith}
 use Rattle.std.proofs.lemmas.Bool.{lt-ltb}
 use Rattle.std.proofs.lemmas.List.{append_assoc, length-append, length-map, map-append}
 use Rattle.rht_words.specs.declared.env.Env.{Env}
@@ -23,7 +23,7 @@ use Rattle.rht_model.specs.Answers.{Answer}
 use Rattle.rht_model.specs.Rooms.{Kept, with_kept}
 use Rattle.rht_release.specs.All.{plan_at, after_at, room_after, sought, list_followed, IsAllAtIn}
 use Rattle.rht_release.specs.AllHeld.{listing_of, held_of_all}
-use Rattle.rht_release.specs.Seek.{SeekModel, seek_plan, seek_after}
+use Rattle.rht_release.specs.Seek.{SeekModel, seek_plan, seek_after, holds_section}
 use Rattle.rht_release.specs.declared.found_port.FoundPort.{FoundPort}
 use Rattle.rht_release.specs.declared.all.AllAt.{AllAt}
 use Rattle.rht_release.specs.declared.all.AllAt.TheVariants as at
@@ -35,6 +35,7 @@ use Rattle.rht_ghost.proofs.Theory.Answering.{IsLegalOn, IsRight, Tells, keeps, 
 use Rattle.rht_ghost.proofs.Theory.Steps.{answered-map, Holding, mem, owners, owners_in, StepWhere, step-map, reads, HoldsNoneEarly, still_has}
 use Rattle.rht_ghost.proofs.Pieces.Locates.{IsThereFor}
 use Rattle.rht_ghost.proofs.Pieces.Locks.{unlock_step}
+use Rattle.rht_ghost.proofs.Pieces.OwnSections.{open_step, close_step}
 use Rattle.rht_ghost.proofs.Pieces.Lists.{list_among, list_few, list_rest, found_list}
 use Rattle.rht_release.proofs.Seeks as seeks
 use Rattle.rht_release.proofs.Seeks.{in_list}
@@ -44,19 +45,23 @@ use Rattle.rht_release.proofs.ReleaseStores.{here}
 module _ (port : ℕ) where
   -- what a listing that has kept these owners knows in a state
   abbrev pub known_of_all : List ℕ → AllAt → Known
+  known_of_all owners at.Opening = known_nothing
   known_of_all owners (at.Seeking seek) = seeks.known_of_seek port None seek.at
   known_of_all owners (at.Owner found node) =
       here (in_list port found (Collected node owners))
   known_of_all owners (at.ListLink found node) =
       here (in_list port found (CollectedTo node owners))
   known_of_all owners (at.Unlocking table unlock) = here (Locks unlock.place unlock.word)
+  known_of_all owners at.Closing = known_nothing
 
   -- how its pieces are for the port, and its room: it is empty until the port was found
   abbrev pub fits_all : Kept ℕ → AllAt → Type 0
+  fits_all room at.Opening = room.items ≡ []
   fits_all room (at.Seeking seek) = seeks.fits_seek port seek.at × (room.items ≡ [])
   fits_all room (at.Owner found node) = Unit {0}
   fits_all room (at.ListLink found node) = Unit {0}
   fits_all room (at.Unlocking table unlock) = Unit {0}
+  fits_all room at.Closing = Unit {0}
 
 -- the room with this owner behind the others
 abbrev pub room_with : Kept ℕ → ℕ → Kept ℕ
@@ -95,17 +100,17 @@ module _ (env : Env) (mix : ℕ → ℕ → ℕ → ℕ) (c : ℕ) (port : ℕ) 
         StepWhere env mix
         (IsThereFor (held_of_all room.items at).early (known_of_all port room.items at).table M)
         (IsThereFor (all_holds after r).early (known_of_all port after.items r.0).table
-        (mem env mix (applied words (plan_at env at)))) c call words G (plan_at env at)
+        (mem env mix (applied words (plan_at env c at)))) c call words G (plan_at env c at)
         (held_of_all room.items at) (all_holds after r) (AllNext after r)
 
     abbrev pub AllStep : AllAt → Type 0
     AllStep at =
-        let word = old_of words (plan_at env at) in
+        let word = old_of words (plan_at env c at) in
         AllMoved at (room_after at room word) (after_at mix env port at word)
 
     -- a load, with what it tells of the answer
     goes_on : (at next : AllAt) (after : Kept ℕ)
-        → word_after (old_of words (plan_at env at)) (plan_at env at) ≡ old_of words (plan_at env at)
+        → word_after (old_of words (plan_at env c at)) (plan_at env c at) ≡ old_of words (plan_at env c at)
         → HoldsNoneEarly (held_of_all room.items at) (held_of_all after.items next)
         → Tells env.config.kind c call (held_of_all room.items at).node now (held_of_all room.items at).answer
         (held_of_all after.items next).answer
@@ -267,32 +272,41 @@ module _ (env : Env) (mix : ℕ → ℕ → ℕ → ℕ) (c : ℕ) (port : ℕ) 
         (seek_plan seek) (held_of_all room.items (at.Seeking seek))
         (seeks.seek_holds None absent (r.0.at, r.1))
         (seeks.SeekNext env mix c call port None None absent (r.0.at, r.1))
-        → AllMoved (at.Seeking seek) room (sought r.0 r.1)
+        → AllMoved (at.Seeking seek) room (sought r.0 r.1, Go)
     seek_next seek (next, Go) none step =
         step-map env mix (λ M' G' w k. record { knowing = k.knowing; fits = (k.fits, none) }) step
-    seek_next seek (next, Done None) none step = step
+    seek_next seek (next, Done None) none step =
+        step-map env mix (λ M' G' w k. record { knowing = k; fits = tt }) step
     seek_next seek (next, Done (Some found)) none step =
         step-map env mix (found_knows next found none) step
 
     -- ---- each operation leads from what the listing knows to what it knows next
-    pub all_step : (at : AllAt) → IsAllAtIn env at → AllKnows room at M G → AllStep at
-    all_step (at.Seeking seek) is known =
+    pub all_step : c < env.geometry.callers → (at : AllAt) → IsAllAtIn env at → AllKnows room at M G → AllStep at
+    all_step low at.Opening is known =
+        answered-map env mix None (inl refl) (still_has refl)
+        (λ M' G' w k. record { knowing = k; fits = (tt, known.fits) })
+        (open_step env mix c held.holds_nothing known_nothing words G all whole low known.knowing)
+    all_step low (at.Seeking seek) is known =
         let none = known.fits.1 in
         seek_next seek (seek_after mix port seek (old_of words (seek_plan seek))) none
         (seeks.seek_step env mix c call port None None absent words G all whole
         (λ unbound. listing_legal room.items (unbound ∙ sym none)) (listing_right room.items) refl seek is
         (record { knowing = known.knowing; fits = known.fits.0 }))
-    all_step (at.Owner found node) is known = owner_kept found node known
-    all_step (at.ListLink found node) is known =
+    all_step low (at.Owner found node) is known = owner_kept found node known
+    all_step low (at.ListLink found node) is known =
         let listed = known.knowing.means.bucket in
         let among = listed.means.among in
         link_next found node known among.rear refl
         (list_rest env mix M G whole port found.node listed.behind listed.bound_to node listed.means.before
         among)
-    all_step (at.Unlocking table unlock) is known =
-        let state = at.Unlocking table unlock in
+    all_step low (at.Unlocking table unlock) is known =
         let answer = Some (listing_of room.items) in
-        let told : Holding = record held.holds_nothing { answer = answer } in
+        let told : Holding = record holds_section { answer = answer } in
         answered-map env mix answer (inl (keeps answer)) (still_has refl)
-        (λ M' G' w k. k)
+        (λ M' G' w k. record { knowing = k; fits = tt })
         (unlock_step env mix c told None Nowhere words G all whole refl unlock.place unlock.word known.knowing)
+    all_step low at.Closing is known =
+        let answer = Some (listing_of room.items) in
+        let told : Holding = held.ended_with (listing_of room.items) in
+        answered-map env mix answer (inl (keeps answer)) (still_has refl) (λ M' G' w k. k)
+        (close_step env mix c told known_nothing words G all whole low known.knowing)

@@ -16,6 +16,7 @@ use Rattle.rht_chain.specs.Relink.{has_relinked}
 use Rattle.rht_release.specs.Rebind.{plan_at, after_at}
 use Rattle.rht_release.specs.RebindHeld.{held_of_rebind}
 use Rattle.rht_release.specs.declared.found_port.FoundPort.{FoundPort}
+use Rattle.rht_release.specs.declared.rebind.RebindEnd.TheVariants as ends
 use Rattle.rht_release.specs.declared.rebind.RebindAt.{RebindAt}
 use Rattle.rht_release.specs.declared.rebind.RebindAt.TheVariants as at
 use Rattle.rht_model.specs.Replies.{IsRebindReply, AreOwnersWith, ArePairsWith}
@@ -54,6 +55,7 @@ module _ (port owner new : ℕ) where
   abbrev pub known_of_rebind : RebindAt → Known
   known_of_rebind (at.Filling fresh) =
       knows_plain (nodes.known_at port new fresh.at) Nowhere Unlocked
+  known_of_rebind (at.Opening n) = knows_of n Unlocked
   known_of_rebind (at.Seeking n seek) = seeks.known_of_seek port (Some (own n)) seek.at
   known_of_rebind (at.Owner n found) =
       knows_plain (Some (own n)) (seeks.home_of port found) (seeks.known_port port found)
@@ -62,6 +64,8 @@ module _ (port owner new : ℕ) where
   known_of_rebind (at.Replacing n found relink) =
       known_replacing n found (has_relinked found.before relink.at)
   known_of_rebind (at.Unlocking n table unlock) = knows_of n (Locks unlock.place unlock.word)
+  known_of_rebind (at.Closing (ends.Rebound removed)) = known_removed (Some removed)
+  known_of_rebind (at.Closing (ends.Absent n)) = knows_of n Unlocked
   known_of_rebind (at.Giving give) = knows_of give.node Unlocked
 
 -- the relinking that puts its node in the place of the old one
@@ -82,6 +86,7 @@ module _ (env : Env) (mix : ℕ → ℕ → ℕ → ℕ) (c : ℕ) (port owner n
   -- how its pieces are for the port and the owner
   abbrev pub fits_rebind : RebindAt → Type 0
   fits_rebind (at.Filling fresh) = (fresh.key ≡ port) × (fresh.owner ≡ new)
+  fits_rebind (at.Opening n) = Unit {0}
   fits_rebind (at.Seeking n seek) = seeks.fits_seek port seek.at
   fits_rebind (at.Owner n found) = Unit {0}
   fits_rebind (at.ChainLink n found) = Unit {0}
@@ -89,6 +94,7 @@ module _ (env : Env) (mix : ℕ → ℕ → ℕ → ℕ) (c : ℕ) (port owner n
   fits_rebind (at.Replacing n found relink) =
       relink ≡ replaces env n found (has_relinked found.before relink.at)
   fits_rebind (at.Unlocking n table unlock) = Unit {0}
+  fits_rebind (at.Closing end) = Unit {0}
   fits_rebind (at.Giving give) = Unit {0}
 
   pub record RebindKnows (at : RebindAt) (M : Memory) (G : Ghost) : Type 0 where
@@ -112,8 +118,8 @@ module _ (env : Env) (mix : ℕ → ℕ → ℕ → ℕ) (c : ℕ) (port owner n
         StepWhere env mix
         (IsThereFor (held_of_rebind at).early (known_of_rebind port owner new at).table (mem env mix words))
         (IsThereFor (rebind_holds r).early (known_of_rebind port owner new r.0).table
-        (mem env mix (applied words (plan_at env at)))) c (calls.Rebind port owner new)
-        words G (plan_at env at) (held_of_rebind at) (rebind_holds r) (RebindNext r)
+        (mem env mix (applied words (plan_at env c at)))) c (calls.Rebind port owner new)
+        words G (plan_at env c at) (held_of_rebind at) (rebind_holds r) (RebindNext r)
 
     abbrev pub RebindStep : RebindAt → Type 0
-    RebindStep at = RebindMoved at (after_at mix env port owner at (old_of words (plan_at env at)))
+    RebindStep at = RebindMoved at (after_at mix env port owner at (old_of words (plan_at env c at)))

@@ -15,8 +15,10 @@ use Rattle.rht_arena.proofs.NewNodesStay.{NewNodeIsIn, new_node_stays}
 use Rattle.rht_chain.specs.Relink.{RelinkModel, relink_after}
 use Rattle.rht_chain.proofs.PiecesStay.{relink_stays}
 use Rattle.rht_release.specs.Seek.{SeekModel, seek_after}
-use Rattle.rht_release.specs.Rebind.{after_at, filled, sought, owner_compared, replaced, IsReplacingIn, IsHoldingIn, IsRebindAtIn}
+use Rattle.rht_release.specs.Rebind.{after_at, filled, sought, owner_compared, replaced, closed, IsReplacingIn, IsHoldingIn, IsRebindEndIn, IsRebindAtIn}
 use Rattle.rht_release.specs.declared.found_port.FoundPort.{FoundPort}
+use Rattle.rht_release.specs.declared.rebind.RebindEnd.{RebindEnd}
+use Rattle.rht_release.specs.declared.rebind.RebindEnd.TheVariants as ends
 use Rattle.rht_release.specs.declared.rebind.RebindAt.{RebindAt}
 use Rattle.rht_release.specs.declared.rebind.RebindAt.TheVariants as at
 use Rattle.rht_release.proofs.FoundPortsStay.{relink_of-in, unlock_of-in}
@@ -27,16 +29,15 @@ module _ (mix : ℕ → ℕ → ℕ → ℕ) (env : Env) (port owner : ℕ) wher
   g = env.geometry
 
   filled-in : (new : NewNodeModel) (next : Next (Option ℕ)) → NewNodeIsIn g (new, next)
-      → IsRebindAtIn env (filled g new next).0
+      → IsRebindAtIn env (filled new next).0
   filled-in new Go stays = stays.new_in
   filled-in new (Done None) stays = stays.new_in
-  filled-in new (Done (Some node)) stays =
-      record { node_in = stays.node_in; seek_in = record { geometry_same = refl; at_in = tt } }
+  filled-in new (Done (Some node)) stays = stays.node_in
 
   sought-in : (node : ℕ) (seek : SeekModel) (next : Next (Option FoundPort)) → node < g.nodes
-      → SeekIsIn g (seek, next) → IsRebindAtIn env (sought g node seek next)
+      → SeekIsIn g (seek, next) → IsRebindAtIn env (sought node seek next)
   sought-in node seek Go node_in stays = record { node_in = node_in; seek_in = stays.seek_in }
-  sought-in node seek (Done None) node_in stays = record { geometry_same = refl; node_in = node_in }
+  sought-in node seek (Done None) node_in stays = node_in
   sought-in node seek (Done (Some found)) node_in stays =
       record { node_in = node_in; found_in = stays.end_in }
 
@@ -50,14 +51,20 @@ module _ (mix : ℕ → ℕ → ℕ → ℕ) (env : Env) (port owner : ℕ) wher
   }
 
   replaced-in : (node : ℕ) (found : FoundPort) (relink : RelinkModel) (next : Next (Unit {0}))
-      → IsReplacingIn g node found relink → IsRebindAtIn env (replaced node found relink next).0
+      → IsReplacingIn g node found relink → IsRebindAtIn env (replaced node found relink next)
   replaced-in node found relink Go within = within
-  replaced-in node found relink (Done done) within = within
+  replaced-in node found relink (Done done) within = within.found_in.node_in
+
+  closed-in : (end : RebindEnd) → IsRebindEndIn g end → IsRebindAtIn env (closed g end).0
+  closed-in (ends.Rebound removed) within = within
+  closed-in (ends.Absent node) within = record { geometry_same = refl; node_in = within }
 
   pub rebind_stays : (state : RebindAt) (word : ℕ) → IsRebindAtIn env state → IsWord word
       → IsRebindAtIn env (after_at mix env port owner state word).0
   rebind_stays (at.Filling new) word within told =
       filled-in (new_node_after new word).0 (new_node_after new word).1 (new_node_stays g new word within)
+  rebind_stays (at.Opening node) word within told =
+      record { node_in = within; seek_in = record { geometry_same = refl; at_in = tt } }
   rebind_stays (at.Seeking node seek) word within told =
       sought-in node (seek_after mix port seek word).0 (seek_after mix port seek word).1 within.node_in
       (seek_stays g mix port seek word within.seek_in told)
@@ -77,6 +84,6 @@ module _ (mix : ℕ → ℕ → ℕ → ℕ) (env : Env) (port owner : ℕ) wher
         found_in = within.found_in;
         relink_in = relink_stays g relink within.relink_in;
       }
-  rebind_stays (at.Unlocking node table unlock) word within told =
-      record { geometry_same = refl; node_in = within.node_in }
+  rebind_stays (at.Unlocking node table unlock) word within told = within.node_in
+  rebind_stays (at.Closing end) word within told = closed-in end within
   rebind_stays (at.Giving give) word within told = within

@@ -24,9 +24,10 @@ use Rattle.rht_model.specs.Answers.{plain, rebind_reply, owners_rebound, binding
 use Rattle.rht_model.proofs.CallEffects.{with_owners-same, with_owners-other}
 use Rattle.rht_release.specs.FoundPort.{relink_of}
 use Rattle.rht_release.specs.Rebind.{plan_at, filled, sought, owner_compared, IsRebindAtIn}
-use Rattle.rht_release.specs.RebindHeld.{held_of_rebind, holds_found, holds_replacing}
-use Rattle.rht_release.specs.Seek.{SeekModel, seek_plan, seek_after}
+use Rattle.rht_release.specs.RebindHeld.{held_of_rebind, holds_outside, holds_node, holds_found, holds_replacing}
+use Rattle.rht_release.specs.Seek.{SeekModel, seek_plan, seek_after, holds_section}
 use Rattle.rht_release.specs.declared.found_port.FoundPort.{FoundPort}
+use Rattle.rht_release.specs.declared.rebind.RebindEnd.TheVariants as ends
 use Rattle.rht_release.specs.declared.rebind.RebindAt.{RebindAt}
 use Rattle.rht_release.specs.declared.rebind.RebindAt.TheVariants as at
 use Rattle.rht_ghost.proofs.Theory.Ghosts.{Ghost}
@@ -38,11 +39,13 @@ use Rattle.rht_ghost.proofs.Theory.Steps.{answered-map, Holding, by_test, mem, o
 use Rattle.rht_ghost.proofs.Pieces.Locates.{IsThereFor}
 use Rattle.rht_ghost.proofs.Pieces.NewNodes as nodes
 use Rattle.rht_ghost.proofs.Pieces.Locks.{unlock_step, unlock_taken}
+use Rattle.rht_ghost.proofs.Pieces.OwnSections.{open_step, close_step}
 use Rattle.rht_ghost.proofs.Pieces.Lists.{found_list}
 use Rattle.rht_release.proofs.Seeks as seeks
 use Rattle.rht_release.proofs.Seeks.{in_list}
 use Rattle.rht_ghost.proofs.Pieces.Relinks.{unstored, relinking_so}
-use Rattle.rht_release.proofs.RebindKnowledge.{own, known_replacing, replaces, with_node}
+use Rattle.rht_release.proofs.RebindKnowledge.{own, knows_of, known_replacing, replaces, with_node}
+use Rattle.rht_release.proofs.ReleaseKnowledge.{known_removed}
 use Rattle.rht_release.proofs.RebindKnowledge as rebinds
 use Rattle.rht_release.proofs.RebindStores as stores
 
@@ -115,7 +118,7 @@ module _ (env : Env) (mix : ℕ → ℕ → ℕ → ℕ) (c : ℕ) (port owner n
   -- a node was taken, and its words stored; or there was none
   node_made : (fresh : NewNodeModel) (r : NewNodeModel × Next (Option ℕ)) → r.0.key ≡ port → r.0.owner ≡ new
       → (nodes.made_by (r.0.at, r.1) ≡ None → node_of_new fresh.at ≡ None)
-      → MakingMoved fresh port new r → RebindMoved (at.Filling fresh) (filled env.geometry r.0 r.1)
+      → MakingMoved fresh port new r → RebindMoved (at.Filling fresh) (filled r.0 r.1)
   node_made fresh (next, Go) key own had step =
       answered-map env mix None (inl refl) (record {
         taken = λ node none some. refl;
@@ -148,7 +151,7 @@ module _ (env : Env) (mix : ℕ → ℕ → ℕ → ℕ) (c : ℕ) (port owner n
       (seeks.seek_holds (Some n) (plain Absent) (r.0.at, r.1))
       (seeks.SeekNext env mix c call port (Some n) (Some (own port owner new n)) (plain Absent)
       (r.0.at, r.1))
-      → RebindMoved (at.Seeking n seek) (sought env.geometry n r.0 r.1, Go)
+      → RebindMoved (at.Seeking n seek) (sought n r.0 r.1, Go)
   seek_next n seek (next, Go) step =
       step-map env mix (λ M' G' w k. record { knowing = k.knowing; fits = k.fits }) step
   seek_next n seek (next, Done None) step =
@@ -238,7 +241,7 @@ module _ (env : Env) (mix : ℕ → ℕ → ℕ → ℕ) (c : ℕ) (port owner n
   -- an operation that leads to a replacement which stands so
   abbrev ReplacingNext : ℕ → FoundPort → ℕ → Bool → Type 0
   ReplacingNext n found link stored =
-      let op = plan_at env (at.Link n found link) in
+      let op = plan_at env c (at.Link n found link) in
       let table = (known_replacing port owner new n found stored).table in
       StepWhere env mix ⊥
       (IsThereFor (holds_replacing n found stored).early table (mem env mix (applied words op)))
@@ -249,7 +252,7 @@ module _ (env : Env) (mix : ℕ → ℕ → ℕ → ℕ) (c : ℕ) (port owner n
       → ReplacingNext n found link false
   linked n found link known =
       let bucket = in_list port found (LeadsTo None link owner) in
-      let locked : Holding = record held.holds_nothing { lock = Some found.bucket.place } in
+      let locked : Holding = record holds_section { lock = Some found.bucket.place } in
       answered-map env mix None (inl refl) (still_has refl)
       (λ M' G' w k. let node = k.means.node in let is = k.means.bucket in (
         plainly env mix k.only (record {
@@ -287,8 +290,9 @@ module _ (env : Env) (mix : ℕ → ℕ → ℕ → ℕ) (c : ℕ) (port owner n
       (replaces env n (record found { before = Some node }) true)
   second_leads n found node within k =
       let answer = Some (plain Rebound) in
-      let told : Holding = record held.holds_nothing { answer = answer } in
-      answered-map env mix answer (inl (keeps answer)) (still_has refl) (λ M' G' w k. k)
+      let told : Holding = record holds_section { answer = answer } in
+      answered-map env mix answer (inl (keeps answer)) (still_has refl)
+      (λ M' G' w k. record { knowing = k; fits = tt })
       (unlock_taken env mix c told None Nowhere words G all whole refl found.bucket.place found.bucket.word
       found.node k)
 
@@ -300,6 +304,33 @@ module _ (env : Env) (mix : ℕ → ℕ → ℕ → ℕ) (c : ℕ) (port owner n
       (stores.LeadsOn env mix c port owner new single small low words G all whole n found)
       (stores.first_leads env mix c port owner new single small low words G all whole n found)
       (second_leads n found) found.before relink known.fits within known.knowing
+
+  -- ---- its read section
+
+  -- it is opened with the new node
+  opening_step : (n : ℕ) → RebindKnows (at.Opening n) M G → RebindStep (at.Opening n)
+  opening_step n known =
+      answered-map env mix None (inl refl) (still_has refl)
+      (λ M' G' w k. record { knowing = k; fits = tt })
+      (open_step env mix c (holds_outside n None) (knows_of port owner new n Unlocked) words G all whole low
+      known.knowing)
+
+  -- and closed with it, where it is given back next
+  absent_step : (n : ℕ) → RebindKnows (at.Closing (ends.Absent n)) M G → RebindStep (at.Closing (ends.Absent n))
+  absent_step n known =
+      let answer = Some (plain Absent) in
+      answered-map env mix answer (inl (keeps answer)) (still_has refl)
+      (λ M' G' w k. record { knowing = k; fits = tt })
+      (close_step env mix c (holds_outside n answer) (knows_of port owner new n Unlocked) words G all whole low
+      known.knowing)
+
+  -- or with the old one taken out
+  rebound_step : (removed : ℕ) → RebindKnows (at.Closing (ends.Rebound removed)) M G
+      → RebindStep (at.Closing (ends.Rebound removed))
+  rebound_step removed known =
+      let told : Holding = held.ended_with (plain Rebound) in
+      answered-map env mix told.answer (inl (keeps told.answer)) (still_has refl) (λ M' G' w k. k)
+      (close_step env mix c told (known_removed (Some removed)) words G all whole low known.knowing)
 
   -- ---- all states
 
@@ -319,6 +350,7 @@ module _ (env : Env) (mix : ℕ → ℕ → ℕ → ℕ) (c : ℕ) (port owner n
       (nodes.made_none fresh.at (old_of words (new_node_plan fresh)))
       (subst (λ key. MakingMoved fresh key new r) known.fits.0
       (subst (λ o. MakingMoved fresh fresh.key o r) known.fits.1 step))
+  rebind_step (at.Opening n) is known = opening_step n known
   rebind_step (at.Seeking n seek) is known =
       seek_next n seek (seek_after mix port seek (old_of words (seek_plan seek)))
       (seeks.seek_step env mix c call port (Some n) (Some (own port owner new n)) (plain Absent)
@@ -344,11 +376,13 @@ module _ (env : Env) (mix : ℕ → ℕ → ℕ → ℕ) (c : ℕ) (port owner n
       replacing_step n found relink is.found_in.before_in known
   rebind_step (at.Unlocking n table unlock) is known =
       let answer = Some (plain Absent) in
-      let told : Holding = record held.holds_nothing { node = Some n; answer = answer } in
+      let told : Holding = holds_node n None answer in
       answered-map env mix answer (inl (keeps answer)) (still_has refl)
       (λ M' G' w k. record { knowing = k; fits = tt })
       (unlock_step env mix c told (Some (own port owner new n)) Nowhere words G all whole refl
       unlock.place unlock.word known.knowing)
+  rebind_step (at.Closing (ends.Rebound removed)) is known = rebound_step removed known
+  rebind_step (at.Closing (ends.Absent n)) is known = absent_step n known
   rebind_step (at.Giving give) is known =
       let answer = Some (plain Absent) in
       let told : Holding = record held.holds_nothing { answer = answer } in

@@ -1,14 +1,13 @@
 -- The store of a rebind, which puts its node in the place of the old one: the old owner is gone, and the new
 -- one is bound.
-use Rattle.std.proofs.Common.{◌≡◌, ◌≢◌, ◌⊎◌, ℕ, ◌+◌, ◌^◌, ◌<◌, List, [], ◌∷◌, ◌++◌, length, Option, Some, None, true, false, cond, refl, sym, ◌∙◌, ap, subst, inl, inr, arith}
+use Rattle.std.proofs.Common.{◌≡◌, ◌≢◌, ℕ, ◌+◌, ◌^◌, ◌<◌, List, [], ◌∷◌, ◌++◌, length, Option, Some, None, true, false, cond, refl, sym, ◌∙◌, ap, subst, inl, inr, arith}
 use Rattle.std.proofs.lemmas.Bool.{cases_eq, eq-eqb}
 use Rattle.std.proofs.Math.Nat.{mod-eq_of_lt}
 use Rattle.rht_words.specs.declared.env.Env.{Env}
 use Rattle.rht_words.specs.declared.op.Op.{Op}
 use Rattle.rht_words.specs.declared.config.Kind.TheVariants.{Single}
 use Rattle.rht_words.specs.declared.machine.Next.{Next}
-use Rattle.rht_words.specs.declared.machine.Next.TheVariants.{Go, Done}
-use Rattle.rht_words.specs.Held as held
+use Rattle.rht_words.specs.declared.machine.Next.TheVariants.{Go}
 use Rattle.rht_words.specs.Links.{link_of}
 use Rattle.rht_words.specs.Ports.{owner_of}
 use Rattle.rht_words.specs.Operations.{applied}
@@ -25,8 +24,10 @@ use Rattle.rht_model.specs.declared.history.Reply.TheVariants.{Rebound, Absent}
 use Rattle.rht_model.specs.Multimap.{Multimap, Agree}
 use Rattle.rht_model.specs.Answers.{Answer, plain, rebind_reply, owners_rebound, bindings_after}
 use Rattle.rht_model.proofs.CallEffects.{with_owners-same, with_owners-other}
+use Rattle.rht_release.specs.Seek.{holds_section}
 use Rattle.rht_release.specs.RebindHeld.{held_of_rebind, holds_found}
 use Rattle.rht_release.specs.declared.found_port.FoundPort.{FoundPort}
+use Rattle.rht_release.specs.declared.rebind.RebindEnd.TheVariants as ends
 use Rattle.rht_release.specs.declared.rebind.RebindAt.{RebindAt}
 use Rattle.rht_release.specs.declared.rebind.RebindAt.TheVariants as at
 use Rattle.rht_ghost.proofs.Theory.Ghosts.{put-same, put-other, First, Taken, Ghost, is_taken_by, held_not_first, taken_by_one, index_at}
@@ -257,7 +258,7 @@ module _ (env : Env) (mix : ℕ → ℕ → ℕ → ℕ) (c : ℕ) (port owner n
 
     -- the answer is known, and the bucket is locked still where a node is before the old one
     abbrev holds_left : Holding
-    holds_left = record held.holds_nothing { lock = lock_left place before; answer = Some (plain Rebound) }
+    holds_left = record holds_section { lock = lock_left place before; answer = Some (plain Rebound) }
 
     among : m < env.geometry.nodes
     among = list_among env mix M G whole port m [] bound m (inl refl)
@@ -333,18 +334,14 @@ module _ (env : Env) (mix : ℕ → ℕ → ℕ → ℕ) (c : ℕ) (port owner n
       → Knowing env mix c (held_of_rebind state) (known_of_rebind port owner new state) M G
       → RebindStep state
 
-  -- where the rebind ends
-  abbrev pub ends : RebindAt → FoundPort → RebindAt × Next (Reply × Option ℕ)
-  ends state found = (state, Done (Rebound, Some found.node))
-
   -- the store that puts the node in the place of the old one
   pub first_leads : (n : ℕ) (found : FoundPort) (before : Option ℕ)
       → LeadsOn n found before (replaces env n (record found { before = before }) false)
   first_leads n found None within k =
       let there : FoundPort = record found { before = None } in
       store_step n there within k
-      (RebindNext (ends (at.Replacing n there (replaces env n there false)) found))
-      (plainly env mix (only n there within k) tt tt (taken_out n there within k))
+      (RebindNext (at.Closing (ends.Rebound found.node), Go))
+      (record { knowing = plainly env mix (only n there within k) tt tt (taken_out n there within k); fits = tt })
   first_leads n found (Some node) within k =
       let there : FoundPort = record found { before = Some node } in
       store_step n there within k

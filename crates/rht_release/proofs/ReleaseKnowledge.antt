@@ -62,6 +62,7 @@ module _ (port owner : ℕ) where
 
   -- what a release knows in a state
   abbrev pub known_of_release : ReleaseAt → Known
+  known_of_release at.Opening = known_nothing
   known_of_release (at.Seeking seek) = seeks.known_of_seek port None seek.at
   known_of_release (at.Owner found node before) = listed port found (AtNode node before owner)
   known_of_release (at.ListLink found node) = listed port found (Differing node owner)
@@ -77,6 +78,7 @@ module _ (port owner : ℕ) where
       known_relinking found (LeadsTo None relink.link owner) (has_relinked found.before relink.at)
   known_of_release (at.Lowering node shape) = here (TakenOut node)
   known_of_release (at.Unlocking table unlock removed) = here (known_unlocking unlock removed)
+  known_of_release (at.Closing reply removed) = known_removed removed
 
 module _ (env : Env) where
   -- a relinking of this link in the bucket of the port, before its first store or behind it
@@ -98,6 +100,7 @@ module _ (env : Env) where
 module _ (env : Env) (mix : ℕ → ℕ → ℕ → ℕ) (c : ℕ) (port owner : ℕ) where
   -- how its pieces are for the port
   abbrev pub fits_release : ReleaseAt → Type 0
+  fits_release at.Opening = Unit {0}
   fits_release (at.Seeking seek) = seeks.fits_seek port seek.at
   fits_release (at.Owner found node before) = Unit {0}
   fits_release (at.ListLink found node) = Unit {0}
@@ -110,6 +113,7 @@ module _ (env : Env) (mix : ℕ → ℕ → ℕ → ℕ) (c : ℕ) (port owner :
   fits_release (at.Unlinking found relink) = IsRelinking env found relink
   fits_release (at.Lowering node shape) = Unit {0}
   fits_release (at.Unlocking table unlock removed) = Unit {0}
+  fits_release (at.Closing reply removed) = Unit {0}
 
   pub record ReleaseKnows (at : ReleaseAt) (M : Memory) (G : Ghost) : Type 0 where
     pub knowing : Knowing env mix c (held_of_release at) (known_of_release port owner at) M G
@@ -167,8 +171,8 @@ module _ (env : Env) (mix : ℕ → ℕ → ℕ → ℕ) (c : ℕ) (port owner :
         StepWhere env mix
         (IsThereFor (held_of_release at).early (known_of_release port owner at).table (mem env mix words))
         (IsThereFor (release_holds r).early (known_of_release port owner r.0).table
-        (mem env mix (applied words (plan_at env at)))) c (calls.Release port owner)
-        words G (plan_at env at) (held_of_release at) (release_holds r) (ReleaseNext r)
+        (mem env mix (applied words (plan_at env c at)))) c (calls.Release port owner)
+        words G (plan_at env c at) (held_of_release at) (release_holds r) (ReleaseNext r)
 
     abbrev pub ReleaseStep : ReleaseAt → Type 0
-    ReleaseStep at = ReleaseMoved at (after_at mix env port owner at (old_of words (plan_at env at)))
+    ReleaseStep at = ReleaseMoved at (after_at mix env port owner at (old_of words (plan_at env c at)))

@@ -99,14 +99,14 @@ module _ (env : Env) (mix : ℕ → ℕ → ℕ → ℕ) (c : ℕ) (port owner :
       (mem env mix (applied words (seek_plan seek)))) c call words G
       (seek_plan seek) (seeks.held_of_seek None (plain Absent) seek.at)
       (seeks.seek_holds None (plain Absent) (r.0.at, r.1)) (SeekNext r)
-      → ReleaseMoved (at.Seeking seek) (sought r.0 r.1)
+      → ReleaseMoved (at.Seeking seek) (sought r.0 r.1, Go)
   sought_step seek (next, Go) step =
       step-map env mix (λ M' G' w k. record {
         knowing = record { only = k.knowing.only; means = k.knowing.means };
         fits = k.fits;
       }) step
   sought_step seek (next, Done None) step =
-      step-map env mix (λ M' G' w k. record { only = k.only; means = k.means }) step
+      step-map env mix (λ M' G' w k. record { knowing = record { only = k.only; means = k.means }; fits = tt }) step
   sought_step seek (next, Done (Some found)) step =
       step-map env mix (λ M' G' w k.
       let is = k.means.bucket in

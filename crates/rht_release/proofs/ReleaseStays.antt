@@ -1,6 +1,6 @@
 -- Whatever words it is told, a release stays in its table: a case a state.
 -- Links are read totally, so what they name is there or is none.
-use Rattle.std.proofs.Common.{ℕ}
+use Rattle.std.proofs.Common.{ℕ, refl}
 use Rattle.std.specs.Prelude.{Bool, true, false, Option, Some, None}
 use Rattle.rht_words.specs.declared.env.Env.{Env}
 use Rattle.rht_words.specs.declared.geometry.Geometry.{Geometry}
@@ -29,9 +29,9 @@ module _ (mix : ℕ → ℕ → ℕ → ℕ) (env : Env) (port owner : ℕ) wher
   g = env.geometry
 
   sought-in : (seek : SeekModel) (next : Next (Option FoundPort)) → SeekIsIn g (seek, next)
-      → IsReleaseAtIn env (sought seek next).0
+      → IsReleaseAtIn env (sought seek next)
   sought-in seek Go stays = stays.seek_in
-  sought-in seek (Done None) stays = stays.seek_in
+  sought-in seek (Done None) stays = tt
   sought-in seek (Done (Some found)) stays =
       record { found_in = stays.end_in; node_in = stays.end_in.node_in; before_in = tt }
 
@@ -74,10 +74,9 @@ module _ (mix : ℕ → ℕ → ℕ → ℕ) (env : Env) (port owner : ℕ) wher
       record { found_in = found_in; second_in = second_in; link_in = link_in }
 
   promoted-in : (found : FoundPort) (relink : RelinkModel) (next : Next (Unit {0})) → IsFoundPortIn g found
-      → IsRelinkIn g relink → IsReleaseAtIn env (promoted found relink next).0
+      → IsRelinkIn g relink → IsReleaseAtIn env (promoted found relink next)
   promoted-in found relink Go found_in relink_in = record { found_in = found_in; relink_in = relink_in }
-  promoted-in found relink (Done done) found_in relink_in =
-      record { found_in = found_in; relink_in = relink_in }
+  promoted-in found relink (Done done) found_in relink_in = found_in.node_in
 
   unlinked-in : (found : FoundPort) (relink : RelinkModel) (next : Next (Unit {0})) → IsFoundPortIn g found
       → IsRelinkIn g relink → IsReleaseAtIn env (unlinked found relink next)
@@ -87,6 +86,7 @@ module _ (mix : ℕ → ℕ → ℕ → ℕ) (env : Env) (port owner : ℕ) wher
 
   pub release_stays : (state : ReleaseAt) (word : ℕ) → IsReleaseAtIn env state → IsWord word
       → IsReleaseAtIn env (after_at mix env port owner state word).0
+  release_stays at.Opening word within told = record { geometry_same = refl; at_in = tt }
   release_stays (at.Seeking seek) word within told =
       sought-in (seek_after mix port seek word).0 (seek_after mix port seek word).1
       (seek_stays g mix port seek word within told)
@@ -111,5 +111,6 @@ module _ (mix : ℕ → ℕ → ℕ → ℕ) (env : Env) (port owner : ℕ) wher
   release_stays (at.Unlinking found relink) word within told =
       unlinked-in found (relink_after relink).0 (relink_after relink).1 within.found_in
       (relink_stays g relink within.relink_in)
-  release_stays (at.Lowering node shape) word within told = within
-  release_stays (at.Unlocking table unlock removed) word within told = within
+  release_stays (at.Lowering node shape) word within told = within.node_in
+  release_stays (at.Unlocking table unlock removed) word within told = within.removed_in
+  release_stays (at.Closing reply removed) word within told = within

@@ -3,7 +3,7 @@ use Rattle.std.proofs.Common.{◌≡◌, ◌≢◌, ℕ, ◌+◌, ◌-◌, ◌%�
 use Rattle.rht_words.specs.declared.env.Env.{Env}
 use Rattle.rht_words.specs.declared.op.Op.TheVariants.{Store}
 use Rattle.rht_words.specs.declared.machine.Next.{Next}
-use Rattle.rht_words.specs.declared.machine.Next.TheVariants.{Go, Done}
+use Rattle.rht_words.specs.declared.machine.Next.TheVariants.{Go}
 use Rattle.rht_words.specs.Held as held
 use Rattle.rht_words.specs.Links.{link_of}
 use Rattle.rht_words.specs.Ports.{owner_of}
@@ -19,25 +19,26 @@ use Rattle.rht_model.specs.declared.history.Call.TheVariants as calls
 use Rattle.rht_model.specs.declared.history.Reply.{Reply}
 use Rattle.rht_model.specs.declared.history.Reply.TheVariants.{Released, Absent}
 use Rattle.rht_model.specs.Answers.{plain}
-use Rattle.rht_release.specs.Release.{plan_at, promoting, kicks, IsReleaseAtIn}
-use Rattle.rht_release.specs.ReleaseHeld.{holds_bucket}
+use Rattle.rht_release.specs.Release.{plan_at, promoting, closing, kicks, IsReleaseAtIn}
+use Rattle.rht_release.specs.ReleaseHeld.{holds_bucket, holds_answer}
 use Rattle.rht_release.specs.declared.found_port.FoundPort.{FoundPort}
 use Rattle.rht_release.specs.declared.release.ReleaseAt.{ReleaseAt}
 use Rattle.rht_release.specs.declared.release.ReleaseAt.TheVariants as at
 use Rattle.rht_ghost.proofs.Theory.Ghosts.{put-same, First, Behind, Ghost}
 use Rattle.rht_ghost.proofs.Theory.Wholes.{chain_of, word_index, Whole}
-use Rattle.rht_ghost.proofs.Theory.Knowns.{Nowhere, TakenOut, LocksTakenOut, KnownList, Leads, LeadsTo, Promotes, first_of_list}
+use Rattle.rht_ghost.proofs.Theory.Knowns.{Nowhere, TakenOut, LocksTakenOut, KnownList, Leads, LeadsTo, Promotes, known_nothing, first_of_list}
 use Rattle.rht_ghost.proofs.Theory.Knowledge.{plainly}
 use Rattle.rht_ghost.proofs.Theory.Answering.{keeps}
 use Rattle.rht_ghost.proofs.Theory.Steps.{answered-map, Lowers, LinksBehind, Holding, mem, silent, Step, step-map, answered, reads, still_has}
 use Rattle.rht_ghost.proofs.Moves.Quiet.{count_down}
 use Rattle.rht_ghost.proofs.Moves.TakenNodes.{chain_behind}
 use Rattle.rht_ghost.proofs.Pieces.Locks.{unlock_step, unlock_taken}
+use Rattle.rht_ghost.proofs.Pieces.OwnSections.{open_step, close_step}
 use Rattle.rht_ghost.proofs.Pieces.Rebounds.{found_kept}
 use Rattle.rht_ghost.proofs.Pieces.Relinks.{relinking_so}
 use Rattle.rht_release.proofs.ReleaseStores.{holds_left}
 use Rattle.rht_release.proofs.ReleaseStores as stores
-use Rattle.rht_release.proofs.ReleaseKnowledge.{led_to, behind_node, relinks, begins_held, list_more, unlinking_knows, promoting_knows}
+use Rattle.rht_release.proofs.ReleaseKnowledge.{known_removed, led_to, behind_node, relinks, begins_held, list_more, unlinking_knows, promoting_knows}
 use Rattle.rht_release.proofs.ReleaseLists.{seeking, owner_step, list_step, behind_step, cut_step}
 use Rattle.rht_release.proofs.ReleaseKnowledge as releases
 
@@ -90,7 +91,7 @@ module _ (env : Env) (mix : ℕ → ℕ → ℕ → ℕ) (c : ℕ) (port owner :
       let leads = is.means.leads in
       let s = is.found.standing.stands in
       let lock = is.found.standing.lock in
-      let op = plan_at env (at.SecondLink found second link) in
+      let op = plan_at env c (at.SecondLink found second link) in
       let M' = mem env mix (applied words op) in
       let m = found.node in
       let j = word_index env mix found.bucket.place in
@@ -201,7 +202,8 @@ module _ (env : Env) (mix : ℕ → ℕ → ℕ → ℕ) (c : ℕ) (port owner :
       first : (b : Option ℕ) → IsSoOf at.Promoting found b (relinks env found relink.link b false)
       first None before_in known =
           let f = behind_node found None in
-          step-map env mix (λ M' G' w k. record { only = k.only; means = k.means })
+          step-map env mix
+          (λ M' G' w k. record { knowing = record { only = k.only; means = k.means }; fits = tt })
           (promoted_step f relink.link before_in known.fits.1
           (record { only = known.knowing.only; means = known.knowing.means }))
       first (Some node) before_in known =
@@ -217,10 +219,8 @@ module _ (env : Env) (mix : ℕ → ℕ → ℕ → ℕ) (c : ℕ) (port owner :
           → IsSoOf at.Promoting found (Some node) (relinks env found relink.link (Some node) true)
       second node before_in known =
           let f = behind_node found (Some node) in
-          let r = relinks env f relink.link (Some node) true in
-          unlock_left f.bucket.place f.bucket.word f.node false
-          (at.Promoting f r, Done (Released false, Some f.node)) refl
-          (λ M' G' k. record { only = k.only; means = k.means })
+          unlock_left f.bucket.place f.bucket.word f.node false (closing (Released false) (Some f.node), Go) refl
+          (λ M' G' k. record { knowing = record { only = k.only; means = k.means }; fits = tt })
           (record { only = known.knowing.only; means = known.knowing.means })
 
   -- ---- the ends
@@ -230,12 +230,12 @@ module _ (env : Env) (mix : ℕ → ℕ → ℕ → ℕ) (c : ℕ) (port owner :
       → ReleaseStep (at.Lowering node shape)
   lowering_step node shape known =
       let k = known.knowing in
-      let op = plan_at env (at.Lowering node shape) in
+      let op = plan_at env c (at.Lowering node shape) in
       let M' = mem env mix (applied words op) in
       let h = holds_left None true in
       let h' = holds_left None false in
       let reply = Released (kicks env shape (M PortCount)) in
-      let Knows : Memory → Ghost → Type 0 = ReleaseNext (at.Lowering node shape, Done (reply, Some node)) in
+      let Knows : Memory → Ghost → Type 0 = ReleaseNext (closing reply (Some node), Go) in
       let write : IsWrite env.geometry M M' PortCount ((M PortCount + (2 ^ 64 - 1)) % 2 ^ 64) =
       is_write env.geometry words PortCount op all tt refl in
       answered env mix (Some (plain reply))
@@ -243,35 +243,56 @@ module _ (env : Env) (mix : ℕ → ℕ → ℕ → ℕ) (c : ℕ) (port owner :
       (silent env mix c words G op h h' Knows Lowers whole tt tt
       (count_down env mix c M M' G whole low k.only.raising write)
       (record { subtracts = refl; high = refl; holds = refl })
-      (plainly env mix (record {
-        nodes = k.only.nodes;
-        locks = k.only.locks;
-        raising = put-same G.raised c false;
-        slots = k.only.slots;
-        pages_in = k.only.pages_in;
-        works = k.only.works;
-      }) tt tt (record { among = k.means.bucket.among; taken = k.means.bucket.taken })))
+      (record {
+        knowing = plainly env mix (record {
+          nodes = k.only.nodes;
+          locks = k.only.locks;
+          raising = put-same G.raised c false;
+          slots = k.only.slots;
+          pages_in = k.only.pages_in;
+          works = k.only.works;
+        }) tt tt (record { among = k.means.bucket.among; taken = k.means.bucket.taken });
+        fits = tt;
+      }))
 
   -- the bucket is unlocked: no node has the owner, or a later one was taken out
   unlocking_step : (table : ℕ) (unlock : Unlock) (removed : Option ℕ)
       → ReleaseKnows (at.Unlocking table unlock removed) M G
       → ReleaseStep (at.Unlocking table unlock removed)
   unlocking_step table unlock None known =
-      let told : Holding = held.ended_with (plain Absent) in
+      let told : Holding = holds_answer Absent in
       answered-map env mix told.answer (inl (keeps told.answer)) (still_has refl)
-      (λ M' G' w k. k)
+      (λ M' G' w k. record { knowing = k; fits = tt })
       (unlock_step env mix c told None Nowhere words G all whole refl unlock.place unlock.word
       known.knowing)
   unlocking_step table unlock (Some node) known =
       unlock_left unlock.place unlock.word node false
-      (at.Unlocking table unlock (Some node), Done (Released false, Some node)) refl
-      (λ M' G' k. record { only = k.only; means = k.means })
+      (closing (Released false) (Some node), Go) refl
+      (λ M' G' k. record { knowing = record { only = k.only; means = k.means }; fits = tt })
       (record { only = known.knowing.only; means = known.knowing.means })
+
+  -- ---- its read section
+
+  -- it is opened before anything is known
+  opening_step : ReleaseKnows at.Opening M G → ReleaseStep at.Opening
+  opening_step known =
+      answered-map env mix None (inl refl) (still_has refl)
+      (λ M' G' w k. record { knowing = k; fits = tt })
+      (open_step env mix c held.holds_nothing known_nothing words G all whole low known.knowing)
+
+  -- while it is closed the release knows which node it has taken out, where it has
+  closing_step : (reply : Reply) (removed : Option ℕ) → ReleaseKnows (at.Closing reply removed) M G
+      → ReleaseStep (at.Closing reply removed)
+  closing_step reply removed known =
+      let told : Holding = held.ended_with (plain reply) in
+      answered-map env mix told.answer (inl (keeps told.answer)) (still_has refl) (λ M' G' w k. k)
+      (close_step env mix c told (known_removed removed) words G all whole low known.knowing)
 
   -- ---- all states
 
   -- each operation leads from what the release knows to what it knows next
   pub release_step : (at : ReleaseAt) → IsReleaseAtIn env at → ReleaseKnows at M G → ReleaseStep at
+  release_step at.Opening is known = opening_step known
   release_step (at.Seeking seek) is known =
       seeking env mix c port owner low words G all whole seek is known
   release_step (at.Owner found node before) is known =
@@ -290,3 +311,4 @@ module _ (env : Env) (mix : ℕ → ℕ → ℕ → ℕ) (c : ℕ) (port owner :
       unlinking_step found relink is.found_in.before_in known
   release_step (at.Lowering node shape) is known = lowering_step node shape known
   release_step (at.Unlocking table unlock removed) is known = unlocking_step table unlock removed known
+  release_step (at.Closing reply removed) is known = closing_step reply removed known

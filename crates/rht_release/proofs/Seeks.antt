@@ -1,12 +1,11 @@
--- The way to a port, operation by operation, for any call: from the current table on to the bucket in which
--- the port is found, or to a future that leads nowhere, where the port is bound to nothing. Where the bucket of a nested table turns out to be
--- missing, and no table was behind, the answer is that of the load of the future before.
+-- The way to a port, operation by operation, for any call in its read section. It leads from the current table on to the bucket in which
+-- the port is found, or to a future that leads nowhere, where the port is bound to nothing. Where the bucket of a nested table turns out
+-- to be missing, and no table was behind, the answer is that of the load of the future before.
 use Rattle.std.proofs.Common.{◌≡◌, ℕ, List, [], length, Option, Some, None, false, refl, sym, ap, subst, inl}
 use Rattle.rht_words.specs.declared.env.Env.{Env}
 use Rattle.rht_words.specs.declared.machine.Next.{Next}
 use Rattle.rht_words.specs.declared.machine.Next.TheVariants.{Go, Done}
 use Rattle.rht_words.specs.declared.op.Op.{Op}
-use Rattle.rht_words.specs.Held as held
 use Rattle.rht_words.specs.Links.{table_of, slot_of}
 use Rattle.rht_words.specs.Operations.{old_of, applied}
 use Rattle.rht_words.specs.Places.{CurrentTable, Slot, FutureWord, words_in}
@@ -21,7 +20,7 @@ use Rattle.rht_chain.specs.declared.locked.Locked.{Locked}
 use Rattle.rht_model.specs.declared.history.Call.{Call}
 use Rattle.rht_model.specs.Multimap.{Multimap}
 use Rattle.rht_model.specs.Answers.{Answer}
-use Rattle.rht_release.specs.Seek.{SeekModel, seek_plan_at, seek_after_at, seek_plan, seek_after, located, bucket_or_early, locating, found_or_future, probed, leaving, lock_of_seek, answer_of_seek, early_of_seek, early_of_locate, IsSeekAtIn, IsSeekIn}
+use Rattle.rht_release.specs.Seek.{SeekModel, seek_plan_at, seek_after_at, seek_plan, seek_after, located, bucket_or_early, locating, found_or_future, probed, leaving, holds_section, lock_of_seek, answer_of_seek, early_of_seek, early_of_locate, IsSeekAtIn, IsSeekIn}
 use Rattle.rht_release.specs.declared.found_port.FoundPort.{FoundPort}
 use Rattle.rht_release.specs.declared.seek.SeekAt.{SeekAt}
 use Rattle.rht_release.specs.declared.seek.SeekAt.TheVariants as at
@@ -78,10 +77,10 @@ module _ (port : ℕ) (own : Option KnownNode) where
       knows_of (known_future port future) (Locks unlock.place unlock.word)
 
 module _ (hn : Option ℕ) (absent : Answer) where
-  -- what a call holds on the way beside its node: at most a lock, and the answer once it is known that the
+  -- what a call holds on the way beside its node and its read section: at most a lock, and the answer once it is known that the
   -- port is bound nowhere
   abbrev pub holds_seeking : Option ℕ → Option Answer → Holding
-  holds_seeking lock answer = record held.holds_nothing { node = hn; lock = lock; answer = answer }
+  holds_seeking lock answer = record holds_section { node = hn; lock = lock; answer = answer }
 
   abbrev pub held_of_seek : SeekAt → Holding
   held_of_seek at = record (holds_seeking (lock_of_seek at) (answer_of_seek absent at)) { early = early_of_seek absent at }

@@ -9,6 +9,7 @@ use Rattle.rht_words.specs.declared.geometry.Geometry.{Geometry}
 use Rattle.rht_words.specs.Links.{node_of}
 use Rattle.rht_words.specs.Ports.{owner_of}
 use Rattle.rht_words.specs.Places.{Node, OwnerWord, ListLink, place_of}
+use Rattle.rht_grace.specs.Sections.{turning}
 use Rattle.rht_chain.specs.Unlock.{unlock_plan, IsUnlockIn}
 use Rattle.rht_chain.specs.declared.unlock.Unlock.{Unlock}
 use Rattle.rht_model.specs.declared.history.Reply.{Reply}
@@ -28,32 +29,34 @@ pub record AllModel : Type 0 where
   pub room : Kept ℕ
   pub at : AllAt
 
--- it begins with the way to the port, and an empty list
+-- it begins before its read section, with an empty list
 abbrev pub all_new : Env → ℕ → ℕ → Kept ℕ → AllModel
 all_new env caller port room = record {
   env = env;
   caller = caller;
   port = port;
   room = emptied room;
-  at = at.Seeking (seek_new env.geometry);
+  at = at.Opening;
 }
 
 -- the state's one operation
-abbrev pub plan_at : Env → AllAt → Op
-plan_at env (at.Seeking seek) = seek_plan seek
-plan_at env (at.Owner found node) = Load (place_of env.geometry (Node node OwnerWord))
-plan_at env (at.ListLink found node) = Load (place_of env.geometry (Node node ListLink))
-plan_at env (at.Unlocking table unlock) = unlock_plan unlock
+abbrev pub plan_at : Env → ℕ → AllAt → Op
+plan_at env caller at.Opening = turning caller
+plan_at env caller (at.Seeking seek) = seek_plan seek
+plan_at env caller (at.Owner found node) = Load (place_of env.geometry (Node node OwnerWord))
+plan_at env caller (at.ListLink found node) = Load (place_of env.geometry (Node node ListLink))
+plan_at env caller (at.Unlocking table unlock) = unlock_plan unlock
+plan_at env caller at.Closing = turning caller
 
 abbrev pub all_plan : AllModel → Op
-all_plan m = plan_at m.env m.at
+all_plan m = plan_at m.env m.caller m.at
 
 -- what comes after an operation on the way: where the port was found its owners are loaded, from the
 -- first on
-abbrev pub sought : SeekModel → Next (Option FoundPort) → AllAt × Next (Unit {0})
-sought seek Go = (at.Seeking seek, Go)
-sought seek (Done None) = (at.Seeking seek, Done tt)
-sought seek (Done (Some found)) = (at.Owner found found.node, Go)
+abbrev pub sought : SeekModel → Next (Option FoundPort) → AllAt
+sought seek Go = at.Seeking seek
+sought seek (Done None) = at.Closing
+sought seek (Done (Some found)) = at.Owner found found.node
 
 -- the next node's owner is loaded; behind the last node the bucket is unlocked
 abbrev pub list_followed : FoundPort → Option ℕ → AllAt
@@ -62,19 +65,23 @@ list_followed found (Some next) = at.Owner found next
 
 -- where the listing stands after a state that found this word, and whether it has ended
 abbrev pub after_at : (ℕ → ℕ → ℕ → ℕ) → Env → ℕ → AllAt → ℕ → AllAt × Next (Unit {0})
+after_at mix env port at.Opening word = (at.Seeking (seek_new env.geometry), Go)
 after_at mix env port (at.Seeking seek) word =
-    sought (seek_after mix port seek word).0 (seek_after mix port seek word).1
+    (sought (seek_after mix port seek word).0 (seek_after mix port seek word).1, Go)
 after_at mix env port (at.Owner found node) word = (at.ListLink found node, Go)
 after_at mix env port (at.ListLink found node) word =
     (list_followed found (node_of env.geometry.nodes word), Go)
-after_at mix env port (at.Unlocking table unlock) word = (at.Unlocking table unlock, Done tt)
+after_at mix env port (at.Unlocking table unlock) word = (at.Closing, Go)
+after_at mix env port at.Closing word = (at.Closing, Done tt)
 
 -- the owners that are kept after it: an owner that was loaded comes last, where there is room
 abbrev pub room_after : AllAt → Kept ℕ → ℕ → Kept ℕ
+room_after at.Opening room word = room
 room_after (at.Seeking seek) room word = room
 room_after (at.Owner found node) room word = with_kept room (owner_of word)
 room_after (at.ListLink found node) room word = room
 room_after (at.Unlocking table unlock) room word = room
+room_after at.Closing room word = room
 
 -- at its end it says how many owners there are
 abbrev pub listed : Kept ℕ → Next (Unit {0}) → Next Reply
@@ -96,17 +103,21 @@ pub record IsUnlockingIn (g : Geometry) (table : ℕ) (unlock : Unlock) : Type 0
 
 -- all that the state names is the table's: slots, nodes and buckets; and the words that it keeps are words
 abbrev pub IsAllAtIn : Env → AllAt → Type 0
+IsAllAtIn env at.Opening = Unit {0}
 IsAllAtIn env (at.Seeking seek) = IsSeekIn env.geometry seek
 IsAllAtIn env (at.Owner found node) = IsAtNodeIn env.geometry found node
 IsAllAtIn env (at.ListLink found node) = IsAtNodeIn env.geometry found node
 IsAllAtIn env (at.Unlocking table unlock) = IsUnlockingIn env.geometry table unlock
+IsAllAtIn env at.Closing = Unit {0}
 
 -- until the port was found no owner is kept
 abbrev pub IsRoomIn : AllAt → Kept ℕ → Type 0
+IsRoomIn at.Opening room = room.items ≡ []
 IsRoomIn (at.Seeking seek) room = room.items ≡ []
 IsRoomIn (at.Owner found node) room = Unit {0}
 IsRoomIn (at.ListLink found node) room = Unit {0}
 IsRoomIn (at.Unlocking table unlock) room = Unit {0}
+IsRoomIn at.Closing room = Unit {0}
 
 -- a listing of this caller in this table, all that its state names being the table's
 pub record IsAllIn (env : Env) (caller : ℕ) (m : AllModel) : Type 0 where

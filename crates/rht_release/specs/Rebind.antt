@@ -18,9 +18,12 @@ use Rattle.rht_chain.specs.Unlock.{unlock_plan, IsUnlockIn}
 use Rattle.rht_chain.specs.declared.unlock.Unlock.{Unlock}
 use Rattle.rht_model.specs.declared.history.Reply.{Reply}
 use Rattle.rht_model.specs.declared.history.Reply.TheVariants.{Rebound, Absent, NoNode}
+use Rattle.rht_grace.specs.Sections.{turning}
 use Rattle.rht_release.specs.FoundPort.{relink_of, unlock_of, IsFoundPortIn}
 use Rattle.rht_release.specs.Seek.{SeekModel, seek_new, seek_plan, seek_after, IsSeekIn}
 use Rattle.rht_release.specs.declared.found_port.FoundPort.{FoundPort}
+use Rattle.rht_release.specs.declared.rebind.RebindEnd.{RebindEnd}
+use Rattle.rht_release.specs.declared.rebind.RebindEnd.TheVariants as ends
 use Rattle.rht_release.specs.declared.rebind.RebindAt.{RebindAt}
 use Rattle.rht_release.specs.declared.rebind.RebindAt.TheVariants as at
 
@@ -48,34 +51,36 @@ rebind_new env caller port owner new = record {
 }
 
 -- the state's one operation
-abbrev pub plan_at : Env → RebindAt → Op
-plan_at env (at.Filling new) = new_node_plan new
-plan_at env (at.Seeking node seek) = seek_plan seek
-plan_at env (at.Owner node found) = Load (place_of env.geometry (Node found.node OwnerWord))
-plan_at env (at.ChainLink node found) = Load (place_of env.geometry (Node found.node ChainLink))
-plan_at env (at.Link node found link) = Store (place_of env.geometry (Node node ChainLink)) link
-plan_at env (at.Replacing node found relink) = relink_plan relink
-plan_at env (at.Unlocking node table unlock) = unlock_plan unlock
-plan_at env (at.Giving give) = give_node_plan give
+abbrev pub plan_at : Env → ℕ → RebindAt → Op
+plan_at env caller (at.Filling new) = new_node_plan new
+plan_at env caller (at.Opening node) = turning caller
+plan_at env caller (at.Seeking node seek) = seek_plan seek
+plan_at env caller (at.Owner node found) = Load (place_of env.geometry (Node found.node OwnerWord))
+plan_at env caller (at.ChainLink node found) = Load (place_of env.geometry (Node found.node ChainLink))
+plan_at env caller (at.Link node found link) = Store (place_of env.geometry (Node node ChainLink)) link
+plan_at env caller (at.Replacing node found relink) = relink_plan relink
+plan_at env caller (at.Unlocking node table unlock) = unlock_plan unlock
+plan_at env caller (at.Closing end) = turning caller
+plan_at env caller (at.Giving give) = give_node_plan give
 
 abbrev pub rebind_plan : RebindModel → Op
-rebind_plan m = plan_at m.env m.at
+rebind_plan m = plan_at m.env m.caller m.at
 
--- with a new node the port is looked for; where no node was free the rebind ends
-abbrev pub filled : Geometry → NewNodeModel → Next (Option ℕ) → RebindAt × Next (Reply × Option ℕ)
-filled g new Go = (at.Filling new, Go)
-filled g new (Done None) = (at.Filling new, Done (NoNode, None))
-filled g new (Done (Some node)) = (at.Seeking node (seek_new g), Go)
+-- with a new node the read section is opened; where no node was free the rebind ends
+abbrev pub filled : NewNodeModel → Next (Option ℕ) → RebindAt × Next (Reply × Option ℕ)
+filled new Go = (at.Filling new, Go)
+filled new (Done None) = (at.Filling new, Done (NoNode, None))
+filled new (Done (Some node)) = (at.Opening node, Go)
 
--- the node is given back, and then the port isn't bound to the old owner
-abbrev pub giving : Geometry → ℕ → RebindAt
-giving g node = at.Giving (record { geometry = g; node = node })
+-- the read section is closed where the port isn't bound to the old owner
+abbrev pub absent : ℕ → RebindAt
+absent node = at.Closing (ends.Absent node)
 
 -- what comes after an operation on the way: where the port was found its owner is looked at
-abbrev pub sought : Geometry → ℕ → SeekModel → Next (Option FoundPort) → RebindAt
-sought g node seek Go = at.Seeking node seek
-sought g node seek (Done None) = giving g node
-sought g node seek (Done (Some found)) = at.Owner node found
+abbrev pub sought : ℕ → SeekModel → Next (Option FoundPort) → RebindAt
+sought node seek Go = at.Seeking node seek
+sought node seek (Done None) = absent node
+sought node seek (Done (Some found)) = at.Owner node found
 
 -- the node with the old owner is replaced; with another owner the bucket is unlocked
 abbrev pub owner_compared : ℕ → FoundPort → Bool → RebindAt
@@ -87,23 +92,34 @@ abbrev pub replacing : Geometry → ℕ → FoundPort → RebindAt
 replacing g node found = at.Replacing node found (relink_of g found (link_of node))
 
 -- with the last store the new owner has the old one's place, and the bucket is unlocked
-abbrev pub replaced : ℕ → FoundPort → RelinkModel → Next (Unit {0}) → RebindAt × Next (Reply × Option ℕ)
-replaced node found relink Go = (at.Replacing node found relink, Go)
-replaced node found relink (Done done) = (at.Replacing node found relink, Done (Rebound, Some found.node))
+abbrev pub replaced : ℕ → FoundPort → RelinkModel → Next (Unit {0}) → RebindAt
+replaced node found relink Go = at.Replacing node found relink
+replaced node found relink (Done done) = at.Closing (ends.Rebound found.node)
+
+-- the node is given back, and then the rebind ends
+abbrev pub giving : Geometry → ℕ → RebindAt
+giving g node = at.Giving (record { geometry = g; node = node })
+
+-- behind the closing the rebind ends where it was made, and else its node is given back
+abbrev pub closed : Geometry → RebindEnd → RebindAt × Next (Reply × Option ℕ)
+closed g (ends.Rebound removed) = (at.Closing (ends.Rebound removed), Done (Rebound, Some removed))
+closed g (ends.Absent node) = (giving g node, Go)
 
 -- where the rebind stands after a state that found this word, and what it says
 abbrev pub after_at : (ℕ → ℕ → ℕ → ℕ) → Env → ℕ → ℕ → RebindAt → ℕ → RebindAt × Next (Reply × Option ℕ)
 after_at mix env port owner (at.Filling new) word =
-    filled env.geometry (new_node_after new word).0 (new_node_after new word).1
+    filled (new_node_after new word).0 (new_node_after new word).1
+after_at mix env port owner (at.Opening node) word = (at.Seeking node (seek_new env.geometry), Go)
 after_at mix env port owner (at.Seeking node seek) word =
-    (sought env.geometry node (seek_after mix port seek word).0 (seek_after mix port seek word).1, Go)
+    (sought node (seek_after mix port seek word).0 (seek_after mix port seek word).1, Go)
 after_at mix env port owner (at.Owner node found) word =
     (owner_compared node found (owner_of word == owner), Go)
 after_at mix env port owner (at.ChainLink node found) word = (at.Link node found word, Go)
 after_at mix env port owner (at.Link node found link) word = (replacing env.geometry node found, Go)
 after_at mix env port owner (at.Replacing node found relink) word =
-    replaced node found (relink_after relink).0 (relink_after relink).1
-after_at mix env port owner (at.Unlocking node table unlock) word = (giving env.geometry node, Go)
+    (replaced node found (relink_after relink).0 (relink_after relink).1, Go)
+after_at mix env port owner (at.Unlocking node table unlock) word = (absent node, Go)
+after_at mix env port owner (at.Closing end) word = closed env.geometry end
 after_at mix env port owner (at.Giving give) word = (at.Giving give, Done (Absent, None))
 
 abbrev pub moved : RebindModel → RebindAt × Next (Reply × Option ℕ) → RebindModel × Next (Reply × Option ℕ)
@@ -142,15 +158,22 @@ pub record IsUnlockingIn (g : Geometry) (node table : ℕ) (unlock : Unlock) : T
   pub table_in : table < 8
   pub unlock_in : IsUnlockIn g unlock
 
+-- a node that was taken out, or is to be given back
+abbrev pub IsRebindEndIn : Geometry → RebindEnd → Type 0
+IsRebindEndIn g (ends.Rebound removed) = removed < g.nodes
+IsRebindEndIn g (ends.Absent node) = node < g.nodes
+
 -- all that the state names is the table's: slots, nodes and buckets; and the words that it keeps are words
 abbrev pub IsRebindAtIn : Env → RebindAt → Type 0
 IsRebindAtIn env (at.Filling new) = IsNewNodeIn env.geometry new
+IsRebindAtIn env (at.Opening node) = node < env.geometry.nodes
 IsRebindAtIn env (at.Seeking node seek) = IsSeekingIn env.geometry node seek
 IsRebindAtIn env (at.Owner node found) = IsHoldingIn env.geometry node found
 IsRebindAtIn env (at.ChainLink node found) = IsHoldingIn env.geometry node found
 IsRebindAtIn env (at.Link node found link) = IsLinkingIn env.geometry node found link
 IsRebindAtIn env (at.Replacing node found relink) = IsReplacingIn env.geometry node found relink
 IsRebindAtIn env (at.Unlocking node table unlock) = IsUnlockingIn env.geometry node table unlock
+IsRebindAtIn env (at.Closing end) = IsRebindEndIn env.geometry end
 IsRebindAtIn env (at.Giving give) = IsGiveIn env.geometry give
 
 -- a rebind of this caller in this table, all that its state names being the table's

@@ -12,6 +12,7 @@ use Rattle.rht_words.specs.Ports.{owner_of}
 use Rattle.rht_words.specs.Shapes.{size_of, unpacked}
 use Rattle.rht_words.specs.Places.{PortCount, Node, ChainLink, OwnerWord, ListLink, place_of}
 use Rattle.rht_policy.specs.Thresholds.{is_below_30}
+use Rattle.rht_grace.specs.Sections.{turning}
 use Rattle.rht_chain.specs.LockedWalk.{IsNodeOrNone}
 use Rattle.rht_chain.specs.Relink.{RelinkModel, relink_plan, relink_after, IsRelinkIn}
 use Rattle.rht_chain.specs.Unlock.{unlock_plan, IsUnlockIn}
@@ -32,27 +33,33 @@ pub record ReleaseModel : Type 0 where
   pub owner : ℕ
   pub at : ReleaseAt
 
--- it begins with the way to the port
+-- it begins before its read section
 abbrev pub release_new : Env → ℕ → ℕ → ℕ → ReleaseModel
 release_new env caller port owner =
-    record { env = env; caller = caller; port = port; owner = owner; at = at.Seeking (seek_new env.geometry) }
+    record { env = env; caller = caller; port = port; owner = owner; at = at.Opening }
 
 -- the state's one operation
-abbrev pub plan_at : Env → ReleaseAt → Op
-plan_at env (at.Seeking seek) = seek_plan seek
-plan_at env (at.Owner found node before) = Load (place_of env.geometry (Node node OwnerWord))
-plan_at env (at.ListLink found node) = Load (place_of env.geometry (Node node ListLink))
-plan_at env (at.LinkBehind found node before) = Load (place_of env.geometry (Node node ListLink))
-plan_at env (at.CuttingOut found node before link) = Store (place_of env.geometry (Node before ListLink)) link
-plan_at env (at.ChainLink found second) = Load (place_of env.geometry (Node found.node ChainLink))
-plan_at env (at.SecondLink found second link) = Store (place_of env.geometry (Node second ChainLink)) link
-plan_at env (at.Promoting found relink) = relink_plan relink
-plan_at env (at.Unlinking found relink) = relink_plan relink
-plan_at env (at.Lowering node shape) = Sub (place_of env.geometry PortCount) 1
-plan_at env (at.Unlocking table unlock removed) = unlock_plan unlock
+abbrev pub plan_at : Env → ℕ → ReleaseAt → Op
+plan_at env caller at.Opening = turning caller
+plan_at env caller (at.Seeking seek) = seek_plan seek
+plan_at env caller (at.Owner found node before) = Load (place_of env.geometry (Node node OwnerWord))
+plan_at env caller (at.ListLink found node) = Load (place_of env.geometry (Node node ListLink))
+plan_at env caller (at.LinkBehind found node before) = Load (place_of env.geometry (Node node ListLink))
+plan_at env caller (at.CuttingOut found node before link) = Store (place_of env.geometry (Node before ListLink)) link
+plan_at env caller (at.ChainLink found second) = Load (place_of env.geometry (Node found.node ChainLink))
+plan_at env caller (at.SecondLink found second link) = Store (place_of env.geometry (Node second ChainLink)) link
+plan_at env caller (at.Promoting found relink) = relink_plan relink
+plan_at env caller (at.Unlinking found relink) = relink_plan relink
+plan_at env caller (at.Lowering node shape) = Sub (place_of env.geometry PortCount) 1
+plan_at env caller (at.Unlocking table unlock removed) = unlock_plan unlock
+plan_at env caller (at.Closing reply removed) = turning caller
 
 abbrev pub release_plan : ReleaseModel → Op
-release_plan m = plan_at m.env m.at
+release_plan m = plan_at m.env m.caller m.at
+
+-- the read section is closed, and then the release ends with this reply, and this node taken out, or none
+abbrev pub closing : Reply → Option ℕ → ReleaseAt
+closing reply removed = at.Closing reply removed
 
 -- the reply, and the node that was taken out; where none was, the port isn't bound to the owner
 abbrev pub removed_reply : Option ℕ → Reply
@@ -61,17 +68,17 @@ removed_reply (Some node) = Released false
 
 -- what comes after an operation on the way: where the port was found, its owners are looked at from the
 -- first on
-abbrev pub sought : SeekModel → Next (Option FoundPort) → ReleaseAt × Next (Reply × Option ℕ)
-sought seek Go = (at.Seeking seek, Go)
-sought seek (Done None) = (at.Seeking seek, Done (Absent, None))
-sought seek (Done (Some found)) = (at.Owner found found.node None, Go)
+abbrev pub sought : SeekModel → Next (Option FoundPort) → ReleaseAt
+sought seek Go = at.Seeking seek
+sought seek (Done None) = closing Absent None
+sought seek (Done (Some found)) = at.Owner found found.node None
 
 -- a node with the owner is taken out, and behind another one the list goes on
 abbrev pub owner_compared : FoundPort → ℕ → Option ℕ → Bool → ReleaseAt
 owner_compared found node before equal =
     if equal then at.LinkBehind found node before else at.ListLink found node
 
--- the bucket is unlocked, and then the release ends; where no node was taken out no owner was the one
+-- the bucket is unlocked; where no node was taken out no owner was the one
 abbrev pub unlocking : FoundPort → Option ℕ → ReleaseAt
 unlocking found removed = at.Unlocking found.table (unlock_of found) removed
 
@@ -96,9 +103,9 @@ abbrev pub promoting : Geometry → FoundPort → ℕ → ReleaseAt
 promoting g found second = at.Promoting found (relink_of g found (link_of second))
 
 -- with the last store the second node is the first, and the bucket unlocked
-abbrev pub promoted : FoundPort → RelinkModel → Next (Unit {0}) → ReleaseAt × Next (Reply × Option ℕ)
-promoted found relink Go = (at.Promoting found relink, Go)
-promoted found relink (Done done) = (at.Promoting found relink, Done (Released false, Some found.node))
+abbrev pub promoted : FoundPort → RelinkModel → Next (Unit {0}) → ReleaseAt
+promoted found relink Go = at.Promoting found relink
+promoted found relink (Done done) = closing (Released false) (Some found.node)
 
 -- with the last store the node is in no chain, and the bucket unlocked; then there is one port less
 abbrev pub unlinked : FoundPort → RelinkModel → Next (Unit {0}) → ReleaseAt
@@ -112,8 +119,9 @@ kicks env shape count =
 
 -- where the release stands after a state that found this word, and what it says
 abbrev pub after_at : (ℕ → ℕ → ℕ → ℕ) → Env → ℕ → ℕ → ReleaseAt → ℕ → ReleaseAt × Next (Reply × Option ℕ)
+after_at mix env port owner at.Opening word = (at.Seeking (seek_new env.geometry), Go)
 after_at mix env port owner (at.Seeking seek) word =
-    sought (seek_after mix port seek word).0 (seek_after mix port seek word).1
+    (sought (seek_after mix port seek word).0 (seek_after mix port seek word).1, Go)
 after_at mix env port owner (at.Owner found node before) word =
     (owner_compared found node before (owner_of word == owner), Go)
 after_at mix env port owner (at.ListLink found node) word =
@@ -125,13 +133,14 @@ after_at mix env port owner (at.ChainLink found second) word =
     (unlink_or_promote env.geometry found word second, Go)
 after_at mix env port owner (at.SecondLink found second link) word = (promoting env.geometry found second, Go)
 after_at mix env port owner (at.Promoting found relink) word =
-    promoted found (relink_after relink).0 (relink_after relink).1
+    (promoted found (relink_after relink).0 (relink_after relink).1, Go)
 after_at mix env port owner (at.Unlinking found relink) word =
     (unlinked found (relink_after relink).0 (relink_after relink).1, Go)
 after_at mix env port owner (at.Lowering node shape) word =
-    (at.Lowering node shape, Done (Released (kicks env shape word), Some node))
+    (closing (Released (kicks env shape word)) (Some node), Go)
 after_at mix env port owner (at.Unlocking table unlock removed) word =
-    (at.Unlocking table unlock removed, Done (removed_reply removed, removed))
+    (closing (removed_reply removed) removed, Go)
+after_at mix env port owner (at.Closing reply removed) word = (at.Closing reply removed, Done (reply, removed))
 
 abbrev pub moved : ReleaseModel → ReleaseAt × Next (Reply × Option ℕ) → ReleaseModel × Next (Reply × Option ℕ)
 moved m next = (record m { at = next.0 }, next.1)
@@ -183,6 +192,7 @@ pub record IsUnlockingIn (g : Geometry) (table : ℕ) (unlock : Unlock) (removed
 
 -- all that the state names is the table's: slots, nodes and buckets; and the words that it keeps are words
 abbrev pub IsReleaseAtIn : Env → ReleaseAt → Type 0
+IsReleaseAtIn env at.Opening = Unit {0}
 IsReleaseAtIn env (at.Seeking seek) = IsSeekIn env.geometry seek
 IsReleaseAtIn env (at.Owner found node before) = IsInListIn env.geometry found node before
 IsReleaseAtIn env (at.ListLink found node) = IsAtNodeIn env.geometry found node
@@ -194,6 +204,7 @@ IsReleaseAtIn env (at.Promoting found relink) = IsRelinkingIn env.geometry found
 IsReleaseAtIn env (at.Unlinking found relink) = IsRelinkingIn env.geometry found relink
 IsReleaseAtIn env (at.Lowering node shape) = IsLoweringIn env.geometry node shape
 IsReleaseAtIn env (at.Unlocking table unlock removed) = IsUnlockingIn env.geometry table unlock removed
+IsReleaseAtIn env (at.Closing reply removed) = IsNodeOrNone env.geometry removed
 
 -- a release of this caller in this table, all that its state names being the table's
 pub record IsReleaseIn (env : Env) (caller : ℕ) (m : ReleaseModel) : Type 0 where

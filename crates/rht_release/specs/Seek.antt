@@ -1,11 +1,12 @@
 -- The way to a port: from the current table on through the futures, to the bucket in which the port is
 -- found, which stays locked. What each state performs, and what comes after it.
-use Rattle.std.specs.Prelude.{◌≡◌, ℕ, ◌<◌, Option, None, Some, IfSome}
+use Rattle.std.specs.Prelude.{◌≡◌, ℕ, ◌<◌, true, Option, None, Some, IfSome}
 use Rattle.rht_words.specs.declared.op.Op.{Op}
 use Rattle.rht_words.specs.declared.op.Op.TheVariants.{Load}
 use Rattle.rht_words.specs.declared.machine.Next.{Next}
 use Rattle.rht_words.specs.declared.machine.Next.TheVariants.{Go, Done}
 use Rattle.rht_words.specs.declared.geometry.Geometry.{Geometry}
+use Rattle.rht_words.specs.Held.{Held, holds_nothing}
 use Rattle.rht_words.specs.Links.{table_of, slot_of}
 use Rattle.rht_words.specs.Planned.{IsWord}
 use Rattle.rht_words.specs.Ports.{word_of}
@@ -108,6 +109,10 @@ seek_after mix port m word =
     (record m { at = next.0 }, next.1)
 
 -- ---- what it holds
+
+-- the call goes the way in its read section, in which it holds nothing else so far
+abbrev pub holds_section : {Answer : Type 0} → Held Answer
+holds_section = record holds_nothing { section = true }
 
 -- the place of the bucket that it has locked
 abbrev pub lock_of_seek : SeekAt → Option ℕ

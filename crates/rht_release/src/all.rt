@@ -9,6 +9,7 @@ ghost use Rattle.rht_release.specs.All.{all_new, all_plan, all_after, after_at, 
 use crate::found_port::FoundPort;
 use crate::seek::Seek;
 use rht_chain::Unlock;
+use rht_grace::{Enter, Leave};
 use rht_model::{Reply, Room};
 use rht_policy::Mix;
 use rht_words::{Env, Next, Op, Port, node_of, owner_of};
@@ -17,6 +18,8 @@ use std::marker::{Model, PhantomData};
 /// Where a listing stands. Each state but the one that holds a piece has one operation.
 #[derive(Clone, Copy, Debug, PartialEq, Eq)]
 pub enum AllAt {
+    /// Opens the read section, by one more in its caller's section word.
+    Opening,
     /// Finds the port and locks its bucket.
     Seeking { seek: Seek },
     /// Loads the owner of a node of the port's list, which is kept.
@@ -25,6 +28,8 @@ pub enum AllAt {
     ListLink { found: FoundPort, node: u32 },
     /// Unlocks the bucket.
     Unlocking { table: u32, unlock: Unlock },
+    /// Closes the read section, by one more in the section word. All owners are kept by then.
+    Closing,
 }
 
 /// Lists all owners of a port, the latest first. The answer is `Listed`, and the owners are in the
@@ -40,19 +45,21 @@ pub struct All<M: Mix> {
 }
 
 impl<M: Mix> Model for All<M> {
+    ghost use Rattle.std.specs.Prelude.{◌<◌};
     ghost use Rattle.rht_release.specs.All.{AllModel, IsAllAtIn};
 
     ghost Value = { AllModel };
 
     ghost view = { λ m. record { env = m.env; caller = m.caller; port = m.port; room = m.room; at = m.at } };
 
-    ghost invariant = { λ m. IsAllAtIn m.env m.at };
+    ghost invariant = { λ m. (m.caller < 16) × IsAllAtIn m.env m.at };
 }
 
 impl<M: Mix> All<M> {
     /// Before the first operation. What was in the room goes.
     #[inline(always)]
     pub fn new(env: Env, caller: u32, port: Port, room: Room<u32>) -> All<M>
+        requires { caller < 16 }
         ensures { result ≡ all_new env caller port room }
     {
         let mut room = room;
@@ -62,9 +69,7 @@ impl<M: Mix> All<M> {
             caller,
             port,
             room,
-            at: AllAt::Seeking {
-                seek: Seek::new(env.geometry),
-            },
+            at: AllAt::Opening,
             mix: PhantomData,
         }
     }
@@ -101,10 +106,12 @@ impl<M: Mix> All<M> {
     {
         let geometry = self.env.geometry;
         match self.at {
+            AllAt::Opening => Enter::new(self.caller).plan(),
             AllAt::Seeking { seek } => seek.plan(),
             AllAt::Owner { node, .. } => Op::load(geometry.owner(node)),
             AllAt::ListLink { node, .. } => Op::load(geometry.list_link(node)),
             AllAt::Unlocking { unlock, .. } => unlock.plan(),
+            AllAt::Closing => Leave::new(self.caller).plan(),
         }
     }
 
@@ -133,15 +140,17 @@ fn after<M: Mix>(env: Env, port: Port, at: &AllAt, old: u64) -> (AllAt, Next<()>
     requires { IsAllAtIn env at.now }
     ensures { result ≡ after_at M.mix_of env port at.now old }
 {
-    match *at {
+    let next = match *at {
+        AllAt::Opening => AllAt::Seeking {
+            seek: Seek::new(env.geometry),
+        },
         AllAt::Seeking { seek } => sought::<M>(port, seek, old),
-        AllAt::Owner { found, node } => (AllAt::ListLink { found, node }, Next::Go),
-        AllAt::ListLink { found, .. } => {
-            let next = node_of(env.geometry.nodes, old);
-            (list_followed(found, next), Next::Go)
-        }
-        AllAt::Unlocking { .. } => (*at, Next::Done(())),
-    }
+        AllAt::Owner { found, node } => AllAt::ListLink { found, node },
+        AllAt::ListLink { found, .. } => list_followed(found, node_of(env.geometry.nodes, old)),
+        AllAt::Unlocking { .. } => AllAt::Closing,
+        AllAt::Closing => return (*at, Next::Done(())),
+    };
+    (next, Next::Go)
 }
 
 /// Keeps an owner that was loaded, where there is room.
@@ -151,22 +160,26 @@ pub fn keep_owner(room: &mut Room<u32>, at: &AllAt, old: u64)
 {
     match *at {
         AllAt::Owner { .. } => room.keep(owner_of(old)),
-        AllAt::Seeking { .. } | AllAt::ListLink { .. } | AllAt::Unlocking { .. } => {}
+        AllAt::Opening
+        | AllAt::Seeking { .. }
+        | AllAt::ListLink { .. }
+        | AllAt::Unlocking { .. }
+        | AllAt::Closing => {}
     }
 }
 
 /// After an operation on the way. Where the port was found its owners are loaded, from the first on.
 #[inline(always)]
-fn sought<M: Mix>(port: Port, seek: Seek, old: u64) -> (AllAt, Next<()>)
+fn sought<M: Mix>(port: Port, seek: Seek, old: u64) -> AllAt
     ensures { result ≡ sought (seek_after M.mix_of port seek old).0 (seek_after M.mix_of port seek old).1 }
 {
     let (seek, next) = seek.after::<M>(port, old);
     match next {
-        Next::Go => (AllAt::Seeking { seek }, Next::Go),
-        Next::Done(None) => (AllAt::Seeking { seek }, Next::Done(())),
+        Next::Go => AllAt::Seeking { seek },
+        Next::Done(None) => AllAt::Closing,
         Next::Done(Some(found)) => {
             let node = found.node;
-            (AllAt::Owner { found, node }, Next::Go)
+            AllAt::Owner { found, node }
         }
     }
 }

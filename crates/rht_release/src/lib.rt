@@ -1,7 +1,8 @@
 //! Taking a binding out, putting another owner in one's place, and listing the owners of a port.
 //!
-//! Stands on `rht_words`, `rht_policy`, `rht_model`, and the pieces of `rht_arena`, `rht_nest` and
-//! `rht_chain`; its proofs stand on `rht_ghost`. The three machines share the way to the port, `Seek`.
+//! Stands on `rht_words`, `rht_policy`, `rht_model`, and the pieces of `rht_arena`, `rht_nest`,
+//! `rht_chain` and `rht_grace`; its proofs stand on `rht_ghost`. The three machines share the way to the
+//! port, `Seek`, and go it in their caller's read section.
 //! Read `specs/Seek.antt` first, then `specs/Release.antt`: they are the machines as tables. Each
 //! machine has a module, in which the functions between its states are public.
 #![tactic(auto)]
@@ -14,6 +15,6 @@ pub mod seek;
 
 pub use all::{All, AllAt};
 pub use found_port::FoundPort;
-pub use rebind::{Rebind, RebindAt};
+pub use rebind::{Rebind, RebindAt, RebindEnd};
 pub use release::{Release, ReleaseAt};
 pub use seek::{Seek, SeekAt};

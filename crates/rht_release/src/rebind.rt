@@ -7,16 +7,26 @@ ghost use Rattle.rht_arena.specs.NewNode.{new_node_after};
 ghost use Rattle.rht_chain.specs.LockedWalk.{IsNodeOrNone};
 ghost use Rattle.rht_chain.specs.Relink.{relink_after};
 ghost use Rattle.rht_release.specs.Seek.{seek_after};
-ghost use Rattle.rht_release.specs.Rebind.{rebind_new, rebind_plan, rebind_after, after_at, filled, giving, sought, owner_compared, replacing, replaced, IsRebindAtIn};
+ghost use Rattle.rht_release.specs.Rebind.{rebind_new, rebind_plan, rebind_after, after_at, filled, giving, sought, owner_compared, replacing, replaced, absent, closed, IsRebindAtIn, IsRebindEndIn};
 
 use crate::found_port::FoundPort;
 use crate::seek::Seek;
 use rht_arena::{GiveNode, NewNode};
 use rht_chain::{Relink, Unlock};
+use rht_grace::{Enter, Leave};
 use rht_model::Reply;
 use rht_policy::Mix;
 use rht_words::{Env, Geometry, Next, Op, Port, link_of, owner_of, word_of};
 use std::marker::{Model, PhantomData};
+
+/// How a rebind has gone that closes its read section.
+#[derive(Clone, Copy, Debug, PartialEq, Eq)]
+pub enum RebindEnd {
+    /// The new owner is bound, and the old one's node taken out. The rebind ends.
+    Rebound { removed: u32 },
+    /// The port isn't bound to the old owner. The new node is given back.
+    Absent { node: u32 },
+}
 
 /// Where a rebind stands. Each state but those that hold a piece has one operation.
 #[derive(Clone, Copy, Debug, PartialEq, Eq)]
@@ -24,6 +34,10 @@ pub enum RebindAt {
     /// Takes a free node and stores the port and the new owner in it.
     Filling {
         new: NewNode,
+    },
+    /// Opens the read section, by one more in its caller's section word.
+    Opening {
+        node: u32,
     },
     /// Finds the port and locks its bucket.
     Seeking {
@@ -61,6 +75,10 @@ pub enum RebindAt {
         table: u32,
         unlock: Unlock,
     },
+    /// Closes the read section, by one more in the section word.
+    Closing {
+        end: RebindEnd,
+    },
     /// Gives the new node back.
     Giving {
         give: GiveNode,
@@ -82,19 +100,21 @@ pub struct Rebind<M: Mix> {
 }
 
 impl<M: Mix> Model for Rebind<M> {
+    ghost use Rattle.std.specs.Prelude.{◌<◌};
     ghost use Rattle.rht_release.specs.Rebind.{RebindModel, IsRebindAtIn};
 
     ghost Value = { RebindModel };
 
     ghost view = { λ m. record { env = m.env; caller = m.caller; port = m.port; owner = m.owner; new_owner = m.new_owner; at = m.at } };
 
-    ghost invariant = { λ m. IsRebindAtIn m.env m.at };
+    ghost invariant = { λ m. (m.caller < 16) × IsRebindAtIn m.env m.at };
 }
 
 impl<M: Mix> Rebind<M> {
     /// Before the first operation.
     #[inline(always)]
     pub fn new(env: Env, caller: u32, port: Port, owner: u32, new: u32) -> Rebind<M>
+        requires { caller < 16 }
         ensures { result ≡ rebind_new env caller port owner new }
     {
         Rebind {
@@ -136,12 +156,14 @@ impl<M: Mix> Rebind<M> {
         let geometry = self.env.geometry;
         match self.at {
             RebindAt::Filling { new } => new.plan(),
+            RebindAt::Opening { .. } => Enter::new(self.caller).plan(),
             RebindAt::Seeking { seek, .. } => seek.plan(),
             RebindAt::Owner { found, .. } => Op::load(geometry.owner(found.node)),
             RebindAt::ChainLink { found, .. } => Op::load(geometry.chain_link(found.node)),
             RebindAt::Link { node, link, .. } => Op::store(geometry.chain_link(node), link),
             RebindAt::Replacing { relink, .. } => relink.plan(),
             RebindAt::Unlocking { unlock, .. } => unlock.plan(),
+            RebindAt::Closing { .. } => Leave::new(self.caller).plan(),
             RebindAt::Giving { give } => give.plan(),
         }
     }
@@ -172,8 +194,12 @@ fn after<M: Mix>(
 {
     let geometry = env.geometry;
     let next = match *at {
-        RebindAt::Filling { new } => return filled(geometry, new, old),
-        RebindAt::Seeking { node, seek } => sought::<M>(geometry, port, node, seek, old),
+        RebindAt::Filling { new } => return filled(new, old),
+        RebindAt::Opening { node } => RebindAt::Seeking {
+            node,
+            seek: Seek::new(geometry),
+        },
+        RebindAt::Seeking { node, seek } => sought::<M>(port, node, seek, old),
         RebindAt::Owner { node, found } => owner_compared(node, found, owner_of(old) == owner),
         RebindAt::ChainLink { node, found } => RebindAt::Link {
             node,
@@ -185,8 +211,9 @@ fn after<M: Mix>(
             node,
             found,
             relink,
-        } => return replaced(node, found, relink),
-        RebindAt::Unlocking { node, .. } => giving(geometry, node),
+        } => replaced(node, found, relink),
+        RebindAt::Unlocking { node, .. } => absent(node),
+        RebindAt::Closing { end } => return closed(geometry, end),
         RebindAt::Giving { .. } => return (*at, Next::Done((Reply::Absent, None))),
     };
     (next, Next::Go)
@@ -194,32 +221,27 @@ fn after<M: Mix>(
 
 /// After an operation on the new node. Where no node is free the rebind ends.
 #[inline(always)]
-fn filled(geometry: Geometry, new: NewNode, old: u64) -> (RebindAt, Next<(Reply, Option<u32>)>)
-    ensures { result ≡ filled geometry (new_node_after new old).0 (new_node_after new old).1 }
+fn filled(new: NewNode, old: u64) -> (RebindAt, Next<(Reply, Option<u32>)>)
+    ensures { result ≡ filled (new_node_after new old).0 (new_node_after new old).1 }
 {
     let (new, next) = new.after(old);
     match next {
         Next::Go => (RebindAt::Filling { new }, Next::Go),
-        Next::Done(Some(node)) => {
-            let seek = Seek::new(geometry);
-            (RebindAt::Seeking { node, seek }, Next::Go)
-        }
+        Next::Done(Some(node)) => (RebindAt::Opening { node }, Next::Go),
         Next::Done(None) => (RebindAt::Filling { new }, Next::Done((Reply::NoNode, None))),
     }
 }
 
-/// After an operation on the way. Where the port was found its owner is looked at; where it wasn't,
-/// the node is given back.
+/// After an operation on the way. Where the port was found its owner is looked at.
 #[inline(always)]
-fn sought<M: Mix>(geometry: Geometry, port: Port, node: u32, seek: Seek, old: u64) -> RebindAt
-    requires { node < geometry.nodes }
-    ensures { result ≡ sought geometry node (seek_after M.mix_of port seek old).0 (seek_after M.mix_of port seek old).1 }
+fn sought<M: Mix>(port: Port, node: u32, seek: Seek, old: u64) -> RebindAt
+    ensures { result ≡ sought node (seek_after M.mix_of port seek old).0 (seek_after M.mix_of port seek old).1 }
 {
     let (seek, next) = seek.after::<M>(port, old);
     match next {
         Next::Go => RebindAt::Seeking { node, seek },
         Next::Done(Some(found)) => RebindAt::Owner { node, found },
-        Next::Done(None) => giving(geometry, node),
+        Next::Done(None) => absent(node),
     }
 }
 
@@ -252,20 +274,49 @@ pub fn replacing(geometry: Geometry, node: u32, found: FoundPort) -> RebindAt
     }
 }
 
-/// After a store of the replacement. With the last one the rebind has its answer.
+/// After a store of the replacement. Behind the last one the read section is closed.
 #[inline(always)]
-fn replaced(node: u32, found: FoundPort, relink: Relink) -> (RebindAt, Next<(Reply, Option<u32>)>)
+fn replaced(node: u32, found: FoundPort, relink: Relink) -> RebindAt
     ensures { result ≡ replaced node found (relink_after relink).0 (relink_after relink).1 }
 {
     let (relink, next) = relink.after();
-    let at = RebindAt::Replacing {
-        node,
-        found,
-        relink,
-    };
     match next {
-        Next::Go => (at, Next::Go),
-        Next::Done(()) => (at, Next::Done((Reply::Rebound, Some(found.node)))),
+        Next::Go => RebindAt::Replacing {
+            node,
+            found,
+            relink,
+        },
+        Next::Done(()) => {
+            let end = RebindEnd::Rebound {
+                removed: found.node,
+            };
+            RebindAt::Closing { end }
+        }
+    }
+}
+
+/// The closing of the read section where the port isn't bound to the old owner.
+#[inline(always)]
+pub fn absent(node: u32) -> RebindAt
+    ensures { result ≡ absent node }
+{
+    RebindAt::Closing {
+        end: RebindEnd::Absent { node },
+    }
+}
+
+/// Behind the closing. A rebind that was made ends, and else the node is given back.
+#[inline(always)]
+fn closed(geometry: Geometry, end: RebindEnd) -> (RebindAt, Next<(Reply, Option<u32>)>)
+    requires { IsRebindEndIn geometry end }
+    ensures { result ≡ closed geometry end }
+{
+    match end {
+        RebindEnd::Rebound { removed } => {
+            let at = RebindAt::Closing { end };
+            (at, Next::Done((Reply::Rebound, Some(removed))))
+        }
+        RebindEnd::Absent { node } => (giving(geometry, node), Next::Go),
     }
 }
 

@@ -6,11 +6,12 @@ ghost use Rattle.rht_words.specs.Places.{words_in};
 ghost use Rattle.rht_chain.specs.LockedWalk.{IsNodeOrNone};
 ghost use Rattle.rht_chain.specs.Relink.{relink_after};
 ghost use Rattle.rht_release.specs.Seek.{seek_after};
-ghost use Rattle.rht_release.specs.Release.{release_new, release_plan, release_after, after_at, removed_reply, sought, owner_compared, unlocking, list_followed, cut_or_chain, unlink_or_promote, promoting, promoted, unlinked, kicks, IsReleaseAtIn};
+ghost use Rattle.rht_release.specs.Release.{release_new, release_plan, release_after, after_at, removed_reply, sought, owner_compared, unlocking, list_followed, cut_or_chain, unlink_or_promote, promoting, promoted, unlinked, closing, kicks, IsReleaseAtIn};
 
 use crate::found_port::FoundPort;
 use crate::seek::Seek;
 use rht_chain::{Relink, Unlock};
+use rht_grace::{Enter, Leave};
 use rht_model::Reply;
 use rht_policy::{Mix, below_30};
 use rht_words::{Env, Geometry, Next, Op, Port, Shape, link_of, node_of, owner_of, places};
@@ -20,6 +21,8 @@ use std::marker::{Model, PhantomData};
 /// found the port the bucket is locked, and nobody else changes its chain or the port's list.
 #[derive(Clone, Copy, Debug, PartialEq, Eq)]
 pub enum ReleaseAt {
+    /// Opens the read section, by one more in its caller's section word.
+    Opening,
     /// Finds the port and locks its bucket.
     Seeking {
         seek: Seek,
@@ -84,6 +87,12 @@ pub enum ReleaseAt {
         unlock: Unlock,
         removed: Option<u32>,
     },
+    /// Closes the read section, by one more in the section word. Then the release ends with this
+    /// reply, and with this node taken out, or none.
+    Closing {
+        reply: Reply,
+        removed: Option<u32>,
+    },
 }
 
 /// Takes the first binding of a port to an owner out. The answers are `Released`, with the node
@@ -100,19 +109,21 @@ pub struct Release<M: Mix> {
 }
 
 impl<M: Mix> Model for Release<M> {
+    ghost use Rattle.std.specs.Prelude.{◌<◌};
     ghost use Rattle.rht_release.specs.Release.{ReleaseModel, IsReleaseAtIn};
 
     ghost Value = { ReleaseModel };
 
     ghost view = { λ m. record { env = m.env; caller = m.caller; port = m.port; owner = m.owner; at = m.at } };
 
-    ghost invariant = { λ m. IsReleaseAtIn m.env m.at };
+    ghost invariant = { λ m. (m.caller < 16) × IsReleaseAtIn m.env m.at };
 }
 
 impl<M: Mix> Release<M> {
     /// Before the first operation.
     #[inline(always)]
     pub fn new(env: Env, caller: u32, port: Port, owner: u32) -> Release<M>
+        requires { caller < 16 }
         ensures { result ≡ release_new env caller port owner }
     {
         Release {
@@ -120,9 +131,7 @@ impl<M: Mix> Release<M> {
             caller,
             port,
             owner,
-            at: ReleaseAt::Seeking {
-                seek: Seek::new(env.geometry),
-            },
+            at: ReleaseAt::Opening,
             mix: PhantomData,
         }
     }
@@ -151,6 +160,7 @@ impl<M: Mix> Release<M> {
     {
         let geometry = self.env.geometry;
         match self.at {
+            ReleaseAt::Opening => Enter::new(self.caller).plan(),
             ReleaseAt::Seeking { seek } => seek.plan(),
             ReleaseAt::Owner { node, .. } => Op::load(geometry.owner(node)),
             ReleaseAt::ListLink { node, .. } | ReleaseAt::LinkBehind { node, .. } => {
@@ -168,6 +178,7 @@ impl<M: Mix> Release<M> {
             }
             ReleaseAt::Lowering { .. } => Op::sub(places::port_count(), 1),
             ReleaseAt::Unlocking { unlock, .. } => unlock.plan(),
+            ReleaseAt::Closing { .. } => Leave::new(self.caller).plan(),
         }
     }
 
@@ -197,7 +208,10 @@ fn after<M: Mix>(
 {
     let geometry = env.geometry;
     let next = match *at {
-        ReleaseAt::Seeking { seek } => return sought::<M>(port, seek, old),
+        ReleaseAt::Opening => ReleaseAt::Seeking {
+            seek: Seek::new(geometry),
+        },
+        ReleaseAt::Seeking { seek } => sought::<M>(port, seek, old),
         ReleaseAt::Owner {
             found,
             node,
@@ -214,15 +228,14 @@ fn after<M: Mix>(
         ReleaseAt::CuttingOut { found, node, .. } => unlocking(found, Some(node)),
         ReleaseAt::ChainLink { found, second } => unlink_or_promote(geometry, found, old, second),
         ReleaseAt::SecondLink { found, second, .. } => promoting(geometry, found, second),
-        ReleaseAt::Promoting { found, relink } => return promoted(found, relink),
+        ReleaseAt::Promoting { found, relink } => promoted(found, relink),
         ReleaseAt::Unlinking { found, relink } => unlinked(found, relink),
         ReleaseAt::Lowering { node, shape } => {
             let kick = kicks(env, shape, old);
-            return (*at, Next::Done((Reply::Released { kick }, Some(node))));
+            closing(Reply::Released { kick }, Some(node))
         }
-        ReleaseAt::Unlocking { removed, .. } => {
-            return (*at, Next::Done((removed_reply(removed), removed)));
-        }
+        ReleaseAt::Unlocking { removed, .. } => closing(removed_reply(removed), removed),
+        ReleaseAt::Closing { reply, removed } => return (*at, Next::Done((reply, removed))),
     };
     (next, Next::Go)
 }
@@ -230,24 +243,18 @@ fn after<M: Mix>(
 /// After an operation on the way. Where the port was found its owners are looked at, from the
 /// first on.
 #[inline(always)]
-fn sought<M: Mix>(port: Port, seek: Seek, old: u64) -> (ReleaseAt, Next<(Reply, Option<u32>)>)
+fn sought<M: Mix>(port: Port, seek: Seek, old: u64) -> ReleaseAt
     ensures { result ≡ sought (seek_after M.mix_of port seek old).0 (seek_after M.mix_of port seek old).1 }
 {
     let (seek, next) = seek.after::<M>(port, old);
     match next {
-        Next::Go => (ReleaseAt::Seeking { seek }, Next::Go),
-        Next::Done(None) => (
-            ReleaseAt::Seeking { seek },
-            Next::Done((Reply::Absent, None)),
-        ),
-        Next::Done(Some(found)) => {
-            let first = ReleaseAt::Owner {
-                found,
-                node: found.node,
-                before: None,
-            };
-            (first, Next::Go)
-        }
+        Next::Go => ReleaseAt::Seeking { seek },
+        Next::Done(None) => closing(Reply::Absent, None),
+        Next::Done(Some(found)) => ReleaseAt::Owner {
+            found,
+            node: found.node,
+            before: None,
+        },
     }
 }
 
@@ -344,19 +351,15 @@ pub fn promoting(geometry: Geometry, found: FoundPort, second: u32) -> ReleaseAt
     }
 }
 
-/// After a store of the promotion. With the last one the release has its answer.
+/// After a store of the promotion. Behind the last one the read section is closed.
 #[inline(always)]
-fn promoted(found: FoundPort, relink: Relink) -> (ReleaseAt, Next<(Reply, Option<u32>)>)
+fn promoted(found: FoundPort, relink: Relink) -> ReleaseAt
     ensures { result ≡ promoted found (relink_after relink).0 (relink_after relink).1 }
 {
     let (relink, next) = relink.after();
-    let at = ReleaseAt::Promoting { found, relink };
     match next {
-        Next::Go => (at, Next::Go),
-        Next::Done(()) => {
-            let reply = Reply::Released { kick: false };
-            (at, Next::Done((reply, Some(found.node))))
-        }
+        Next::Go => ReleaseAt::Promoting { found, relink },
+        Next::Done(()) => closing(Reply::Released { kick: false }, Some(found.node)),
     }
 }
 
@@ -390,7 +393,7 @@ pub fn kicks(env: Env, shape: u64, count: u64) -> bool
         )
 }
 
-/// The unlocking of the bucket, behind which the release ends with this node taken out, or none.
+/// The unlocking of the bucket, with this node taken out, or none.
 #[inline(always)]
 pub fn unlocking(found: FoundPort, removed: Option<u32>) -> ReleaseAt
     ensures { result ≡ unlocking found removed }
@@ -400,6 +403,14 @@ pub fn unlocking(found: FoundPort, removed: Option<u32>) -> ReleaseAt
         unlock: found.unlock(),
         removed,
     }
+}
+
+/// The closing of the read section, behind which the release ends so.
+#[inline(always)]
+pub fn closing(reply: Reply, removed: Option<u32>) -> ReleaseAt
+    ensures { result ≡ closing reply removed }
+{
+    ReleaseAt::Closing { reply, removed }
 }
 
 /// The reply where this node was taken out of a list, or none was.
