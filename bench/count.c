@@ -14,7 +14,7 @@ LOOP releases(const struct table *t, struct ports ports) {
 }
 
 int main(int count, char **words) {
-  struct ports ports = {0, count > 1 ? (u32)strtoul(words[1], NULL, 10) : 1000};
+  struct ports ports = {0, count > 1 ? (u32)strtoul(words[1], NULL, 10) : 1000, 0};
   struct table t;
   open_table(&t, 65536, 2048, 1, ports.count);
   u32 right = binds(&t, ports);

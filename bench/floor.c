@@ -46,7 +46,7 @@ typedef _Atomic u64 word;
 
 /* ---- the words */
 
-enum { CURRENT_TABLE = 0, PORT_COUNT = 2, NEXT_SERIAL = 3, ENROLLED = 4, SLOTS = 24, NODE_MAP = 280 };
+enum { CURRENT_TABLE = 0, PORT_COUNT = 2, NEXT_SERIAL = 3, ENROLLED = 4, SECTIONS = 8, SLOTS = 24, NODE_MAP = 280 };
 enum { SHAPE = 0, SEED = 1, FUTURE = 2, STATE = 4 };
 enum { CHAIN_LINK = 0, KEY = 1, OWNER_WORD = 2, LIST_LINK = 3 };
 
@@ -58,7 +58,7 @@ struct table {
   word *words;
   u32 nodes, pages, map_words;
   size_t page_map, first_node, first_page;
-  u32 min, max;
+  u32 min, max, rewalks;
   bool shrink;
 };
 
@@ -247,26 +247,53 @@ ALWAYS void relink(const struct table *t, const struct probed *p, u32 before, u6
 
 /* ---- the calls */
 
-ALWAYS reply find_by(const struct table *t, bool low, u32 port) {
+/* Where the port's bucket is in the table of this slot; 0 where the bucket is missing. */
+ALWAYS size_t reach(const struct table *t, bool low, u32 slot, u32 port) {
+  u64 shape = load(slot_word(t, slot, SHAPE));
+  u64 seed = load(slot_word(t, slot, SEED));
+  u64 index = 64 * (shape / 1024 % ((u64)1 << 32)) + bucket_of(low, port, shape, seed);
+#if CLAMPS
+  if (index >= (u64)64 * t->pages) return 0;
+#endif
+  return t->first_page + index;
+}
+
+/* Walks the bucket's chain without its lock. False where the port isn't there. A strange end is walked
+ * again, so often. */
+ALWAYS bool walk(const struct table *t, size_t place, u32 port, u32 *owner) {
+  for (u32 left = t->rewalks;; left--) {
+    u64 link = head_of(place, load(at(t, place)));
+    for (u32 visited = 0;; visited++) {
+      u32 node = node_of(t, link);
+      if (node == NONE || (CLAMPS && visited >= t->nodes)) break;
+      if (load(node_word(t, node, KEY)) == port) {
+        *owner = (u32)load(node_word(t, node, OWNER_WORD));
+        return true;
+      }
+      link = load(node_word(t, node, CHAIN_LINK));
+    }
+    if (link == marker_of(place) || left == 0) return false;
+  }
+}
+
+ALWAYS reply looked_up(const struct table *t, bool low, u32 port) {
   u32 slot = table_of(load(single(t, CURRENT_TABLE)));
   for (;;) {
-    struct probed p;
-    if (!probe(t, low, slot, port, &p)) return PLAIN_REPLY(MISSING);
-    if (p.found != NONE) {
-      u32 owner = (u32)load(node_word(t, p.found, OWNER_WORD));
-      u32 node = node_of(t, load(node_word(t, p.found, LIST_LINK)));
-      while (node != NONE) {
-        (void)load(node_word(t, node, OWNER_WORD));
-        node = node_of(t, load(node_word(t, node, LIST_LINK)));
-      }
-      unlock(t, &p);
-      return FOUND_REPLY(owner);
-    }
+    size_t place = reach(t, low, slot, port);
+    u32 owner;
+    if (place != 0 && walk(t, place, port, &owner)) return FOUND_REPLY(owner);
     u32 future = slot_of(load(slot_word(t, slot, FUTURE)));
-    unlock(t, &p);
     if (future == NONE) return PLAIN_REPLY(MISSING);
     slot = future;
   }
+}
+
+/* Within the caller's read section. */
+ALWAYS reply find_by(const struct table *t, bool low, u32 caller, u32 port) {
+  (void)atomic_fetch_add(single(t, SECTIONS + (size_t)caller), 1);
+  reply r = looked_up(t, low, port);
+  (void)atomic_fetch_add(single(t, SECTIONS + (size_t)caller), 1);
+  return r;
 }
 
 /* Looks through the node map from its first word on, and clears the lowest bit that it finds. */
@@ -386,8 +413,8 @@ ALWAYS reply release_by(const struct table *t, bool low, u32 port, u32 owner) {
 }
 
 /* The same, each by the one hash or by the other. */
-CALL reply find(const struct table *t, u32 port) { return find_by(t, false, port); }
-CALL reply low_find(const struct table *t, u32 port) { return find_by(t, true, port); }
+CALL reply find(const struct table *t, u32 caller, u32 port) { return find_by(t, false, caller, port); }
+CALL reply low_find(const struct table *t, u32 caller, u32 port) { return find_by(t, true, caller, port); }
 CALL reply bind(const struct table *t, u32 port, u32 owner) { return bind_by(t, false, port, owner); }
 CALL reply low_bind(const struct table *t, u32 port, u32 owner) { return bind_by(t, true, port, owner); }
 CALL reply release(const struct table *t, u32 port, u32 owner) { return release_by(t, false, port, owner); }
@@ -416,6 +443,7 @@ static void open_table(struct table *t, u32 nodes, u32 pages, u32 callers, u32 h
   t->first_page = t->first_node + 4 * (size_t)nodes;
   t->min = 4;
   t->max = 0;
+  t->rewalks = 8;
   t->shrink = false;
   size_t count = t->first_page + 64 * (size_t)pages + GAPS;
   t->block = taken(aligned_alloc(64, (8 * count + OFFSET + 63) / 64 * 64));
@@ -439,8 +467,9 @@ static void open_table(struct table *t, u32 nodes, u32 pages, u32 callers, u32 h
 #define OWNER 7
 #define OTHER ((u32)1 << 20)
 
+/* The ports of a loop, and the caller who asks for them. */
 struct ports {
-  u32 first, count;
+  u32 first, count, caller;
 };
 
 ALWAYS bool is_done(reply r) { return IS_FOUND(r, OWNER) || IS(r, BOUND) || IS(r, RELEASED); }
@@ -448,7 +477,8 @@ ALWAYS bool is_done(reply r) { return IS_FOUND(r, OWNER) || IS(r, BOUND) || IS(r
 ALWAYS u32 hits_in(const struct table *t, bool low, struct ports ports) {
   u32 right = 0;
   for (u32 i = 0; i < ports.count; i++) {
-    reply r = low ? low_find(t, ports.first + i) : find(t, ports.first + i);
+    u32 port = ports.first + i;
+    reply r = low ? low_find(t, ports.caller, port) : find(t, ports.caller, port);
     right += IS_FOUND(r, OWNER);
   }
   return right;
@@ -473,7 +503,7 @@ LOOP low_binds(const struct table *t, struct ports ports) { return binds_in(t, t
 LOOP misses(const struct table *t, struct ports ports) {
   u32 right = 0;
   for (u32 i = 0; i < ports.count; i++) {
-    reply r = find(t, (ports.first + i) | OTHER);
+    reply r = find(t, ports.caller, (ports.first + i) | OTHER);
     right += IS(r, MISSING);
   }
   return right;
@@ -487,9 +517,9 @@ LOOP mixed(const struct table *t, struct ports ports) {
   for (u32 i = 0; i < blocks; i++) {
     right += is_done(bind(t, other, OWNER));
     right += is_done(release(t, other, OWNER));
-    right += hits_in(t, false, (struct ports){ports.first + 20 * i + 2, 18});
+    right += hits_in(t, false, (struct ports){ports.first + 20 * i + 2, 18, ports.caller});
   }
-  return right + hits_in(t, false, (struct ports){ports.first + 20 * blocks, ports.count % 20});
+  return right + hits_in(t, false, (struct ports){ports.first + 20 * blocks, ports.count % 20, ports.caller});
 }
 
 LOOP churn(const struct table *t, struct ports ports) {
@@ -606,7 +636,7 @@ static struct measured measure(struct row row) {
   open_table(&t, row.nodes, row.pages, row.threads, row.ports);
   u32 count = row.ports / row.threads;
   for (u32 i = 0; i < row.threads; i++) {
-    struct ports own = {i * count, count};
+    struct ports own = {i * count, count, i};
     jobs[i] = (struct job){&t, &gate, row.workload, own, row.rounds, 0, 0, 0};
     if (row.workload == APART) low_binds(&t, own);
     else if (row.workload != BINDS) binds(&t, own);

@@ -312,7 +312,7 @@ function name_single(place) {
   else if (place == 3) name = "the next serial"
   else if (place == 4) name = "the count of workers"
   else if (place < 8) name = "word " place
-  else name = "the section word of worker " (place - 7)
+  else { name = "the section word of worker " (place - 7); sort = "section" }
 }
 
 function name_slot(slot, at) {
@@ -415,6 +415,7 @@ function in_words(op, place, a, b,    now) {
   if (op == "load") return "reads " name (sort == "map" ? "" : ": " meaning(now))
   if (op == "store") return store_in_words(now, a)
   if (op == "cas") return cas_in_words(place, now, a, b)
+  if (op == "add" && sort == "section") return (is_odd(now) ? "closes" : "opens") " its read section"
   if (op == "add") return "adds " a " to " name ", which was " now
   if (op == "sub") return "subtracts " a " from " name ", which was " now
   return map_in_words(op, place, now, a)

@@ -89,8 +89,8 @@ fn round<M: Mix, R: Wait>(
     ensures few { result ≤ 2 * ports.count }
 {
     match workload {
-        Workload::Hits | Workload::Apart => lookups(rt, table, pass, ports, Asked::Own),
-        Workload::Misses => lookups(rt, table, pass, ports, Asked::Others),
+        Workload::Hits | Workload::Apart => lookups(table, pass, ports, Asked::Own),
+        Workload::Misses => lookups(table, pass, ports, Asked::Others),
         Workload::Mixed => mixed(rt, table, pass, ports),
         Workload::Churn => churn(rt, table, pass, ports),
         Workload::Binds => binds(rt, table, pass, ports),
@@ -100,13 +100,7 @@ fn round<M: Mix, R: Wait>(
 
 /// Looks up the ports, or their others. This is the one place of a loop that calls `find`, which is
 /// inlined where there is one alone.
-fn lookups<M: Mix, R: Wait>(
-    rt: &R,
-    table: &Table<M>,
-    pass: &mut Pass<M>,
-    ports: Ports,
-    asked: Asked,
-) -> u64
+fn lookups<M: Mix>(table: &Table<M>, pass: &mut Pass<M>, ports: Ports, asked: Asked) -> u64
     requires pass { IsPassOf M.mix_of table.now pass.old }
     requires idle { is_idle pass.old.local ≡ true }
     ensures made { HasMade M.mix_of table.now (is_answer asked) ports.count result pass.old pass.new }
@@ -119,7 +113,7 @@ fn lookups<M: Mix, R: Wait>(
     };
     let mut right = 0u64;
     for index in 0..ports.count {
-        let reply = table.find(rt, pass, ports.at(index) | other);
+        let reply = table.find(pass, ports.at(index) | other);
         right += u64::from(is_answer(asked, reply));
     }
     right
@@ -138,7 +132,7 @@ fn mixed<M: Mix, R: Wait>(rt: &R, table: &Table<M>, pass: &mut Pass<M>, ports: P
     }
     let left = ports.count % 20;
     let rest = ports.part(ports.count - left, left);
-    right + lookups(rt, table, pass, rest, Asked::Own)
+    right + lookups(table, pass, rest, Asked::Own)
 }
 
 /// The twenty calls of a block.
@@ -157,7 +151,7 @@ fn twenty<M: Mix, R: Wait>(
     let other = ports.first | OTHER;
     let bound = table.bind(rt, pass, other, OWNER);
     let released = table.release(rt, pass, other, OWNER);
-    let found = lookups(rt, table, pass, ports.part(block * 20 + 2, 18), Asked::Own);
+    let found = lookups(table, pass, ports.part(block * 20 + 2, 18), Asked::Own);
     u64::from(is_done(bound)) + u64::from(is_done(released)) + found
 }
 

@@ -161,7 +161,8 @@ impl<M: Mix> Local<M> {
     /// Begins a call, and empties both rooms; no memory is taken or given back. It does nothing for a
     /// call of which there is no machine yet: `walk` and `tidy`, and `rebind` in a table of lists.
     pub fn begin(&mut self, env: Env, caller: u32, call: Call)
-        requires { self.old.owners.limit ≡ env.geometry.nodes }
+        requires owners { self.old.owners.limit ≡ env.geometry.nodes }
+        requires caller { caller < 16 }
         ensures { self.new ≡ begun_with self.old (machine_of env caller call) }
     {
         let doing = match call {

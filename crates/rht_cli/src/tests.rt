@@ -485,8 +485,8 @@ fn schedules_are_replayed(rt: HostRuntime) -> Result<(), Fail> {
         // The node map of 8 nodes is at 280, node 0 from 282 on, and the pages from 314 on; port 5 has
         // bucket 5, which is at 319 and has the marker 2 * 319 + 1.
         (
-            "table single nodes 8 pages 4 workers 2 hash low\n1 bind 5 9\n2 find 5\nstep 1 15\nstep 2 9\n",
-            "1 load 280 255\n1 and 280 18446744073709551614 255\n1 store 283 5\n1 store 284 9\n1 store 285 0\n1 load 0 0\n1 load 24 6\n1 load 25 1\n1 load 319 0\n1 cas 319 0 1 0\n1 load 26 0\n1 load 2 0\n1 store 282 639\n1 add 2 1 0\n1 store 319 2\n1: bound\n2 load 0 0\n2 load 24 6\n2 load 25 1\n2 load 319 2\n2 cas 319 2 3 2\n2 load 283 5\n2 load 284 9\n2 load 285 0\n2 store 319 2\n2: found 9\nport 5: 9\nsize 64 keys 1\n",
+            "table single nodes 8 pages 4 workers 2 hash low\n1 bind 5 9\n2 find 5\nstep 1 15\nstep 2 8\n",
+            "1 load 280 255\n1 and 280 18446744073709551614 255\n1 store 283 5\n1 store 284 9\n1 store 285 0\n1 load 0 0\n1 load 24 6\n1 load 25 1\n1 load 319 0\n1 cas 319 0 1 0\n1 load 26 0\n1 load 2 0\n1 store 282 639\n1 add 2 1 0\n1 store 319 2\n1: bound\n2 add 9 1 0\n2 load 0 0\n2 load 24 6\n2 load 25 1\n2 load 319 2\n2 load 283 5\n2 load 284 9\n2 add 9 1 1\n2: found 9\nport 5: 9\nsize 64 keys 1\n",
         ),
         // A worker that is in a call at the end is named.
         (

@@ -12,6 +12,8 @@ pub mod TracesAtEvents
 pub mod CallsOfFronts
 -- in every run each operation stands in the trace of its call
 pub mod StepsInTraces
+-- behind a call that has ended its caller is in no call, and in no read section
+pub mod BehindCalls
 -- the words that a call leaves, while no other caller is in one
 pub mod LoneCalls
 -- in every run each call that has ended has a reply of its kind

@@ -6,7 +6,7 @@ pub mod EnteredWords
 pub mod UndoneSoFar
 -- an operation of a call that may still be refused, or end without a change
 pub mod GoingBack
--- what becomes of the bits where the call takes or gives back a node, a lock or a slot
+-- what becomes of the bits where the call takes or gives back a node, a lock or a slot, and where it opens or closes its section
 pub mod UndoneHoldings
 -- where it takes pages or gives them back
 pub mod UndonePages
@@ -28,11 +28,11 @@ pub mod LockedJobs
 pub mod RefusedCalls
 -- what an operation does to locks
 pub mod LocksTurned
--- in every run a call that has ended has let go of its locks
+-- in every run a call that has ended has let go of its locks and its section
 pub mod LocksLetGo
 -- where a missing page is entered, and by whom
 pub mod MissingKept
 -- operations that leave something undone
 pub mod WorkedRefusals
--- and those that keep a lock
+-- and those that keep a lock or a section
 pub mod WorkedLocks

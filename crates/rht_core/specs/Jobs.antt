@@ -16,7 +16,7 @@ use Rattle.rht_find.specs.FindHeld.{held_of_find}
 use Rattle.rht_bind.specs.BindHeld.{held_of_bind}
 use Rattle.rht_find.specs.Find as find
 use Rattle.rht_find.specs.declared.find.FindAt.{FindAt}
-use Rattle.rht_find.specs.declared.find.FindAt.TheVariants.{CurrentTable}
+use Rattle.rht_find.specs.declared.find.FindAt.TheVariants.{Opening}
 use Rattle.rht_bind.specs.Bind as bind
 use Rattle.rht_bind.specs.declared.bind.BindAt.{BindAt}
 use Rattle.rht_model.specs.Rooms.{Kept}
@@ -72,7 +72,7 @@ first_rebind env port owner new Single = Some (rebinds port owner new (rebind.fi
 first_rebind env port owner new Listed = None
 
 abbrev pub first_job : Env → Call → Option Job
-first_job env (Find port) = Some (finds port CurrentTable)
+first_job env (Find port) = Some (finds port Opening)
 first_job env (Bind port owner once) = Some (binds port owner once (bind.first_state env port owner))
 first_job env (All port) = Some (lists port (room_for_nodes env) (alls.Seeking (seek_new env.geometry)))
 first_job env (Release port owner) = Some (releases port owner (Seeking (seek_new env.geometry)))
@@ -82,15 +82,15 @@ first_job env Work = Some (works works_at.WorkLock)
 first_job env Tidy = None
 first_job env Count = Some counts
 
--- the operation that it performs next
-abbrev pub job_plan : Env → Job → Op
-job_plan env (finds port state) = find.plan_at env state
-job_plan env (binds port owner once state) = bind.plan_at env state
-job_plan env (lists port room state) = all.plan_at env state
-job_plan env (releases port owner state) = release.plan_at env state
-job_plan env (rebinds port owner new state) = rebind.plan_at env state
-job_plan env (works state) = work.plan_at env state
-job_plan env counts = count_plan_in env
+-- the operation that this caller performs next for it
+abbrev pub job_plan : Env → ℕ → Job → Op
+job_plan env caller (finds port state) = find.plan_at env caller state
+job_plan env caller (binds port owner once state) = bind.plan_at env state
+job_plan env caller (lists port room state) = all.plan_at env state
+job_plan env caller (releases port owner state) = release.plan_at env state
+job_plan env caller (rebinds port owner new state) = rebind.plan_at env state
+job_plan env caller (works state) = work.plan_at env state
+job_plan env caller counts = count_plan_in env
 
 -- the job goes on in its machine's next state, or its call has ended so
 abbrev pub job_next : {S A : Type 0} → (S → Job) → (A → Ending) → S × Next A → Job × Next Ending

@@ -61,7 +61,7 @@ pub mod Worked
 pub mod FewPorts
 -- what a call leaves that was refused
 pub mod Refused
--- which locks a call has let go
+-- that a call has let go of its locks and its section
 pub mod LetGo
 -- when a table is attached, by whom, and of which size
 pub mod Attached
@@ -69,3 +69,5 @@ pub mod Attached
 pub mod Tables
 -- in which bucket each node lies, and whose pages are whose
 pub mod Placed
+-- what holds of look-ups: their bound, that they find what stays bound, and what they never do
+pub mod Lookups

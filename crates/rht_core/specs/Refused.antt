@@ -2,7 +2,7 @@
 -- what a call leaves that only looks, as a look-up, a listing and a reading of the count, and a resizing that had nothing to do.
 -- What a bit is, it is by its value at opening and by the calls that turned it an odd number of times, whatever the order of their
 -- operations. To a bit that it turned an even number of times a call has added nothing.
-use Rattle.std.specs.Prelude.{◌≡◌, ◌≢◌, ℕ, ◌+◌, ◌*◌, ◌/◌, ◌%◌, ◌<◌, ◌⊎◌, ◌==◌, Bool, true, Some, List, [], ◌∷◌, ◌++◌, if◌then◌else◌}
+use Rattle.std.specs.Prelude.{◌≡◌, ◌≢◌, ℕ, ◌+◌, ◌*◌, ◌/◌, ◌%◌, ◌<◌, ◌≤◌, ◌⊎◌, ◌==◌, Bool, true, Some, List, [], ◌∷◌, ◌++◌, if◌then◌else◌}
 use Rattle.std.specs.List.{AllByRecursion, Any}
 use Rattle.std.specs.Int.{bit_at}
 use Rattle.rht_words.specs.declared.op.Op.TheVariants.{Store, Exchange, Or}
@@ -12,7 +12,7 @@ use Rattle.rht_words.specs.Links.{entry_of}
 use Rattle.rht_words.specs.Maps.{bit_of}
 use Rattle.rht_words.specs.Members.{In}
 use Rattle.rht_words.specs.Operations.{op_place, word_after}
-use Rattle.rht_words.specs.Places.{NextSerial, Slot, SlotWord, ShapeWord, FutureWord, StateWord, PageMap, PageWord, Node, NodeWord, words_in, place_of}
+use Rattle.rht_words.specs.Places.{NextSerial, Section, Slot, SlotWord, ShapeWord, FutureWord, StateWord, PageMap, PageWord, Node, NodeWord, words_in, place_of}
 use Rattle.rht_words.specs.Shapes.{unpacked, size_of}
 use Rattle.rht_model.specs.declared.history.Call.{Call}
 use Rattle.rht_model.specs.declared.history.Call.TheVariants.{Bind}
@@ -26,7 +26,8 @@ use Rattle.rht_nest.specs.Tables.{is_nested, pages_of_shape}
 use Rattle.rht_core.specs.declared.event.Event.{Event}
 use Rattle.rht_core.specs.Runs.{IsAdmitted}
 use Rattle.rht_stands.specs.StandsFor.{page_word, shape_of}
-use Rattle.rht_core.specs.Traces.{Did, Past, performed_of, traced_of}
+use Rattle.rht_core.specs.Sections.{IsInNoSection}
+use Rattle.rht_core.specs.Traces.{Did, Past, performed_of, traced_of, behind_call}
 use Rattle.rht_core.specs.Seen.{CameTo, words_before}
 use Rattle.rht_core.specs.ResizeCauses.{Attaches}
 use Rattle.rht_core.specs.RunHistories.{ChangesBindings}
@@ -186,28 +187,37 @@ abbrev pub MayAttach : Call → Type 0
 MayAttach (Bind port owner once) = Unit {0}
 MayAttach _ = ⊥
 
--- What these operations of a call may leave turned: the next serial, words of nodes and of slots that they gave back, and what is of the
--- tables that a bind attached or of the pages that it took and entered. Each address is one of the table's, since places alone don't
--- tell it from a word that isn't there. `words_at` gives the words before the event with each number.
-abbrev pub IsExcepted : Geometry → (ℕ → List ℕ) → Call → List Did → ℕ → ℕ → Type 0
-IsExcepted g words_at call steps place bit =
+-- a bit of this caller's section word, but for the lowest one: where the section is opened and closed, each addition of 1 may carry
+pub record IsOwnSection (g : Geometry) (c place bit : ℕ) : Type 0 where
+  pub there : place ≡ place_of g (Section c)
+  pub above : 1 ≤ bit
+
+-- What these operations of a caller's call may leave turned: the next serial, words of nodes and of slots that they gave back, what is of
+-- the tables that a bind attached or of the pages that it took and entered, and the higher bits of the caller's own section word. Each
+-- address is one of the table's, since places alone don't tell it from a word that isn't there. `words_at` gives the words before the event
+-- with each number.
+abbrev pub IsExcepted : Geometry → (ℕ → List ℕ) → ℕ → Call → List Did → ℕ → ℕ → Type 0
+IsExcepted g words_at c call steps place bit =
     (place ≡ place_of g NextSerial)
     ⊎ IsOfNodeGiven g steps place
     ⊎ IsOfSlotGiven g steps place
     ⊎ (MayAttach call × (IsOfAttached g steps place bit ⊎ IsOfEntered g words_at steps place bit))
+    ⊎ IsOwnSection g c place bit
 
 module _ (M : Type 0) (mix : ℕ → ℕ → ℕ → ℕ) where
-  -- A call has undone what it did, or did nothing. None of its operations changed what the words stand for, and each bit of each word was
-  -- turned an even number of times, but for those that may be left turned. So the call holds no lock, and gave back the node that it took.
-  pub record IsUndone (env : Env) (events : List Event) (past : Past) : Type 0 where
+  -- A caller's call has undone what it did, or did nothing. None of its operations changed what the words stand for, and each bit of each
+  -- word was turned an even number of times, but for those that may be left turned. So the call holds no lock, and gave back the node that
+  -- it took. Behind its last operation the caller is in no read section.
+  pub record IsUndone (env : Env) (events : List Event) (c : ℕ) (past : Past) : Type 0 where
     pub bindings : AllByRecursion (λ did. ¬ ChangesBindings M mix env events did) past.steps
     pub even : (place bit : ℕ) → place < words_in env.geometry → bit < 64
-        → IsExcepted env.geometry (words_before M mix env events) past.done.call past.steps place bit
+        → IsExcepted env.geometry (words_before M mix env events) c past.done.call past.steps place bit
         ⊎ (turns place bit past.steps % 2 ≡ 0)
+    pub section : IsInNoSection env.geometry (words_before M mix env events (behind_call past)) c
 
   -- in every run each call that has ended, and changes nothing by its reply, has undone what it did
   abbrev pub Refused : Type 0
   Refused =
       (env : Env) (events : List Event) (c : ℕ) → IsAdmitted env.config.kind events
-      → AllByRecursion (λ past. changes_nothing past.done.call past.done.reply ≡ true → IsUndone env events past)
+      → AllByRecursion (λ past. changes_nothing past.done.call past.done.reply ≡ true → IsUndone env events c past)
       ((traced_of {M = M} mix env events).traces c).past

@@ -8,6 +8,7 @@ ghost use Rattle.rht_core.specs.FewPorts.{FewPorts, OneCaller};
 ghost use Rattle.rht_core.specs.Kicks.{Kicks};
 ghost use Rattle.rht_core.specs.LetGo.{LetGo};
 ghost use Rattle.rht_core.specs.ListedOwners.{ListedOwners};
+ghost use Rattle.rht_core.specs.Lookups.{Bounded, TakesEffect, FindsWhatStays, Harmless, ReadsInside};
 ghost use Rattle.rht_core.specs.NeverRefused.{RoomyTakesAll, OneWorkerAsModel};
 ghost use Rattle.rht_core.specs.NodesUsed.{Nodes};
 ghost use Rattle.rht_core.specs.Placed.{Placed, OwnPages};
@@ -243,27 +244,30 @@ pub fn at_rest<M: Mix>()
 
 /// In every run a call that was refused has undone what it did; so has a bind that was answered `Exists`,
 /// and a rebind or a release that was answered `Absent`. And so has a look-up, a listing, a reading of the
-/// count, and a `Work` that was answered `Idle`. None of its operations changed what the words stand for. And
-/// each bit of each word was turned by its operations an even number of times, whatever others did to it
-/// meanwhile: so at its end the call holds no lock, and the node that it took was given back by it.
+/// count, and a `Work` that was answered `Idle`. None of its operations changed what the words stand for.
+/// And each bit of each word was turned by its operations an even number of times, whatever others did to
+/// it meanwhile: so at its end the call holds no lock, and the node that it took was given back by it. And
+/// its caller is in no read section then.
 ///
-/// Left turned may be: the next serial; words of nodes that it gave back; words of slots that it gave back,
-/// but not the one that says whether the slot is free; and where it is a bind, what belongs to the tables
-/// that it attached: the futures that lead to them, the words of their slots, and the bits of their pages, by
-/// the last shape that it stored for each before attaching it; and the entries of nested tables behind which
-/// it entered pages that it had taken, and neither given back nor entered before, with the bits of these
-/// pages. Its operations had come to the table of such an entry, and by the words before the way to one of
-/// that table's buckets ended there. It doesn't say what stands in these words, nor that a refused bind
-/// attached or entered none.
+/// Left turned may be: the next serial; the caller's section word, but not its lowest bit, which says
+/// whether the section is open; words of nodes that it gave back; words of slots that it gave back, but
+/// not the one that says whether the slot is free; and where it is a bind, what belongs to the tables that
+/// it attached: the futures that lead to them, the words of their slots, and the bits of their pages, by
+/// the last shape that it stored for each before attaching it; and the entries of nested tables behind
+/// which it entered pages that it had taken, and neither given back nor entered before, with the bits of
+/// these pages. Its operations had come to the table of such an entry, and by the words before the way to
+/// one of that table's buckets ended there. It doesn't say what stands in these words, nor that a refused
+/// bind attached or entered none.
 pub fn refused<M: Mix>()
     ensures { Refused M M.mix_of }
 {}
 
-/// In every run each call that has ended, whatever its reply, has let go of the work lock, and of the lock of
-/// each bucket: it turned the lowest bit of the word an even number of times. The one exception is the word
-/// of an entry at which the call, a bind, entered a page that it had taken; by the words before, the entry
-/// was one of a nested table to which the call had come, and led to none. It says nothing of a call in
-/// progress, nor that a call ends; and of the work lock it speaks by its lowest bit alone.
+/// In every run each call that has ended, whatever its reply, has let go of the work lock, of the lock of
+/// each bucket, and of its caller's read section: it turned the lowest bit of the word an even number of
+/// times. The one exception is the word of an entry at which the call, a bind, entered a page that it had
+/// taken; by the words before, the entry was one of a nested table to which the call had come, and led to
+/// none. It says nothing of a call in progress, nor that a call ends; and of the work lock it speaks by
+/// its lowest bit alone.
 pub fn let_go<M: Mix>()
     ensures { LetGo M M.mix_of }
 {}
@@ -275,6 +279,30 @@ pub fn let_go<M: Mix>()
 pub fn sections<M: Mix>()
     ensures idle { Sections M M.mix_of }
     ensures own { OwnSections M M.mix_of }
+{}
+
+/// In every run a look-up, ended or in progress, has at most `4 + 8 * (4 + (rewalks + 1) * (4 + 2 * nodes))`
+/// operations, which is enough for `rewalks + 1` walks of `nodes` nodes in each of eight tables. That is so
+/// whatever other callers do or leave undone, also where one that holds a lock never steps again.
+pub fn bounded<M: Mix>()
+    ensures { Bounded M M.mix_of }
+{}
+
+/// In every run a look-up that has ended answered the first owner that the words stood for behind some event
+/// from its call's beginning to its last operation, or `Missing` where they stood for none there. So it found
+/// its port, where they stood for an owner of it behind each of these events.
+pub fn found<M: Mix>()
+    ensures moment { TakesEffect M M.mix_of }
+    ensures throughout { FindsWhatStays M M.mix_of }
+{}
+
+/// In every run each operation of a look-up or of a reading of the count, ended or in progress, only loads
+/// where it is on a bucket's word, and none is on the work lock. So these calls lock nothing. The first
+/// operation of a look-up adds 1 to its caller's own section word, and so does the last one of a look-up
+/// that has ended; all others load words.
+pub fn harmless<M: Mix>()
+    ensures locks { Harmless M M.mix_of }
+    ensures reads { ReadsInside M M.mix_of }
 {}
 
 /// In every run, of each call, ended or in progress, no operation changes what the words of a slot say of a

@@ -177,7 +177,8 @@ fn enroll(env: Env, words: &mut Vec<u64>, enrolled: &mut u32) -> Stepped
 
 /// Gives a caller a call, where it can be given one.
 fn begin<M: Mix>(env: Env, enrolled: u32, locals: &mut Vec<Local<M>>, caller: u32, call: Call)
-    requires enrolled { enrolled ≤ length locals.old.items }
+    requires enrolled { enrolled ≤ env.geometry.callers }
+    requires locals { length locals.old.items ≡ env.geometry.callers }
     requires env { AllByRecursion (IsLocalOf env) locals.old.items }
     ensures { locals.new.items ≡ begun env enrolled locals.old.items caller call }
 {

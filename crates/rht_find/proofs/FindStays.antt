@@ -1,30 +1,23 @@
 -- Whatever words it is told, a look-up stays in its table: a case a state.
 -- Slots, links and shapes are read totally, so what they name is there or is none.
-use Rattle.std.proofs.Common.{ℕ, ◌<◌, refl, arith}
-use Rattle.std.specs.Prelude.{Option, Some, None}
+use Rattle.std.proofs.Common.{ℕ, ◌<◌, nat_lt, Option, Some, None, refl, arith}
+use Rattle.std.specs.Prelude.{IfSome}
+use Rattle.std.specs.Prelude.{◌==◌}
+use Rattle.std.proofs.lemmas.Bool.{cond_both, ltb-true}
 use Rattle.rht_words.specs.declared.env.Env.{Env}
 use Rattle.rht_words.specs.declared.geometry.Geometry.{Geometry}
 use Rattle.rht_words.specs.declared.machine.Next.{Next}
 use Rattle.rht_words.specs.declared.machine.Next.TheVariants.{Go, Done}
-use Rattle.rht_words.specs.Links.{node_of, slot_of}
+use Rattle.rht_words.specs.Links.{node_of, slot_of, head_of, marker_of}
 use Rattle.rht_words.specs.Planned.{IsWord}
+use Rattle.rht_words.specs.Ports.{word_of}
 use Rattle.rht_words.proofs.LinksRead.{node_of-in, slot_of-in, IsSlotOrNone}
-use Rattle.rht_nest.specs.Locate.{LocateModel, locate_after, IsLocatedBucketIn, IsLocateIn}
-use Rattle.rht_nest.specs.declared.locate.Located.{Located}
-use Rattle.rht_nest.specs.declared.locate.LocatedBucket.{LocatedBucket}
-use Rattle.rht_nest.specs.declared.locate.LocatedBucket.TheVariants as buckets
-use Rattle.rht_nest.proofs.Locates.{LocateStays, locate_stays}
-use Rattle.rht_chain.specs.LockedWalk.{IsNodeOrNone}
-use Rattle.rht_chain.specs.Locked.{IsLockedIn, IsThenIn}
-use Rattle.rht_chain.specs.Probe.{ProbeModel, probe_after}
-use Rattle.rht_chain.specs.declared.probe.Probed.{Probed}
-use Rattle.rht_chain.specs.declared.locked.Locked.{Locked}
-use Rattle.rht_chain.specs.declared.locked.Then.{Then}
-use Rattle.rht_chain.specs.declared.locked.Then.TheVariants.{Table, Answer}
-use Rattle.rht_chain.specs.declared.unlock.Unlock.{Unlock}
-use Rattle.rht_chain.proofs.PiecesStay.{ProbeIsIn, probe_stays}
-use Rattle.rht_model.specs.declared.history.Reply.{Reply}
-use Rattle.rht_find.specs.Find.{after_at, early_or_missing, bucket_or_early, located, found_or_not, probed, unlocking, next_table, list_followed, unlocked, IsLeavingBucket, IsFindAtIn}
+use Rattle.rht_nest.specs.Reach.{ReachModel, reach_after}
+use Rattle.rht_nest.specs.declared.place.Bucket.{Bucket}
+use Rattle.rht_nest.specs.declared.place.Bucket.TheVariants as buckets
+use Rattle.rht_nest.proofs.Reaches.{ReachStays, reach_stays}
+use Rattle.rht_find.specs.Find.{reached, walked_anew, chain_ended, led_to, led_on, compared, next_table, goes, IsHeadIn, IsFindAtIn}
+use Rattle.rht_find.specs.declared.find.Head.{Head}
 use Rattle.rht_find.specs.declared.find.FindAt.{FindAt}
 use Rattle.rht_find.specs.declared.find.FindAt.TheVariants as at
 
@@ -32,87 +25,56 @@ module _ (mix : ℕ → ℕ → ℕ → ℕ) (env : Env) (port : ℕ) where
   abbrev g : Geometry
   g = env.geometry
 
-  early_or_missing-in : (locate : LocateModel) (early : Option ℕ) → IsLocateIn g locate → IsSlotOrNone early
-      → IsFindAtIn env (early_or_missing env locate early).0
-  early_or_missing-in locate None locate_in early_in = locate_in
-  early_or_missing-in locate (Some next) locate_in early_in =
-      record { geometry_same = refl; table_in = early_in; at_in = tt }
+  abbrev IsIn : FindAt → Type 0
+  IsIn = IsFindAtIn env
 
-  bucket_or_early-in : (locate : LocateModel) (bucket : LocatedBucket) → IsLocateIn g locate
-      → IsLocatedBucketIn g bucket
-      → IsFindAtIn env (bucket_or_early env port locate bucket).0
-  bucket_or_early-in locate (buckets.At place) locate_in bucket_in = record {
-    table_in = locate_in.table_in;
-    probe_in = record {
-      geometry_same = refl;
-      at_in =
-          record { place_in = bucket_in; even = tt; word_in = tt };
-    };
-  }
-  bucket_or_early-in locate (buckets.Missing place early) locate_in bucket_in =
-      early_or_missing-in locate early locate_in bucket_in.early_in
+  reached-in : (reach : ReachModel) (next : Next Bucket) → ReachStays g (reach, next) → IsIn (reached env reach next)
+  reached-in reach Go stays = stays.reach_in
+  reached-in reach (Done (buckets.At place)) stays =
+      record { table_in = stays.reach_in.table_in; place_in = stays.end_in }
+  reached-in reach (Done (buckets.Absent entry)) stays = stays.reach_in.table_in
 
-  located-in : (locate : LocateModel) (next : Next Located) → LocateStays g (locate, next)
-      → IsFindAtIn env (located env port locate next).0
-  located-in locate Go stays = stays.locate_in
-  located-in locate (Done found) stays =
-      bucket_or_early-in locate found.bucket stays.locate_in stays.end_in.bucket_in
+  walked_anew-in : (head : Head) → IsHeadIn g head → IsIn (walked_anew head)
+  walked_anew-in head within =
+      cond_both (nat_lt 0 head.left) _ _ IsIn
+      (λ t. record { table_in = within.table_in; place_in = within.place_in }) (λ f. within.table_in)
 
-  found_or_not-in : (table : ℕ) (bucket : Locked) (found : Option ℕ) → table < 8 → IsLockedIn g bucket
-      → IsNodeOrNone g found → IsFindAtIn env (found_or_not table bucket found)
-  found_or_not-in table bucket None table_in bucket_in found_in =
-      record { table_in = table_in; bucket_in = bucket_in }
-  found_or_not-in table bucket (Some node) table_in bucket_in found_in =
-      record { table_in = table_in; bucket_in = bucket_in; node_in = found_in }
+  chain_ended-in : (head : Head) (link : ℕ) → IsHeadIn g head → IsIn (chain_ended head link)
+  chain_ended-in head link within =
+      cond_both (link == marker_of head.place) _ _ IsIn (λ t. within.table_in) (λ f. walked_anew-in head within)
 
-  probed-in : (table : ℕ) (probe : ProbeModel) (next : Next Probed) → table < 8 → ProbeIsIn g (probe, next)
-      → IsFindAtIn env (probed table probe next)
-  probed-in table probe Go table_in stays = record { table_in = table_in; probe_in = stays.probe_in }
-  probed-in table probe (Done end) table_in stays =
-      found_or_not-in table end.bucket end.seen.found table_in stays.end_in.bucket_in
-      stays.end_in.seen_in.found_in
+  led_to-in : (head : Head) (visited link : ℕ) (node : Option ℕ) → IsHeadIn g head → IfSome node (λ n. n < g.nodes)
+      → IsIn (led_to g head visited link node)
+  led_to-in head visited link None within node_in = chain_ended-in head link within
+  led_to-in head visited link (Some node) within node_in =
+      cond_both (nat_lt visited g.nodes) _ _ IsIn
+      (λ t. record { head_in = within; node_in = node_in; few = ltb-true visited g.nodes t })
+      (λ f. chain_ended-in head link within)
 
-  unlocking-in : (table : ℕ) (bucket : Locked) (next : Then Reply) → table < 8 → IsLockedIn g bucket
-      → IsThenIn next → IsFindAtIn env (unlocking table bucket next)
-  unlocking-in table bucket next table_in bucket_in then_in = record {
-    table_in = table_in;
-    unlock_in = record { place_in = bucket_in.place_in; word_in = bucket_in.word_in };
-    then_in = then_in;
-  }
+  led_on-in : (head : Head) (visited link : ℕ) → IsHeadIn g head → IsIn (led_on g head visited link)
+  led_on-in head visited link within = led_to-in head visited link (node_of g.nodes link) within (node_of-in g link)
 
-  next_table-in : (future : Option ℕ) → IsSlotOrNone future → IsThenIn (next_table future)
+  compared-in : (head : Head) (node visited key : ℕ) → IsHeadIn g head → node < g.nodes → visited < g.nodes
+      → IsIn (compared port head node visited key)
+  compared-in head node visited key within node_in few =
+      cond_both (key == word_of port) _ _ IsIn (λ t. node_in)
+      (λ f. record { head_in = within; node_in = node_in; few = omega (arith, few) })
+
+  next_table-in : (future : Option ℕ) → IsSlotOrNone future → IsIn (next_table env future)
   next_table-in None future_in = tt
-  next_table-in (Some table) future_in = future_in
+  next_table-in (Some table) future_in = record { geometry_same = refl; table_in = future_in; at_in = tt }
 
-  list_followed-in : (table : ℕ) (bucket : Locked) (owner : ℕ) (next : Option ℕ) → table < 8
-      → IsLockedIn g bucket → IsNodeOrNone g next → IsFindAtIn env (list_followed table bucket owner next)
-  list_followed-in table bucket owner None table_in bucket_in next_in =
-      unlocking-in table bucket _ table_in bucket_in tt
-  list_followed-in table bucket owner (Some node) table_in bucket_in next_in =
-      record { table_in = table_in; bucket_in = bucket_in; node_in = next_in }
-
-  unlocked-in : (table : ℕ) (unlock : Unlock) (next : Then Reply) → IsLeavingBucket g table unlock next
-      → IsFindAtIn env (unlocked env table unlock next).0
-  unlocked-in table unlock (Table next) within =
-      record { geometry_same = refl; table_in = within.then_in; at_in = tt }
-  unlocked-in table unlock (Answer reply) within = within
-
-  pub find_stays : (state : FindAt) (word : ℕ) → IsFindAtIn env state → IsWord word
-      → IsFindAtIn env (after_at mix env port state word).0
+  pub find_stays : (state : FindAt) (word : ℕ) → IsIn state → IsWord word → IsIn (goes mix env port state word)
+  find_stays at.Opening word within told = tt
   find_stays at.CurrentTable word within told =
       record { geometry_same = refl; table_in = omega arith; at_in = tt }
-  find_stays (at.Locating locate) word within told =
-      located-in (locate_after mix port locate word).0 (locate_after mix port locate word).1
-      (locate_stays mix port g locate word within told)
-  find_stays (at.Probing table probe) word within told =
-      probed-in table (probe_after probe word).0 (probe_after probe word).1 within.table_in
-      (probe_stays g probe word within.probe_in told)
-  find_stays (at.Future table bucket) word within told =
-      unlocking-in table bucket (next_table (slot_of word)) within.table_in within.bucket_in
-      (next_table-in (slot_of word) (slot_of-in word))
-  find_stays (at.FirstOwner table bucket node) word within told = within
-  find_stays (at.ListLink table bucket node owner) word within told =
-      list_followed-in table bucket owner (node_of g.nodes word) within.table_in within.bucket_in
-      (node_of-in g word)
-  find_stays (at.LaterOwner table bucket node owner) word within told = within
-  find_stays (at.Unlocking table unlock next) word within told = unlocked-in table unlock next within
+  find_stays (at.Locating reach) word within told =
+      reached-in (reach_after mix port reach word).0 (reach_after mix port reach word).1
+      (reach_stays mix port g reach word within told)
+  find_stays (at.Heading head) word within told = led_on-in head 0 (head_of head.place word) within
+  find_stays (at.Key head node visited) word within told =
+      compared-in head node visited word within.head_in within.node_in within.few
+  find_stays (at.Link head node visited) word within told = led_on-in head visited word within.head_in
+  find_stays (at.Future table) word within told = next_table-in (slot_of word) (slot_of-in word)
+  find_stays (at.Owner node) word within told = tt
+  find_stays (at.Closing reply) word within told = tt

@@ -2,3 +2,5 @@
 pub mod Find
 -- what a look-up holds
 pub mod FindHeld
+-- how many operations it takes in a table
+pub mod FindBound

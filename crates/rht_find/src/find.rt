@@ -1,73 +1,59 @@
 //! The look-up, state by state.
 
-ghost use Rattle.std.specs.Prelude.{◌≡◌, ◌<◌, IfSome};
+ghost use Rattle.std.specs.Prelude.{◌≡◌, ◌<◌, ◌≤◌, IfSome};
 ghost use Rattle.rht_words.specs.Operations.{op_place};
 ghost use Rattle.rht_words.specs.Places.{words_in};
-ghost use Rattle.rht_nest.specs.Locate.{locate_after, IsLocatedBucketIn, IsLocateIn};
-ghost use Rattle.rht_chain.specs.Locked.{IsThenIn};
-ghost use Rattle.rht_chain.specs.Probe.{probe_after};
-ghost use Rattle.rht_find.specs.Find.{find_new, find_plan, find_after, after_at, locating, located, bucket_or_early, early_or_missing, probed, found_or_not, next_table, list_followed, unlocking, unlocked, IsFindAtIn};
+ghost use Rattle.rht_nest.specs.Place.{IsBucketIn};
+ghost use Rattle.rht_nest.specs.Reach.{reach_after, IsReachIn};
+ghost use Rattle.rht_find.specs.Find.{find_new, find_plan, find_after, goes, says, locating, reached, headed, walked_anew, chain_ended, led_on, compared, next_table, IsHeadIn, IsFindAtIn};
 
-use rht_chain::{Locked, Probe, Then, Unlock};
+use rht_grace::{Enter, Leave};
 use rht_model::Reply;
-use rht_nest::{Locate, LocatedBucket};
+use rht_nest::{Bucket, Reach};
 use rht_policy::Mix;
-use rht_words::{Env, Next, Op, Port, node_of, owner_of, places, slot_of, table_of, word_of};
+use rht_words::{
+    Env, Geometry, Next, Op, Port, head_of, marker_of, node_of, owner_of, places, slot_of,
+    table_of, word_of,
+};
 use std::marker::{Model, PhantomData};
 
-/// Where a look-up stands. Each state but those that hold a piece has one operation.
+/// A bucket's word, from which a walk begins.
+#[derive(Clone, Copy, Debug, PartialEq, Eq)]
+pub struct Head {
+    /// The slot of its table.
+    pub table: u32,
+    /// The place of the word.
+    pub place: usize,
+    /// How often the walk may begin anew.
+    pub left: u32,
+}
+
+/// Where a look-up stands. Each state but the one that holds a piece has one operation.
 #[derive(Clone, Copy, Debug, PartialEq, Eq)]
 pub enum FindAt {
+    /// Opens the read section, by one more in its caller's section word.
+    Opening,
     /// Loads which table is the current one.
     CurrentTable,
-    /// Finds the port's bucket in a table. In a nested one it may be missing: the page with its word
-    /// isn't there, so nothing was ever in it. Then the look-up goes on in the table behind, which
-    /// was loaded before the entries. Where there was none, the port was missing at that load: somebody
-    /// may have bound it since.
-    Locating {
-        locate: Locate,
-    },
-    /// Locks the bucket and walks its chain.
-    Probing {
-        table: u32,
-        probe: Probe,
-    },
-    /// Loads the future of a table in which the port wasn't found. Where there is none, the port
-    /// is missing at this moment.
-    Future {
-        table: u32,
-        bucket: Locked,
-    },
-    /// Loads the owner of the first node with the port. The port is bound to it at this moment.
-    FirstOwner {
-        table: u32,
-        bucket: Locked,
-        node: u32,
-    },
-    /// Loads the link to the next node of the port's list.
-    ListLink {
-        table: u32,
-        bucket: Locked,
-        node: u32,
-        owner: u32,
-    },
-    /// Loads a later owner, which the answer doesn't need.
-    LaterOwner {
-        table: u32,
-        bucket: Locked,
-        node: u32,
-        owner: u32,
-    },
-    /// Unlocks the bucket.
-    Unlocking {
-        table: u32,
-        unlock: Unlock,
-        then: Then<Reply>,
-    },
+    /// Finds the port's bucket in a table. In a nested one it may be missing.
+    Locating { reach: Reach },
+    /// Loads the bucket's word, locked or not. The lock isn't waited for.
+    Heading { head: Head },
+    /// Loads the key of a node, after this many others. It may have left the chain since the link to
+    /// it was loaded.
+    Key { head: Head, node: u32, visited: u32 },
+    /// Loads the link behind a node with another key, which was visited with this many.
+    Link { head: Head, node: u32, visited: u32 },
+    /// Loads the future of a table in which the port wasn't found.
+    Future { table: u32 },
+    /// Loads the owner of the node that was found.
+    Owner { node: u32 },
+    /// Closes the read section, by one more in the section word.
+    Closing { reply: Reply },
 }
 
 /// A look-up of one port. The answer is `Found` or `Missing`. The kernel's counterpart is
-/// `rhashtable_lookup`, which takes no lock.
+/// `rhashtable_lookup_fast`.
 #[derive(Drop)]
 pub struct Find<M: Mix> {
     env: Env,
@@ -78,26 +64,28 @@ pub struct Find<M: Mix> {
 }
 
 impl<M: Mix> Model for Find<M> {
+    ghost use Rattle.std.specs.Prelude.{◌<◌};
     ghost use Rattle.rht_find.specs.Find.{FindModel, IsFindAtIn};
 
     ghost Value = { FindModel };
 
     ghost view = { λ m. record { env = m.env; caller = m.caller; port = m.port; at = m.at } };
 
-    ghost invariant = { λ m. IsFindAtIn m.env m.at };
+    ghost invariant = { λ m. (m.caller < 16) × IsFindAtIn m.env m.at };
 }
 
 impl<M: Mix> Find<M> {
     /// Before the first operation.
     #[inline(always)]
     pub fn new(env: Env, caller: u32, port: Port) -> Find<M>
+        requires { caller < 16 }
         ensures { result ≡ find_new env caller port }
     {
         Find {
             env,
             caller,
             port,
-            at: FindAt::CurrentTable,
+            at: FindAt::Opening,
             mix: PhantomData,
         }
     }
@@ -119,15 +107,15 @@ impl<M: Mix> Find<M> {
     {
         let geometry = self.env.geometry;
         match self.at {
+            FindAt::Opening => Enter::new(self.caller).plan(),
+            FindAt::Closing { .. } => Leave::new(self.caller).plan(),
             FindAt::CurrentTable => Op::load(places::current_table()),
-            FindAt::Locating { locate } => locate.plan(),
-            FindAt::Probing { probe, .. } => probe.plan(),
-            FindAt::Future { table, .. } => Op::load(places::future(table)),
-            FindAt::FirstOwner { node, .. } | FindAt::LaterOwner { node, .. } => {
-                Op::load(geometry.owner(node))
-            }
-            FindAt::ListLink { node, .. } => Op::load(geometry.list_link(node)),
-            FindAt::Unlocking { unlock, .. } => unlock.plan(),
+            FindAt::Locating { reach } => reach.plan(),
+            FindAt::Heading { head } => Op::load(head.place),
+            FindAt::Key { node, .. } => Op::load(geometry.key(node)),
+            FindAt::Link { node, .. } => Op::load(geometry.chain_link(node)),
+            FindAt::Future { table } => Op::load(places::future(table)),
+            FindAt::Owner { node } => Op::load(geometry.owner(node)),
         }
     }
 
@@ -137,57 +125,48 @@ impl<M: Mix> Find<M> {
     pub fn take(&mut self, old: u64) -> Next<Reply>
         ensures { (self.new, result) ≡ find_after M.mix_of self.old old }
     {
-        let (at, next) = after::<M>(self.env, self.port, &self.at, old);
-        self.at = at;
-        next
+        let said = said(&self.at);
+        self.at = after::<M>(self.env, self.port, &self.at, old);
+        said
     }
 }
 
-/// Where the look-up stands after a state that found this value, and what it says.
+/// Where the look-up stands after a state that found this value.
 #[inline(always)]
-fn after<M: Mix>(env: Env, port: Port, at: &FindAt, old: u64) -> (FindAt, Next<Reply>)
+fn after<M: Mix>(env: Env, port: Port, at: &FindAt, old: u64) -> FindAt
     requires { IsFindAtIn env at.now }
-    ensures { result ≡ after_at M.mix_of env port at.now old }
+    ensures { result ≡ goes M.mix_of env port at.now old }
 {
-    let next = match *at {
+    match *at {
+        FindAt::Opening => FindAt::CurrentTable,
         FindAt::CurrentTable => locating(env, table_of(old)),
-        FindAt::Locating { locate } => return located::<M>(env, port, locate, old),
-        FindAt::Probing { table, probe } => probed(table, probe, old),
-        FindAt::Future { table, bucket } => unlocking(table, bucket, next_table(slot_of(old))),
-        FindAt::FirstOwner {
-            table,
-            bucket,
+        FindAt::Locating { reach } => reached::<M>(env, port, reach, old),
+        FindAt::Heading { head } => led_on(env.geometry, head, 0, head_of(head.place, old)),
+        FindAt::Key {
+            head,
             node,
-        } => FindAt::ListLink {
-            table,
-            bucket,
-            node,
-            owner: owner_of(old),
+            visited,
+        } => compared(env.geometry, port, head, node, visited, old),
+        FindAt::Link { head, visited, .. } => led_on(env.geometry, head, visited, old),
+        FindAt::Future { table: _ } => next_table(env, slot_of(old)),
+        FindAt::Owner { node: _ } => FindAt::Closing {
+            reply: Reply::Found {
+                owner: owner_of(old),
+            },
         },
-        FindAt::ListLink {
-            table,
-            bucket,
-            owner,
-            ..
-        } => list_followed(table, bucket, owner, node_of(env.geometry.nodes, old)),
-        FindAt::LaterOwner {
-            table,
-            bucket,
-            node,
-            owner,
-        } => FindAt::ListLink {
-            table,
-            bucket,
-            node,
-            owner,
-        },
-        FindAt::Unlocking {
-            table,
-            unlock,
-            then,
-        } => return unlocked(env, table, unlock, then),
-    };
-    (next, Next::Go)
+        FindAt::Closing { reply } => FindAt::Closing { reply },
+    }
+}
+
+/// What it says after a state: its answer, once its read section is closed.
+#[inline(always)]
+fn said(at: &FindAt) -> Next<Reply>
+    ensures { result ≡ says at.now }
+{
+    match *at {
+        FindAt::Closing { reply } => Next::Done(reply),
+        _ => Next::Go,
+    }
 }
 
 /// The port's bucket in the table of this slot is looked for.
@@ -197,140 +176,119 @@ pub fn locating(env: Env, table: u32) -> FindAt
     ensures { result ≡ locating env table }
 {
     FindAt::Locating {
-        locate: Locate::new(env.geometry, table),
+        reach: Reach::new(env.geometry, table),
     }
 }
 
-/// After an operation that looks for the bucket: once it is known it is locked.
+/// After an operation that looks for the bucket.
 #[inline(always)]
-fn located<M: Mix>(env: Env, port: Port, locate: Locate, old: u64) -> (FindAt, Next<Reply>)
-    requires { IsLocateIn env.geometry locate }
-    ensures { result ≡ located env port (locate_after M.mix_of port locate old).0 (locate_after M.mix_of port locate old).1 }
+fn reached<M: Mix>(env: Env, port: Port, reach: Reach, old: u64) -> FindAt
+    requires { IsReachIn env.geometry reach }
+    ensures { result ≡ reached env (reach_after M.mix_of port reach old).0 (reach_after M.mix_of port reach old).1 }
 {
-    let (locate, next) = locate.after::<M>(port, old);
+    let (reach, next) = reach.after::<M>(port, old);
     match next {
-        Next::Go => (FindAt::Locating { locate }, Next::Go),
-        Next::Done(found) => bucket_or_early(env, port, locate, found.bucket),
+        Next::Go => FindAt::Locating { reach },
+        Next::Done(bucket) => headed(env, reach, bucket),
     }
 }
 
-/// The locking of the port's bucket. One that is missing is empty.
+/// Where the bucket is there its word is loaded, and else the table's future.
 #[inline(always)]
-pub fn bucket_or_early(
-    env: Env,
-    port: Port,
-    locate: Locate,
-    bucket: LocatedBucket,
-) -> (FindAt, Next<Reply>)
-    requires { IsLocatedBucketIn env.geometry bucket }
-    ensures { result ≡ bucket_or_early env port locate bucket }
+pub fn headed(env: Env, reach: Reach, bucket: Bucket) -> FindAt
+    ensures { result ≡ headed env reach bucket }
 {
+    let table = reach.table();
     match bucket {
-        LocatedBucket::At(place) => {
-            let probing = FindAt::Probing {
-                table: locate.table(),
-                probe: Probe::new(env.geometry, place, word_of(port)),
-            };
-            (probing, Next::Go)
+        Bucket::At(place) => {
+            let left = env.config.rewalks;
+            let head = Head { table, place, left };
+            FindAt::Heading { head }
         }
-        LocatedBucket::Missing { early, .. } => early_or_missing(env, locate, early),
+        Bucket::Absent(_) => FindAt::Future { table },
     }
 }
 
-/// Behind a missing bucket the look-up goes on in the table that was behind before. Where none was,
-/// the port is missing.
+/// Behind a link: at the node to which it leads, or at the chain's end. As many nodes are visited as
+/// there are, and no more.
 #[inline(always)]
-pub fn early_or_missing(env: Env, locate: Locate, early: Option<u32>) -> (FindAt, Next<Reply>)
-    requires { IfSome early (λ next. next < 8) }
-    ensures { result ≡ early_or_missing env locate early }
+pub fn led_on(geometry: Geometry, head: Head, visited: u32, link: u64) -> FindAt
+    ensures { result ≡ led_on geometry head visited link }
 {
-    match early {
-        Some(next) => (locating(env, next), Next::Go),
-        None => (FindAt::Locating { locate }, Next::Done(Reply::Missing)),
-    }
-}
-
-/// After an operation in the bucket: where it has ended, what was seen is looked at.
-#[inline(always)]
-fn probed(table: u32, probe: Probe, old: u64) -> FindAt
-    ensures { result ≡ probed table (probe_after probe old).0 (probe_after probe old).1 }
-{
-    let (probe, next) = probe.after(old);
-    match next {
-        Next::Go => FindAt::Probing { table, probe },
-        Next::Done(end) => found_or_not(table, end.bucket, end.seen.found),
-    }
-}
-
-/// Where the port was found its owner is loaded, and else the table's future.
-#[inline(always)]
-pub fn found_or_not(table: u32, bucket: Locked, found: Option<u32>) -> FindAt
-    ensures { result ≡ found_or_not table bucket found }
-{
-    match found {
-        Some(node) => FindAt::FirstOwner {
-            table,
-            bucket,
+    match node_of(geometry.nodes, link) {
+        Some(node) if visited < geometry.nodes => FindAt::Key {
+            head,
             node,
+            visited,
         },
-        None => FindAt::Future { table, bucket },
+        _ => chain_ended(head, link),
+    }
+}
+
+/// A chain ends at the marker of its own bucket. A walk that ends elsewhere was led into another
+/// bucket, or met too many nodes.
+#[inline(always)]
+fn chain_ended(head: Head, link: u64) -> FindAt
+    ensures { result ≡ chain_ended head link }
+{
+    if link == marker_of(head.place) {
+        FindAt::Future { table: head.table }
+    } else {
+        walked_anew(head)
+    }
+}
+
+/// Behind a strange end the bucket is walked anew, where that may be still.
+#[inline(always)]
+fn walked_anew(head: Head) -> FindAt
+    ensures { result ≡ walked_anew head }
+{
+    let Head { table, place, left } = head;
+    if 0 < left {
+        let head = Head {
+            table,
+            place,
+            left: left - 1,
+        };
+        FindAt::Heading { head }
+    } else {
+        FindAt::Future { table }
+    }
+}
+
+/// Where the node has the port's key its owner is loaded, and else its link.
+#[inline(always)]
+pub fn compared(
+    geometry: Geometry,
+    port: Port,
+    head: Head,
+    node: u32,
+    visited: u32,
+    key: u64,
+) -> FindAt
+    requires { visited < geometry.nodes }
+    ensures { result ≡ compared port head node visited key }
+{
+    if key == word_of(port) {
+        return FindAt::Owner { node };
+    }
+    FindAt::Link {
+        head,
+        node,
+        visited: visited + 1,
     }
 }
 
 /// A future table is looked through next. Where there is none, the port is missing.
 #[inline(always)]
-pub fn next_table(future: Option<u32>) -> Then<Reply>
-    ensures { result ≡ next_table future }
+pub fn next_table(env: Env, future: Option<u32>) -> FindAt
+    requires { IfSome future (λ table. table < 8) }
+    ensures { result ≡ next_table env future }
 {
     match future {
-        Some(table) => Then::Table(table),
-        None => Then::Answer(Reply::Missing),
-    }
-}
-
-/// The later owners of a list are gone through, to its end.
-#[inline(always)]
-pub fn list_followed(table: u32, bucket: Locked, owner: u32, next: Option<u32>) -> FindAt
-    ensures { result ≡ list_followed table bucket owner next }
-{
-    match next {
-        Some(node) => FindAt::LaterOwner {
-            table,
-            bucket,
-            node,
-            owner,
+        Some(table) => locating(env, table),
+        None => FindAt::Closing {
+            reply: Reply::Missing,
         },
-        None => unlocking(table, bucket, Then::Answer(Reply::Found { owner })),
-    }
-}
-
-/// The unlocking of the bucket, and what comes after it.
-#[inline(always)]
-pub fn unlocking(table: u32, bucket: Locked, then: Then<Reply>) -> FindAt
-    ensures { result ≡ unlocking table bucket then }
-{
-    FindAt::Unlocking {
-        table,
-        unlock: Unlock::new(bucket.place, bucket.word),
-        then,
-    }
-}
-
-/// Behind the unlocking the look-up goes on in the future table, or has its answer.
-#[inline(always)]
-pub fn unlocked(env: Env, table: u32, unlock: Unlock, then: Then<Reply>) -> (FindAt, Next<Reply>)
-    requires { IsThenIn then }
-    ensures { result ≡ unlocked env table unlock then }
-{
-    match then {
-        Then::Table(next) => (locating(env, next), Next::Go),
-        Then::Answer(reply) => (
-            FindAt::Unlocking {
-                table,
-                unlock,
-                then,
-            },
-            Next::Done(reply),
-        ),
     }
 }

@@ -1,7 +1,10 @@
 //! Entering a caller's read section, and leaving it. The section word of a caller is odd while it is
 //! in one, and only the caller itself changes it.
 
-ghost use Rattle.std.specs.Prelude.{◌≡◌};
+ghost use Rattle.std.specs.Prelude.{◌≡◌, ◌<◌};
+ghost use Rattle.rht_words.specs.Operations.{op_place};
+ghost use Rattle.rht_words.specs.Places.{words_in};
+ghost use Rattle.rht_words.specs.declared.geometry.Geometry.{Geometry};
 ghost use Rattle.rht_words.specs.declared.machine.Next.TheVariants.{Done};
 ghost use Rattle.rht_grace.specs.Sections.{turning, enter_plan, leave_plan};
 
@@ -35,7 +38,8 @@ impl Enter {
     /// Makes the caller's section word odd.
     #[inline(always)]
     pub fn plan(&self) -> Op
-        ensures { result ≡ enter_plan self.now }
+        ensures plan { result ≡ enter_plan self.now }
+        ensures place { (g : Geometry) → self.now.caller < 16 → op_place result < words_in g }
     {
         turning(self.caller)
     }
@@ -62,7 +66,8 @@ impl Leave {
     /// Makes the caller's section word even.
     #[inline(always)]
     pub fn plan(&self) -> Op
-        ensures { result ≡ leave_plan self.now }
+        ensures plan { result ≡ leave_plan self.now }
+        ensures place { (g : Geometry) → self.now.caller < 16 → op_place result < words_in g }
     {
         turning(self.caller)
     }
@@ -80,7 +85,8 @@ impl Leave {
 /// An addition of 1, which makes an even word odd and an odd one even.
 #[inline(always)]
 fn turning(caller: u32) -> Op
-    ensures { result ≡ turning caller }
+    ensures plan { result ≡ turning caller }
+    ensures place { (g : Geometry) → caller < 16 → op_place result < words_in g }
 {
     Op::add(places::section(caller), 1)
 }

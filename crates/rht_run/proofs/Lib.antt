@@ -12,6 +12,8 @@ pub mod Performed
 pub mod CallSteps
 -- why a finished call was answered as it was
 pub mod CallCauses
+-- what a look-up has to show, and that it ends
+pub mod LookupCalls
 -- the calls of a command
 pub mod ServedCommands
 -- what is so of a run that serves commands

@@ -96,6 +96,12 @@ module _ {M : Type 0} where
         (subst (λ (v : View M). So env p.number v.local v.book) shown
         (law env run.events p.number run.admitted))
 
+    -- it has one of the sixteen numbers
+    pub number_few : p.number < 16
+    number_few =
+        let below = (is.in_run.shows held (in_one held p.seat.me.0.held is.held)).below in
+        omega (arith, below, env.agrees.callers_same, env.settled.geometry.callers_within.1)
+
     -- its rooms are there
     pub local_in : IsLocalIn t.env p.number p.local
     local_in = of_run (λ e c local book. IsLocalIn e c local)

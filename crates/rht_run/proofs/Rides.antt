@@ -22,7 +22,7 @@ use Rattle.rht_run.specs.declared.table.Table.{Table}
 use Rattle.rht_run.specs.declared.pass.Pass.{Pass}
 use Rattle.rht_run.specs.Rule.{Went, book_then, local_then, held_then, held_stepped}
 use Rattle.rht_run.specs.Passes.{CanPerform, IsSameSeat, IsPassOf, HasCalled, book_in, book_of}
-use Rattle.rht_run.specs.Rides.{Riding, riding_of, riding_local, riding_pass, owners_in, pairs_in, IsBefore, IsRiding, HasEnded, Stepped, piece_next}
+use Rattle.rht_run.specs.Rides.{Riding, riding_of, riding_local, riding_pass, owners_in, pairs_in, IsBefore, IsRiding, HasEnded, Stepped, HasCounted, piece_next}
 use Rattle.rht_run.proofs.Performed.{local_in, ready, still}
 
 module _ {M : Type 0} where
@@ -72,6 +72,12 @@ module _ {M : Type 0} (mix : ℕ → ℕ → ℕ → ℕ) (t : Table M) (r : Rid
       book_behind : Local M × Option Reply → Option Call → Book → Book
       book_behind next begins book = book_after (ending_of next.0 next.1) (book_then begins book)
 
+  -- how many operations the caller has made behind one more, by its book
+  counted : (seat seat' : Seat (Unit {0}) (SeatView M)) (local : Local M) (reply : Option Reply)
+      → book_in seat'.me.0.held ≡ book_after (ending_of local reply) (book_in seat.me.0.held) → HasCounted seat reply seat'
+  counted seat seat' local None same = ap (λ (b : Book). b.steps) same
+  counted seat seat' local (Some reply) same = tt
+
   module _ (seat : Seat (Unit {0}) (SeatView M)) (doing : Doing M) where
     -- ---- an operation of the call in progress
 
@@ -91,6 +97,12 @@ module _ {M : Type 0} (mix : ℕ → ℕ → ℕ → ℕ) (t : Table M) (r : Rid
         book_now (riding_pass r doing seat) None seat' old is.pass went
         ∙ ap (λ (n : Local M × Option Reply). book_after (ending_of n.0 n.1) (book_in seat.me.0.held)) (sym leads)
         ) is.call is.finished
+
+    pub has_counted : (seat' : Seat (Unit {0}) (SeatView M)) (old : ℕ) → IsRiding mix t r doing seat
+        → Went mix None seat.me.0 old seat'.me.0 → HasCounted seat (doing_after mix doing old).1 seat'
+    has_counted seat' old is went =
+        let next = local_after mix (riding_local r doing) old in
+        counted seat seat' next.0 next.1 (book_now (riding_pass r doing seat) None seat' old is.pass went)
 
     -- ---- the first operation of a call
 

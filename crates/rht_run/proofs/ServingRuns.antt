@@ -8,6 +8,7 @@ use Rattle.rht_model.specs.declared.history.Call.{Call}
 use Rattle.rht_model.specs.Endings.{Ending}
 use Rattle.rht_core.specs.Runs.{World, IsAdmitted}
 use Rattle.rht_core.specs.Serving.{IsServedRun}
+use Rattle.rht_core.proofs.Finding.LookupLaws.{finds_what_stays}
 use Rattle.rht_core.proofs.Histories.NeverRefused.{roomy_takes_all, one_worker_as_model}
 use Rattle.rht_core.proofs.Histories.ToldHistories.{told}
 use Rattle.rht_core.proofs.Reasons.CausesInRuns.{causes}
@@ -32,6 +33,7 @@ HasRun-served config auto commands endings closed served =
         traced = (traced.traces c).past ∙ ap (λ (w : World M). (w.books c).finished) traced.world ∙ sym (tells.dones_are c);
         causes = causes M mix served.env served.events c admitted;
       };
+      found = λ c. finds_what_stays M mix served.env served.events c admitted;
       roomy = roomy_takes_all M mix config auto commands endings closed served;
       small = one_worker_as_model M mix config auto commands endings closed served;
     }

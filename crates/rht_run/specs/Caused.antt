@@ -3,12 +3,15 @@ use Rattle.std.specs.Prelude.{◌≡◌, ℕ, ◌≤◌, Some, List, length}
 use Rattle.std.specs.List.{slice_get}
 use Rattle.rht_words.specs.declared.env.Env.{Env}
 use Rattle.rht_model.specs.declared.history.Call.{Call}
+use Rattle.rht_model.specs.declared.history.Call.TheVariants.{Find}
 use Rattle.rht_model.specs.declared.history.Reply.{Reply}
 use Rattle.rht_model.specs.Endings.{replied, ended_with}
 use Rattle.rht_core.specs.declared.event.Event.{Event}
 use Rattle.rht_core.specs.Runs.{run_of, IsAdmitted}
 use Rattle.rht_core.specs.Traces.{Past, traced_of}
 use Rattle.rht_core.specs.Causes.{HasCause}
+use Rattle.rht_core.specs.Lookups.{HasRead, AnswersMoment, IsFoundThroughout}
+use Rattle.rht_find.specs.FindBound.{find_bound}
 use Rattle.rht_run.specs.declared.table.Table.{Table}
 use Rattle.rht_run.specs.declared.pass.Pass.{Pass}
 use Rattle.rht_run.specs.Rule.{Shows, held_at}
@@ -35,3 +38,17 @@ pub record IsTracedCall {M : Type 0} (mix : ℕ → ℕ → ℕ → ℕ) (t : Ta
 -- its operations have what its reply has to show
 abbrev pub IsCaused : {M : Type 0} → (ℕ → ℕ → ℕ → ℕ) → Table M → Call → Reply → Pass M → Pass M → Type 0
 IsCaused {M} mix t call reply before now = IsTracedCall mix t call reply before now (HasCause M mix)
+
+-- What holds of a look-up of this port that has ended: it has no more operations than the bound; it opened and closed its caller's read
+-- section, and only loaded in between; at a moment of it the words stood for its answer; and it found the port where that was bound all
+-- the while.
+pub record LooksUp (M : Type 0) (mix : ℕ → ℕ → ℕ → ℕ) (port : ℕ) (env : Env) (events : List Event) (c : ℕ) (past : Past)
+    : Type 0 where
+  pub short : length past.steps ≤ find_bound env
+  pub reads : HasRead env.geometry c past.steps
+  pub moment : AnswersMoment M mix env events past port
+  pub throughout : IsFoundThroughout M mix env events past
+
+-- so it is of this call, in one run
+abbrev pub HasLookedUp : {M : Type 0} → (ℕ → ℕ → ℕ → ℕ) → Table M → ℕ → Reply → Pass M → Pass M → Type 0
+HasLookedUp {M} mix t port reply before now = IsTracedCall mix t (Find port) reply before now (LooksUp M mix port)

@@ -18,6 +18,8 @@ pub mod Rides
 pub mod PieceFrames
 -- pieces that are driven part by part
 pub mod Pieces
+-- a look-up that is driven part by part
+pub mod Looking
 -- the way to a port as a piece, and the machines that go it
 pub mod Seeks
 -- a resizing: its states that hold a piece

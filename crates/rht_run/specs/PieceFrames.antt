@@ -3,16 +3,13 @@ use Rattle.std.specs.Prelude.{◌≡◌, ℕ, Bool, refl, Option, Some, None}
 use Rattle.rht_words.specs.declared.env.Env.{Env}
 use Rattle.rht_words.specs.declared.machine.Next.{Next}
 use Rattle.rht_words.specs.declared.machine.Next.TheVariants.{Go, Done}
-use Rattle.rht_words.specs.Ports.{word_of}
 use Rattle.rht_nest.specs.Locate.{LocateModel}
 use Rattle.rht_nest.specs.declared.locate.Located.{Located}
-use Rattle.rht_nest.specs.declared.locate.LocatedBucket.{LocatedBucket}
-use Rattle.rht_nest.specs.declared.locate.LocatedBucket.TheVariants as buckets
 use Rattle.rht_words.specs.declared.machine.Start.{Start}
 use Rattle.rht_words.specs.declared.machine.Start.TheVariants as starts
 use Rattle.rht_chain.specs.Lock.{LockModel, lock_new}
 use Rattle.rht_chain.specs.LockedWalk.{LockedWalkModel, locked_walk_new}
-use Rattle.rht_chain.specs.Probe.{ProbeModel, probe_new, lock_taken, walk_or_seen}
+use Rattle.rht_chain.specs.Probe.{ProbeModel, lock_taken, walk_or_seen}
 use Rattle.rht_chain.specs.declared.locked.Locked.{Locked}
 use Rattle.rht_chain.specs.declared.locked_walk.Seen.{Seen}
 use Rattle.rht_chain.specs.declared.probe.Probed.{Probed}
@@ -24,11 +21,9 @@ use Rattle.rht_bind.specs.declared.bind.Attempt.{Attempt}
 use Rattle.rht_bind.specs.declared.bind.Claimed.{Claimed}
 use Rattle.rht_bind.specs.declared.bind.BindAt.{BindAt}
 use Rattle.rht_bind.specs.declared.bind.BindAt.TheVariants as binds
-use Rattle.rht_find.specs.Find.{locating, bucket_or_early, located, moved as find_moved, probed, found_or_not}
 use Rattle.rht_find.specs.declared.find.FindAt.{FindAt}
-use Rattle.rht_find.specs.declared.find.FindAt.TheVariants as finds
 use Rattle.rht_model.specs.declared.history.Reply.{Reply}
-use Rattle.rht_model.specs.declared.history.Reply.TheVariants.{Missing, NoNode}
+use Rattle.rht_model.specs.declared.history.Reply.TheVariants.{NoNode}
 use Rattle.rht_callers.specs.declared.local.Doing.{Doing}
 use Rattle.rht_callers.specs.declared.local.Doing.TheVariants.{Idle, Binding, Finding}
 use Rattle.rht_core.specs.Locals.{doing_next}
@@ -72,41 +67,6 @@ module _ {M : Type 0} where
   -- it looks a port up, and stands here
   abbrev pub find_at : Env → ℕ → ℕ → FindAt → Doing M
   find_at env caller port at = Finding (record { env = env; caller = caller; port = port; at = at })
-
-  -- and has found that the port's bucket in this table is here; behind a missing one the look-up goes on in the table that was
-  -- behind, and where none was the port is missing
-  abbrev pub find_located : Env → ℕ → ℕ → ℕ → LocatedBucket → Doing M × Option Reply
-  find_located env caller port table (buckets.At place) =
-      (find_at env caller port (finds.Probing table (probe_new env.geometry place (word_of port))), None)
-  find_located env caller port table (buckets.Missing place None) = (Idle, Some Missing)
-  find_located env caller port table (buckets.Missing place (Some next)) =
-      (find_at env caller port (locating env next), None)
-
-  pub find_locating : (env : Env) (caller port : ℕ) (next : LocateModel × Next Located)
-      → doing_next Finding (find_moved (record { env = env; caller = caller; port = port; at = finds.Locating next.0 }) (located env port next.0 next.1))
-      ≡ piece_next (λ (p : PortLocate). find_at env caller p.port (finds.Locating p.locate))
-      (λ (there : PortLocated). find_located env caller there.port there.table there.found.bucket)
-      (locate_told port next)
-  find_locating env caller port (locate, Go) = refl
-  find_locating env caller port (locate, Done found) = found_so found.bucket
-    where
-      found_so : (bucket : LocatedBucket)
-          → doing_next Finding (find_moved (record { env = env; caller = caller; port = port; at = finds.Locating locate }) (bucket_or_early env port locate bucket))
-          ≡ find_located env caller port locate.table bucket
-      found_so (buckets.At place) = refl
-      found_so (buckets.Missing place None) = refl
-      found_so (buckets.Missing place (Some next)) = refl
-
-  -- and has seen this in the port's bucket
-  abbrev pub find_probed : Env → ℕ → ℕ → ℕ → Probed → Doing M × Option Reply
-  find_probed env caller port table end =
-      (find_at env caller port (found_or_not table end.bucket end.seen.found), None)
-
-  pub find_probing : (env : Env) (caller port table : ℕ) (next : ProbeModel × Next Probed)
-      → ◌≡◌ {A = Doing M × Option Reply} (find_at env caller port (probed table next.0 next.1), None)
-      (piece_next (λ p. find_at env caller port (finds.Probing table p)) (λ end. find_probed env caller port table end) next)
-  find_probing env caller port table (probe, Go) = refl
-  find_probing env caller port table (probe, Done end) = refl
 
   -- it binds a port, and stands here
   abbrev pub bind_at : Env → ℕ → ℕ → ℕ → Bool → BindAt → Doing M

@@ -1,5 +1,5 @@
 -- A call that is driven from outside its pass: the seat's view has what the caller does, and no machine of the call is kept.
-use Rattle.std.specs.Prelude.{◌≡◌, ℕ, true, Option, Some, None, List, [], ◌∷◌, ◌++◌}
+use Rattle.std.specs.Prelude.{◌≡◌, ℕ, ◌+◌, true, Option, Some, None, List, [], ◌∷◌, ◌++◌}
 use Rattle.atomic_table.specs.declared.shared.Seat.{Seat}
 use Rattle.rht_words.specs.declared.machine.Next.{Next}
 use Rattle.rht_words.specs.declared.machine.Next.TheVariants.{Go, Done}
@@ -40,6 +40,10 @@ module _ {M : Type 0} where
   abbrev pub pairs_in : List (Held M) → Kept (ℕ × ℕ)
   pairs_in [] = no_room
   pairs_in (held ∷ rest) = held.local.pairs
+
+  -- how many operations the seat's only caller has made in its call
+  abbrev pub steps_in : Seat (Unit {0}) (SeatView M) → ℕ
+  steps_in seat = (book_in seat.me.0.held).steps
 
   -- what stays in a call that begins with this seat
   abbrev pub riding_of : ℕ → Call → Seat (Unit {0}) (SeatView M) → Riding
@@ -106,6 +110,11 @@ abbrev pub Stepped : {M : Type 0} → (ℕ → ℕ → ℕ → ℕ) → Table M 
     → Seat (Unit {0}) (SeatView M) → Type 0
 Stepped mix t r (doing, None) seat = IsRiding mix t r doing seat
 Stepped mix t r (doing, Some reply) seat = IsEnded mix t r doing reply seat
+
+-- an operation behind which the call goes on is one more of its operations
+abbrev pub HasCounted : {M : Type 0} → Seat (Unit {0}) (SeatView M) → Option Reply → Seat (Unit {0}) (SeatView M) → Type 0
+HasCounted before None after = steps_in after ≡ steps_in before + 1
+HasCounted before (Some reply) after = Unit {0}
 
 -- while a piece goes on the caller does what holds it, and once the piece has answered, what comes behind that
 abbrev pub piece_next : {M P A : Type 0} → (P → Doing M) → (A → Doing M × Option Reply) → P × Next A

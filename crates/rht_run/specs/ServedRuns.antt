@@ -16,6 +16,7 @@ use Rattle.rht_model.specs.declared.finished.Finished.{Finished}
 use Rattle.rht_model.specs.Endings.{Ending}
 use Rattle.rht_core.specs.declared.event.Event.{Event}
 use Rattle.rht_core.specs.Causes.{HasCause}
+use Rattle.rht_core.specs.Lookups.{IsFoundThroughout}
 use Rattle.rht_core.specs.NeverRefused.{IsRoomyFor, AreAllTaken, IsSmallFor, AreAsModel}
 use Rattle.rht_core.specs.Serving.{calls_of, IsServedRun}
 use Rattle.rht_core.specs.ToldHistories.{endings_by, TellsOf}
@@ -48,6 +49,10 @@ pub record HasRun (config : Config) (auto : Bool) (commands : List (ℕ × Call)
   -- each call that serves a command has in this run the cause of its reply
   pub caused : (caller : ℕ)
       → AreCaused (tag_of config.hash) (mix_named config) served.env served.events caller (tells.told.dones caller)
+  -- each look-up among these calls found its port, where the words stood for an owner of it behind each event of the call
+  pub found : (caller : ℕ)
+      → AllByRecursion (IsFoundThroughout (tag_of config.hash) (mix_named config) served.env served.events)
+      ((traced_of {M = tag_of config.hash} (mix_named config) served.env served.events).traces caller).past
   -- Where the table is roomy for the commands none about bindings is refused, and the size that was closed is the one with which the
   -- table began.
   pub roomy : IsRoomyFor config commands → AreAllTaken config commands endings closed

@@ -10,7 +10,7 @@ ghost use Rattle.rht_core.specs.Replies.{IsFindReply, IsBindReply, IsReleaseRepl
 ghost use Rattle.rht_run.specs.declared.pass.Pass.{Pass as PassOf};
 ghost use Rattle.rht_run.specs.Rule.{MayBegin};
 ghost use Rattle.rht_run.specs.Passes.{IsPassOf, IsCalling, HasCalled, Turned, HasGone};
-ghost use Rattle.rht_run.specs.Caused.{IsCaused};
+ghost use Rattle.rht_run.specs.Caused.{IsCaused, HasLookedUp};
 
 use crate::finding::looked_up;
 use crate::pass::Pass;
@@ -60,19 +60,22 @@ impl<M: Mix> Table<M> {
         unreachable!()
     }
 
-    /// Looks a port up: `Found` with its first owner, or `Missing`, for which it has nothing further to
-    /// show. It takes a bucket's lock, for which it may wait. The kernel's counterpart is
-    /// `rhashtable_lookup`.
+    /// Looks a port up: `Found` with its first owner, or `Missing`. It waits for nobody, and makes no more
+    /// operations than `find_bound` says: all are loads, but for the first and the last one, which open and
+    /// close its read section. The answer was so at a moment of the call, and a port that is bound
+    /// throughout it is found (`looked`). Its cause is nothing. `cause` and `looked` both hold of this call;
+    /// each speaks of one run. The kernel's counterpart is `rhashtable_lookup_fast`.
     #[inline(always)]
-    pub fn find<R: Wait>(&self, rt: &R, pass: &mut Pass<M>, port: Port) -> Reply
+    pub fn find(&self, pass: &mut Pass<M>, port: Port) -> Reply
         requires pass { IsPassOf M.mix_of self.now pass.old }
         requires idle { is_idle pass.old.local ≡ true }
         ensures called { HasCalled M.mix_of self.now (Find port) result pass.old pass.new }
         ensures reply { IsFindReply result }
         ensures cause { IsCaused M.mix_of self.now (Find port) result pass.old pass.new }
+        ensures looked { HasLookedUp M.mix_of self.now port result pass.old pass.new }
     {
         clear_rooms(&mut pass.local);
-        looked_up(self.drive_find::<R, Brand>(rt, &mut pass.seat, pass.number, port))
+        looked_up(self.drive_find::<Brand>(&mut pass.seat, pass.number, port))
     }
 
     /// Binds a port to an owner, and is tried once alone: it may answer `Again`. The kernel's

@@ -10,7 +10,6 @@ ghost use Rattle.rht_bind.specs.declared.bind.BindAt.TheVariants as binds;
 ghost use Rattle.rht_chain.specs.Lock.{lock_plan, lock_after, IsLockIn};
 ghost use Rattle.rht_chain.specs.Probe.{probe_plan, probe_after, IsProbeIn};
 ghost use Rattle.rht_find.specs.Find.{find_plan, find_after, IsFindAtIn};
-ghost use Rattle.rht_find.specs.declared.find.FindAt.TheVariants as finds;
 ghost use Rattle.rht_model.specs.Rooms.{Kept, emptied};
 ghost use Rattle.rht_nest.specs.Locate.{locate_plan, locate_after, IsLocateIn};
 ghost use Rattle.rht_model.specs.declared.history.Reply.{Reply as ReplyOf};
@@ -20,7 +19,7 @@ ghost use Rattle.rht_core.specs.Locals.{does_nothing, doing_plan, doing_after, o
 ghost use Rattle.rht_core.specs.Laws.{IsDoingIn};
 ghost use Rattle.rht_run.specs.Rides.{piece_next};
 ghost use Rattle.rht_run.specs.Pieces.{bucket_lock_after, probe_locks, probe_locked, port_locate_after};
-ghost use Rattle.rht_run.specs.PieceFrames.{doing_piece, probe_locking, bind_at, bind_filling, bind_filled, bind_locating, bind_located, bind_probing, bind_probed, find_at, find_locating, find_located, find_probing, find_probed};
+ghost use Rattle.rht_run.specs.PieceFrames.{doing_piece, probe_locking, bind_at, bind_filling, bind_filled, bind_locating, bind_located, bind_probing, bind_probed};
 
 use rht_arena::NewNode;
 use rht_bind::{Attempt, Bind};
@@ -227,62 +226,6 @@ impl<M: Mix> Frame<M, Find<M>, Reply> for Whole {
     ghost goes = { λ f m old. doing_piece Finding (find_after M.mix_of m old) };
 
     ghost keeps = { λ f m room old. refl };
-}
-
-/// A look-up that finds the port's bucket.
-#[derive(Clone, Copy)]
-pub struct FindLocating {
-    pub env: Env,
-    pub caller: u32,
-}
-
-impl<M: Mix> Frame<M, PortLocate, PortLocated> for FindLocating {
-    ghost use Rattle.std.specs.Prelude.{refl};
-
-    ghost holding = { λ f p. find_at f.env f.caller p.port (finds.Locating p.locate) };
-
-    ghost behind = { λ f there. find_located f.env f.caller there.port there.table there.found.bucket };
-
-    ghost busy = { λ f p. refl };
-
-    ghost empties = { λ f p room. refl };
-
-    ghost plans = { λ f p. refl };
-
-    ghost within = { λ env c f p is. is.at_in };
-
-    ghost goes = { λ f p old. find_locating f.env f.caller p.port (locate_after M.mix_of p.port p.locate old) };
-
-    ghost keeps = { λ f p room old. refl };
-}
-
-/// A look-up that is in the port's bucket.
-#[derive(Clone, Copy)]
-pub struct FindProbing {
-    pub env: Env,
-    pub caller: u32,
-    pub port: Port,
-    pub table: u32,
-}
-
-impl<M: Mix> Frame<M, Probe, Probed> for FindProbing {
-    ghost use Rattle.std.specs.Prelude.{refl};
-
-    ghost holding = { λ f p. find_at f.env f.caller f.port (finds.Probing f.table p) };
-
-    ghost behind = { λ f end. find_probed f.env f.caller f.port f.table end };
-
-    ghost busy = { λ f p. refl };
-
-    ghost empties = { λ f p room. refl };
-
-    ghost plans = { λ f p. refl };
-
-    ghost within = { λ env c f p is. is.at_in.probe_in };
-
-    ghost goes = { λ f p old. find_probing f.env f.caller f.port f.table (probe_after p old) };
-
-    ghost keeps = { λ f p room old. refl };
 }
 
 // ---- the bind

@@ -10,7 +10,7 @@ ghost use Rattle.rht_model.specs.declared.history.Reply.{Reply as ReplyOf};
 ghost use Rattle.rht_callers.specs.declared.local.Doing.TheVariants.{Idle};
 ghost use Rattle.rht_core.specs.Locals.{machine_of, doing_after};
 ghost use Rattle.rht_core.specs.Runs.{IsAdmittedCall, IsBuiltFor};
-ghost use Rattle.rht_run.specs.Rides.{Riding, any_riding, IsBefore, IsRiding, HasEnded, Stepped, piece_next};
+ghost use Rattle.rht_run.specs.Rides.{Riding, any_riding, IsBefore, IsRiding, HasEnded, Stepped, HasCounted, piece_next};
 
 use crate::pieces::{Frame, Piece};
 use crate::seats::SeatView;
@@ -69,6 +69,7 @@ impl<M: Mix> Table<M> {
         requires { IsRiding M.mix_of self.now K.riding (F.holding frame.now piece.now) seat.old }
         ensures doing { Stepped M.mix_of self.now K.riding (doing_after M.mix_of (F.holding frame.now piece.now) result) seat.new }
         ensures piece { Stepped M.mix_of self.now K.riding (piece_next (λ p. F.holding frame.now p) (λ a. F.behind frame.now a) (P.after_of piece.now result)) seat.new }
+        ensures counted { HasCounted seat.old (doing_after M.mix_of (F.holding frame.now piece.now) result).1 seat.new }
     {
         let op = piece.planned();
         self.perform::<Brand>(seat, op)

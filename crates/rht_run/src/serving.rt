@@ -36,7 +36,7 @@ impl<M: Mix> Table<M> {
     {
         // A look-up asks for no work.
         if let Call::Find { port } = call {
-            return self.find(rt, pass, port);
+            return self.find(pass, port);
         }
         let reply = self.answer(rt, pass, call);
         if auto && asks_for_work(call, reply) {

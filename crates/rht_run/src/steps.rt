@@ -1,6 +1,6 @@
 //! One operation of a pass. It is the only place that touches the words of an open table.
 
-ghost use Rattle.std.specs.Prelude.{◌≡◌, Option, None, Some};
+ghost use Rattle.std.specs.Prelude.{◌≡◌, ◌<◌, Option, None, Some};
 ghost use Rattle.rht_run.specs.Rule.{CanGo, Went, HasRoom, local_then};
 ghost use Rattle.rht_run.specs.Passes.{CanPerform, IsSameSeat, IsPassOf, IsSamePass, HasGone};
 
@@ -61,7 +61,8 @@ impl<M: Mix> Table<M> {
 /// Gives the caller the call that begins, if one does.
 #[inline(always)]
 fn begin_if<M: Mix>(local: &mut Local<M>, env: Env, caller: u32, begins: Option<Call>)
-    requires { HasRoom env begins local.old }
+    requires caller { caller < 16 }
+    requires room { HasRoom env begins local.old }
     ensures { local.new ≡ local_then env caller begins local.old }
 {
     if let Some(call) = begins {

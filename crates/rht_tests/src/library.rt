@@ -22,7 +22,7 @@ fn work<M: Mix, R: Wait>(rt: &R, table: &Table<M>, mut pass: Pass<M>, port: Port
     ensures idle { is_idle result.local ≡ true }
 {
     table.bind(rt, &mut pass, port, 1);
-    table.find(rt, &mut pass, port);
+    table.find(&mut pass, port);
     table.release(rt, &mut pass, port, 1);
     table.bind(rt, &mut pass, port, 2);
     pass
@@ -71,8 +71,8 @@ fn two_threads_share_a_registry(rt: HostRuntime) -> Result<(), Fail> {
     let (first, second) = pair(&table, passes).ok_or("two passes")?;
     let (mut first, mut second) = both(&rt, &table, first, second);
     let counted = table.count(&mut first);
-    let found = table.find(&rt, &mut first, 6);
-    let other = table.find(&rt, &mut second, 5);
+    let found = table.find(&mut first, 6);
+    let other = table.find(&mut second, 5);
     let want = [
         Reply::Counted { count: 2 },
         Reply::Found { owner: 2 },

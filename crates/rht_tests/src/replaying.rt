@@ -130,15 +130,14 @@ fn each_operation_is_shown(rt: HostRuntime) -> Result<(), Fail> {
         1 add 2 1 0\n\
         1 store 319 2\n\
         1: bound\n\
+        2 add 9 1 0\n\
         2 load 0 0\n\
         2 load 24 6\n\
         2 load 25 1\n\
         2 load 319 2\n\
-        2 cas 319 2 3 2\n\
         2 load 283 5\n\
         2 load 284 9\n\
-        2 load 285 0\n\
-        2 store 319 2\n\
+        2 add 9 1 1\n\
         2: found 9\n\
         port 5: 9\n\
         size 64 keys 1\n";
@@ -147,7 +146,7 @@ fn each_operation_is_shown(rt: HostRuntime) -> Result<(), Fail> {
         rt.alloc(),
         SMALL,
         &[(1, bind(5, 9)), (2, find(5))],
-        &[step(1, 15), step(2, 9)],
+        &[step(1, 15), step(2, 8)],
         &[],
         (Ok(()), lines),
     )
@@ -182,14 +181,20 @@ fn the_limit_stands_where_an_event_would_begin(rt: HostRuntime) -> Result<(), Fa
 
 #[test]
 fn workers_in_a_call_are_told(rt: HostRuntime) -> Result<(), Fail> {
-    // Worker 1 stops with the lock of bucket 5, for which the look-up of worker 2 waits without end.
-    let commands = [(1, bind(5, 6)), (2, find(69)), (2, find(5))];
+    // With its tenth operation worker 1 has locked bucket 5, and stops. Look-ups there are answered,
+    // and a bind waits without end.
+    let commands = [
+        (1, bind(5, 6)),
+        (2, find(69)),
+        (2, find(5)),
+        (2, bind(69, 7)),
+    ];
     let cases: [(&[Sched], &str); 3] = [
         (&[skip(1, 1)], "open 1\nsize 64\n"),
         (&[skip(2, 1)], "open 2\nsize 64\n"),
         (
             &[finish(2, 1), skip(1, 10), finish(2, 2), finish(1, 1)],
-            "2: missing\nlimit\nopen 1\nopen 2\nsize 64\n",
+            "2: missing\n2: missing\nlimit\nopen 1\nopen 2\nsize 64\n",
         ),
     ];
     for (schedule, want) in cases {
@@ -212,8 +217,8 @@ fn a_fault_of_the_sink_ends_it(rt: HostRuntime) -> Result<(), Fail> {
     let schedule = [finish(1, 1), step(2, 2), finish(2, 7)];
     let lines = [
         "1: bound\n",
+        "2 add 9 1 0\n",
         "2 load 0 0\n",
-        "2 load 24 6\n",
         "2: found 9\n",
         "port 5: 9\nsize 64 keys 1\n",
     ];

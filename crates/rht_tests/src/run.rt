@@ -67,7 +67,7 @@ fn each_call<M: Mix, R: Wait>(rt: &R, table: &Table<M>, pass: &mut Pass<M>) -> [
 {
     let bound = table.bind(rt, pass, 5, 9);
     let exists = table.bind_once(rt, pass, 5, 3);
-    let found = table.find(rt, pass, 5);
+    let found = table.find(pass, 5);
     let rebound = table.rebind(rt, pass, 5, 9, 4);
     let other = table.bind(rt, pass, 6, 2);
     let released = table.release(rt, pass, 6, 2);
@@ -164,7 +164,7 @@ fn crowded<M: Mix, R: Wait>(rt: &R, table: &Table<M>, pass: &mut Pass<M>) -> [Re
     crowd(rt, table, pass);
     let first = table.bind_once(rt, pass, 1024, 1);
     let second = table.bind_once(rt, pass, 1024, 2);
-    let found = table.find(rt, pass, 1024);
+    let found = table.find(pass, 1024);
     let absent = table.release(rt, pass, 0, 2);
     let released = table.release(rt, pass, 0, 1);
     [first, second, found, absent, released]

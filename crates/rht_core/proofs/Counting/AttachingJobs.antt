@@ -33,13 +33,13 @@ IsAttachingJob (binds port owner once state) slot = IsBindAttaching state slot
 IsAttachingJob (works state) slot = IsWorkAttaching state slot
 IsAttachingJob _ slot = ⊥
 
-module _ (env : Env) (last slot : ℕ) (low : last < 8) where
+module _ (env : Env) (c last slot : ℕ) (low : last < 8) where
   -- the operation would attach the slot's table behind that of another
   abbrev pub attaching : Op
   attaching = Exchange (place_of env.geometry (Slot last FutureWord)) 0 (future_of slot)
 
   bind-attaches : (port owner : ℕ) (once : Bool) (state : BindAt) → (held_of (binds port owner once state)).slot ≡ Some slot
-      → job_plan env (binds port owner once state) ≡ attaching → IsBindAttaching state slot
+      → job_plan env c (binds port owner once state) ≡ attaching → IsBindAttaching state slot
   bind-attaches port owner once (bind_at.Attaching growing slot' shape) has plans =
       let same : slot' ≡ slot = cc in
       record { growing = growing; shape = shape; is = ap (λ s. bind_at.Attaching growing s shape) same }
@@ -51,7 +51,7 @@ module _ (env : Env) (last slot : ℕ) (low : last < 8) where
       absurd (relink-none env.geometry relink relink.at last 0 (future_of slot) low plans)
   bind-attaches port owner once _ has plans = absurd (cc)
 
-  pub work-attaches : (state : WorkAt) → (held_of (works state)).slot ≡ Some slot → job_plan env (works state) ≡ attaching
+  pub work-attaches : (state : WorkAt) → (held_of (works state)).slot ≡ Some slot → job_plan env c (works state) ≡ attaching
       → IsWorkAttaching state slot
   work-attaches (work_at.Attaching root last' slot' shape) has plans =
       let same : slot' ≡ slot = cc in
@@ -62,7 +62,7 @@ module _ (env : Env) (last slot : ℕ) (low : last < 8) where
       absurd (unmake-none env.geometry unmake.geometry unmake.slot unmake.at last 0 (future_of slot) low plans)
   work-attaches _ has plans = absurd (cc)
 
-  pub job-attaches : (job : Job) → (held_of job).slot ≡ Some slot → job_plan env job ≡ attaching → IsAttachingJob job slot
+  pub job-attaches : (job : Job) → (held_of job).slot ≡ Some slot → job_plan env c job ≡ attaching → IsAttachingJob job slot
   job-attaches (binds port owner once state) has plans = bind-attaches port owner once state has plans
   job-attaches (works state) has plans = work-attaches state has plans
   job-attaches job has plans = absurd (slotless (tableless job refl) slot has)

@@ -155,7 +155,7 @@ module _ (M : Memory) (has : Option ℕ) (make : MakeModel) where
 
 -- ---- an operation of a call
 
-module _ (env : Env) (mix : ℕ → ℕ → ℕ → ℕ) (words : List ℕ) (all_words : length words ≡ words_in env.geometry) where
+module _ (env : Env) (mix : ℕ → ℕ → ℕ → ℕ) (c : ℕ) (words : List ℕ) (all_words : length words ≡ words_in env.geometry) where
   -- with what it has behind its operation: the draw that it makes, or what it had
   module _ (was now : Option ℕ) (make : MakeModel) (within : IsMakeIn env.geometry make) where
     abbrev after : Memory
@@ -192,7 +192,7 @@ module _ (env : Env) (mix : ℕ → ℕ → ℕ → ℕ) (words : List ℕ) (all
   module _ (was now : Option ℕ) where
     -- the words behind an operation of the job
     abbrev behind : Job → Memory
-    behind job = mem env mix (applied words (job_plan env job))
+    behind job = mem env mix (applied words (job_plan env c job))
 
     bind-on : (port owner : ℕ) (once : Bool) (state : BindAt) → bind.IsBindAtIn env state
         → (DrawsJob (binds port owner once state) → IsOfDraw now (old_of words (bind.plan_at env state)))
@@ -239,18 +239,18 @@ module _ (env : Env) (mix : ℕ → ℕ → ℕ → ℕ) (words : List ℕ) (all
               (λ none. subst (λ s. IsMakingWork s → (DrawsWork s → ⊥) → now ≡ was) is same tt none) has);
         })
 
-    pub job-on : (c : ℕ) (job : Job) → JobIn env mix c job
-        → (DrawsJob job → IsOfDraw now (old_of words (job_plan env job)))
+    pub job-on : (job : Job) → JobIn env mix c job
+        → (DrawsJob job → IsOfDraw now (old_of words (job_plan env c job)))
         → (IsMakingJob job → (DrawsJob job → ⊥) → now ≡ was) → DrawnJob (mem env mix words) was job
-        → DrawnLeft (behind job) now (told (job_after mix env job (old_of words (job_plan env job)))).0
-    job-on c (binds port owner once state) within draws same of =
+        → DrawnLeft (behind job) now (told (job_after mix env job (old_of words (job_plan env c job)))).0
+    job-on (binds port owner once state) within draws same of =
         told-of (behind (binds port owner once state)) now (binds port owner once) plain_ending
         (bind.after_at mix env port once state (old_of words (bind.plan_at env state)))
         (bind-on port owner once state within.at_in draws same of)
-    job-on c (works state) within draws same of =
+    job-on (works state) within draws same of =
         told-of (behind (works state)) now works plain_ending (work.after_at mix env state (old_of words (work.plan_at env state)))
         (work-on state within draws same of)
-    job-on c job within draws same of = other-of (behind job) now mix env job (old_of words (job_plan env job)) refl
+    job-on job within draws same of = other-of (behind job) now mix env job (old_of words (job_plan env c job)) refl
 
 -- ---- another caller
 

@@ -144,8 +144,8 @@ module _ (env : Env) (mix : ℕ → ℕ → ℕ → ℕ) where
         on now draws_so same =
             subst (λ o. DrawnLeft (mem env mix (applied w.core.words o)) now (told (job_after mix env of.job (old_of w.core.words o))).0)
             (sym of.plan)
-            (job-on env mix w.core.words of.all (has.of_caller c) now c of.job of.within
-            (λ d. subst (IsOfDraw now) (sym (ap (old_of w.core.words) (job-adds env of.job d))) (draws_so d)) same
+            (job-on env mix c w.core.words of.all (has.of_caller c) now of.job of.within
+            (λ d. subst (IsOfDraw now) (sym (ap (old_of w.core.words) (job-adds env c of.job d))) (draws_so d)) same
             (subst (DrawnLeft M (has.of_caller c)) of.is (has.jobs c)))
 
         -- the caller's table is attached
@@ -154,8 +154,8 @@ module _ (env : Env) (mix : ℕ → ℕ → ℕ → ℕ) where
             let does = subst (λ m. Does env mix m op (old_of w.core.words op) (held_of of.job)
             (held_next (job_after mix env of.job (old_of w.core.words op)))) at.is of.step.does in
             let ready = subst (ReadyFor env mix c M has.ghost) at.is of.step.ready in
-            let there = job-attaches env does.last at.slot does.within of.job does.has (sym of.plan ∙ does.attaching) in
-            let same : after NextSerial ≡ M NextSerial = elim (job-draws env mix c of.job of.within) [
+            let there = job-attaches env c does.last at.slot does.within of.job does.has (sym of.plan ∙ does.attaching) in
+            let same : after NextSerial ≡ M NextSerial = elim (job-draws env mix c of.few of.job of.within) [
               | inl spares ↦ spared_serial w.core.words op (subst SparesSerial (sym of.plan) spares)
               | inr draws_it ↦ absurd (attaching-draws at.slot of.job there draws_it)
             ] in
@@ -191,7 +191,7 @@ module _ (env : Env) (mix : ℕ → ℕ → ℕ → ℕ) where
 
         -- or it draws a serial, or none
         quiet-draws : SameSerials has.ghost G' → StepDraws
-        quiet-draws tables = elim (job-draws env mix c of.job of.within) [
+        quiet-draws tables = elim (job-draws env mix c of.few of.job of.within) [
           | inl spares ↦
               let same = spared_serial w.core.words op (subst SparesSerial (sym of.plan) spares) in
               record {
@@ -203,11 +203,11 @@ module _ (env : Env) (mix : ℕ → ℕ → ℕ → ℕ) where
                     has.drawn_are;
                 others = λ k ne. refl;
                 same = λ τ l. refl;
-                left = on (has.of_caller c) (λ d. absurd (adds-not_spared (job_plan env of.job) (job-adds env of.job d) spares))
+                left = on (has.of_caller c) (λ d. absurd (adds-not_spared (job_plan env c of.job) (job-adds env c of.job d) spares))
                     (λ making none. refl);
               }
           | inr draws_it ↦
-              let adds = added (of.plan ∙ job-adds env of.job draws_it) in
+              let adds = added (of.plan ∙ job-adds env c of.job draws_it) in
               record {
                 count = drawn + 1;
                 counts = one-counted adds;

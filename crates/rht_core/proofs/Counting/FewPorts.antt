@@ -59,20 +59,15 @@ pub no_table_kept : (env : Env) (words after : List ℕ)
     → ((place : ℕ) → place < 280 → (IsBesideSlots place → ⊥) → place ≢ 4 → get_or after place 0 ≡ get_or words place 0)
     → IsNoTableMade env words → IsNoTableMade env after
 no_table_kept env words after same none = record {
-  current = same 0 (omega arith) (apart 0 (omega arith) (omega arith) (omega arith)) (omega arith) ∙ none.current;
-  serial = same 3 (omega arith) (apart 3 (omega arith) (omega arith) (omega arith)) (omega arith) ∙ none.serial;
+  current = same 0 (omega arith) (λ beside. omega (arith, beside)) (omega arith) ∙ none.current;
+  serial = same 3 (omega arith) (λ beside. omega (arith, beside)) (omega arith) ∙ none.serial;
   slots = λ slot word low is.
       let place = place_of env.geometry (Slot slot word) in
       let within = slot_place-within slot word low is in
-      same place within.1 (apart place (omega (arith, within.0)) (omega (arith, within.0)) within.1) (omega (arith, within.0))
+      same place within.1 (λ beside. omega (arith, beside, within.0, within.1)) (omega (arith, within.0))
       ∙ none.slots slot word low is;
 }
   where
-    apart : (place : ℕ) → place ≢ 1 → place ≢ 2 → place < 280 → IsBesideSlots place → ⊥
-    apart place one two low (inl same) = one same
-    apart place one two low (inr (inl same)) = two same
-    apart place one two low (inr (inr high)) = omega (arith, low, high)
-
     slot_place-within : (slot : ℕ) (word : SlotWord) → slot < 8 → IsSlotWord word
         → let place = place_of env.geometry (Slot slot word) in (24 ≤ place) × (place < 280)
     slot_place-within slot (LoadedSection caller) low is = (omega (arith, low, is), omega (arith, low, is))
@@ -104,10 +99,10 @@ module _ (env : Env) (mix : ℕ → ℕ → ℕ → ℕ) where
   work-spares (work_at.LettingGo outcome) within calm = inr (inl refl)
   work-spares _ within calm = absurd calm
 
-  pub job-spares : (c : ℕ) (job : Job) → JobIn env mix c job → CalmJob env job → SparesSlots (job_plan env job)
-  job-spares c (binds port owner once state) within calm = bind-spares env (IsFirst env) (IsZero env) state within.at_in calm
-  job-spares c (works state) within calm = work-spares state within calm
-  job-spares c job within calm = other-spares env mix c job within refl
+  pub job-spares : (c : ℕ) → c < 16 → (job : Job) → JobIn env mix c job → CalmJob env job → SparesSlots (job_plan env c job)
+  job-spares c few (binds port owner once state) within calm = bind-spares env (IsFirst env) (IsZero env) state within.at_in calm
+  job-spares c few (works state) within calm = work-spares state within calm
+  job-spares c few job within calm = other-spares env mix c few job within refl
 
 -- ---- what is kept of jobs
 
@@ -240,7 +235,7 @@ module _ (M : Type 0) (mix : ℕ → ℕ → ℕ → ℕ) (env : Env) (roomy : I
     step-unmade c (Some op) is =
         let has = has_inv env mix M events admitted in
         let of = step_of env mix M w.core has.ghost c op has.all has.inv is in
-        let spares = subst SparesSlots (sym of.plan) (job-spares env mix c of.job of.within (calm-now c of.job of.is)) in
+        let spares = subst SparesSlots (sym of.plan) (job-spares env mix c of.few of.job of.within (calm-now c of.job of.is)) in
         subst (IsNoTableMade env) (sym (step_words M mix w c op is))
         (no_table_kept env w.core.words (applied w.core.words op)
         (λ place low apart other. spared_slots w.core.words op place spares apart) unmade-now)

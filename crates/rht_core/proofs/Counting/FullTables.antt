@@ -104,11 +104,11 @@ release_loads-unraised e place (release_at.Lowering node shape) is = absurd (cc)
 release_loads-unraised e place _ is = refl
 
 -- what loads has raised none
-load-unraised : (env : Env) (job : Job) (place : ℕ) → job_plan env job ≡ Load place
+load-unraised : (env : Env) (c : ℕ) (job : Job) (place : ℕ) → job_plan env c job ≡ Load place
     → (held_of job).raised ≡ false
-load-unraised env (binds port owner once state) place is = bind_loads-unraised env place state is
-load-unraised env (releases port owner state) place is = release_loads-unraised env place state is
-load-unraised env job place is = job-unraised job
+load-unraised env c (binds port owner once state) place is = bind_loads-unraised env place state is
+load-unraised env c (releases port owner state) place is = release_loads-unraised env place state is
+load-unraised env c job place is = job-unraised job
 
 module _ (M : Type 0) (mix : ℕ → ℕ → ℕ → ℕ) (env : Env) where
   -- the callers that have raised the count are others in mid-call
@@ -143,7 +143,7 @@ module _ (M : Type 0) (mix : ℕ → ℕ → ℕ → ℕ) (env : Env) where
       let place = place_of env.geometry PortCount in
       let plans : planned_in core c ≡ Some (Load place) = is.plan ∙ ap Some loaded in
       let of = step_of env mix M core G c (Load place) has.all has.inv plans in
-      let unraised = of.knows.knowing.only.raising ∙ load-unraised env of.job place (sym of.plan) in
+      let unraised = of.knows.knowing.only.raising ∙ load-unraised env c of.job place (sym of.plan) in
       let others = raisers-others core c G has.inv.same_env unraised has.inv.each in
       let word : mem env mix core.words PortCount ≡ count =
       sym (ap (old_of core.words) loaded) ∙ is.found ∙ found in

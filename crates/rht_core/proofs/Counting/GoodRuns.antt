@@ -90,7 +90,7 @@ module _ (env : Env) (Good Fit : ℕ → Type 0) (keeps_works : AreMadeGood env 
 
   module _ (c : ℕ) (words : List ℕ) (G : Ghost) (whole : Whole env mix (mem env mix words) G) (good : AreAll Good G) where
     goes-good : (job : Job) → JobIn env mix c job → JobKnows env mix c job (mem env mix words) G → Now job
-        → Left (told (job_after mix env job (old_of words (job_plan env job)))).0
+        → Left (told (job_after mix env job (old_of words (job_plan env c job)))).0
     goes-good (binds port owner once state) within knows now =
         told-makes Good Fits Has (binds port owner once) plain_ending
         (bind.after_at mix env port once state (old_of words (bind.plan_at env state)))
@@ -101,7 +101,7 @@ module _ (env : Env) (Good Fit : ℕ → Type 0) (keeps_works : AreMadeGood env 
         (good-work env Good Fit keeps_works mix state (old_of words (work.plan_at env state)) within now
         (λ root seek slot is shape. work-seen c words G whole good state knows root seek slot is shape within))
     goes-good job within knows now =
-        others-make Good Fits Has mix env job (old_of words (job_plan env job)) refl
+        others-make Good Fits Has mix env job (old_of words (job_plan env c job)) refl
 
   -- the table that a good job attaches has a good shape
   attaches-good : (c : ℕ) (M : Memory) (G : Ghost) (slot shape : ℕ) → M (Slot slot ShapeWord) ≡ shape → (job : Job)
@@ -137,7 +137,7 @@ module _ (env : Env) (Good Fit : ℕ → Type 0) (keeps_works : AreMadeGood env 
             (held_next (job_after mix env of.job (old_of w.core.words op)))) at of.step.does in
             let ready = subst (ReadyFor env mix c (mem env mix w.core.words) has.ghost) at of.step.ready in
             attaches-good c (mem env mix w.core.words) has.ghost slot shape ready.made.shape_is of.job of.knows now
-            (job-attaches env does.last slot does.within of.job does.has (sym of.plan ∙ does.attaching)))
+            (job-attaches env c does.last slot does.within of.job does.has (sym of.plan ∙ does.attaching)))
 
         -- and the caller
         step-job : planned_in w.core c ≡ Some op → Left (job_of (view_stepped mix (old_of w.core.words op) (view_of w c)).local.doing)

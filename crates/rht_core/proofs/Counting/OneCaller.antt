@@ -199,19 +199,19 @@ module _ (env : Env) where
 
     -- ---- a table that is attached
 
-    module _ (mix : ℕ → ℕ → ℕ → ℕ) (c : ℕ) (M : Memory) (G : Ghost) where
+    module _ (mix : ℕ → ℕ → ℕ → ℕ) (c : ℕ) (few : c < 16) (M : Memory) (G : Ghost) where
       attach-sized : (job : Job) → JobIn env mix c job → JobKnows env mix c job M G → OneJob job → (last slot shape : ℕ) → last < 8
-          → (held_of job).slot ≡ Some slot → job_plan env job ≡ Exchange (place_of env.geometry (Slot last FutureWord)) 0 (future_of slot)
+          → (held_of job).slot ≡ Some slot → job_plan env c job ≡ Exchange (place_of env.geometry (Slot last FutureWord)) 0 (future_of slot)
           → M (Slot slot ShapeWord) ≡ shape → IsSized shape
       attach-sized (binds port owner once state) within knows one last slot shape l has e is =
           absurd (spares-none env _ last 0 (future_of slot) (bind-spares env Any Any state within.at_in one) l e)
       attach-sized (works state) within knows one last slot shape l has e is =
-          let at = work-attaches env last slot l state has e in
+          let at = work-attaches env c last slot l state has e in
           let known = subst (λ s. JobKnows env mix c (works s) M G) at.is knows in
           let sized : IsSized at.shape = subst SizedWork at.is one in
           subst IsSized (sym known.knowing.means.making.shape_is ∙ is) sized
       attach-sized job within knows one last slot shape l has e is =
-          absurd (spares-none env _ last 0 (future_of slot) (job-spares env mix c job within tt) l e)
+          absurd (spares-none env _ last 0 (future_of slot) (job-spares env mix c few job within tt) l e)
 
 -- ---- runs
 
@@ -278,6 +278,7 @@ module _ (L : Type 0) (mix : ℕ → ℕ → ℕ → ℕ) (env : Env) (keeps : e
         words = w.core.words;
         ghost = has.ghost;
         low = of.low;
+        few = of.few;
         all = of.all;
         whole = has.inv.whole;
         within = of.within;
@@ -331,8 +332,8 @@ module _ (L : Type 0) (mix : ℕ → ℕ → ℕ → ℕ) (env : Env) (keeps : e
         let does = subst (λ m. Does env mix m op (old_of w.core.words op) (held_of of.job)
         (held_next (job_after mix env of.job (old_of w.core.words op)))) at of.step.does in
         let ready = subst (ReadyFor env mix c (mem env mix w.core.words) has.ghost) at of.step.ready in
-        attach-sized env keeps mix c (mem env mix w.core.words) has.ghost of.job of.within of.knows one does.last slot shape does.within
-        does.has (sym of.plan ∙ does.attaching) ready.made.shape_is)
+        attach-sized env keeps mix c of.few (mem env mix w.core.words) has.ghost of.job of.within of.knows one does.last slot shape
+        does.within does.has (sym of.plan ∙ does.attaching) ready.made.shape_is)
 
     -- ---- one event
 

@@ -1,6 +1,6 @@
 -- Which operation draws a serial: the one in a making at which its slot and its pages are taken. Each other operation of each job leaves the
 -- word of the next serial, since it is a load, or on another word.
-use Rattle.std.proofs.Common.{◌≡◌, ◌≢◌, ◌⊎◌, ℕ, Bool, List, get_or, refl, ap, inl, inr, arith}
+use Rattle.std.proofs.Common.{◌≡◌, ◌≢◌, ◌<◌, ◌⊎◌, ℕ, Bool, List, get_or, refl, ap, inl, inr, arith}
 use Rattle.std.specs.Prelude.{Option, Some, None}
 use Rattle.rht_words.specs.declared.op.Op.{Op}
 use Rattle.rht_words.specs.declared.op.Op.TheVariants.{Load, Add}
@@ -52,7 +52,8 @@ by_slots : (op : Op) → SparesSlots op → SparesSerial op
 by_slots op (inl load) = inl load
 by_slots op (inr (inl one)) = inr (λ e. omega (arith, one, e))
 by_slots op (inr (inr (inl two))) = inr (λ e. omega (arith, two, e))
-by_slots op (inr (inr (inr high))) = inr (λ e. omega (arith, high, e))
+by_slots op (inr (inr (inr (inl (from, below))))) = inr (λ e. omega (arith, from, e))
+by_slots op (inr (inr (inr (inr high)))) = inr (λ e. omega (arith, high, e))
 
 -- the making draws its serial
 pub record IsDrawing (make : MakeModel) : Type 0 where
@@ -172,10 +173,11 @@ module _ (env : Env) where
   work-draws (work_at.LettingGo outcome) within = inl (inr (λ e. omega (arith, e)))
   work-draws _ within = inl (inl (_, refl))
 
-  pub job-draws : (mix : ℕ → ℕ → ℕ → ℕ) (c : ℕ) (job : Job) → JobIn env mix c job → SparesSerial (job_plan env job) ⊎ DrawsJob job
-  job-draws mix c (binds port owner once state) within = bind-draws state within.at_in
-  job-draws mix c (works state) within = work-draws state within
-  job-draws mix c job within = inl (by_slots _ (other-spares env mix c job within refl))
+  pub job-draws : (mix : ℕ → ℕ → ℕ → ℕ) (c : ℕ) → c < 16 → (job : Job) → JobIn env mix c job
+      → SparesSerial (job_plan env c job) ⊎ DrawsJob job
+  job-draws mix c few (binds port owner once state) within = bind-draws state within.at_in
+  job-draws mix c few (works state) within = work-draws state within
+  job-draws mix c few job within = inl (by_slots _ (other-spares env mix c few job within refl))
 
   -- its operation adds one to the next serial
   make-adds : (make : MakeModel) → IsDrawing make → make_plan_at make.geometry make.exponent make.seed make.at ≡ Add 3 1
@@ -189,10 +191,10 @@ module _ (env : Env) where
   work-adds (work_at.Making wanted make) drawing = make-adds make drawing
   work-adds _ drawing = absurd drawing
 
-  pub job-adds : (job : Job) → DrawsJob job → job_plan env job ≡ Add 3 1
-  job-adds (binds port owner once state) drawing = bind-adds state drawing
-  job-adds (works state) drawing = work-adds state drawing
-  job-adds _ drawing = absurd drawing
+  pub job-adds : (c : ℕ) (job : Job) → DrawsJob job → job_plan env c job ≡ Add 3 1
+  job-adds c (binds port owner once state) drawing = bind-adds state drawing
+  job-adds c (works state) drawing = work-adds state drawing
+  job-adds c _ drawing = absurd drawing
 
 -- such an operation doesn't leave that word
 pub adds-not_spared : (op : Op) → op ≡ Add 3 1 → SparesSerial op → ⊥

@@ -1,7 +1,7 @@
 -- Which operations leave the words of all slots, of the current table and of the next serial: loads, and those on the work lock, on the
 -- count of ports, and on words behind the slots. Look-ups, listings, releases and rebinds have no other; nor have the pieces of a bind but
 -- the making of a table.
-use Rattle.std.proofs.Common.{◌≡◌, ◌⊎◌, ℕ, false, ◌<◌, ◌≤◌, List, get_or, refl, sym, ap, subst, inl, inr, arith}
+use Rattle.std.proofs.Common.{◌≡◌, ◌⊎◌, ◌+◌, ℕ, false, ◌<◌, ◌≤◌, List, get_or, refl, sym, ap, subst, inl, inr, arith}
 use Rattle.rht_words.specs.declared.op.Op.{Op}
 use Rattle.rht_words.specs.declared.op.Op.TheVariants.{Load, Exchange}
 use Rattle.rht_words.specs.declared.env.Env.{Env}
@@ -34,7 +34,10 @@ use Rattle.rht_chain.specs.declared.relink.RelinkAt.{RelinkAt}
 use Rattle.rht_chain.specs.declared.relink.RelinkAt.TheVariants as relinks
 use Rattle.rht_chain.specs.Unlock.{unlock_plan, IsUnlockIn}
 use Rattle.rht_chain.specs.declared.unlock.Unlock.{Unlock}
-use Rattle.rht_find.specs.Find.{plan_at as find_plan_at, IsFindAtIn}
+use Rattle.rht_nest.specs.Reach.{reach_plan_at}
+use Rattle.rht_nest.specs.declared.reach.ReachAt.{ReachAt}
+use Rattle.rht_nest.specs.declared.reach.ReachAt.TheVariants as reaches
+use Rattle.rht_find.specs.Find.{plan_at as find_plan_at}
 use Rattle.rht_find.specs.declared.find.FindAt.{FindAt}
 use Rattle.rht_find.specs.declared.find.FindAt.TheVariants as finds
 use Rattle.rht_release.specs.Seek.{seek_plan_at, IsSeekAtIn}
@@ -55,9 +58,9 @@ use Rattle.rht_ghost.proofs.Theory.Steps.{unchanged}
 use Rattle.rht_core.proofs.Machines.JobSteps.{JobIn}
 use Rattle.rht_core.proofs.Machines.NeverHeld.{may_make}
 
--- the place is that of the work lock, of the count of ports, or of a word behind the slots
+-- the place is that of the work lock, of the count of ports, of a section word, or of a word behind the slots
 abbrev pub IsBesideSlots : ℕ → Type 0
-IsBesideSlots place = (place ≡ 1) ⊎ (place ≡ 2) ⊎ (280 ≤ place)
+IsBesideSlots place = (place ≡ 1) ⊎ (place ≡ 2) ⊎ ((8 ≤ place) × (place < 24)) ⊎ (280 ≤ place)
 
 -- the operation is a load, or on such a place
 abbrev pub SparesSlots : Op → Type 0
@@ -77,7 +80,7 @@ pub by_load : (op : Op) (place : ℕ) → op ≡ Load place → SparesSlots op
 by_load op place is = inl (place, is)
 
 pub behind : (op : Op) → 280 ≤ op_place op → SparesSlots op
-behind op high = inr (inr (inr high))
+behind op high = inr (inr (inr (inr high)))
 
 -- nodes and buckets stand behind the slots
 nodes_behind : (h : Geometry) → 280 ≤ nodes_at h
@@ -111,6 +114,14 @@ pub locate-spares : (h : Geometry) (table : ℕ) (state : LocateAt) → SparesSl
 locate-spares h table locates.Shape = by_load _ _ refl
 locate-spares h table _ = by_load _ _ refl
 
+reach-spares : (h : Geometry) (table : ℕ) (state : ReachAt) → SparesSlots (reach_plan_at h table state)
+reach-spares h table reaches.Shape = by_load _ _ refl
+reach-spares h table _ = by_load _ _ refl
+
+-- what opens or closes a section is on the caller's section word
+pub at_section : {c : ℕ} → c < 16 → (op : Op) → op_place op ≡ 8 + c → SparesSlots op
+at_section few op is = inr (inr (inr (inl (omega (arith, is), omega (arith, few, is)))))
+
 module _ (g : Geometry) where
   pub lock-spares : (place : ℕ) (state : LockAt) → IsBucketPlace g place → SparesSlots (lock_plan_at place state)
   lock-spares place locks.Word there = by_load _ place refl
@@ -141,15 +152,16 @@ module _ (g : Geometry) where
 
 -- ---- calls
 
-module _ (env : Env) where
+module _ (env : Env) (c : ℕ) where
   abbrev g : Geometry
   g = env.geometry
 
-  find-spares : (state : FindAt) → IsFindAtIn env state → SparesSlots (find_plan_at env state)
-  find-spares (finds.Locating locate) within = locate-spares locate.geometry locate.table locate.at
-  find-spares (finds.Probing table probe) within = probe-spares g probe.at within.probe_in.at_in
-  find-spares (finds.Unlocking table unlock next) within = unlock-spares g unlock within.unlock_in
-  find-spares _ within = by_load _ _ refl
+  -- a look-up loads, and opens and closes its section
+  find-spares : c < 16 → (state : FindAt) → SparesSlots (find_plan_at env c state)
+  find-spares few finds.Opening = at_section few _ refl
+  find-spares few (finds.Locating reach) = reach-spares reach.geometry reach.table reach.at
+  find-spares few (finds.Closing reply) = at_section few _ refl
+  find-spares few _ = by_load _ _ refl
 
   all-spares : (state : AllAt) → all.IsAllAtIn env state → SparesSlots (all.plan_at env state)
   all-spares (alls.Seeking seek) within = seek-spares g seek.geometry seek.at within.at_in
@@ -178,15 +190,15 @@ module _ (env : Env) where
   rebind-spares (rebinds.Giving give) within = give_node-spares give
 
 -- nor has any job of a call that makes no table
-pub other-spares : (env : Env) (mix : ℕ → ℕ → ℕ → ℕ) (c : ℕ) (job : Job) → JobIn env mix c job → may_make (call_of job) ≡ false
-    → SparesSlots (job_plan env job)
-other-spares env mix c (jobs.finds port state) within none = find-spares env state within
-other-spares env mix c (jobs.binds port owner once state) within none = absurd (cc)
-other-spares env mix c (jobs.lists port room state) within none = all-spares env state within.at_in
-other-spares env mix c (jobs.releases port owner state) within none = release-spares env state within
-other-spares env mix c (jobs.rebinds port owner new state) within none = rebind-spares env state within.at_in
-other-spares env mix c (jobs.works state) within none = absurd (cc)
-other-spares env mix c _ within none = by_load _ _ refl
+pub other-spares : (env : Env) (mix : ℕ → ℕ → ℕ → ℕ) (c : ℕ) → c < 16 → (job : Job) → JobIn env mix c job
+    → may_make (call_of job) ≡ false → SparesSlots (job_plan env c job)
+other-spares env mix c few (jobs.finds port state) within none = find-spares env c few state
+other-spares env mix c few (jobs.binds port owner once state) within none = absurd (cc)
+other-spares env mix c few (jobs.lists port room state) within none = all-spares env c state within.at_in
+other-spares env mix c few (jobs.releases port owner state) within none = release-spares env c state within
+other-spares env mix c few (jobs.rebinds port owner new state) within none = rebind-spares env c state within.at_in
+other-spares env mix c few (jobs.works state) within none = absurd (cc)
+other-spares env mix c few _ within none = by_load _ _ refl
 
 -- an operation that leaves the words of slots attaches no table
 pub spares-none : (env : Env) (op : Op) (last old new : ℕ) → SparesSlots op → last < 8
@@ -197,4 +209,5 @@ spares-none env op last old new (inr beside) l is = go (subst IsBesideSlots (ap 
     go : IsBesideSlots (place_of env.geometry (Slot last FutureWord)) → ⊥
     go (inl same) = omega (arith, same)
     go (inr (inl same)) = omega (arith, same)
-    go (inr (inr high)) = omega (arith, high, l)
+    go (inr (inr (inl (from, below)))) = omega (arith, from, below)
+    go (inr (inr (inr high))) = omega (arith, high, l)

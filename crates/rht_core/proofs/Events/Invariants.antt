@@ -98,10 +98,11 @@ module _ (env : Env) (mix : ℕ → ℕ → ℕ → ℕ) where
     pub record StepOf (core : Core L) (G : Ghost) (c : ℕ) (op : Op) : Type 0 where
       pub job : Job
       pub is : job_of (local_of core c).doing ≡ Some job
-      pub plan : op ≡ job_plan env job
+      pub plan : op ≡ job_plan env c job
       pub within : JobIn env mix c job
       pub knows : JobKnows env mix c job (mem env mix core.words) G
       pub low : c < env.geometry.callers
+      pub few : c < 16
       pub all : length core.words ≡ words_in env.geometry
       pub step :
           let r = job_after mix env job (old_of core.words op) in
@@ -113,7 +114,7 @@ module _ (env : Env) (mix : ℕ → ℕ → ℕ → ℕ) where
     step_of core G c op sound inv is =
         let can = planned-some core.env core.enrolled core.locals c op is in
         let doing = (local_of core c).doing in
-        let plans = plan-job env doing op (sound.stays.locals_of c).doing can.plan in
+        let plans = plan-job env c doing op (sound.locals c).doing can.plan in
         let job = plans.job in
         let knows = subst (λ j. Knows c j (mem env mix core.words) G) plans.does (inv.each c) in
         let low : c < env.geometry.callers = omega (arith, can.below, sound.stays.few_enrolled) in
@@ -126,6 +127,7 @@ module _ (env : Env) (mix : ℕ → ℕ → ℕ → ℕ) where
           within = within;
           knows = knows;
           low = low;
+          few = (let callers = env.geometry.within.callers_within in omega (arith, low, callers.1));
           all = sound.stays.all_words;
           step = subst (λ o. let r = job_after mix env job (old_of core.words o) in
               JobStepOf env mix c core.words G o job r) (sym plans.plan)

@@ -26,6 +26,7 @@ use Rattle.rht_callers.specs.declared.local.Local.{Local}
 use Rattle.rht_callers.specs.declared.local.Doing.{Doing}
 use Rattle.rht_callers.specs.declared.local.Doing.TheVariants.{Idle, Finding, Binding, Releasing, Rebinding, Listing, Working, Counting}
 use Rattle.rht_callers.specs.Locals.{fresh, does_nothing, machine_of, doing_plan, doing_after, owners_after, room_given, local_after, ending_of, doing_next, without_node, IsDoingOf, IsLocalOf}
+use Rattle.rht_core.specs.Laws.{IsDoingIn}
 use Rattle.rht_core.specs.Jobs.{listing_ending, node_ending, Job, finds, binds, releases, rebinds, lists, works, counts, call_of, first_job, first_rebind, job_plan, job_after, job_next, job_of, told, held_of}
 use Rattle.rht_words.specs.declared.config.Kind.{Kind}
 use Rattle.rht_words.specs.declared.config.Kind.TheVariants.{Single, Listed}
@@ -163,29 +164,37 @@ module _ {M : Type 0} where
 
   -- ---- an operation
 
-  -- what a caller plans is its job's operation, in the table of the run
-  pub record PlansJob (env : Env) (doing : Doing M) (op : Op) : Type 0 where
+  -- what this caller plans is its job's operation, in the table of the run
+  pub record PlansJob (env : Env) (c : ℕ) (doing : Doing M) (op : Op) : Type 0 where
     pub job : Job
     pub does : job_of doing ≡ Some job
-    pub plan : op ≡ job_plan env job
+    pub plan : op ≡ job_plan env c job
 
-  plans-so : (env : Env) (doing : Doing M) (op : Op) (job : Job) (own : Env) → job_of doing ≡ Some job
-      → doing_plan doing ≡ Some (job_plan own job) → own ≡ env → doing_plan doing ≡ Some op → PlansJob env doing op
-  plans-so env doing op job own does planned of plan =
-      let here : op ≡ job_plan own job = let both = sym plan ∙ planned in cc in
-      record { job = job; does = does; plan = subst (λ (e : Env). op ≡ job_plan e job) of here }
+  plans-so : (env : Env) (c : ℕ) (doing : Doing M) (op : Op) (job : Job) (own : Env) (caller : ℕ) → job_of doing ≡ Some job
+      → doing_plan doing ≡ Some (job_plan own caller job) → own ≡ env → caller ≡ c → doing_plan doing ≡ Some op
+      → PlansJob env c doing op
+  plans-so env c doing op job own caller does planned of mine plan =
+      let here : op ≡ job_plan own caller job = let both = sym plan ∙ planned in cc in
+      let owned = subst (λ (e : Env). op ≡ job_plan e caller job) of here in
+      record { job = job; does = does; plan = subst (λ d. op ≡ job_plan env d job) mine owned }
 
-  pub plan-job : (env : Env) (doing : Doing M) (op : Op) → IsDoingOf env doing → doing_plan doing ≡ Some op
-      → PlansJob env doing op
-  plan-job env Idle op of plan = absurd (cc)
-  plan-job env (Finding m) op of plan = plans-so env (Finding m) op (finds m.port m.at) m.env refl refl of plan
-  plan-job env (Binding m) op of plan = plans-so env (Binding m) op (binds m.port m.owner m.once m.at) m.env refl refl of plan
-  plan-job env (Listing m) op of plan = plans-so env (Listing m) op (lists m.port m.room m.at) m.env refl refl of plan
-  plan-job env (Releasing m) op of plan = plans-so env (Releasing m) op (releases m.port m.owner m.at) m.env refl refl of plan
-  plan-job env (Rebinding m) op of plan =
-      plans-so env (Rebinding m) op (rebinds m.port m.owner m.new_owner m.at) m.env refl refl of plan
-  plan-job env (Working m) op of plan = plans-so env (Working m) op (works m.at) m.env refl refl of plan
-  plan-job env (Counting m) op of plan = plans-so env (Counting m) op counts m.env refl refl of plan
+  pub plan-job : (env : Env) (c : ℕ) (doing : Doing M) (op : Op) → IsDoingIn env c doing → doing_plan doing ≡ Some op
+      → PlansJob env c doing op
+  plan-job env c Idle op within plan = absurd (cc)
+  plan-job env c (Finding m) op within plan =
+      plans-so env c (Finding m) op (finds m.port m.at) m.env m.caller refl refl within.same_env within.same_caller plan
+  plan-job env c (Binding m) op within plan =
+      plans-so env c (Binding m) op (binds m.port m.owner m.once m.at) m.env m.caller refl refl within.same_env within.same_caller plan
+  plan-job env c (Listing m) op within plan =
+      plans-so env c (Listing m) op (lists m.port m.room m.at) m.env m.caller refl refl within.same_env within.same_caller plan
+  plan-job env c (Releasing m) op within plan =
+      plans-so env c (Releasing m) op (releases m.port m.owner m.at) m.env m.caller refl refl within.same_env within.same_caller plan
+  plan-job env c (Rebinding m) op within plan =
+      plans-so env c (Rebinding m) op (rebinds m.port m.owner m.new_owner m.at) m.env m.caller refl refl
+      within.same_env within.same_caller plan
+  plan-job env c (Working m) op within plan =
+      plans-so env c (Working m) op (works m.at) m.env m.caller refl refl within.same_env within.same_caller plan
+  plan-job env c (Counting m) op within plan = plans-so env c (Counting m) op counts m.env c refl refl within refl plan
 
   module _ (local : Local M) (none : HasNoLists local) where
     -- the job that a caller has after this has become of what it does and of its room of owners, and how its

@@ -3,11 +3,12 @@
 -- It holds at opening, where every caller is idle and the words are small. An admitted call begins in range, and each machine
 -- stays in range whatever word it is told; so what it stores is a word, and it is told words. Since no machine plans an
 -- operation on the word of the enrolled callers, an Enroll alone changes that word.
-use Rattle.std.proofs.Common.{◌≡◌, ℕ, ◌-◌, ◌*◌, ◌<◌, List, min, refl, sym, subst, ◌∙◌, arith}
+use Rattle.std.proofs.Common.{◌≡◌, ℕ, ◌-◌, ◌*◌, ◌<◌, List, length, min, refl, sym, ap, subst, ◌∙◌, inl, inr, arith}
 use Rattle.std.specs.Prelude.{Option, Some, None, ◌==◌}
 use Rattle.std.specs.List.{AllByRecursion}
 use Rattle.std.proofs.Math.Pow.{pow_mono}
-use Rattle.std.proofs.lemmas.Bool.{cond_both}
+use Rattle.std.proofs.lemmas.Bool.{cases_lt, cond_both}
+use Rattle.std.proofs.lemmas.List.{get_or_past}
 use Rattle.std.proofs.lemmas.Nat.{trailing_le}
 use Rattle.rht_words.specs.declared.op.Op.{Op}
 use Rattle.rht_words.specs.declared.env.Env.{Env}
@@ -48,7 +49,7 @@ use Rattle.rht_callers.specs.PortCounts.{count_plan_in}
 use Rattle.rht_callers.specs.declared.local.Local.{Local}
 use Rattle.rht_callers.specs.declared.local.Doing.{Doing}
 use Rattle.rht_callers.specs.declared.local.Doing.TheVariants.{Idle, Finding, Binding, Releasing, Rebinding, Listing, Working, Counting}
-use Rattle.rht_callers.specs.Locals.{fresh, machine_of, begin_with, plan_of, doing_after, local_after, owners_room, without_node, IsDoingOf}
+use Rattle.rht_callers.specs.Locals.{fresh, machine_of, begin_with, plan_of, doing_after, local_after, owners_room, without_node}
 use Rattle.rht_core.specs.Runs.{Core, World, local_of, beginning_in, with_machine, planned_in, with_step, enrolling, world_step, run_of, opening, IsAdmitted, IsAdmittedCall, IsAdmittedEvent}
 use Rattle.rht_core.specs.Laws.{IsDoingIn, IsLocalIn, InRange, WordsFit, IsOfCaller, IsEnrolledKept, Enrolled}
 use Rattle.rht_core.specs.Jobs.{Job, finds, binds, lists, releases, rebinds, works, counts, job_plan, job_of}
@@ -94,15 +95,15 @@ first_map_word : (g : Geometry) → 0 < map_words g.nodes
 first_map_word g = let within = g.within.nodes_within in omega arith
 
 -- the operation of a job in range is on a word
-pub planned_job : (env : Env) (mix : ℕ → ℕ → ℕ → ℕ) (c : ℕ) (job : Job) → JobIn env mix c job
-    → IsPlannedIn env.geometry (job_plan env job)
-planned_job env mix c (finds port state) within = planned_find env state within
-planned_job env mix c (binds port owner once state) within = planned_bind env state within.at_in
-planned_job env mix c (lists port room state) within = planned_all env state within.at_in
-planned_job env mix c (releases port owner state) within = planned_release env state within
-planned_job env mix c (rebinds port owner new state) within = planned_rebind env state within.at_in
-planned_job env mix c (works state) within = planned_work env state within
-planned_job env mix c counts within = planned_count env
+pub planned_job : (env : Env) (mix : ℕ → ℕ → ℕ → ℕ) (c : ℕ) (job : Job) → c < 16 → JobIn env mix c job
+    → IsPlannedIn env.geometry (job_plan env c job)
+planned_job env mix c (finds port state) few within = planned_find env c state few within
+planned_job env mix c (binds port owner once state) few within = planned_bind env state within.at_in
+planned_job env mix c (lists port room state) few within = planned_all env state within.at_in
+planned_job env mix c (releases port owner state) few within = planned_release env state within
+planned_job env mix c (rebinds port owner new state) few within = planned_rebind env state within.at_in
+planned_job env mix c (works state) few within = planned_work env state within
+planned_job env mix c counts few within = planned_count env
 
 module _ (M : Type 0) where
   -- a caller that begins an admitted call begins in range
@@ -237,12 +238,12 @@ module _ (M : Type 0) where
     job-in (Counting m) job room is within roomy = first-so (JobIn env mix c) (Some counts) job tt is
 
     -- so the operation that it plans is on a word
-    plans-in : (local : Local M) (op : Op) → IsDoingOf env local.doing → IsLocalIn env c local → plan_of local ≡ Some op
+    plans-in : (local : Local M) (op : Op) → c < 16 → IsLocalIn env c local → plan_of local ≡ Some op
         → IsPlannedIn env.geometry op
-    plans-in local op of within is =
-        let plans = plan-job env local.doing op of is in
+    plans-in local op few within is =
+        let plans = plan-job env c local.doing op within.doing is in
         subst (IsPlannedIn env.geometry) (sym plans.plan)
-        (planned_job env mix c plans.job (job-in local.doing plans.job local.owners plans.does within.doing within.owners))
+        (planned_job env mix c plans.job few (job-in local.doing plans.job local.owners plans.does within.doing within.owners))
 
 -- ---- runs
 
@@ -252,6 +253,25 @@ module _ (M : Type 0) (mix : ℕ → ℕ → ℕ → ℕ) (env : Env) where
     pub stays : StaysIn M mix env core
     pub words : AllByRecursion IsWord core.words
     pub locals : (c : ℕ) → IsLocalIn env c (local_of core c)
+
+  -- who is enrolled is one of at most 16 callers
+  few-enrolled : (core : Core M) (c : ℕ) → StaysIn M mix env core → c < core.enrolled → c < 16
+  few-enrolled core c stays below =
+      let callers = env.geometry.within.callers_within in
+      let few = stays.few_enrolled in
+      omega (arith, below, few, callers.1)
+
+  -- and so is who has an operation to perform
+  pub few-planning : (core : Core M) (c : ℕ) (op : Op) → StaysIn M mix env core → plan_of (local_of core c) ≡ Some op → c < 16
+  few-planning core c op stays is = elim (cases_lt c (length core.locals)) [
+    | inl below ↦
+        let callers = env.geometry.within.callers_within in
+        let all = stays.all_locals in
+        omega (arith, below, all, callers.1)
+    | inr past ↦
+        let fresh_one = ap plan_of (get_or_past core.locals c (fresh core.env) past) in
+        absurd (let both = sym fresh_one ∙ is in cc)
+  ]
 
   pub opens-all : AllIn (opening env).core
   opens-all = record {
@@ -295,7 +315,7 @@ module _ (M : Type 0) (mix : ℕ → ℕ → ℕ → ℕ) (env : Env) where
   step-all core c (Some op) is all =
       let can = planned-some core.env core.enrolled core.locals c op is in
       let here = all.locals c in
-      let plan = plans-in M env mix c (local_of core c) op (all.stays.locals_of c).doing here can.plan in
+      let plan = plans-in M env mix c (local_of core c) op (few-enrolled core c all.stays can.below) here can.plan in
       let old = old_of core.words op in
       let next = local_after mix (local_of core c) old in
       record {
@@ -345,7 +365,7 @@ module _ (M : Type 0) (mix : ℕ → ℕ → ℕ → ℕ) (env : Env) where
   step-kept core c None is all = refl
   step-kept core c (Some op) is all =
       let can = planned-some core.env core.enrolled core.locals c op is in
-      let plan = plans-in M env mix c (local_of core c) op (all.stays.locals_of c).doing (all.locals c) can.plan in
+      let plan = plans-in M env mix c (local_of core c) op (few-enrolled core c all.stays can.below) (all.locals c) can.plan in
       applied-other core.words op (place_of env.geometry EnrolledCallers) (λ e. plan.apart (sym e))
 
   -- an event of a caller leaves the word of the enrolled callers and how many there are
@@ -367,7 +387,7 @@ module _ (M : Type 0) (mix : ℕ → ℕ → ℕ → ℕ) where
         same_env = all.stays.same_env;
         sound = IsSound-stays M mix env core all.stays;
         locals = all.locals;
-        plans = λ c op is. plans-in M env mix c (local_of core c) op (all.stays.locals_of c).doing (all.locals c) is;
+        plans = λ c op is. plans-in M env mix c (local_of core c) op (few-planning M mix env core c op all.stays is) (all.locals c) is;
       }
 
   pub words_fit : WordsFit M mix

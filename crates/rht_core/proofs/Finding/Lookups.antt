@@ -1,6 +1,6 @@
 -- What a look-up without locks knows in each of its states, and that each of its loads leads from what it knows to what it knows next.
 -- A load leaves words and ghost, so all of this is said of one moment; what others do meanwhile is said by stages (`stage_stays`).
-use Rattle.std.proofs.Common.{◌≡◌, ◌≢◌, ℕ, ◌+◌, ◌<◌, ◌≤◌, nat_lt, List, [], Option, Some, None, refl, sym, ◌∙◌, ap, subst, arith}
+use Rattle.std.proofs.Common.{◌≡◌, ◌≢◌, ◌⊎◌, ℕ, ◌+◌, ◌<◌, ◌≤◌, nat_lt, List, [], Option, Some, None, refl, sym, ◌∙◌, ap, subst, inl, inr, arith}
 use Rattle.std.specs.Prelude.{◌==◌, ◌%◌, if◌then◌else◌}
 use Rattle.std.proofs.lemmas.Bool.{cond_both, eqb-true, eqb-false, ltb-false}
 use Rattle.rht_words.specs.declared.env.Env.{Env}
@@ -18,10 +18,10 @@ use Rattle.rht_model.specs.declared.history.Reply.TheVariants.{Found, Missing}
 use Rattle.rht_nest.specs.Reach.{ReachModel, reach_after, reach_plan}
 use Rattle.rht_nest.specs.declared.place.Bucket.{Bucket}
 use Rattle.rht_nest.specs.declared.place.Bucket.TheVariants as buckets
-use Rattle.rht_look.specs.Find.{plan_at, goes, reached, walked_anew, chain_ended, led_to, next_table, IsFindAtIn}
-use Rattle.rht_look.specs.declared.find.Head.{Head}
-use Rattle.rht_look.specs.declared.find.FindAt.{FindAt}
-use Rattle.rht_look.specs.declared.find.FindAt.TheVariants as at
+use Rattle.rht_find.specs.Find.{plan_at, goes, reached, walked_anew, chain_ended, led_to, next_table, IsFindAtIn}
+use Rattle.rht_find.specs.declared.find.Head.{Head}
+use Rattle.rht_find.specs.declared.find.FindAt.{FindAt}
+use Rattle.rht_find.specs.declared.find.FindAt.TheVariants as at
 use Rattle.rht_ghost.proofs.Theory.Ghosts.{Ghost, lock_bit, index_at, none-some}
 use Rattle.rht_ghost.proofs.Theory.Wholes.{chain_of, key_of, place_at, word_index, place_at-index, Whole}
 use Rattle.rht_ghost.proofs.Theory.Passed.{TablesGrow, home-within, home-no_entry}
@@ -213,6 +213,33 @@ module _ (env : Env) (mix : ℕ → ℕ → ℕ → ℕ) (port since : ℕ) (Say
         future_known table known (slot_of (M (Slot table FutureWord))) (future_leads env mix M G whole table known.0.table)
     look_leads caller (at.Owner node) within known = found node known.0 known.1
     look_leads caller (at.Closing reply) within known = known
+
+-- what it knows by one notion of a right answer, it knows by another that holds wherever that one does
+module _ (env : Env) (mix : ℕ → ℕ → ℕ → ℕ) (port since : ℕ) (Says Says' : Reply → Type 0)
+    (said : (reply : Reply) → Says reply → Says' reply) (M : Memory) (G : Ghost) (P : Places) where
+  or_else : {A : Type 0} → Says Missing ⊎ A → Says' Missing ⊎ A
+  or_else (inl is) = inl (said Missing is)
+  or_else (inr other) = inr other
+
+  stage_says : (stage : Stage) → StageMeans env mix port since (Says Missing) M G P stage
+      → StageMeans env mix port since (Says' Missing) M G P stage
+  stage_says (Reaching slot) known = (known.0, or_else known.1)
+  stage_says (Heading slot j) known = (known.0, or_else known.1)
+  stage_says (AtKey slot j m visited) known = (known.0, known.1, or_else known.2)
+  stage_says (AtLink slot j m visited) known = (known.0, known.1, or_else known.2)
+  stage_says (Ending slot) known = (known.0, or_else known.1)
+  stage_says (Owning m) known = known
+
+  pub look_says : (state : FindAt) → LookMeans env mix port since Says M G P state → LookMeans env mix port since Says' M G P state
+  look_says at.Opening known = tt
+  look_says at.CurrentTable known = tt
+  look_says (at.Locating reach) known = (stage_says (Reaching reach.table) known.0, known.1)
+  look_says (at.Heading head) known = stage_says (Heading head.table (word_index env mix head.place)) known
+  look_says (at.Key head node visited) known = stage_says (AtKey head.table (word_index env mix head.place) node visited) known
+  look_says (at.Link head node visited) known = stage_says (AtLink head.table (word_index env mix head.place) node visited) known
+  look_says (at.Future table) known = stage_says (Ending table) known
+  look_says (at.Owner node) known = known
+  look_says (at.Closing reply) known = said reply known
 
 -- what it knows outlives an operation of anybody else
 module _ (env : Env) (mix : ℕ → ℕ → ℕ → ℕ) (port since now : ℕ) (M : Memory) (G : Ghost) (P : Places) (M' : Memory) (G' : Ghost)

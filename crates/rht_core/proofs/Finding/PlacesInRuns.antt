@@ -50,14 +50,28 @@ module _ (env : Env) (mix : ℕ → ℕ → ℕ → ℕ) (L : Type 0) where
 
   -- ---- one event more
 
+  -- what an event does: the move that it makes, and what holds behind it
+  pub record EventMakes (events : List Event) (core core' : Core L) (placed : Placed events core) : Type 0 where
+    pub caller : ℕ
+    pub move : Move
+    pub ready : ReadyFor env mix caller (mem env mix core.words) placed.ghost move
+    pub made : Made env mix caller (mem env mix core.words) placed.ghost (mem env mix core'.words)
+        (ghost_after env mix caller move placed.ghost)
+    pub ghost : Ghost
+    pub same : ghost ≡ ghost_after env mix caller move placed.ghost
+    pub inv : Inv env mix L core' ghost
+    pub all : AllIn L mix env core'
+
   module _ (events : List Event) (event : Event) (core core' : Core L)
       (stands : bindings_at L mix env events ≡ stands_for env.geometry core.words)
-      (placed : Placed events core)
-      (c : ℕ) (move : Move) (ready : ReadyFor env mix c (mem env mix core.words) placed.ghost move)
-      (made : Made env mix c (mem env mix core.words) placed.ghost (mem env mix core'.words)
-      (ghost_after env mix c move placed.ghost))
-      (H : Ghost) (same : H ≡ ghost_after env mix c move placed.ghost) (inv' : Inv env mix L core' H)
-      (all' : AllIn L mix env core') where
+      (placed : Placed events core) (makes : EventMakes events core core' placed) where
+    abbrev c : ℕ
+    c = makes.caller
+
+    abbrev made : Made env mix c (mem env mix core.words) placed.ghost (mem env mix core'.words)
+        (ghost_after env mix c makes.move placed.ghost)
+    made = makes.made
+
     abbrev M : Memory
     M = mem env mix core.words
 
@@ -68,22 +82,22 @@ module _ (env : Env) (mix : ℕ → ℕ → ℕ → ℕ) (L : Type 0) where
     G = placed.ghost
 
     abbrev G' : Ghost
-    G' = ghost_after env mix c move G
+    G' = ghost_after env mix c makes.move G
 
     abbrev more : List Event
     more = events ++ event ∷ []
 
     -- there is one event more
-    longer : length events + 1 ≡ length more
+    pub longer : length events + 1 ≡ length more
     longer = sym (length_push events event)
 
     -- the places behind it
-    step : PlacesNext env mix (length events) M G placed.places M' G'
-    step = places_step env mix
-        (length events) c M G placed.places M' placed.inv.whole placed.right move ready made
+    pub places_then : PlacesNext env mix (length events) M G placed.places M' G'
+    places_then = places_step env mix
+        (length events) c M G placed.places M' placed.inv.whole placed.right makes.move makes.ready made
 
     -- what a first node's port stands for
-    was_now : (n j : ℕ) → seat_of (G.node n) ≡ Some j → WasFirst more M n (length events)
+    pub was_now : (n j : ℕ) → seat_of (G.node n) ≡ Some j → WasFirst more M n (length events)
     was_now n j sits =
         let at = seated_at env mix M G placed.inv.whole n j sits in
         record {
@@ -96,18 +110,18 @@ module _ (env : Env) (mix : ℕ → ℕ → ℕ → ℕ) (L : Type 0) where
         }
 
     -- a node that has died was a first one right before that
-    was_first : (n t : ℕ) → n < env.geometry.nodes → IsUsed (G.node n) → seat_of (G'.node n) ≡ None
-        → step.places.dead n ≡ Some t → WasFirst more M n t
+    pub was_first : (n t : ℕ) → n < env.geometry.nodes → IsUsed (G.node n) → seat_of (G'.node n) ≡ None
+        → places_then.places.dead n ≡ Some t → WasFirst more M n t
     was_first n t among used none dead = go (seat_of (G.node n)) refl
       where
         go : (seat : Option ℕ) → seat_of (G.node n) ≡ seat → WasFirst more M n t
         go (Some j) sits =
             let both : ◌≡◌ {A = Option ℕ} (Some (length events)) (Some t) =
-            sym (step.deaths.died n j sits none) ∙ dead in
+            sym (places_then.deaths.died n j sits none) ∙ dead in
             let now : length events ≡ t = cc in
             subst (WasFirst more M n) now (was_now n j sits)
         go None seatless =
-            let before = sym (step.deaths.kept n seatless) ∙ dead in
+            let before = sym (places_then.deaths.kept n seatless) ∙ dead in
             let was = placed.said n t among used seatless before in
             let at = placed.deaths n among used seatless in
             let same = some-same at.at t (sym at.is ∙ before) in
@@ -120,7 +134,7 @@ module _ (env : Env) (mix : ℕ → ℕ → ℕ → ℕ) (L : Type 0) where
             }
 
     -- and its words stay
-    words_stay : (n t : ℕ) → n < env.geometry.nodes → IsUsed (G.node n) → WasFirst more M n t
+    pub words_stay : (n t : ℕ) → n < env.geometry.nodes → IsUsed (G.node n) → WasFirst more M n t
         → WasFirst more M' n t
     words_stay n t among used was =
         let rely = made.others (suc c) (λ e. absurd (omega arith)) in
@@ -131,30 +145,30 @@ module _ (env : Env) (mix : ℕ → ℕ → ℕ → ℕ) (L : Type 0) where
         }
 
     -- so the invariant holds behind it
-    pub next : Placed more core'
+    unfoldable pub next : Placed more core'
     next = record {
       ghost = G';
       inv = record {
-        same_env = inv'.same_env;
+        same_env = makes.inv.same_env;
         whole = made.whole;
-        each = subst (λ K. (k : ℕ) → Knows env mix k (job_of (local_of core' k).doing) M' K) same inv'.each;
+        each = subst (λ K. (k : ℕ) → Knows env mix k (job_of (local_of core' k).doing) M' K) makes.same makes.inv.each;
       };
-      all = all';
-      places = step.places;
-      right = subst (PlacesRight env mix G' step.places M') longer step.right_now;
-      deaths = subst (DeathsRight env M' G' step.places) longer
+      all = makes.all;
+      places = places_then.places;
+      right = subst (PlacesRight env mix G' places_then.places M') longer places_then.right_now;
+      deaths = subst (DeathsRight env M' G' places_then.places) longer
           (deaths_after env mix
-          (length events) M G placed.places M' G' step.places step.frame placed.inv.whole step.deaths
+          (length events) M G placed.places M' G' places_then.places places_then.frame placed.inv.whole places_then.deaths
           placed.deaths);
       said = λ n t among used none dead.
-          let was_used = step.deaths.used n used none in
+          let was_used = places_then.deaths.used n used none in
           words_stay n t among was_used (was_first n t among was_used none dead);
     }
 
   -- ---- runs
 
   -- at the opening there are no places
-  placed_opening : Placed [] (opening_core env)
+  pub placed_opening : Placed [] (opening_core env)
   placed_opening = record {
     ghost = opening_ghost env;
     inv = opening_inv env mix L;
@@ -176,48 +190,81 @@ module _ (env : Env) (mix : ℕ → ℕ → ℕ → ℕ) (L : Type 0) where
   module _ (events : List Event) (w : World L)
       (stands : bindings_at L mix env events ≡ stands_for env.geometry w.core.words)
       (placed : Placed events w.core) where
-    core : Core L
+    abbrev core : Core L
     core = w.core
 
+    abbrev Makes : Event → Type 0
+    Makes event = EventMakes events core (world_step mix w event).core placed
+
     -- by what a caller plans, and by the event
-    placed_step : (c : ℕ) (plan : Option Op) → planned_in w.core c ≡ plan
+    step_makes : (c : ℕ) (plan : Option Op) → planned_in w.core c ≡ plan
         → IsAdmittedEvent env.config.kind (Step c)
-        → Placed (events ++ Step c ∷ []) (world_step mix w (Step c)).core
-    placed_step c None is may =
+        → Makes (Step c)
+    step_makes c None is may =
         let k = kept env mix L w.core placed.ghost (Step c) placed.all placed.inv in
         let same : (core_step mix w.core (Step c)).0 ≡ w.core = ap (λ o. (with_step mix w.core c o).0) is in
-        next events (Step c) w.core (core_step mix w.core (Step c)).0 stands placed 0 Quiet tt
-        (subst (λ words. Made env mix 0 (mem env mix w.core.words) placed.ghost
-        (mem env mix words) placed.ghost)
-        (ap (λ (x : Core L). x.words) (sym same))
-        (still env mix 0 (mem env mix w.core.words) placed.ghost placed.inv.whole))
-        k.ghost (k.ghost_kept.none is) k.inv (event-all L mix env w (Step c) may placed.all)
-    placed_step c (Some op) is may =
+        record {
+          caller = 0;
+          move = Quiet;
+          ready = tt;
+          made = subst (λ words. Made env mix 0 (mem env mix w.core.words) placed.ghost
+              (mem env mix words) placed.ghost)
+              (ap (λ (x : Core L). x.words) (sym same))
+              (still env mix 0 (mem env mix w.core.words) placed.ghost placed.inv.whole);
+          ghost = k.ghost;
+          same = k.ghost_kept.none is;
+          inv = k.inv;
+          all = event-all L mix env w (Step c) may placed.all;
+        }
+    step_makes c (Some op) is may =
         let k = kept env mix L w.core placed.ghost (Step c) placed.all placed.inv in
         let moves = k.ghost_kept.some op is in
         let of = moves.0 in
         let same : (core_step mix w.core (Step c)).0.words ≡ applied w.core.words op =
         ap (λ o. (with_step mix w.core c o).0.words) is in
-        next events (Step c) w.core
-        (core_step mix w.core (Step c)).0 stands placed c of.step.move of.step.ready
-        (subst (λ words. Made env mix c (mem env mix w.core.words) placed.ghost (mem env mix words)
-        (ghost_after env mix c of.step.move placed.ghost)) (sym same) of.step.made)
-        k.ghost moves.1 k.inv (event-all L mix env w (Step c) may placed.all)
+        record {
+          caller = c;
+          move = of.step.move;
+          ready = of.step.ready;
+          made = subst (λ words. Made env mix c (mem env mix w.core.words) placed.ghost (mem env mix words)
+              (ghost_after env mix c of.step.move placed.ghost)) (sym same) of.step.made;
+          ghost = k.ghost;
+          same = moves.1;
+          inv = k.inv;
+          all = event-all L mix env w (Step c) may placed.all;
+        }
 
-    placed_event : (event : Event) → IsAdmittedEvent env.config.kind event
-        → Placed (events ++ event ∷ []) (world_step mix w event).core
-    placed_event Enroll may =
+    pub event_makes : (event : Event) → IsAdmittedEvent env.config.kind event → Makes event
+    event_makes Enroll may =
         let k = kept env mix L w.core placed.ghost Enroll placed.all placed.inv in
         let e = enrolled env mix L w.core placed.ghost placed.all placed.inv in
-        next events Enroll w.core (core_step mix w.core Enroll).0 stands placed 0 Quiet tt
-        (record { whole = e.0; others = λ c ne. e.1 c; stale = e.2 }) k.ghost k.ghost_kept k.inv
-        (event-all L mix env w Enroll may placed.all)
-    placed_event (Begin c call) may =
+        record {
+          caller = 0;
+          move = Quiet;
+          ready = tt;
+          made = record { whole = e.0; others = λ c ne. e.1 c; stale = e.2 };
+          ghost = k.ghost;
+          same = k.ghost_kept;
+          inv = k.inv;
+          all = event-all L mix env w Enroll may placed.all;
+        }
+    event_makes (Begin c call) may =
         let k = kept env mix L w.core placed.ghost (Begin c call) placed.all placed.inv in
-        next events (Begin c call) w.core (core_step mix w.core (Begin c call)).0 stands placed 0 Quiet tt
-        (still env mix 0 (mem env mix w.core.words) placed.ghost placed.inv.whole)
-        k.ghost k.ghost_kept k.inv (event-all L mix env w (Begin c call) may placed.all)
-    placed_event (Step c) may = placed_step c (planned_in w.core c) refl may
+        record {
+          caller = 0;
+          move = Quiet;
+          ready = tt;
+          made = still env mix 0 (mem env mix w.core.words) placed.ghost placed.inv.whole;
+          ghost = k.ghost;
+          same = k.ghost_kept;
+          inv = k.inv;
+          all = event-all L mix env w (Begin c call) may placed.all;
+        }
+    event_makes (Step c) may = step_makes c (planned_in w.core c) refl may
+
+    pub placed_event : (event : Event) → IsAdmittedEvent env.config.kind event
+        → Placed (events ++ event ∷ []) (world_step mix w event).core
+    placed_event event may = next events event w.core (world_step mix w event).core stands placed (event_makes event may)
 
   -- so it holds in every run, over its events
   pub has_places : (events : List Event) → IsAdmitted env.config.kind events

@@ -95,7 +95,7 @@ module _ (M : Type 0) (mix : ℕ → ℕ → ℕ → ℕ) (env : Env) where
     longer : length more ≡ length events + 1
     longer = length_push events event
 
-    said-more : (c : ℕ) (call : Call) (begin : ℕ) (answer : Answer) → IsSaid events c call begin answer
+    pub said-more : (c : ℕ) (call : Call) (begin : ℕ) (answer : Answer) → IsSaid events c call begin answer
         → IsSaid more c call begin answer
     said-more c call begin answer is = record {
       at = is.at;

@@ -35,12 +35,13 @@ use Rattle.rht_core.proofs.Tracing.TracedRuns.{count-traced_of, traced_of-push, 
 use Rattle.rht_core.proofs.Tracing.TracedCallers.{inv_now, stays_in}
 use Rattle.rht_core.proofs.Tracing.TracedJobs.{busy-none, IsAtJob}
 use Rattle.rht_core.proofs.Tracing.RepliesInRuns.{Holds, Answered, runs-right}
-use Rattle.rht_ghost.proofs.Theory.Answering.{KnowsEarly, Says}
+use Rattle.rht_ghost.proofs.Theory.Answering.{ClaimsAnswer, KnowsEarly, Says}
 use Rattle.rht_ghost.proofs.Theory.Steps.{mem, owners, ghost_after}
 use Rattle.rht_core.proofs.Machines.JobSteps.{IsThereNext}
 use Rattle.rht_core.proofs.Events.Invariants.{StepOf, step_of}
 use Rattle.rht_core.proofs.Events.PagesThere.{stepped-there}
 use Rattle.rht_core.proofs.Events.InvariantRuns.{HasInv, opening_ghost, opening_whole}
+use Rattle.rht_core.proofs.Finding.LookupsInRuns.{claim_is}
 use Rattle.rht_core.proofs.Meaning.BoundPorts.{stands_for_bound}
 use Rattle.rht_core.proofs.Histories.NumberedEntries.{AllBelow}
 use Rattle.rht_core.proofs.Histories.Behind.{Any-none}
@@ -311,13 +312,22 @@ module _ (M : Type 0) (mix : ℕ → ℕ → ℕ → ℕ) (env : Env) where
         at : IsWorking M mix env events c job trace own.es (entries_of c history)
         at = working own
 
+        -- what a look-up answers was so
+        claimed : (claims : ClaimsAnswer kind c (call_of job) (held_of job).answer (held_next next_job).answer)
+            → IsSaid M mix env after_it c (call_of job) trace.begin claims.answer
+        claimed =
+            subst (λ o. (claims : ClaimsAnswer kind c (call_of job) (held_of job).answer
+            (held_next (job_after mix env job (old_of words o))).answer)
+            → IsSaid M mix env after_it c (call_of job) trace.begin claims.answer) (sym of.plan)
+            (claim_is M mix env events c of.low admitted job of.is of.within)
+
         step : IsNext M mix env events event c (call_of job) trace.begin at.begun trace.steps at.made did
             (count-traced_of M mix env events) history (held_next next_job).answer own.es
         step =
             next_history M mix env events event c (call_of job) trace.begin at.begun trace.steps at.made
             did (count-traced_of M mix env events)
             (held_of job).early (IsThereAt M mix env events job) history (held_of job).answer (held_next next_job).answer
-            own.es fitting.good (λ claims. absurd (let never = claims.may in cc)) says at.early at.tail
+            own.es fitting.good claimed says at.early at.tail
 
         early : IsEarly M mix env after_it c (call_of job) trace.begin
             (IsThereNext next_job (mem env mix (applied words op))) (held_next next_job).early

@@ -10,7 +10,7 @@ use Rattle.rht_words.specs.declared.config.Hash.TheVariants.{Low}
 use Rattle.rht_words.specs.declared.config.Kind.TheVariants.{Single}
 use Rattle.rht_words.specs.declared.env.Env.{Env}
 use Rattle.rht_words.specs.declared.op.Op.{Op}
-use Rattle.rht_words.specs.declared.op.Op.TheVariants.{Load, Store, Exchange}
+use Rattle.rht_words.specs.declared.op.Op.TheVariants.{Load, Add}
 use Rattle.rht_words.specs.Places.{page_map_at, nodes_at, pages_at, first_address, slot_address, node_word, address_at}
 use Rattle.rht_words.specs.Settled.{IsSettled, plain_config}
 use Rattle.rht_words.specs.Sizes.{rounded_up, powers}
@@ -76,16 +76,18 @@ events =
 abbrev did : ℕ → Op → ℕ → Did
 did index op old = record { index = index; op = op; old = old }
 
--- A look-up of a port in an empty bucket, begun at this event, whose first operation is made at the next and each further one so many
--- events later. It loads which table is the current one, its shape and its seed, locks the bucket, loads the future, and unlocks.
-abbrev looked_up : ℕ → ℕ → ℕ → ℕ → ℕ → Past
-looked_up port begin first later bucket = record {
+-- This caller's look-up of a port in an empty bucket, begun at this event, whose first operation is made at that one and each further one
+-- so many events later. It opens its section, whose word it finds so, loads which table is the current one, its shape, its seed, the bucket
+-- and the future, and closes its section.
+abbrev looked_up : ℕ → ℕ → ℕ → ℕ → ℕ → ℕ → ℕ → Past
+looked_up caller even port begin first later bucket = record {
   done = ended_with (Find port) (plain_ending Missing);
   begin = begin;
   steps =
-      did first (Load 0) 0 ∷ did (first + later) (Load 24) 2 ∷ did (first + 2 * later) (Load 25) 1
-      ∷ did (first + 3 * later) (Load bucket) 0 ∷ did (first + 4 * later) (Exchange bucket 0 1) 0
-      ∷ did (first + 5 * later) (Load 26) 0 ∷ did (first + 6 * later) (Store bucket 0) 1 ∷ [];
+      did first (Add (8 + caller) 1) even ∷ did (first + later) (Load 0) 0
+      ∷ did (first + 2 * later) (Load 24) 2 ∷ did (first + 3 * later) (Load 25) 1
+      ∷ did (first + 4 * later) (Load bucket) 0 ∷ did (first + 5 * later) (Load 26) 0
+      ∷ did (first + 6 * later) (Add (8 + caller) 1) (even + 1) ∷ [];
 }
 
 -- an entry of this caller, whose look-up of this port misses, with the number of an event
@@ -111,11 +113,11 @@ module _ (M : Type 0) where
   run = traced_of itself env events
 
   -- the calls of both callers
-  calls_of_first : (run.traces 0).past ≡ looked_up 5 2 4 2 287 ∷ looked_up 7 18 19 1 289 ∷ []
+  calls_of_first : (run.traces 0).past ≡ looked_up 0 0 5 2 4 2 287 ∷ looked_up 0 2 7 18 19 1 289 ∷ []
   unfolding page_map_at nodes_at pages_at first_address slot_address node_word address_at lib.Count.count_trailing_zeros
   calls_of_first = refl
 
-  calls_of_second : (run.traces 1).past ≡ looked_up 6 3 5 2 288 ∷ []
+  calls_of_second : (run.traces 1).past ≡ looked_up 1 0 6 3 5 2 288 ∷ []
   unfolding page_map_at nodes_at pages_at first_address slot_address node_word address_at lib.Count.count_trailing_zeros
   calls_of_second = refl
 
@@ -218,7 +220,7 @@ module _ (M : Type 0) where
   tells_of_first : TellsOf right 0
   tells_of_first =
       subst (λ calls. Tells 0 (run.world.books 0).call calls right) (sym calls_of_first)
-      (subst (λ call. Tells 0 call (looked_up 5 2 4 2 287 ∷ looked_up 7 18 19 1 289 ∷ []) right) (sym none_open.0) (
+      (subst (λ call. Tells 0 call (looked_up 0 0 5 2 4 2 287 ∷ looked_up 0 2 7 18 19 1 289 ∷ []) right) (sym none_open.0) (
         record { call = refl; reply = refl; owners = refl; begun = lit≤ tt; ended = lit≤ tt },
         (record { call = refl; reply = refl; owners = refl; begun = lit≤ tt; ended = lit≤ tt }, refl),
       ))
@@ -226,7 +228,7 @@ module _ (M : Type 0) where
   tells_of_second : TellsOf right 1
   tells_of_second =
       subst (λ calls. Tells 1 (run.world.books 1).call calls right) (sym calls_of_second)
-      (subst (λ call. Tells 1 call (looked_up 6 3 5 2 288 ∷ []) right) (sym none_open.1)
+      (subst (λ call. Tells 1 call (looked_up 1 0 6 3 5 2 288 ∷ []) right) (sym none_open.1)
       (record { call = refl; reply = refl; owners = refl; begun = lit≤ tt; ended = lit≤ tt }, refl))
 
   tells_of_others : (c : ℕ) → 2 ≤ c → TellsOf right c
@@ -264,11 +266,11 @@ module _ (M : Type 0) where
   -- ---- histories that don't: one thing is wrong in each, and that isn't their order of answers
 
   abbrev first_told : (history : List Numbered) → Fits M itself env events history
-      → Tells 0 (run.world.books 0).call (looked_up 5 2 4 2 287 ∷ looked_up 7 18 19 1 289 ∷ []) history
+      → Tells 0 (run.world.books 0).call (looked_up 0 0 5 2 4 2 287 ∷ looked_up 0 2 7 18 19 1 289 ∷ []) history
   first_told history fits = subst (λ calls. Tells 0 (run.world.books 0).call calls history) calls_of_first (fits.calls 0)
 
   abbrev second_told : (history : List Numbered) → Fits M itself env events history
-      → Tells 1 (run.world.books 1).call (looked_up 6 3 5 2 288 ∷ []) history
+      → Tells 1 (run.world.books 1).call (looked_up 1 0 6 3 5 2 288 ∷ []) history
   second_told history fits = subst (λ calls. Tells 1 (run.world.books 1).call calls history) calls_of_second (fits.calls 1)
 
   -- the last look-up begins at 18, and its entry has the number before

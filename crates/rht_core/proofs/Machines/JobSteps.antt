@@ -45,7 +45,7 @@ use Rattle.rht_ghost.proofs.Theory.KnowledgeKept.{Knowing-rely}
 use Rattle.rht_ghost.proofs.Theory.Steps.{mem, Holding, Step, StepWhere, step-map, reads}
 use Rattle.rht_ghost.proofs.Pieces.Locates.{IsThereFor}
 use Rattle.rht_ghost.proofs.Theory.Knowns.{known_nothing}
-use Rattle.rht_find.proofs.FindSteps.{known_of_find, fits_find, FindMoved, find_step}
+use Rattle.rht_find.proofs.FindSteps.{FindMoved, find_step}
 use Rattle.rht_bind.proofs.BindKnowledge.{known_of_bind, fits_bind, bind_holds, BindNext}
 use Rattle.rht_bind.proofs.BindSteps.{bind_step}
 use Rattle.rht_release.proofs.AllSteps.{known_of_all, fits_all, AllMoved, all_step}
@@ -61,9 +61,9 @@ pub record JobStands : Type 0 where
   pub known : Known
   pub early : Option Answer
 
--- so it is by a machine's state; a bind that misses a page enters one, and a resizing misses none
+-- So it is by a machine's state. A look-up knows nothing of the table, a bind that misses a page enters one, and a resizing misses none.
 abbrev pub stands_of : Job → JobStands
-stands_of (finds port state) = record { known = known_of_find port state; early = (held_of (finds port state)).early }
+stands_of (finds port state) = record { known = known_nothing; early = None }
 stands_of (binds port owner once state) = record { known = known_of_bind port owner state; early = None }
 stands_of (lists port room state) =
     record { known = known_of_all port room.items state; early = (held_of (lists port room state)).early }
@@ -119,7 +119,7 @@ pub record JobFacts : Type 1 where
 module _ (env : Env) (mix : ℕ → ℕ → ℕ → ℕ) (c : ℕ) where
   -- a rebind is built for tables of one owner for each port alone, each other job for those of lists as well
   abbrev pub facts_of : Job → JobFacts
-  facts_of (finds port state) = record { built = Unit {0}; within = IsFindAtIn env state; fits = fits_find port state }
+  facts_of (finds port state) = record { built = Unit {0}; within = IsFindAtIn env state; fits = Unit {0} }
   facts_of (binds port owner once state) =
       record { built = Unit {0}; within = IsBindingIn env port owner state; fits = fits_bind env mix c port owner once state }
   facts_of (lists port room state) =
@@ -169,18 +169,19 @@ module _ (env : Env) (mix : ℕ → ℕ → ℕ → ℕ) (c : ℕ) where
   module _ (low : c < env.geometry.callers) (words : List ℕ) (G : Ghost) (all : length words ≡ words_in env.geometry)
       (whole : Whole env mix (mem env mix words) G) where
     abbrev pub JobStep : Job → Type 0
-    JobStep job = JobStepOf words G (job_plan env job) job (job_after mix env job (old_of words (job_plan env job)))
+    JobStep job = JobStepOf words G (job_plan env c job) job (job_after mix env job (old_of words (job_plan env c job)))
 
     finds_so : (port : ℕ) (state : FindAt) (r : FindAt × Next Reply)
-        → FindMoved env mix c port words G all whole state r
-        → JobStepOf words G (job_plan env (finds port state)) (finds port state) (job_next (finds port) plain_ending r)
+        → FindMoved env mix c port words G all whole low state r
+        → JobStepOf words G (job_plan env c (finds port state)) (finds port state) (job_next (finds port) plain_ending r)
     finds_so port state (next, Go) step =
-        step-map env mix (λ M G' w k. record { built = tt; knowing = k.knowing; fits = k.fits }) step
+        step-map env mix (λ M G' w k. record { built = tt; knowing = k; fits = tt }) step
     finds_so port state (next, Done reply) step = step
 
     binds_so : (port owner : ℕ) (once : Bool) (state : BindAt) (r : BindAt × Next Reply)
         → Step env mix c (call_of (binds port owner once state)) words G (bind_at.plan_at env state) (held_of (binds port owner once state)) (bind_holds env mix c port owner once r) (BindNext env mix c port owner once r)
-        → JobStepOf words G (job_plan env (binds port owner once state)) (binds port owner once state) (job_next (binds port owner once) plain_ending r)
+        → JobStepOf words G (job_plan env c (binds port owner once state)) (binds port owner once state)
+        (job_next (binds port owner once) plain_ending r)
     binds_so port owner once state (next, Go) step =
         step-map env mix (λ M G' w k. record { built = tt; knowing = k.knowing; fits = k.fits }) step
     binds_so port owner once state (next, Done reply) step = step
@@ -188,14 +189,16 @@ module _ (env : Env) (mix : ℕ → ℕ → ℕ → ℕ) (c : ℕ) where
     lists_so : (port : ℕ) (room : Kept ℕ) (roomy : room.limit ≡ env.geometry.nodes) (state : AllAt)
         (after : Kept ℕ) (r : AllAt × Next (Unit {0}))
         → AllMoved env mix c port room roomy words G all whole state after r
-        → JobStepOf words G (job_plan env (lists port room state)) (lists port room state) (job_next (lists port after) (listing_ending after) r)
+        → JobStepOf words G (job_plan env c (lists port room state)) (lists port room state)
+        (job_next (lists port after) (listing_ending after) r)
     lists_so port room roomy state after (next, Go) step =
         step-map env mix (λ M' G' w k. record { built = tt; knowing = k.knowing; fits = k.fits }) step
     lists_so port room roomy state after (next, Done done) step = step
 
     releases_so : (port owner : ℕ) (state : ReleaseAt) (r : ReleaseAt × Next (Reply × Option ℕ))
         → ReleaseMoved env mix c port owner words G state r
-        → JobStepOf words G (job_plan env (releases port owner state)) (releases port owner state) (job_next (releases port owner) node_ending r)
+        → JobStepOf words G (job_plan env c (releases port owner state)) (releases port owner state)
+        (job_next (releases port owner) node_ending r)
     releases_so port owner state (next, Go) step =
         step-map env mix (λ M G' w k. record { built = tt; knowing = k.knowing; fits = k.fits }) step
     releases_so port owner state (next, Done end) step =
@@ -205,7 +208,8 @@ module _ (env : Env) (mix : ℕ → ℕ → ℕ → ℕ) (c : ℕ) where
     rebinds_so : env.config.kind ≡ Single → (port owner new : ℕ) (state : RebindAt)
         (r : RebindAt × Next (Reply × Option ℕ))
         → RebindMoved env mix c port owner new words G state r
-        → JobStepOf words G (job_plan env (rebinds port owner new state)) (rebinds port owner new state) (job_next (rebinds port owner new) node_ending r)
+        → JobStepOf words G (job_plan env c (rebinds port owner new state)) (rebinds port owner new state)
+        (job_next (rebinds port owner new) node_ending r)
     rebinds_so single port owner new state (next, Go) step =
         step-map env mix (λ M G' w k. record { built = single; knowing = k.knowing; fits = k.fits }) step
     rebinds_so single port owner new state (next, Done end) step =
@@ -214,7 +218,7 @@ module _ (env : Env) (mix : ℕ → ℕ → ℕ → ℕ) (c : ℕ) where
 
     works_so : (state : WorkAt) (r : WorkAt × Next Reply)
         → Step env mix c Work words G (work_at.plan_at env state) (held_of (works state)) (work_holds r) (WorkNext env mix c r)
-        → JobStepOf words G (job_plan env (works state)) (works state) (job_next works plain_ending r)
+        → JobStepOf words G (job_plan env c (works state)) (works state) (job_next works plain_ending r)
     works_so state (next, Go) step =
         step-map env mix (λ M G' w k. record { built = tt; knowing = k; fits = tt }) step
     works_so state (next, Done reply) step = step
@@ -222,8 +226,8 @@ module _ (env : Env) (mix : ℕ → ℕ → ℕ → ℕ) (c : ℕ) where
     -- each operation of a job leads from what the caller knows to what it knows next
     pub job_step : (job : Job) → JobIn job → JobKnows job (mem env mix words) G → JobStep job
     job_step (finds port state) within knows =
-        finds_so port state (find_at.after_at mix env port state (old_of words (find_at.plan_at env state)))
-        (find_step env mix c port words G all whole state within (record { knowing = knows.knowing; fits = knows.fits }))
+        finds_so port state (find_at.after_at mix env port state (old_of words (find_at.plan_at env c state)))
+        (find_step env mix c port words G all whole low state knows.knowing)
     job_step (binds port owner once state) within knows =
         binds_so port owner once state (bind_at.after_at mix env port once state (old_of words (bind_at.plan_at env state)))
         (bind_step env mix c port owner once within.port_in within.owner_in low words G all whole state within.at_in (record { knowing = knows.knowing; fits = knows.fits }))

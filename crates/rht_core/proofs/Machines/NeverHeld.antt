@@ -61,25 +61,29 @@ slotless none slot has = let both = sym none.slot ∙ has in cc
 pub pageless : {h : Holding} → HoldsNoTable h → (page : ℕ) → In page h.pages → ⊥
 pageless none page i = subst (In page) none.pages i
 
--- A look-up and a listing hold a lock at most. No machine opens a read section yet.
+-- a look-up and a listing hold a lock and their read section at most
 pub record HoldsLockAlone (h : Holding) : Type 0 where
   pub node : h.node ≡ None
   pub low : h.raised ≡ false
-  pub outside : h.section ≡ false
   pub table : HoldsNoTable h
 
-lock_alone : {h : Holding} → h.node ≡ None → h.raised ≡ false → h.section ≡ false → h.slot ≡ None → h.pages ≡ [] → h.worker ≡ false
+lock_alone : {h : Holding} → h.node ≡ None → h.raised ≡ false → h.slot ≡ None → h.pages ≡ [] → h.worker ≡ false
     → h.moving ≡ false → HoldsLockAlone h
-lock_alone node low outside slot pages idle still =
-    record { node = node; low = low; outside = outside; table = no_table slot pages idle still }
+lock_alone node low slot pages idle still =
+    record { node = node; low = low; table = no_table slot pages idle still }
 
 pub find-alone : (state : FindAt) → HoldsLockAlone (held_of_find state)
-find-alone finding.CurrentTable = lock_alone refl refl refl refl refl refl refl
-find-alone _ = lock_alone refl refl refl refl refl refl refl
+find-alone finding.Opening = lock_alone refl refl refl refl refl refl
+find-alone _ = lock_alone refl refl refl refl refl refl
+
+-- a look-up takes no lock
+pub find-unlocked : (state : FindAt) → (held_of_find state).lock ≡ None
+find-unlocked finding.Opening = refl
+find-unlocked _ = refl
 
 pub all-alone : (owners : List ℕ) (state : AllAt) → HoldsLockAlone (held_of_all owners state)
-all-alone owners (listing.Seeking seek) = lock_alone refl refl refl refl refl refl refl
-all-alone owners _ = lock_alone refl refl refl refl refl refl refl
+all-alone owners (listing.Seeking seek) = lock_alone refl refl refl refl refl refl
+all-alone owners _ = lock_alone refl refl refl refl refl refl
 
 relinking-tableless : (found : FoundPort) (raised stored : Bool) → HoldsNoTable (holds_relinking found raised stored)
 relinking-tableless found raised true = no_table refl refl refl refl

@@ -24,7 +24,7 @@ use Rattle.rht_core.specs.Seen.{words_before}
 use Rattle.rht_core.specs.ResizeCauses.{Attaches, wanted_size}
 use Rattle.rht_core.specs.Attached.{EachBehind, AttachesFull, AttachCause, ChangesRightly, Attached, SawNoRun}
 use Rattle.rht_core.proofs.Tracing.TracesAtEvents.{at_events}
-use Rattle.rht_core.proofs.Tracing.TracedJobs.{IsEndedSo, IsAtJob, jobs_keep_standing}
+use Rattle.rht_core.proofs.Tracing.TracedJobs.{IsEndedSo, IsAtJob, jobs_keep_own}
 use Rattle.rht_core.proofs.Reasons.SlotsTaken.{each-map}
 use Rattle.rht_core.proofs.Reasons.MadeSizes.{pages-wanted, wanted-most}
 use Rattle.rht_core.proofs.Reasons.TablesCome.{AreTraced, traced-front, missing_had, walked_size}
@@ -182,13 +182,13 @@ pub attached : (M : Type 0) (mix : ℕ → ℕ → ℕ → ℕ) → Attached M m
 attached M mix env events c admitted =
     let r = traced_of {M = M} mix env events in
     let keeping =
-    jobs_keep_standing M mix env (Now M mix env events c) (Ended M mix env events c) events
+    jobs_keep_own M mix env (Now M mix env events c) (Ended M mix env events c) events c
     (record {
       begins = λ call job is.
           let none = begins M mix env events c call job is in
-          (first_job-saw M mix env events call job is, refusals.begins M mix env events call job is, tt, none.0, none.1);
-      goes = λ job steps did performs stands kept. goes M mix env events c admitted steps did job performs stands kept;
-    }) c admitted in
+          (first_job-saw M mix env events call job is, refusals.begins M mix env events c call job is, tt, none.0, none.1);
+      goes = λ job steps did performs own stands kept. goes M mix env events c admitted steps did job performs own stands kept;
+    }) admitted in
     let were = at_events M mix env events admitted c in
     record {
       past = past_rightly M mix env events c admitted 0 (r.traces c).past keeping.past were.past were.in_order;

@@ -124,7 +124,7 @@ module _ (M : Type 0) (mix : ℕ → ℕ → ℕ → ℕ) (env : Env) (events : 
 
   abbrev pub Now : Job → List Did → Type 0
   Now job steps =
-      JobSaw env words_at mix job steps × refusals.Going M mix env events job steps × EachBehind (ChangesSeen (call_of job)) [] steps
+      JobSaw env words_at mix job steps × refusals.Going M mix env events c job steps × EachBehind (ChangesSeen (call_of job)) [] steps
       × HasTakenWork job steps × HasTakenPages job steps
 
   abbrev pub Ended : Call → Ending → List Did → Type 0
@@ -158,7 +158,8 @@ module _ (M : Type 0) (mix : ℕ → ℕ → ℕ → ℕ) (env : Env) (events : 
       record {
         found = old;
         left = word_after-fits did.old did.op old
-            (subst (λ op. IsWord (op_value op)) (sym performs.planned) (planned_job env mix performs.caller job performs.within).fits);
+            (subst (λ op. IsWord (op_value op)) (sym performs.planned)
+            (planned_job env mix performs.caller job performs.few performs.within).fits);
       }
 
   -- the words before each event do
@@ -177,7 +178,7 @@ module _ (M : Type 0) (mix : ℕ → ℕ → ℕ → ℕ) (env : Env) (events : 
     }
 
     -- a call that may still be refused, and has told no answer, has taken the pages that it has
-    has_taken : (job : Job) → IsEarly job → refusals.Going M mix env events job steps → (page : ℕ) → In page (held_of job).pages
+    has_taken : (job : Job) → IsEarly job → refusals.Going M mix env events c job steps → (page : ℕ) → In page (held_of job).pages
         → HasTaken g page steps
     has_taken job is_early going page has = elim going [
       | inl past ↦ absurd (both_ways (is_past job) is_early.not_past past)
@@ -189,7 +190,7 @@ module _ (M : Type 0) (mix : ℕ → ℕ → ℕ → ℕ) (env : Env) (events : 
 
     attaching : (job : Job) (table slot : ℕ) → AttachesNow env did slot table job → Attaches g table slot did
         → (performs : Performs mix env job did) → performs.words ≡ words_at did.index → JobSaw env words_at mix job steps
-        → refusals.Going M mix env events job steps → HasTakenPages job steps → AttachesSeen (call_of job) table steps did
+        → refusals.Going M mix env events c job steps → HasTakenPages job steps → AttachesSeen (call_of job) table steps did
     attaching job table slot (by_bind port owner once growing shape same) attaches performs now saw going paged =
         let made = performs.knows.knowing.means.making in
         record {
@@ -263,7 +264,7 @@ module _ (M : Type 0) (mix : ℕ → ℕ → ℕ → ℕ) (env : Env) (events : 
         }
 
     entered : (job : Job) (entry : ℕ) (performs : Performs mix env job did) → performs.words ≡ words_at did.index
-        → JobSaw env words_at mix job steps → refusals.Going M mix env events job steps → entry < 64 * g.pages
+        → JobSaw env words_at mix job steps → refusals.Going M mix env events c job steps → entry < 64 * g.pages
         → (there : EntersThere env mix performs.caller performs.ghost did (held_of job) (held_next (job_after mix env job did.old)) entry)
         → EnterCause g words_at mix (call_of job) entry steps did
     entered job entry performs now saw going low there =
@@ -412,7 +413,7 @@ module _ (M : Type 0) (mix : ℕ → ℕ → ℕ → ℕ) (env : Env) (events : 
         ]
 
     changes : (job : Job) (performs : Performs mix env job did) → StandsIn mix env words_at job did performs
-        → JobSaw env words_at mix job steps → refusals.Going M mix env events job steps → HasTakenWork job steps
+        → JobSaw env words_at mix job steps → refusals.Going M mix env events c job steps → HasTakenWork job steps
         → HasTakenPages job steps → ChangesSeen (call_of job) steps did
     changes job performs stands saw going taken paged =
         let now = stands.now in
@@ -429,7 +430,8 @@ module _ (M : Type 0) (mix : ℕ → ℕ → ℕ → ℕ) (env : Env) (events : 
                     inl (own_table slot performs.caller performs.words performs.ghost performs.whole now is.held is.taken)
                 | inr here ↦
                     inr (attaching job slot here.made_slot
-                    (attaches_now env did here.made_slot slot here.attaches job performs.planned here.has) here.attaches performs now saw going paged)
+                    (attaches_now env performs.caller did here.made_slot slot here.attaches job performs.planned here.has)
+                    here.attaches performs now saw going paged)
               ];
           current = λ changed.
               let publishing = current_by_move env mix performs.caller performs.words performs.ghost did (held_of job) (held_next next)
@@ -457,7 +459,7 @@ module _ (M : Type 0) (mix : ℕ → ℕ → ℕ → ℕ) (env : Env) (events : 
     by_next : (job : Job) (next : Job × Next Ending) → call_of next.0 ≡ call_of job
         → EachBehind (ChangesSeen (call_of job)) [] (steps ++ did ∷ [])
         → LeadsOn M mix env (JobSaw env words_at mix) (EndsSeen M mix env events) job (steps ++ did ∷ []) next
-        → LeadsOn M mix env (refusals.Going M mix env events) (refusals.Undone M mix env events) job (steps ++ did ∷ []) next
+        → LeadsOn M mix env (refusals.Going M mix env events c) (refusals.Undone M mix env events c) job (steps ++ did ∷ []) next
         → ((held_next next).worker ≡ true → HasWorkLock g (steps ++ did ∷ []))
         → IfGoes next (λ after. HasTakenPages after (steps ++ did ∷ []))
         → LeadsOn M mix env Now Ended job (steps ++ did ∷ []) next
@@ -465,13 +467,14 @@ module _ (M : Type 0) (mix : ℕ → ℕ → ℕ → ℕ) (env : Env) (events : 
         (leads, going, subst (λ call. EachBehind (ChangesSeen call) [] (steps ++ did ∷ [])) (sym same) each, taken, paged)
     by_next job (after, Done ending) same each leads going taken paged = (leads, each)
 
-    pub goes : (job : Job) (performs : Performs mix env job did) → StandsIn mix env words_at job did performs → Now job steps
+    pub goes : (job : Job) (performs : Performs mix env job did) → performs.caller ≡ c → StandsIn mix env words_at job did performs
+        → Now job steps
         → LeadsOn M mix env Now Ended job (steps ++ did ∷ []) (job_after mix env job did.old)
-    goes job performs stands (saw, going, each, taken, paged) =
+    goes job performs own stands (saw, going, each, taken, paged) =
         by_next job (job_after mix env job did.old) (same_call mix env job did.old)
         (each-push (ChangesSeen (call_of job)) [] steps did each (changes job performs stands saw going taken paged))
         (job-leads M mix env events job steps did performs stands saw)
-        (refusals.goes M mix env events job steps did performs stands.now (saw-came env words_at mix job steps saw) going)
+        (refusals.goes M mix env events c job steps did performs own stands.now (saw-came env words_at mix job steps saw) going)
         (worked job performs stands.now taken)
         (pages_then job performs (job_after mix env job did.old) (ghost_after env mix performs.caller performs.step.move performs.ghost)
         performs.step.made.whole performs.step.knows

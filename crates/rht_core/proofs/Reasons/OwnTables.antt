@@ -164,7 +164,7 @@ module _ (env : Env) (did : Did) (slot table : ℕ) where
         → AttachesNow (binds port owner once (binding.Attaching growing slot shape))
     by_work : (root last shape : ℕ) → last ≡ table → AttachesNow (works (working.Attaching root last slot shape))
 
-module _ (env : Env) (did : Did) (slot table : ℕ) (attaches : Attaches env.geometry table slot did) where
+module _ (env : Env) (c : ℕ) (did : Did) (slot table : ℕ) (attaches : Attaches env.geometry table slot did) where
   abbrev h : Geometry
   h = env.geometry
 
@@ -177,7 +177,7 @@ module _ (env : Env) (did : Did) (slot table : ℕ) (attaches : Attaches env.geo
       let at : place_of h (Slot other FutureWord) ≡ place_of h (Slot table FutureWord) = ap op_place (sym is ∙ attaches.exchanges) in
       omega (arith, at)
 
-  bind-attaches : (port owner : ℕ) (once : Bool) (state : BindAt) → did.op ≡ job_plan env (binds port owner once state)
+  bind-attaches : (port owner : ℕ) (once : Bool) (state : BindAt) → did.op ≡ job_plan env c (binds port owner once state)
       → (held_of_bind state).slot ≡ Some slot → Now (binds port owner once state)
   bind-attaches port owner once (binding.Making growing size make) is has =
       absurd (make-none h make.geometry make.exponent make.seed make.at table 0 (future_of slot) attaches.table_in
@@ -193,7 +193,7 @@ module _ (env : Env) (did : Did) (slot table : ℕ) (attaches : Attaches env.geo
       absurd (slotless (front-tableless list.claimed (has_relinked list.before relink.at)) slot has)
   bind-attaches port owner once _ is has = absurd (cc)
 
-  work-attaches : (state : WorkAt) → did.op ≡ job_plan env (works state) → (held_of_work state).slot ≡ Some slot
+  work-attaches : (state : WorkAt) → did.op ≡ job_plan env c (works state) → (held_of_work state).slot ≡ Some slot
       → Now (works state)
   work-attaches (working.Making wanted make) is has =
       absurd (make-none h make.geometry make.exponent make.seed make.at table 0 (future_of slot) attaches.table_in
@@ -207,7 +207,7 @@ module _ (env : Env) (did : Did) (slot table : ℕ) (attaches : Attaches env.geo
       (sym is ∙ attaches.exchanges))
   work-attaches _ is has = absurd (cc)
 
-  pub attaches_now : (job : Job) → did.op ≡ job_plan env job → (held_of job).slot ≡ Some slot → Now job
+  pub attaches_now : (job : Job) → did.op ≡ job_plan env c job → (held_of job).slot ≡ Some slot → Now job
   attaches_now (binds port owner once state) is has = bind-attaches port owner once state is has
   attaches_now (works state) is has = work-attaches state is has
   attaches_now job is has = absurd (slotless (tableless job refl) slot has)

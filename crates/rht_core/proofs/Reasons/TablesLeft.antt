@@ -48,7 +48,7 @@ module _ (env : Env) (words_at : ℕ → List ℕ) (mix : ℕ → ℕ → ℕ �
   unlocking-left rehash place true means = one_left means.works.1
   unlocking-left rehash place false means = one_left means.works.1
 
-  work-gone : (state : WorkAt) → did.op ≡ job_plan env (works state)
+  work-gone : (state : WorkAt) → did.op ≡ job_plan env c (works state)
       → WorkMeans env mix c (mem env mix words) G (known_at_work state) → SawAtWork env words_at state steps → HasGoneOn g slot steps
   work-gone working.WorkLock is means saw = absurd (let both = sym is ∙ stores in cc)
   work-gone (working.Unlocking rehash number unlock stop) is means saw = absurd (unlocking-left rehash _ stop means)
@@ -59,7 +59,7 @@ module _ (env : Env) (words_at : ℕ → List ℕ) (mix : ℕ → ℕ → ℕ �
       subst (λ s. HasGoneOn g s steps) same saw.1
   work-gone _ is means saw = absurd (one_left means.works.1)
 
-  pub gone_on : (job : Job) → did.op ≡ job_plan env job → (held_of job).moving ≡ true → JobKnows env mix c job (mem env mix words) G
+  pub gone_on : (job : Job) → did.op ≡ job_plan env c job → (held_of job).moving ≡ true → JobKnows env mix c job (mem env mix words) G
       → JobSaw env words_at mix job steps → HasGoneOn g slot steps
   gone_on (works state) is moves knows saw = work-gone state is knows.knowing.means.work saw
   gone_on job is moves knows saw = absurd (let same = moving_works job moves in cc)

@@ -11,14 +11,15 @@ use Rattle.rht_core.specs.Jobs.{Job, first_job, job_after}
 use Rattle.rht_core.specs.Runs.{IsAdmitted}
 use Rattle.rht_core.specs.Traces.{Did, Past, traced_of}
 use Rattle.rht_core.specs.Seen.{words_before}
-use Rattle.rht_core.proofs.Tracing.TracedJobs.{Performs, StandsIn, LeadsOn, JobsKeepStanding, IsEndedSo, jobs_keep_standing}
+use Rattle.rht_core.proofs.Tracing.TracedJobs.{Performs, StandsIn, LeadsOn, JobsKeepStanding, IsEndedSo, jobs_keep_own}
 
 module _ (M : Type 0) (mix : ℕ → ℕ → ℕ → ℕ) (env : Env) (events : List Event)
     (First Now : Job → List Did → Type 0) (FirstEnded Ended : Call → Ending → List Did → Type 0)
   where
-    pub record KeepsBeside : Type 0 where
+    -- what has to be shown of the jobs of this caller
+    pub record KeepsBeside (c : ℕ) : Type 0 where
       pub begins : (call : Call) (job : Job) → first_job env call ≡ Some job → Now job []
-      pub goes : (job : Job) (steps : List Did) (did : Did) (performs : Performs mix env job did)
+      pub goes : (job : Job) (steps : List Did) (did : Did) (performs : Performs mix env job did) → performs.caller ≡ c
           → StandsIn mix env (words_before M mix env events) job did performs → First job steps → Now job steps
           → LeadsOn M mix env Now Ended job (steps ++ did ∷ []) (job_after mix env job did.old)
 
@@ -39,16 +40,16 @@ module _ (M : Type 0) (mix : ℕ → ℕ → ℕ → ℕ) (env : Env) (events : 
     ended_beside [] each = tt
     ended_beside (past ∷ calls) each = (each.0.1, ended_beside calls each.1)
 
-    -- so it holds of each call that has ended
-    pub kept_beside : JobsKeepStanding M mix env First FirstEnded events → KeepsBeside → (c : ℕ)
+    -- so it holds of each of its calls that has ended
+    pub kept_beside : JobsKeepStanding M mix env First FirstEnded events → (c : ℕ) → KeepsBeside c
         → IsAdmitted env.config.kind events
         → AllByRecursion (IsEndedSo M mix env Now Ended) ((traced_of {M = M} mix env events).traces c).past
-    kept_beside first keeps c admitted =
+    kept_beside first c keeps admitted =
         ended_beside ((traced_of {M = M} mix env events).traces c).past
-        (jobs_keep_standing M mix env Both BothEnded events record {
+        (jobs_keep_own M mix env Both BothEnded events c record {
           begins = λ call job is. (first.begins call job is, keeps.begins call job is);
-          goes = λ job steps did performs stands both.
+          goes = λ job steps did performs own stands both.
               both_lead job (steps ++ did ∷ []) (job_after mix env job did.old)
               (first.goes job steps did performs stands both.0)
-              (keeps.goes job steps did performs stands both.0 both.1);
-        } c admitted).past
+              (keeps.goes job steps did performs own stands both.0 both.1);
+        } admitted).past

@@ -18,19 +18,18 @@ use Rattle.rht_words.proofs.PlacesApart.{place_of-apart, place_of-below}
 use Rattle.rht_words.proofs.WordChanges.{applied-same, applied-other}
 use Rattle.rht_core.specs.declared.event.Event.{Event}
 use Rattle.rht_core.specs.declared.event.Event.TheVariants.{Enroll, Begin, Step}
-use Rattle.rht_callers.specs.declared.local.Local.{Local}
-use Rattle.rht_callers.specs.Locals.{is_idle, plan_of, local_after}
-use Rattle.rht_core.specs.Runs.{Core, World, View, local_of, planned_in, with_step, enrolling, world_step, run_of, IsAdmitted}
-use Rattle.rht_core.specs.Traces.{Did, Past, traced_of, IsRising, behind_steps, behind_call}
+use Rattle.rht_callers.specs.Locals.{is_idle}
+use Rattle.rht_core.specs.Runs.{Core, World, local_of, planned_in, enrolling, world_step, run_of, IsAdmitted}
+use Rattle.rht_core.specs.Traces.{Did, Past, traced_of, IsRising, behind_call}
 use Rattle.rht_core.specs.Laws.{IsRecorded, IsPastCall}
 use Rattle.rht_core.specs.ResizeCauses.{Loaded}
 use Rattle.rht_core.specs.Worked.{IsAloneDuring}
 use Rattle.rht_ghost.proofs.Theory.Steps.{unchanged}
-use Rattle.rht_core.proofs.Events.Worlds.{planned-some, run_of-next, step_none, step_self, step_words}
+use Rattle.rht_core.proofs.Events.Worlds.{run_of-next, step_none, step_words}
 use Rattle.rht_callers.proofs.CallBeginnings.{idle_plans}
-use Rattle.rht_core.proofs.Events.BusyCallers.{ends}
-use Rattle.rht_core.proofs.Events.SoundRuns.{runs-in, has_place}
-use Rattle.rht_core.proofs.Tracing.TracesAtEvents.{behind_steps-push, at_events, past-ends}
+use Rattle.rht_core.proofs.Events.SoundRuns.{runs-in}
+use Rattle.rht_core.proofs.Tracing.BehindCalls.{idle_behind}
+use Rattle.rht_core.proofs.Tracing.TracesAtEvents.{at_events, past-ends}
 use Rattle.rht_core.proofs.Tracing.StepsInTraces.{stands_within, call_in_order, rising_around, LiesWithin, rising-within}
 
 -- the operation leaves the word at this place
@@ -84,13 +83,7 @@ module _ (M : Type 0) (mix : ℕ → ℕ → ℕ → ℕ) (env : Env) (events : 
       All-contains P past.steps did
       (All-from_recursion P past.steps (rising-within (past.begin + 1) past.steps steps_rising)) there
 
-  -- the last of them, which answered it, is the event before its end
-  ends_at : past_call.answered.last.index + 1 ≡ behind_call past
-  ends_at =
-      let answered = past_call.answered in
-      sym (ap (behind_steps (past.begin + 1)) answered.steps_are
-      ∙ behind_steps-push (past.begin + 1) answered.before answered.last)
-
+  -- the last of them answered it
   last_there : Contains past.steps past_call.answered.last
   last_there =
       let answered = past_call.answered in
@@ -99,14 +92,6 @@ module _ (M : Type 0) (mix : ℕ → ℕ → ℕ → ℕ) (env : Env) (events : 
   pub begins_before : past.begin ≤ behind_call past
   begins_before = let within = steps_within past_call.answered.last last_there in omega (arith, within.0, within.1)
 
-  -- who plans an operation is in a call
-  busy_planned : (local : Local M) (op : Op) → plan_of local ≡ Some op → is_idle local ≡ false
-  busy_planned local op plan = go (is_idle local) refl
-    where
-      go : (idle : Bool) → is_idle local ≡ idle → idle ≡ false
-      go false is = refl
-      go true is = let none : ◌≡◌ {A = Option Op} None (Some op) = sym (idle_plans M local is) ∙ plan in absurd (cc)
-
   -- one event more
   behind-suc : (n : ℕ) (event : Event) → slice_get events n ≡ Some event
       → ◌≡◌ {A = World M} (behind (suc n)) (world_step mix (behind n) event)
@@ -114,23 +99,7 @@ module _ (M : Type 0) (mix : ℕ → ℕ → ℕ → ℕ) (env : Env) (events : 
 
   -- then it is in no call
   pub idle_at_end : is_idle (local_of (behind (behind_call past)).core c) ≡ true
-  idle_at_end =
-      let answered = past_call.answered in
-      let last = answered.last in
-      let recorded = recorded_in last last_there in
-      let w = behind last.index in
-      let can = planned-some w.core.env w.core.enrolled w.core.locals c last.op recorded.plan in
-      let place = has_place M mix env w.core c (runs-in M mix env (take last.index events)) can.below in
-      let found = old_of w.core.words last.op in
-      let now = ap (λ (v : View M). v.local) (step_self M mix w c last.op recorded.plan place) in
-      let reply : (local_after mix (local_of w.core c) found).1 ≡ Some past.done.reply =
-      sym (ap (λ (o : Option Op). (with_step mix w.core c o).1.reply) recorded.plan) ∙ answered.reply in
-      let local = local_of w.core c in
-      let ended = ends M mix local found past.done.reply (busy_planned local last.op can.plan) reply in
-      let next : suc last.index ≡ behind_call past = omega (arith, ends_at) in
-      subst (λ n. is_idle (local_of (behind n).core c) ≡ true) next
-      (ap (λ (v : World M). is_idle (local_of v.core c)) (behind-suc last.index (Step c) recorded.event)
-      ∙ ap is_idle now ∙ ended)
+  idle_at_end = idle_behind M mix env events c past past_call
 
   -- the word at a place behind so many events
   abbrev word : ℕ → ℕ → ℕ

@@ -107,11 +107,12 @@ module _ (mix : ℕ → ℕ → ℕ → ℕ) (env : Env) where
   -- a job performs this operation in these words, in which it knows what its state says; the operation found what it found,
   -- and is a step of the job
   pub record Performs (job : Job) (did : Did) : Type 0 where
-    pub planned : did.op ≡ job_plan env job
     pub caller : ℕ
+    pub planned : did.op ≡ job_plan env caller job
     pub words : List ℕ
     pub ghost : Ghost
     pub low : caller < env.geometry.callers
+    pub few : caller < 16
     pub all : length words ≡ words_in env.geometry
     pub whole : Whole env mix (mem env mix words) ghost
     pub within : JobIn env mix caller job
@@ -129,19 +130,20 @@ module _ (mix : ℕ → ℕ → ℕ → ℕ) (env : Env) where
     pub stay : BucketsStay env mix words_at performs.ghost did.index
     pub stayed : TablesStayed env mix words_at performs.ghost did.index
 
-  -- The step of a caller is its job's, in the words behind these events, of which the invariant holds; and each slot that had a table
+  -- The step of this caller is its job's, in the words behind these events, of which the invariant holds; and each slot that had a table
   -- has it.
-  pub record PerformsAs (M : Type 0) (doing : Option Job) (events : List Event) (did : Did) : Type 0 where
+  pub record PerformsAs (M : Type 0) (c : ℕ) (doing : Option Job) (events : List Event) (did : Did) : Type 0 where
     pub job : Job
     pub does : doing ≡ Some job
     pub performs : Performs job did
+    pub own : performs.caller ≡ c
     pub here : performs.words ≡ (run_of {M = M} mix env events).core.words
     pub inv : Inv env mix M (run_of mix env events).core performs.ghost
     pub stayed : TablesStayed env mix (words_before M mix env events) performs.ghost (length events)
 
   pub performs-made : (M : Type 0) (events : List Event) (c : ℕ) (local : Local M) (did : Did)
       → IsMade M mix env events c local did
-      → PerformsAs M (job_of local.doing) events did
+      → PerformsAs M c (job_of local.doing) events did
   performs-made M events c local did made =
       let known = made.known in
       let of = known.step in
@@ -149,11 +151,12 @@ module _ (mix : ℕ → ℕ → ℕ → ℕ) (env : Env) where
         job = of.job;
         does = ap (λ (l : Local M). job_of l.doing) (sym known.here) ∙ of.is;
         performs = record {
-          planned = of.plan;
           caller = c;
+          planned = of.plan;
           words = known.core.words;
           ghost = known.ghost;
           low = of.low;
+          few = of.few;
           all = of.all;
           whole = known.inv.whole;
           within = of.within;
@@ -163,6 +166,7 @@ module _ (mix : ℕ → ℕ → ℕ → ℕ) (env : Env) where
               JobStepOf env mix c known.core.words known.ghost did.op of.job r)
               (sym known.found) of.step;
         };
+        own = refl;
         here = ap (λ (core : Core M). core.words) made.now;
         inv = subst (λ (core : Core M). Inv env mix M core known.ghost) made.now known.inv;
         stayed = made.stayed;
@@ -199,6 +203,13 @@ module _ (M : Type 0) (mix : ℕ → ℕ → ℕ → ℕ) (env : Env) (Now : Job
           → StandsIn mix env (words_before M mix env events) job did performs → Now job steps
           → LeadsOn job (steps ++ did ∷ []) (job_after mix env job did.old)
 
+    -- and which are those of this caller
+    pub record JobsKeepOwn (events : List Event) (c : ℕ) : Type 0 where
+      pub begins : (call : Call) (job : Job) → first_job env call ≡ Some job → Now job []
+      pub goes : (job : Job) (steps : List Did) (did : Did) (performs : Performs mix env job did) → performs.caller ≡ c
+          → StandsIn mix env (words_before M mix env events) job did performs → Now job steps
+          → LeadsOn job (steps ++ did ∷ []) (job_after mix env job did.old)
+
     -- what holds of a call that has ended
     abbrev pub IsEndedSo : Past → Type 0
     IsEndedSo past = Ended past.done.call (ending_in past.done) past.steps
@@ -221,7 +232,7 @@ module _ (M : Type 0) (mix : ℕ → ℕ → ℕ → ℕ) (env : Env) (Now : Job
 
     -- ---- the beginning of a call
 
-    module _ (events : List Event) (keep : JobsKeepStanding events) where
+    module _ (events : List Event) (own : ℕ) (keep : JobsKeepOwn events own) where
       begins-keeping : (c : ℕ) (call : Call) (machine : Doing M) (index : ℕ) (here : View M) (trace : Trace)
           → machine_of env c call ≡ Some machine → IsKeeping here trace
           → IsKeeping (view_begun call machine here) (trace_begun index trace)
@@ -315,11 +326,11 @@ module _ (M : Type 0) (mix : ℕ → ℕ → ℕ → ℕ) (env : Env) (Now : Job
 
       steps-keeping : (past rest : List Event) (c : ℕ) (did : Did) (here : View M) (trace : Trace)
           → IsAdmitted env.config.kind events → events ≡ past ++ Steps c ∷ rest
-          → IsMade M mix env past c here.local did → IsKeeping here trace
+          → IsMade M mix env past c here.local did → c ≡ own → IsKeeping here trace
           → let next = local_after mix here.local did.old in
           IsKeeping (view_stepped mix did.old here) (trace_did here.book.call did
           (ending_of next.0 next.1) trace)
-      steps-keeping past rest c did here trace admitted all made keeping =
+      steps-keeping past rest c did here trace admitted all made mine keeping =
           let next = local_after mix here.local did.old in
           let planning = performs-made mix env M past c here.local did made in
           let job = planning.job in
@@ -330,7 +341,7 @@ module _ (M : Type 0) (mix : ℕ → ℕ → ℕ → ℕ) (env : Env) (Now : Job
           let performs = planning.performs in
           let stands = stands_in past rest c job did performs admitted all made.index made.recorded planning.here planning.inv
           planning.stayed in
-          let leads = keep.goes job trace.steps did performs stands work.now in
+          let leads = keep.goes job trace.steps did performs (planning.own ∙ mine) stands work.now in
           let after = job_after mix env job did.old in
           let left = local_after-job mix env here.local job did.old none made.table planning.does in
           let kept =
@@ -356,9 +367,9 @@ module _ (M : Type 0) (mix : ℕ → ℕ → ℕ → ℕ) (env : Env) (Now : Job
 
       -- ---- runs
 
-      -- what is kept where the events so far are the first of these
+      -- what this caller keeps where the events so far are the first of these
       abbrev IsKeepingSoFar : List Event → ℕ → View M → Trace → Type 0
-      IsKeepingSoFar past c here trace = (rest : List Event) → events ≡ past ++ rest → IsKeeping here trace
+      IsKeepingSoFar past c here trace = c ≡ own → (rest : List Event) → events ≡ past ++ rest → IsKeeping here trace
 
       -- an event more is the first of those behind
       next_event : (past : List Event) (event : Event) (rest : List Event) → events ≡ (past ++ event ∷ []) ++ rest
@@ -367,24 +378,33 @@ module _ (M : Type 0) (mix : ℕ → ℕ → ℕ → ℕ) (env : Env) (Now : Job
 
       keeps : IsAdmitted env.config.kind events → IsKeptTraced M mix env IsKeepingSoFar
       keeps admitted = record {
-        opens = λ c rest all. record {
+        opens = λ c mine rest all. record {
           past = tt;
           now = record { call = refl; steps = refl };
           lists = record { owners = refl; pairs = refl };
         };
-        stays = λ past event c here trace keeping rest all. keeping (event ∷ rest) (next_event past event rest all);
-        begins = λ past c call machine index here trace now idle is keeping rest all. begins-keeping c call machine
-            index here trace is (keeping (Begin c call ∷ rest) (next_event past (Begin c call) rest all));
-        steps = λ past c did here trace made keeping rest all.
+        stays = λ past event c here trace keeping mine rest all. keeping mine (event ∷ rest) (next_event past event rest all);
+        begins = λ past c call machine index here trace now idle is keeping mine rest all. begins-keeping c call machine
+            index here trace is (keeping mine (Begin c call ∷ rest) (next_event past (Begin c call) rest all));
+        steps = λ past c did here trace made keeping mine rest all.
             let next = next_event past (Steps c) rest all in
-            steps-keeping past rest c did here trace admitted next made (keeping (Steps c ∷ rest) next);
+            steps-keeping past rest c did here trace admitted next made mine (keeping mine (Steps c ∷ rest) next);
       }
 
-      -- so what jobs keep holds of the calls of every caller
-      pub jobs_keep_standing : (c : ℕ) → IsAdmitted env.config.kind events
-          → let r : Traced M = traced_of mix env events in IsKeeping (view_of r.world c) (r.traces c)
-      jobs_keep_standing c admitted =
-          traced_callers_keep M mix env IsKeepingSoFar (keeps admitted) events c admitted [] (sym (append-nil events))
+      -- so what its jobs keep holds of its calls
+      pub jobs_keep_own : IsAdmitted env.config.kind events
+          → let r : Traced M = traced_of mix env events in IsKeeping (view_of r.world own) (r.traces own)
+      jobs_keep_own admitted =
+          traced_callers_keep M mix env IsKeepingSoFar (keeps admitted) events own admitted refl [] (sym (append-nil events))
+
+    -- where it doesn't matter whose they are, it holds of the calls of every caller
+    pub jobs_keep_standing : (events : List Event) → JobsKeepStanding events → (c : ℕ) → IsAdmitted env.config.kind events
+        → let r : Traced M = traced_of mix env events in IsKeeping (view_of r.world c) (r.traces c)
+    jobs_keep_standing events keep c =
+        jobs_keep_own events c record {
+          begins = keep.begins;
+          goes = λ job steps did performs own stands now. keep.goes job steps did performs stands now;
+        }
 
     -- where the words alone are asked for
     pub jobs_keep_in : (events : List Event) → JobsKeepIn events → (c : ℕ) → IsAdmitted env.config.kind events

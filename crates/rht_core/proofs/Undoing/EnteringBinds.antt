@@ -84,7 +84,7 @@ module _ (env : Env) (mix : ℕ → ℕ → ℕ → ℕ) (c : ℕ) (M : Memory) 
 
     bind-came : (port owner : ℕ) (once : Bool) (state : BindAt) → bind_is_past state ≡ false → IsBindAtIn env state
         → JobKnows env mix c (binds port owner once state) M G
-        → did.op ≡ job_plan env (binds port owner once state) → In page (held_of_bind state).pages
+        → did.op ≡ job_plan env c (binds port owner once state) → In page (held_of_bind state).pages
         → CameToEnter g (binds port owner once state) steps → CameToEntry
     bind-came port owner once (binding.Making growing size make) may within knows is i came =
         absurd (make-enters env mix c M G did entry page exchanges make.exponent make.seed make.geometry make.at is i)
@@ -101,7 +101,7 @@ module _ (env : Env) (mix : ℕ → ℕ → ℕ → ℕ) (c : ℕ) (M : Memory) 
 
     -- so whoever enters a page has come to the table of the entry
     pub came_to_entry : (job : Job) → is_past job ≡ false → JobIn env mix c job → JobKnows env mix c job M G
-        → did.op ≡ job_plan env job → In page (held_of job).pages → CameToEnter g job steps → CameToEntry
+        → did.op ≡ job_plan env c job → In page (held_of job).pages → CameToEnter g job steps → CameToEntry
     came_to_entry (binds port owner once state) may within knows is i came =
         bind-came port owner once state may within.at_in knows is i came
     came_to_entry (works state) may within knows is i came =

@@ -12,7 +12,7 @@ use Rattle.rht_words.specs.declared.op.Op.TheVariants.{Store, Exchange}
 use Rattle.rht_words.specs.Links.{future_of, entry_of}
 use Rattle.rht_words.specs.Members.{In}
 use Rattle.rht_words.specs.Operations.{op_place, old_of, word_after}
-use Rattle.rht_words.specs.Places.{Slot, SlotWord, FutureWord, StateWord, LoadedSection, PageMap, PageWord, Node, NodeWord, place_of}
+use Rattle.rht_words.specs.Places.{Section, Slot, SlotWord, FutureWord, StateWord, LoadedSection, PageMap, PageWord, Node, NodeWord, place_of}
 use Rattle.rht_words.proofs.PlacesApart.{parts_in_order}
 use Rattle.rht_model.specs.declared.history.Call.{Call}
 use Rattle.rht_arena.specs.Laws.{map_place}
@@ -24,7 +24,7 @@ use Rattle.rht_core.specs.Refused.{turned, turns, IsTableWord, StoresLast, MayAt
 use Rattle.rht_ghost.proofs.Theory.Ghosts.{Ghost, PageHeld, table_at}
 use Rattle.rht_ghost.proofs.Theory.Wholes.{place_at, Whole}
 use Rattle.rht_ghost.proofs.Theory.Steps.{bare, Holding, LeavesBits, mem}
-use Rattle.rht_core.proofs.Undoing.TurnedBits.{node_bit, locked_bit, work_bit, slot_bit, pages_bit, held_bits}
+use Rattle.rht_core.proofs.Undoing.TurnedBits.{node_bit, locked_bit, work_bit, slot_bit, pages_bit, section_bit, held_bits}
 use Rattle.rht_core.proofs.Undoing.UndoneSoFar.{IsOfOwnNode, IsOfOwnSlot, IsLeft, Undoes, StillHas, Takes, Keeps}
 
 -- nothing is turned, and what is held stays
@@ -66,17 +66,15 @@ pub record MayEnter (g : Geometry) (call : Call) (steps : List Did) (G : Ghost) 
   pub may : MayAttach call
   pub came : CameTo g (G.table (table_at G entry)).slot steps
 
--- The call may be refused before an operation and behind it, where it holds this: it has raised no count, moves
--- nothing, and is in no read section. Where it has a lock and no node, the operation leaves its word, or drops the
--- lock. Its pages are its own, and it attaches and enters only what it may.
+-- The call may be refused before an operation and behind it, where it holds this: it has raised no count, and moves
+-- nothing. Where it has a lock and no node, the operation leaves its word, or drops the lock. Its pages are its own,
+-- and it attaches and enters only what it may.
 pub record MayGoBack (g : Geometry) (call : Call) (steps : List Did) (did : Did) (before after : Holding)
     (c : ℕ) (G : Ghost) : Type 0 where
   pub low : before.raised ≡ false
   pub low_then : after.raised ≡ false
   pub still : before.moving ≡ false
   pub still_then : after.moving ≡ false
-  pub outside : before.section ≡ false
-  pub outside_then : after.section ≡ false
   pub locked_leaves : before.lock ≢ None → before.node ≡ None
       → LeavesBits did.op did.old ⊎ (after.lock ≡ None)
   pub mine : (page : ℕ) → In page before.pages → G.page page ≡ PageHeld c
@@ -98,7 +96,7 @@ pub record GoesBack (env : Env) (mix : ℕ → ℕ → ℕ → ℕ) (words_at : 
   pub whole : Whole env mix (mem env mix words) ghost
   pub here : words_at did.index ≡ words
   pub found : did.old ≡ old_of words did.op
-  pub so_far : Undoes env.geometry words_at call before steps
+  pub so_far : Undoes env.geometry words_at caller call before steps
   pub may : MayGoBack env.geometry call steps did before after caller ghost
 
 module _ (env : Env) where
@@ -133,6 +131,10 @@ module _ (env : Env) where
   not_in_slots slot _ of_table low page same =
       let order = parts_in_order env.geometry in absurd (omega (arith, low, same, order.page_map))
 
+  pub not_section : (c : ℕ) → c < 16 → (page : ℕ) → place_of env.geometry (Section c) ≡ page_place env.geometry page → ⊥
+  not_section c few page same =
+      let order = parts_in_order env.geometry in absurd (omega (arith, few, same, order.page_map))
+
   pub not_first : (page : ℕ) → 1 ≡ page_place env.geometry page → ⊥
   not_first page same =
       let order = parts_in_order env.geometry in absurd (omega (arith, same, order.page_map))
@@ -146,7 +148,7 @@ module _ {env : Env} {mix : ℕ → ℕ → ℕ → ℕ} {words_at : ℕ → Lis
   every = step.steps ++ step.did ∷ []
 
   abbrev pub Kept : Type 0
-  Kept = Keeps g words_at call step.steps step.did step.before step.after
+  Kept = Keeps g words_at step.caller call step.steps step.did step.before step.after
 
   -- the operation turns a bit where one of these numbers is odd and the other isn't
   abbrev pub EvenBetween : ℕ → ℕ → ℕ → ℕ → Type 0
@@ -154,20 +156,20 @@ module _ {env : Env} {mix : ℕ → ℕ → ℕ → ℕ} {words_at : ℕ → Lis
 
   abbrev pub Even : ℕ → ℕ → Type 0
   Even place bit =
-      EvenBetween place bit (held_bits g step.before place bit) (held_bits g step.after place bit)
+      EvenBetween place bit (held_bits g step.caller step.before place bit) (held_bits g step.caller step.after place bit)
 
   abbrev pub MayBeLeft : ℕ → ℕ → Type 0
-  MayBeLeft place bit = IsLeft g words_at call step.after every place bit
+  MayBeLeft place bit = IsLeft g words_at step.caller call step.after every place bit
 
   -- ---- one part of what it holds changes
 
   -- a sum that is known of what is held then
   then_is : (then : Holding) → bare step.after ≡ then → (place bit : ℕ)
-      → EvenBetween place bit (held_bits g step.before place bit) (held_bits g then place bit)
+      → EvenBetween place bit (held_bits g step.caller step.before place bit) (held_bits g step.caller then place bit)
       → Even place bit
   then_is then holds place bit even =
-      let held = held_bits g step.before place bit in
-      subst (EvenBetween place bit held) (sym (ap (λ (x : Holding). held_bits g x place bit) holds)) even
+      let held = held_bits g step.caller step.before place bit in
+      subst (EvenBetween place bit held) (sym (ap (λ (x : Holding). held_bits g step.caller x place bit) holds)) even
 
   pub by_node : (node : Option ℕ) → bare step.after ≡ record (bare step.before) { node = node }
       → (place bit : ℕ)
@@ -199,6 +201,13 @@ module _ {env : Env} {mix : ℕ → ℕ → ℕ → ℕ} {words_at : ℕ → Lis
       → Even place bit
   by_pages holds place bit even = then_is _ holds place bit (omega (arith, even))
 
+  pub by_section : (section : Bool) → bare step.after ≡ record (bare step.before) { section = section }
+      → (place bit : ℕ)
+      → EvenBetween place bit (section_bit g step.caller step.before.section place bit)
+      (section_bit g step.caller section place bit)
+      → Even place bit
+  by_section section holds place bit even = then_is _ holds place bit (omega (arith, even))
+
   -- or it holds its slot and its pages no more, which have no such bit
   pub by_none : bare step.after ≡ record (bare step.before) { slot = None; pages = [] } → (place bit : ℕ)
       → turned place bit step.did ≡ 0 → slot_bit g step.before.slot place bit ≡ 0
@@ -209,13 +218,13 @@ module _ {env : Env} {mix : ℕ → ℕ → ℕ → ℕ} {words_at : ℕ → Lis
 
   -- its node
   pub own_node : step.after.node ≡ step.before.node → (place bit : ℕ)
-      → IsOfOwnNode g words_at call step.before place
+      → IsOfOwnNode g words_at step.caller call step.before place
       → MayBeLeft place bit
   own_node same place bit own =
       inr (inl (record { node = own.node; has = same ∙ own.has; word = own.word; there = own.there }))
 
   pub own_slot : step.after.slot ≡ step.before.slot → (place bit : ℕ)
-      → IsOfOwnSlot g words_at call step.before place
+      → IsOfOwnSlot g words_at step.caller call step.before place
       → MayBeLeft place bit
   own_slot same place bit own = inr (inr (record {
     slot = own.slot;
@@ -227,12 +236,12 @@ module _ {env : Env} {mix : ℕ → ℕ → ℕ → ℕ} {words_at : ℕ → Lis
 
   -- each page is one that it had and that isn't given back, or that it takes
   abbrev pub StillHad : ℕ → Type 0
-  StillHad page = StillHas g words_at call step.steps step.did step.before page
+  StillHad page = StillHas g words_at step.caller call step.steps step.did step.before page
 
   abbrev pub HadOrTakes : Type 0
   HadOrTakes =
       (page : ℕ) → In page step.after.pages
-      → StillHad page ⊎ Takes g words_at call step.steps step.did page
+      → StillHad page ⊎ Takes g words_at step.caller call step.steps step.did page
 
   -- an operation on another word than those of the map gives no page back
   pub off_map : ((page : ℕ) → page < g.pages → op_place step.did.op ≡ page_place g page → ⊥)

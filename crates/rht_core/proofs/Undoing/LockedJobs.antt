@@ -6,8 +6,6 @@ use Rattle.rht_words.specs.declared.geometry.Geometry.{Geometry}
 use Rattle.rht_words.specs.declared.op.Op.{Op}
 use Rattle.rht_words.specs.declared.op.Op.TheVariants.{Load}
 use Rattle.rht_words.specs.Operations.{word_after}
-use Rattle.rht_model.specs.declared.history.Reply.{Reply}
-use Rattle.rht_model.specs.Endings.{plain_ending}
 use Rattle.rht_model.specs.Rooms.{Kept}
 use Rattle.rht_chain.specs.Probe.{probe_plan_at, lock_of_probe}
 use Rattle.rht_chain.specs.declared.probe.ProbeAt.{ProbeAt}
@@ -16,12 +14,6 @@ use Rattle.rht_chain.specs.LockedWalk.{walk_plan_at}
 use Rattle.rht_chain.specs.declared.locked_walk.LockedWalkAt.{LockedWalkAt}
 use Rattle.rht_chain.specs.declared.locked_walk.LockedWalkAt.TheVariants as walks
 use Rattle.rht_chain.specs.declared.unlock.Unlock.{Unlock}
-use Rattle.rht_chain.specs.declared.locked.Then.{Then}
-use Rattle.rht_chain.specs.declared.locked.Then.TheVariants.{Table, Answer}
-use Rattle.rht_find.specs.Find as find_at
-use Rattle.rht_find.specs.FindHeld.{held_of_find}
-use Rattle.rht_find.specs.declared.find.FindAt.{FindAt}
-use Rattle.rht_find.specs.declared.find.FindAt.TheVariants as finding
 use Rattle.rht_release.specs.Seek.{SeekModel, seek_plan_at, lock_of_seek}
 use Rattle.rht_release.specs.declared.seek.SeekAt.{SeekAt}
 use Rattle.rht_release.specs.declared.seek.SeekAt.TheVariants as seeks
@@ -33,12 +25,13 @@ use Rattle.rht_release.specs.Release as release_at
 use Rattle.rht_release.specs.ReleaseHeld.{held_of_release}
 use Rattle.rht_release.specs.declared.release.ReleaseAt.{ReleaseAt}
 use Rattle.rht_release.specs.declared.release.ReleaseAt.TheVariants as releasing
-use Rattle.rht_core.specs.Jobs.{Job, finds, binds, lists, releases, rebinds, works, job_plan, job_next, job_after, held_of, held_next}
+use Rattle.rht_core.specs.Jobs.{Job, finds, binds, lists, releases, rebinds, works, job_plan, job_after, held_of, held_next}
 use Rattle.rht_ghost.proofs.Theory.Steps.{LeavesBits}
+use Rattle.rht_core.proofs.Machines.NeverHeld.{find-unlocked}
 use Rattle.rht_core.proofs.Undoing.PastRefusal.{release_is_past, is_past}
 use Rattle.rht_core.proofs.Undoing.RefusableJobs.{bind-refusable, rebind-refusable, early_work, work-refusable}
 
-module _ (env : Env) (mix : ℕ → ℕ → ℕ → ℕ) (op : Op) (old : ℕ) where
+module _ (env : Env) (mix : ℕ → ℕ → ℕ → ℕ) (c : ℕ) (op : Op) (old : ℕ) where
   -- the operation leaves each bit of the word that it found, or the job has no lock behind it
   abbrev LeavesOrDrops : Job → Type 0
   LeavesOrDrops job = LeavesBits op old ⊎ ((held_next (job_after mix env job old)).lock ≡ None)
@@ -53,19 +46,6 @@ module _ (env : Env) (mix : ℕ → ℕ → ℕ → ℕ) (op : Op) (old : ℕ) w
   probe-leaves : (state : ProbeAt) → op ≡ probe_plan_at state → lock_of_probe state ≢ None → LeavesBits op old
   probe-leaves (probes.Locking lock) is locked = absurd (locked refl)
   probe-leaves (probes.Walking bucket walk) is locked = walk-leaves walk.geometry walk.at is
-
-  unlocked-drops : (port table : ℕ) (unlock : Unlock) (next : Then Reply)
-      → (held_next (job_next (finds port) plain_ending (find_at.unlocked env table unlock next))).lock ≡ None
-  unlocked-drops port table unlock (Table next) = refl
-  unlocked-drops port table unlock (Answer reply) = refl
-
-  find-leaves : (port : ℕ) (state : FindAt) → op ≡ find_at.plan_at env state → (held_of_find state).lock ≢ None
-      → LeavesOrDrops (finds port state)
-  find-leaves port finding.CurrentTable is locked = absurd (locked refl)
-  find-leaves port (finding.Locating locate) is locked = absurd (locked refl)
-  find-leaves port (finding.Probing table probe) is locked = inl (probe-leaves probe.at is locked)
-  find-leaves port (finding.Unlocking table unlock next) is locked = inr (unlocked-drops port table unlock next)
-  find-leaves port _ is locked = inl (load-leaves _ is)
 
   -- on the way to a port a lock is dropped where a bucket is left
   seek-leaves : (Drops : SeekAt → Type 0) (h : Geometry) (state : SeekAt) → op ≡ seek_plan_at h state → lock_of_seek state ≢ None
@@ -117,9 +97,9 @@ module _ (env : Env) (mix : ℕ → ℕ → ℕ → ℕ) (op : Op) (old : ℕ) w
   release-leaves port owner (releasing.Unlocking table unlock removed) may is locked = inr refl
   release-leaves port owner _ may is locked = inl (load-leaves _ is)
 
-  pub locked-leaves : (job : Job) → is_past job ≡ false → op ≡ job_plan env job → (held_of job).lock ≢ None
+  pub locked-leaves : (job : Job) → is_past job ≡ false → op ≡ job_plan env c job → (held_of job).lock ≢ None
       → (held_of job).node ≡ None → LeavesOrDrops job
-  locked-leaves (finds port state) may is locked none = find-leaves port state is locked
+  locked-leaves (finds port state) may is locked none = absurd (locked (find-unlocked state))
   locked-leaves (binds port owner once state) may is locked none = absurd ((bind-refusable state may).locked_has locked none)
   locked-leaves (lists port room state) may is locked none = all-leaves port room state is locked
   locked-leaves (releases port owner state) may is locked none = release-leaves port owner state may is locked

@@ -1,7 +1,7 @@
--- In every run each call that has ended has let go of the work lock and of the locks of buckets.
+-- In every run each call that has ended has let go of the work lock, of the locks of buckets and of its read section.
 --
 -- Of each lock that a call holds it has turned the bit an odd number of times, and of each other one an even number; but for the entries at
--- which it entered pages. Once it has ended it holds none.
+-- which it entered pages. Once it has ended it holds none. So it is with the section, whose word is its caller's.
 use Rattle.std.proofs.Common.{◌≡◌, ◌⊎◌, ℕ, ◌+◌, ◌%◌, ◌<◌, Bool, false, List, [], ◌∷◌, ◌++◌, Some, None, refl, sym, ap, ◌∙◌, subst, inl, inr, arith}
 use Rattle.std.specs.List.{AllByRecursion}
 use Rattle.rht_words.specs.declared.env.Env.{Env}
@@ -13,7 +13,7 @@ use Rattle.rht_words.specs.declared.op.Op.{Op}
 use Rattle.rht_words.specs.Links.{entry_of}
 use Rattle.rht_words.specs.Members.{In}
 use Rattle.rht_words.specs.Operations.{old_of}
-use Rattle.rht_words.specs.Places.{WorkLock, PageWord, place_of}
+use Rattle.rht_words.specs.Places.{WorkLock, Section, PageWord, place_of}
 use Rattle.rht_words.proofs.Memory.{Memory}
 use Rattle.rht_words.proofs.PlacesApart.{parts_in_order}
 use Rattle.rht_model.specs.declared.history.Call.{Call}
@@ -30,20 +30,22 @@ use Rattle.rht_core.specs.declared.event.Event.{Event}
 use Rattle.rht_core.specs.Jobs.{Job, binds, works, call_of, first_job, job_plan, job_after, held_of, held_next}
 use Rattle.rht_core.specs.Traces.{Did, Past, traced_of}
 use Rattle.rht_core.specs.Seen.{words_before}
-use Rattle.rht_core.specs.Refused.{turns, IsMissingEntry}
+use Rattle.rht_core.specs.Refused.{turned, turns, IsMissingEntry}
 use Rattle.rht_core.specs.LetGo.{HasEnteredAt, HasLetGo, LetGo}
 use Rattle.rht_ghost.proofs.Theory.Ghosts.{Ghost}
 use Rattle.rht_ghost.proofs.Theory.Steps.{Holding, mem, Does, Move, TakesNode, GivesNode, Links, Rebinds, SaysChange}
 use Rattle.rht_core.proofs.Machines.JobSteps.{JobIn}
 use Rattle.rht_core.proofs.Machines.NeverHeld.{tableless, front-tableless, pageless}
 use Rattle.rht_core.proofs.Events.JobsOfCallers.{same_call, first_holds, first_without}
+use Rattle.rht_core.proofs.Events.SectionsInRuns.{SparesSections, odd_by, by_move}
 use Rattle.rht_core.proofs.Tracing.TracedJobs.{Performs, LeadsOn, IsEndedSo}
 use Rattle.rht_core.proofs.Tracing.JobsBeside.{kept_beside}
 use Rattle.rht_core.proofs.Reasons.CausesInRuns.{JobSaw, EndsSeen, job-leads, first_job-saw}
 use Rattle.rht_core.proofs.Undoing.EnteringBinds.{CameToEnter, attaching-none, saw-came, came_to_entry}
-use Rattle.rht_core.proofs.Undoing.TurnedBits.{turns-push}
+use Rattle.rht_core.proofs.Undoing.TurnedBits.{turned-far, turned-none, turned-adds, turns-push}
 use Rattle.rht_core.proofs.Undoing.UndoneSoFar.{one_more, entered-more}
 use Rattle.rht_core.proofs.Undoing.EnteredWords.{entering_missing}
+use Rattle.rht_core.proofs.Undoing.GoingBack.{unturned}
 use Rattle.rht_core.proofs.Undoing.PastRefusal.{is_past}
 use Rattle.rht_core.proofs.Undoing.RefusableJobs.{enters, unmake-enters}
 use Rattle.rht_core.proofs.Undoing.RefusedCalls as refusals
@@ -58,7 +60,7 @@ pub record IsEarly (job : Job) : Type 0 where
 
 module _ (env : Env) (mix : ℕ → ℕ → ℕ → ℕ) (c : ℕ) (M : Memory) (G : Ghost) (did : Did) (entry page : ℕ)
     (exchanges : did.op ≡ Exchange (place_of env.geometry (PageWord entry)) 0 (entry_of page)) where
-  bind-early : (port owner : ℕ) (once : Bool) (state : BindAt) → did.op ≡ job_plan env (binds port owner once state)
+  bind-early : (port owner : ℕ) (once : Bool) (state : BindAt) → did.op ≡ job_plan env c (binds port owner once state)
       → In page (held_of_bind state).pages → IsEarly (binds port owner once state)
   bind-early port owner once (binding.Making growing size make) is had = record { not_past = refl; untold = λ says. says }
   bind-early port owner once (binding.Attaching growing slot shape) is had = record { not_past = refl; untold = λ says. says }
@@ -70,7 +72,7 @@ module _ (env : Env) (mix : ℕ → ℕ → ℕ → ℕ) (c : ℕ) (M : Memory) 
       absurd (pageless (front-tableless list.claimed (has_relinked list.before relink.at)) page had)
   bind-early port owner once _ is had = absurd had
 
-  work-early : (state : WorkAt) → IsWorkAtIn env state → did.op ≡ job_plan env (works state) → In page (held_of_work state).pages
+  work-early : (state : WorkAt) → IsWorkAtIn env state → did.op ≡ job_plan env c (works state) → In page (held_of_work state).pages
       → IsEarly (works state)
   work-early (working.Making wanted make) within is had = record { not_past = refl; untold = λ says. says }
   work-early (working.Attaching root last slot shape) within is had = absurd (attaching-none env mix c M G did entry page exchanges last slot within.last_in is)
@@ -78,7 +80,7 @@ module _ (env : Env) (mix : ℕ → ℕ → ℕ → ℕ) (c : ℕ) (M : Memory) 
       absurd (unmake-enters env mix c M G did entry page exchanges unmake.geometry unmake.slot unmake.at is)
   work-early _ within is had = absurd had
 
-  pub early : (job : Job) → JobIn env mix c job → did.op ≡ job_plan env job → In page (held_of job).pages → IsEarly job
+  pub early : (job : Job) → JobIn env mix c job → did.op ≡ job_plan env c job → In page (held_of job).pages → IsEarly job
   early (binds port owner once state) within is had = bind-early port owner once state is had
   early (works state) within is had = work-early state within is had
   early job within is had = absurd (pageless (tableless job refl) page had)
@@ -102,7 +104,7 @@ module _ (env : Env) (mix : ℕ → ℕ → ℕ → ℕ) (op : Op) (old : ℕ) (
   ]
   node_then _ does node is = among node (sym (ap (λ (x : Holding). x.node) does.holds) ∙ is)
 
-module _ (M : Type 0) (mix : ℕ → ℕ → ℕ → ℕ) (env : Env) (events : List Event) where
+module _ (M : Type 0) (mix : ℕ → ℕ → ℕ → ℕ) (env : Env) (events : List Event) (c : ℕ) where
   abbrev g : Geometry
   g = env.geometry
 
@@ -122,24 +124,37 @@ module _ (M : Type 0) (mix : ℕ → ℕ → ℕ → ℕ) (env : Env) (events : 
       (place : ℕ) → IsLockPlace g place
       → HasEntered call steps place ⊎ ((turns place 0 steps + lock_bits g h place) % 2 ≡ 0)
 
+  -- the lowest bit of its caller's section word is turned an odd number of times just while the section is open
+  abbrev pub TurnedSection : Holding → List Did → Type 0
+  TurnedSection h steps = (turns (place_of g (Section c)) 0 steps + odd_by h.section) % 2 ≡ 0
+
   pub record HasTurned (job : Job) (steps : List Did) : Type 0 where
     pub turned : Turned (call_of job) (held_of job) steps
+    pub section : TurnedSection (held_of job) steps
     pub node_in : (node : ℕ) → (held_of job).node ≡ Some node → node < g.nodes
 
   abbrev pub Now : Job → List Did → Type 0
-  Now job steps = refusals.Going M mix env events job steps × HasTurned job steps
+  Now job steps = refusals.Going M mix env events c job steps × HasTurned job steps
 
   abbrev pub Gone : Call → Ending → List Did → Type 0
   Gone call ending steps =
-      refusals.Undone M mix env events call ending steps
+      refusals.Undone M mix env events c call ending steps
       × ((place : ℕ) → IsLockPlace g place → HasEntered call steps place ⊎ (turns place 0 steps % 2 ≡ 0))
+      × (turns (place_of g (Section c)) 0 steps % 2 ≡ 0)
 
   -- ---- an operation
 
   nothing_held : (n : ℕ) → (n + (0 + 0 + 0)) % 2 ≡ 0 → n % 2 ≡ 0
   nothing_held n even = omega (arith, even)
 
-  module _ (job : Job) (steps : List Did) (did : Did) (performs : Performs mix env job did)
+  closed_then : (n : ℕ) → (n + 0) % 2 ≡ 0 → n % 2 ≡ 0
+  closed_then n even = omega (arith, even)
+
+  -- an addition of 1 turns the bit where the section is open before it or behind it, and not both
+  turns_section : (t x y : ℕ) → t ≡ 1 → x + y ≡ 1 → (t + x + y) % 2 ≡ 0
+  turns_section t x y turns one = omega (arith, turns, one)
+
+  module _ (job : Job) (steps : List Did) (did : Did) (performs : Performs mix env job did) (own : performs.caller ≡ c)
       (here : performs.words ≡ words_at did.index) (came : CameToEnter g job steps) (kept : Now job steps) where
     abbrev all : List Did
     all = steps ++ did ∷ []
@@ -225,45 +240,72 @@ module _ (M : Type 0) (mix : ℕ → ℕ → ℕ → ℕ) (env : Env) (events : 
       ]
     ]
 
+    -- an operation on another word, or one that leaves its word, turns no bit of the section word
+    spares_section : SparesSections did.op did.old → c < 16 → turned (place_of g (Section c)) 0 did ≡ 0
+    spares_section (inl before) few = turned-far _ 0 did (λ at. absurd (omega (arith, at, before)))
+    spares_section (inr (inl behind)) few = turned-far _ 0 did (λ at. absurd (omega (arith, at, behind, few)))
+    spares_section (inr (inr leaves)) few = turned-none _ 0 did (omega arith) leaves
+
+    section_then : TurnedSection (held_next next) all
+    section_then =
+        let place = place_of g (Section c) in
+        let was = odd_by (held_of job).section in
+        let now = odd_by (held_next next).section in
+        let even : (turned place 0 did + was + now) % 2 ≡ 0 =
+        elim (by_move env mix performs.caller (mem env mix performs.words) performs.ghost did.op did.old (held_of job) (held_next next)
+        performs.step.move performs.step.ready does) [
+          | inl kept_so ↦
+              unturned _ _ _ (spares_section kept_so.spares (subst (λ k. k < 16) own performs.few)) (ap odd_by kept_so.same)
+          | inr turning ↦
+              turns_section _ _ _
+              (turned-adds (place_of g (Section performs.caller)) place did turning.adds (ap (λ k. place_of g (Section k)) own))
+              turning.turns
+        ] in
+        ap (λ n. (n + now) % 2) (turns-push place 0 steps did)
+        ∙ one_more (turns place 0 steps) (turned place 0 did) was now kept.1.section even
+
     node_next : (node : ℕ) → (held_next next).node ≡ Some node → node < g.nodes
     node_next = node_then env mix did.op did.old (held_of job) (held_next next) kept.1.node_in performs.step.move does
 
     by_next : (r : Job × Next Ending) → call_of r.0 ≡ call_of job → Turned (call_of job) (held_next r) all
-        → ((node : ℕ) → (held_next r).node ≡ Some node → node < g.nodes)
-        → LeadsOn M mix env (refusals.Going M mix env events) (refusals.Undone M mix env events) job all r
+        → TurnedSection (held_next r) all → ((node : ℕ) → (held_next r).node ≡ Some node → node < g.nodes)
+        → LeadsOn M mix env (refusals.Going M mix env events c) (refusals.Undone M mix env events c) job all r
         → LeadsOn M mix env Now Gone job all r
-    by_next (after, Go) same turned node_in leads = (
+    by_next (after, Go) same turned section node_in leads = (
       leads,
       record {
         turned = subst (λ call. Turned call (held_of after) all) (sym same) turned;
+        section = section;
         node_in = node_in;
       },
     )
-    by_next (after, Done ending) same turned node_in leads = (
+    by_next (after, Done ending) same turned section node_in leads = (
       leads,
       λ place is. elim (turned place is) [
         | inl entered ↦ inl entered
         | inr even ↦ inr (nothing_held (turns place 0 all) even)
       ],
+      closed_then (turns (place_of g (Section c)) 0 all) section,
     )
 
     goes_on : LeadsOn M mix env Now Gone job all next
     goes_on =
-        by_next next (same_call mix env job did.old) turned_then node_next
-        (refusals.goes M mix env events job steps did performs here came kept.0)
+        by_next next (same_call mix env job did.old) turned_then section_then node_next
+        (refusals.goes M mix env events c job steps did performs own here came kept.0)
 
   -- ---- the beginning
 
   begins : (call : Call) (job : Job) → first_job env call ≡ Some job → HasTurned job []
   begins call job is = record {
     turned = subst (λ h. Turned (call_of job) h []) (sym (first_holds env call job is)) (λ place at. inr refl);
+    section = subst (λ h. TurnedSection h []) (sym (first_holds env call job is)) refl;
     node_in = λ n has. absurd (let both = sym (first_without env call job is) ∙ has in cc);
   }
 
   -- ---- the law
 
-  let_go-ended : (past : Past) → IsEndedSo M mix env Now Gone past → HasLetGo M mix env events past
-  let_go-ended past (ended, gone) = record {
+  let_go-ended : (past : Past) → IsEndedSo M mix env Now Gone past → HasLetGo M mix env events c past
+  let_go-ended past (ended, gone, section) = record {
     work = elim (gone (place_of g WorkLock) (inl refl)) [
       | inl entered ↦
           let order = parts_in_order g in
@@ -278,21 +320,22 @@ module _ (M : Type 0) (mix : ℕ → ℕ → ℕ → ℕ) (env : Env) (events : 
           inl (subst (HasEnteredAt g words_at past.done.call past.steps) same entered.entered)
       | inr even ↦ inr even
     ];
+    section = section;
   }
 
-  each : (calls : List Past) → AllByRecursion (IsEndedSo M mix env Now Gone) calls → AllByRecursion (HasLetGo M mix env events) calls
+  each : (calls : List Past) → AllByRecursion (IsEndedSo M mix env Now Gone) calls → AllByRecursion (HasLetGo M mix env events c) calls
   each [] ended = tt
   each (past ∷ calls) ended = (let_go-ended past ended.0, each calls ended.1)
 
 pub let_go : (M : Type 0) (mix : ℕ → ℕ → ℕ → ℕ) → LetGo M mix
 let_go M mix env events c admitted =
-    each M mix env events ((traced_of {M = M} mix env events).traces c).past
-    (kept_beside M mix env events (JobSaw env (words_before M mix env events) mix) (Now M mix env events)
-    (EndsSeen M mix env events) (Gone M mix env events)
-    (record { begins = first_job-saw M mix env events; goes = job-leads M mix env events })
+    each M mix env events c ((traced_of {M = M} mix env events).traces c).past
+    (kept_beside M mix env events (JobSaw env (words_before M mix env events) mix) (Now M mix env events c)
+    (EndsSeen M mix env events) (Gone M mix env events c)
+    (record { begins = first_job-saw M mix env events; goes = job-leads M mix env events }) c
     (record {
-      begins = λ call job is. (refusals.begins M mix env events call job is, begins M mix env events call job is);
-      goes = λ job steps did performs stands saw kept.
-          goes_on M mix env events job steps did performs stands.now
+      begins = λ call job is. (refusals.begins M mix env events c call job is, begins M mix env events c call job is);
+      goes = λ job steps did performs own stands saw kept.
+          goes_on M mix env events c job steps did performs own stands.now
           (saw-came env (words_before M mix env events) mix job steps saw) kept;
-    }) c admitted)
+    }) admitted)

@@ -136,8 +136,8 @@ module _ (env : Env) (mix : ℕ → ℕ → ℕ → ℕ) (c : ℕ) (M : Memory) 
   grow-enters port owner once attempt table shape place grow (grows.Giving there give) same is =
       absurd (let both = sym is ∙ exchanges in cc)
 
-  bind-enters : (port owner : ℕ) (once : Bool) (state : BindAt) → IsBindAtIn env state → did.op ≡ job_plan env (binds port owner once state)
-      → In page (held_of_bind state).pages → Now (binds port owner once state)
+  bind-enters : (port owner : ℕ) (once : Bool) (state : BindAt) → IsBindAtIn env state
+      → did.op ≡ job_plan env c (binds port owner once state) → In page (held_of_bind state).pages → Now (binds port owner once state)
   bind-enters port owner once (binding.Making growing size make) within is had =
       absurd (make-enters env mix c M G did entry page exchanges make.exponent make.seed make.geometry make.at is had)
   bind-enters port owner once (binding.Attaching growing slot shape) within is had =
@@ -150,7 +150,7 @@ module _ (env : Env) (mix : ℕ → ℕ → ℕ → ℕ) (c : ℕ) (M : Memory) 
       absurd (pageless (front-tableless list.claimed (has_relinked list.before relink.at)) page had)
   bind-enters port owner once _ within is had = absurd had
 
-  work-none : (state : WorkAt) → IsWorkAtIn env state → did.op ≡ job_plan env (works state) → In page (held_of_work state).pages → ⊥
+  work-none : (state : WorkAt) → IsWorkAtIn env state → did.op ≡ job_plan env c (works state) → In page (held_of_work state).pages → ⊥
   work-none (working.Making wanted make) within is had =
       make-enters env mix c M G did entry page exchanges make.exponent make.seed make.geometry make.at is had
   work-none (working.Attaching root last slot shape) within is had =
@@ -159,7 +159,7 @@ module _ (env : Env) (mix : ℕ → ℕ → ℕ → ℕ) (c : ℕ) (M : Memory) 
       unmake-enters env mix c M G did entry page exchanges unmake.geometry unmake.slot unmake.at is
   work-none _ within is had = had
 
-  pub enters_now : (job : Job) → JobIn env mix c job → did.op ≡ job_plan env job → In page (held_of job).pages → Now job
+  pub enters_now : (job : Job) → JobIn env mix c job → did.op ≡ job_plan env c job → In page (held_of job).pages → Now job
   enters_now (binds port owner once state) within is had = bind-enters port owner once state within.at_in is had
   enters_now (works state) within is had = absurd (work-none state within is had)
   enters_now job within is had = absurd (pageless (tableless job refl) page had)

@@ -1,4 +1,4 @@
--- What a job holds and does that may still be refused, or that ends without a change: it has raised no count, moves nothing, and is in no read section. Where it
+-- What a job holds and does that may still be refused, or that ends without a change: it has raised no count, and moves nothing. Where it
 -- takes nodes or makes tables it has a node where it has a lock, and else it holds a lock at most. Its pages are its own, the one exchange
 -- of a future is that of a bind which attaches the table that it has made, and a page that it enters is none of its own any more.
 use Rattle.std.proofs.Common.{◌≡◌, ◌≢◌, ℕ, ◌+◌, ◌<◌, Bool, false, List, Option, Some, None, refl, sym, ◌∙◌, subst, arith}
@@ -57,7 +57,7 @@ use Rattle.rht_ghost.proofs.Theory.Steps.{Holding}
 use Rattle.rht_ghost.proofs.Pieces.Makes.{known_of_make}
 use Rattle.rht_words.proofs.FilteredLists.{range_with_len-from}
 use Rattle.rht_core.proofs.Machines.JobSteps.{JobKnows}
-use Rattle.rht_core.proofs.Machines.NeverHeld.{job-unraised, find-alone, all-alone, tableless, slotless, pageless}
+use Rattle.rht_core.proofs.Machines.NeverHeld.{job-unraised, tableless, slotless, pageless}
 use Rattle.rht_core.proofs.Reasons.AttachedTables.{make-none, unmake-none}
 use Rattle.rht_core.proofs.Undoing.GoingBack.{MayAttachWith}
 use Rattle.rht_core.proofs.Undoing.PastRefusal.{bind_is_past, release_is_past, rebind_is_past, work_is_past, is_past}
@@ -151,33 +151,6 @@ refusable (releases port owner state) may =
 refusable (works state) may = (work-refusable state (early_work state may)).refusable
 refusable job may = record { low = job-unraised job; still = (tableless job refl).still }
 
--- no machine opens a read section yet
-bind-outside : (state : BindAt) → bind_is_past state ≡ false → (held_of_bind state).section ≡ false
-bind-outside (binding.Replacing list relink) may = absurd (cc)
-bind-outside _ may = refl
-
-release-outside : (state : ReleaseAt) → release_is_past state ≡ false → (held_of_release state).section ≡ false
-release-outside (releasing.Promoting found relink) may = absurd (cc)
-release-outside (releasing.Unlinking found relink) may = absurd (cc)
-release-outside _ may = refl
-
-rebind-outside : (state : RebindAt) → rebind_is_past state ≡ false → (held_of_rebind state).section ≡ false
-rebind-outside (rebinding.Replacing node found relink) may = absurd (cc)
-rebind-outside _ may = refl
-
-work-outside : (state : WorkAt) → (held_of_work state).section ≡ false
-work-outside working.WorkLock = refl
-work-outside _ = refl
-
-pub outside : (job : Job) → is_past job ≡ false → (held_of job).section ≡ false
-outside (finds port state) may = (find-alone state).outside
-outside (binds port owner once state) may = bind-outside state may
-outside (lists port room state) may = (all-alone room.items state).outside
-outside (releases port owner state) may = release-outside state may
-outside (rebinds port owner new state) may = rebind-outside state may
-outside (works state) may = work-outside state
-outside _ may = refl
-
 -- what it has stored for a table that it makes
 abbrev pub JobStored : Env → Job → List Did → Type 0
 JobStored env (finds port state) steps = Unit {0}
@@ -250,7 +223,7 @@ module _ (env : Env) (mix : ℕ → ℕ → ℕ → ℕ) (c : ℕ) (M : Memory) 
 
     bind-attaches : (port owner : ℕ) (once : Bool) (state : BindAt) → bind_is_past state ≡ false
         → JobKnows env mix c (binds port owner once state) M G → HasStored env state steps
-        → did.op ≡ job_plan env (binds port owner once state) → (held_of_bind state).slot ≡ Some slot
+        → did.op ≡ job_plan env c (binds port owner once state) → (held_of_bind state).slot ≡ Some slot
         → MayAttachNow (binds port owner once state)
     bind-attaches port owner once (binding.Making growing size make) may knows stored is has =
         absurd (make-none g make.geometry make.exponent make.seed make.at last 0 (future_of slot) low (sym is ∙ exchanges))
@@ -268,14 +241,14 @@ module _ (env : Env) (mix : ℕ → ℕ → ℕ → ℕ) (c : ℕ) (M : Memory) 
     bind-attaches port owner once _ may knows stored is has = absurd (cc)
 
     -- a resizing that may be refused exchanges none
-    work-attaches : (state : WorkAt) → IsEarlyWork state → did.op ≡ job_plan env (works state)
+    work-attaches : (state : WorkAt) → IsEarlyWork state → did.op ≡ job_plan env c (works state)
         → (held_of_work state).slot ≡ Some slot → ⊥
     work-attaches state (at_making wanted make) is has =
         make-none g make.geometry make.exponent make.seed make.at last 0 (future_of slot) low (sym is ∙ exchanges)
     work-attaches state _ is has = cc
 
     pub attaches : (job : Job) → is_past job ≡ false → JobKnows env mix c job M G → JobStored env job steps
-        → did.op ≡ job_plan env job → (held_of job).slot ≡ Some slot → MayAttachNow job
+        → did.op ≡ job_plan env c job → (held_of job).slot ≡ Some slot → MayAttachNow job
     attaches (binds port owner once state) may knows stored is has = bind-attaches port owner once state may knows stored is has
     attaches (works state) may knows stored is has = absurd (work-attaches state (early_work state may) is has)
     attaches job may knows stored is has = absurd (slotless (tableless job refl) slot has)
@@ -299,12 +272,12 @@ module _ (env : Env) (mix : ℕ → ℕ → ℕ → ℕ) (c : ℕ) (M : Memory) 
     make-enters exponent seed h (makes.SlotBack slot) is i = i
     make-enters exponent seed h _ is i = let same = sym is ∙ exchanges in cc
 
-    pub work-enters : (state : WorkAt) → IsEarlyWork state → did.op ≡ job_plan env (works state)
+    pub work-enters : (state : WorkAt) → IsEarlyWork state → did.op ≡ job_plan env c (works state)
         → In page (held_of_work state).pages → ⊥
     work-enters state (at_making wanted make) is i = make-enters make.exponent make.seed make.geometry make.at is i
     work-enters state _ is i = i
 
-    pub enters : (job : Job) → is_past job ≡ false → did.op ≡ job_plan env job → In page (held_of job).pages
+    pub enters : (job : Job) → is_past job ≡ false → did.op ≡ job_plan env c job → In page (held_of job).pages
         → MayAttach (call_of job)
     enters (binds port owner once state) may is i = tt
     enters (works state) may is i = absurd (work-enters state (early_work state may) is i)
@@ -341,7 +314,7 @@ module _ (env : Env) (mix : ℕ → ℕ → ℕ → ℕ) (c : ℕ) (M : Memory) 
 
     -- what else a bind holds pages for is no exchange, or finds the future free and attaches them
     bind-gone : (port owner : ℕ) (once : Bool) (state : BindAt) → bind_is_past state ≡ false
-        → did.op ≡ job_plan env (binds port owner once state) → In page (held_of_bind state).pages
+        → did.op ≡ job_plan env c (binds port owner once state) → In page (held_of_bind state).pages
         → In page (held_next (job_after mix env (binds port owner once state) 0)).pages → ⊥
     bind-gone port owner once (binding.Making growing size make) may is had i =
         make-enters make.exponent make.seed make.geometry make.at is had
@@ -356,7 +329,7 @@ module _ (env : Env) (mix : ℕ → ℕ → ℕ → ℕ) (c : ℕ) (M : Memory) 
     bind-gone port owner once _ may is had i = had
 
     -- where the exchange of an entry for a page that the job has finds 0, the job has the page no more
-    pub gone : (job : Job) → is_past job ≡ false → did.op ≡ job_plan env job → In page (held_of job).pages
+    pub gone : (job : Job) → is_past job ≡ false → did.op ≡ job_plan env c job → In page (held_of job).pages
         → In page (held_next (job_after mix env job 0)).pages → ⊥
     gone (binds port owner once state) may is had i = bind-gone port owner once state may is had i
     gone (works state) may is had i = work-enters state (early_work state may) is had

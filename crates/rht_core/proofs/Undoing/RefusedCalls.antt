@@ -3,7 +3,7 @@
 --
 -- While a call may still end so its operations have changed nothing that the words stand for, and the bits that they turned an odd
 -- number of times are those of what it holds, but for those that may be left. An operation that changes bindings tells an answer that
--- says so, and behind that the call doesn't end so. Once it has ended it holds nothing.
+-- says so, and behind that the call doesn't end so. Once it has ended it holds nothing, and its caller is in no section.
 use Rattle.std.proofs.Common.{◌≡◌, ◌≢◌, ◌⊎◌, ℕ, suc, ◌+◌, ◌%◌, ◌<◌, Bool, true, false, List, [], ◌∷◌, ◌++◌, take, refl, sym, ap, ◌∙◌, subst, inl, inr, arith}
 use Rattle.std.specs.Prelude.{Option, Some, None, IfSome}
 use Rattle.std.specs.List.{AllByRecursion}
@@ -36,7 +36,7 @@ use Rattle.rht_move.specs.declared.work.WorkAt.TheVariants as works_at
 use Rattle.rht_core.specs.declared.event.Event.{Event}
 use Rattle.rht_core.specs.declared.event.Event.TheVariants.{Step as Steps}
 use Rattle.rht_core.specs.Jobs.{Job, binds, releases, rebinds, works, call_of, first_job, job_plan, job_after, job_next, node_ending, held_of, held_next}
-use Rattle.rht_core.specs.Runs.{World, run_of}
+use Rattle.rht_core.specs.Runs.{World, run_of, IsAdmitted}
 use Rattle.rht_core.specs.Traces.{Did, Past, traced_of}
 use Rattle.rht_core.specs.Seen.{words_before}
 use Rattle.rht_stands.specs.StandsFor.{stands_for}
@@ -53,6 +53,7 @@ use Rattle.rht_core.proofs.Events.Worlds.{run_of-next, step_words}
 use Rattle.rht_core.proofs.Events.JobsOfCallers.{each_goes, first-so, first_holds, first_rebind-so, same_call}
 use Rattle.rht_core.proofs.Tracing.TracedJobs.{Performs, LeadsOn, IsEndedSo}
 use Rattle.rht_core.proofs.Tracing.JobsBeside.{kept_beside}
+use Rattle.rht_core.proofs.Tracing.BehindCalls.{section_left}
 use Rattle.rht_core.proofs.Reasons.CausesInRuns.{JobSaw, EndsSeen, job-leads, first_job-saw}
 use Rattle.rht_core.proofs.Undoing.EnteringBinds.{CameToEnter, saw-came, came_to_entry}
 use Rattle.rht_core.proofs.Tracing.TracesAtEvents.{at_events}
@@ -61,7 +62,7 @@ use Rattle.rht_core.proofs.Undoing.GoingBack.{GoesBack}
 use Rattle.rht_core.proofs.Undoing.UndoneMoves.{kept_by}
 use Rattle.rht_core.proofs.Undoing.PastRefusal.{due_is_past, is_past, StaysPast, bind-past, release-past, rebind-past, work-past}
 use Rattle.rht_core.proofs.Undoing.StoredShapes.{bind-stored}
-use Rattle.rht_core.proofs.Undoing.RefusableJobs.{refusable, outside, mine, JobStored, attaches, enters, gone}
+use Rattle.rht_core.proofs.Undoing.RefusableJobs.{refusable, mine, JobStored, attaches, enters, gone}
 use Rattle.rht_core.proofs.Undoing.LockedJobs.{locked-leaves}
 
 -- ---- answers that say that bindings were changed
@@ -115,7 +116,7 @@ module _ (env : Env) (mix : ℕ → ℕ → ℕ → ℕ) where
   due_some root dues.Attached did performs past = onward_some root dues.Attached did performs performs.knows.knowing.means.work
   due_some root dues.Later did performs past = onward_some root dues.Later did performs performs.knows.knowing.means.work
 
-module _ (M : Type 0) (mix : ℕ → ℕ → ℕ → ℕ) (env : Env) (events : List Event) where
+module _ (M : Type 0) (mix : ℕ → ℕ → ℕ → ℕ) (env : Env) (events : List Event) (c : ℕ) where
   abbrev g : Geometry
   g = env.geometry
 
@@ -129,7 +130,7 @@ module _ (M : Type 0) (mix : ℕ → ℕ → ℕ → ℕ) (env : Env) (events : 
 
   -- of one that may still be refused
   pub record MayBeRefused (job : Job) (steps : List Did) : Type 0 where
-    pub undoes : Undoes g (words_before M mix env events) (call_of job) (held_of job) steps
+    pub undoes : Undoes g (words_before M mix env events) c (call_of job) (held_of job) steps
     pub still : AllByRecursion LeavesBindings steps
     pub stored : JobStored env job steps
 
@@ -139,7 +140,8 @@ module _ (M : Type 0) (mix : ℕ → ℕ → ℕ → ℕ) (env : Env) (events : 
 
   -- of one that has ended
   pub record HasUndone (call : Call) (steps : List Did) : Type 0 where
-    pub even : (place bit : ℕ) → bit < 64 → IsExcepted g (words_before M mix env events) call steps place bit ⊎ (turns place bit steps % 2 ≡ 0)
+    pub even : (place bit : ℕ) → bit < 64
+        → IsExcepted g (words_before M mix env events) c call steps place bit ⊎ (turns place bit steps % 2 ≡ 0)
     pub still : AllByRecursion LeavesBindings steps
 
   abbrev pub Undone : Call → Ending → List Did → Type 0
@@ -202,12 +204,12 @@ module _ (M : Type 0) (mix : ℕ → ℕ → ℕ → ℕ) (env : Env) (events : 
   other-stored (binds port owner once state) steps other = absurd (other tt)
   other-stored _ steps other = tt
 
-  stored_then : (job : Job) (steps : List Did) (did : Did) → is_past job ≡ false → did.op ≡ job_plan env job
+  stored_then : (c : ℕ) (job : Job) (steps : List Did) (did : Did) → is_past job ≡ false → did.op ≡ job_plan env c job
       → JobStored env job steps → NextStored (steps ++ did ∷ []) (job_after mix env job did.old)
-  stored_then (binds port owner once state) steps did may is stored =
+  stored_then c (binds port owner once state) steps did may is stored =
       let r = bind_at.after_at mix env port once state did.old in
       next-stored (steps ++ did ∷ []) (binds port owner once) plain_ending r (bind-stored env mix port once state steps did is stored)
-  stored_then job steps did may is stored =
+  stored_then c job steps did may is stored =
       let all = steps ++ did ∷ [] in
       each_goes (λ after. JobStored env after all) (λ ending. Unit {0}) (call_of job) (job_after mix env job did.old)
       (same_call mix env job did.old) (λ other same. other-stored other all (λ may. subst MayAttach same may)) (λ ending. tt)
@@ -226,7 +228,8 @@ module _ (M : Type 0) (mix : ℕ → ℕ → ℕ → ℕ) (env : Env) (events : 
 
     abbrev UndoesOr : Holding → Type 0
     UndoesOr after =
-        after.raised ≡ false → after.moving ≡ false → after.section ≡ false → SaysChange after.answer ⊎ Undoes g (words_before M mix env events) (call_of job) after all
+        after.raised ≡ false → after.moving ≡ false
+        → SaysChange after.answer ⊎ Undoes g (words_before M mix env events) c (call_of job) after all
 
     go_on : (after : Job) → call_of after ≡ call_of job → LeavesOr (held_of after) → UndoesOr (held_of after)
         → JobStored env after all → (t : Bool) → is_past after ≡ t → Going after all
@@ -235,10 +238,10 @@ module _ (M : Type 0) (mix : ℕ → ℕ → ℕ → ℕ) (env : Env) (events : 
         let may_then = refusable after not_past in
         elim leaves [
           | inl says ↦ inr (inl says)
-          | inr left ↦ elim (undoes may_then.low may_then.still (outside after not_past)) [
+          | inr left ↦ elim (undoes may_then.low may_then.still) [
             | inl says ↦ inr (inl says)
             | inr now ↦ inr (inr (record {
-              undoes = subst (λ call. Undoes g (words_before M mix env events) call (held_of after) all) (sym same) now;
+              undoes = subst (λ call. Undoes g (words_before M mix env events) c call (held_of after) all) (sym same) now;
               still = AllByRecursion-push LeavesBindings steps did kept.still left;
               stored = stored;
             }))
@@ -249,7 +252,7 @@ module _ (M : Type 0) (mix : ℕ → ℕ → ℕ → ℕ) (env : Env) (events : 
         → Leads job all (after, Done ending)
     end after ending leaves undoes = elim leaves [
       | inl says ↦ change-leads all job (after, Done ending) says
-      | inr left ↦ elim (undoes refl refl refl) [
+      | inr left ↦ elim (undoes refl refl) [
         | inl says ↦ change-leads all job (after, Done ending) says
         | inr now ↦ λ nothing. record {
           even = λ place bit low. elim (now.even place bit low) [
@@ -272,8 +275,8 @@ module _ (M : Type 0) (mix : ℕ → ℕ → ℕ → ℕ) (env : Env) (events : 
     by_next (after, Go) same leaves undoes stored = go_on after same leaves undoes stored (is_past after) refl
     by_next (after, Done ending) same leaves undoes stored = end after ending leaves undoes
 
-    module _ (performs : Performs mix env job did) (here : performs.words ≡ words_before M mix env events did.index)
-        (came : CameToEnter g job steps) where
+    module _ (performs : Performs mix env job did) (own : performs.caller ≡ c)
+        (here : performs.words ≡ words_before M mix env events did.index) (came : CameToEnter g job steps) where
       abbrev after : Holding
       after = held_next (job_after mix env job did.old)
 
@@ -288,13 +291,15 @@ module _ (M : Type 0) (mix : ℕ → ℕ → ℕ → ℕ) (env : Env) (events : 
       ]
 
       undoes : UndoesOr after
-      undoes low_then still_then outside_then =
-          let gone_then : GoneWhereEntered g (words_before M mix env events) (call_of job) steps did (held_of job) after =
+      undoes low_then still_then =
+          let gone_then : GoneWhereEntered g (words_before M mix env events) c (call_of job) steps did (held_of job) after =
           λ entry page exchanges free had i.
           gone env mix performs.caller (mem env mix performs.words) performs.ghost did entry page exchanges job may performs.planned
           had (subst (λ old. In page (held_next (job_after mix env job old)).pages) free i) in
           let holds = refusable job may in
           let step = performs.step in
+          let so_far : Undoes g (words_before M mix env events) performs.caller (call_of job) (held_of job) steps =
+          subst (λ k. Undoes g (words_before M mix env events) k (call_of job) (held_of job) steps) (sym own) kept.undoes in
           let goes_back : GoesBack env mix (words_before M mix env events) (call_of job) = record {
             steps = steps;
             did = did;
@@ -306,15 +311,13 @@ module _ (M : Type 0) (mix : ℕ → ℕ → ℕ → ℕ) (env : Env) (events : 
             whole = performs.whole;
             here = sym here;
             found = performs.found;
-            so_far = kept.undoes;
+            so_far = so_far;
             may = record {
               low = holds.low;
               low_then = low_then;
               still = holds.still;
               still_then = still_then;
-              outside = outside job may;
-              outside_then = outside_then;
-              locked_leaves = locked-leaves env mix did.op did.old job may performs.planned;
+              locked_leaves = locked-leaves env mix performs.caller did.op did.old job may performs.planned;
               mine = mine env mix performs.caller (mem env mix performs.words) performs.ghost job may performs.knows;
               attaches = λ last slot low exchanges has.
                   attaches env mix performs.caller (mem env mix performs.words) performs.ghost steps did last slot
@@ -333,29 +336,31 @@ module _ (M : Type 0) (mix : ℕ → ℕ → ℕ → ℕ) (env : Env) (events : 
           (subst (λ old. Does env mix step.move did.op old (held_of job) after) (sym performs.found) step.does)) [
             | inl says ↦ inl says
             | inr keeps ↦ inr (
-                Undoes-push g (words_before M mix env events) (call_of job) steps did (held_of job) after kept.undoes keeps gone_then)
+                subst (λ k. Undoes g (words_before M mix env events) k (call_of job) after all) own
+                (Undoes-push g (words_before M mix env events) performs.caller (call_of job) steps did (held_of job) after so_far keeps
+                gone_then))
           ]
 
       leads_on : Leads job all (job_after mix env job did.old)
       leads_on =
           by_next (job_after mix env job did.old) (same_call mix env job did.old) leaves undoes
-          (stored_then job steps did may performs.planned kept.stored)
+          (stored_then performs.caller job steps did may performs.planned kept.stored)
 
   -- ---- each operation, and the beginning
 
-  pub goes : (job : Job) (steps : List Did) (did : Did) (performs : Performs mix env job did)
+  pub goes : (job : Job) (steps : List Did) (did : Did) (performs : Performs mix env job did) → performs.caller ≡ c
       → performs.words ≡ words_before M mix env events did.index → CameToEnter g job steps → Going job steps
       → Leads job (steps ++ did ∷ []) (job_after mix env job did.old)
-  goes job steps did performs here came (inl past) = past-leads (steps ++ did ∷ []) job did performs past
-  goes job steps did performs here came (inr (inl says)) =
+  goes job steps did performs own here came (inl past) = past-leads (steps ++ did ∷ []) job did performs past
+  goes job steps did performs own here came (inr (inl says)) =
       change-leads (steps ++ did ∷ []) job (job_after mix env job did.old)
       (change_stays env.config.kind performs.caller (call_of job) _ _ _ _ (held_of job).answer
       (held_next (job_after mix env job did.old)).answer performs.step.says says)
-  goes job steps did performs here came (inr (inr kept)) = by_case (is_past job) refl
+  goes job steps did performs own here came (inr (inr kept)) = by_case (is_past job) refl
     where
       by_case : (t : Bool) → is_past job ≡ t → Leads job (steps ++ did ∷ []) (job_after mix env job did.old)
       by_case true past = past-leads (steps ++ did ∷ []) job did performs past
-      by_case false may = leads_on job steps did may kept performs here came
+      by_case false may = leads_on job steps did may kept performs own here came
 
   first-stored : (call : Call) → IfSome (first_job env call) (λ job. JobStored env job [])
   first-stored (Rebind port owner new) = first_rebind-so (λ job. JobStored env job []) env port owner new tt
@@ -365,7 +370,7 @@ module _ (M : Type 0) (mix : ℕ → ℕ → ℕ → ℕ) (env : Env) (events : 
   pub begins : (call : Call) (job : Job) → first_job env call ≡ Some job → Going job []
   begins call job is = inr (inr (record {
     undoes =
-        subst (λ h. Undoes g (words_before M mix env events) (call_of job) h []) (sym (first_holds env call job is))
+        subst (λ h. Undoes g (words_before M mix env events) c (call_of job) h []) (sym (first_holds env call job is))
         (record {
           even = λ place bit low. inr refl;
           node_in = λ n is. absurd (cc);
@@ -379,50 +384,50 @@ module _ (M : Type 0) (mix : ℕ → ℕ → ℕ → ℕ) (env : Env) (events : 
 
   -- ---- the law
 
-  module _ (c : ℕ) where
-    -- behind an operation's event the words are as it left them
-    words_behind : (did : Did) → IsRecorded M mix env events c did
-        → words_before M mix env events (did.index + 1) ≡ applied (words_before M mix env events did.index) did.op
-    words_behind did recorded =
-        let w : World M = run_of mix env (take did.index events) in
-        let next : did.index + 1 ≡ suc did.index = omega arith in
-        ap (words_before M mix env events) next
-        ∙ ap (λ (v : World M). v.core.words) (run_of-next M mix env events did.index (Steps c) recorded.event)
-        ∙ step_words M mix w c did.op recorded.plan
+  -- behind an operation's event the words are as it left them
+  words_behind : (did : Did) → IsRecorded M mix env events c did
+      → words_before M mix env events (did.index + 1) ≡ applied (words_before M mix env events did.index) did.op
+  words_behind did recorded =
+      let w : World M = run_of mix env (take did.index events) in
+      let next : did.index + 1 ≡ suc did.index = omega arith in
+      ap (words_before M mix env events) next
+      ∙ ap (λ (v : World M). v.core.words) (run_of-next M mix env events did.index (Steps c) recorded.event)
+      ∙ step_words M mix w c did.op recorded.plan
 
-    still-there : (steps : List Did) → AllByRecursion LeavesBindings steps → AllByRecursion (IsRecorded M mix env events c) steps
-        → AllByRecursion (λ did. ¬ ChangesBindings M mix env events did) steps
-    still-there [] leaves_all recorded = tt
-    still-there (did ∷ steps) leaves_all recorded = (
-      λ (port, differs).
-          differs (sym (leaves_all.0 port) ∙ ap (λ ws. stands_for g ws port) (sym (words_behind did recorded.0))),
-      still-there steps leaves_all.1 recorded.1,
-    )
+  still-there : (steps : List Did) → AllByRecursion LeavesBindings steps → AllByRecursion (IsRecorded M mix env events c) steps
+      → AllByRecursion (λ did. ¬ ChangesBindings M mix env events did) steps
+  still-there [] leaves_all recorded = tt
+  still-there (did ∷ steps) leaves_all recorded = (
+    λ (port, differs).
+        differs (sym (leaves_all.0 port) ∙ ap (λ ws. stands_for g ws port) (sym (words_behind did recorded.0))),
+    still-there steps leaves_all.1 recorded.1,
+  )
 
-    each : (calls : List Past) → AllByRecursion (IsEndedSo M mix env Going Undone) calls
-        → AllByRecursion (IsPastCall M mix env events c) calls
-        → AllByRecursion (λ past. changes_nothing past.done.call past.done.reply ≡ true → IsUndone M mix env events past) calls
-    each [] ended were = tt
-    each (past ∷ calls) ended were = (
-      λ nothing.
-          let undone = ended.0 nothing in
-          record {
-            bindings = still-there past.steps undone.still were.0.steps;
-            even = λ place bit within low. undone.even place bit low;
-          },
-      each calls ended.1 were.1,
-    )
+  each : IsAdmitted env.config.kind events → (calls : List Past) → AllByRecursion (IsEndedSo M mix env Going Undone) calls
+      → AllByRecursion (IsPastCall M mix env events c) calls
+      → AllByRecursion (λ past. changes_nothing past.done.call past.done.reply ≡ true → IsUndone M mix env events c past) calls
+  each admitted [] ended were = tt
+  each admitted (past ∷ calls) ended were = (
+    λ nothing.
+        let undone = ended.0 nothing in
+        record {
+          bindings = still-there past.steps undone.still were.0.steps;
+          even = λ place bit within low. undone.even place bit low;
+          section = section_left M mix env events c past were.0 admitted;
+        },
+    each admitted calls ended.1 were.1,
+  )
 
 pub refused : (M : Type 0) (mix : ℕ → ℕ → ℕ → ℕ) → Refused M mix
 refused M mix env events c admitted =
-    each M mix env events c ((traced_of {M = M} mix env events).traces c).past
-    (kept_beside M mix env events (JobSaw env (words_before M mix env events) mix) (Going M mix env events)
-    (EndsSeen M mix env events) (Undone M mix env events)
-    (record { begins = first_job-saw M mix env events; goes = job-leads M mix env events })
+    each M mix env events c admitted ((traced_of {M = M} mix env events).traces c).past
+    (kept_beside M mix env events (JobSaw env (words_before M mix env events) mix) (Going M mix env events c)
+    (EndsSeen M mix env events) (Undone M mix env events c)
+    (record { begins = first_job-saw M mix env events; goes = job-leads M mix env events }) c
     (record {
-      begins = begins M mix env events;
-      goes = λ job steps did performs stands saw kept.
-          goes M mix env events job steps did performs stands.now
+      begins = begins M mix env events c;
+      goes = λ job steps did performs own stands saw kept.
+          goes M mix env events c job steps did performs own stands.now
           (saw-came env (words_before M mix env events) mix job steps saw) kept;
-    }) c admitted)
+    }) admitted)
     (at_events M mix env events admitted c).past

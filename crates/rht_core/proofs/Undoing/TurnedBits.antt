@@ -1,18 +1,20 @@
 -- Which bits of words the operations of a call turn, and which ones it has turned an odd number of times by what it holds: the bit of
--- its node, the lowest bit of the word of the bucket that it has locked, those of the work lock and of the state word of its slot, and
--- the bits of its pages.
-use Rattle.std.proofs.Common.{◌≡◌, ◌≢◌, ◌⊎◌, ℕ, zero, suc, ◌+◌, ◌/◌, ◌%◌, ◌<◌, ◌==◌, ◌&&◌, ◌||◌, Bool, true, false, cond, List, [], ◌∷◌, ◌++◌, Option, Some, None, refl, sym, ap, ◌∙◌, inl, inr, arith}
+-- its node, the lowest bit of the word of the bucket that it has locked, those of the work lock and of the state word of its slot, the bits
+-- of its pages, and while its read section is open the lowest bit of its caller's section word.
+use Rattle.std.proofs.Common.{◌≡◌, ◌≢◌, ◌⊎◌, ℕ, zero, suc, ◌+◌, ◌/◌, ◌%◌, ◌^◌, ◌<◌, ◌==◌, ◌&&◌, ◌||◌, Bool, true, false, cond, List, [], ◌∷◌, ◌++◌, Option, Some, None, refl, sym, ap, ◌∙◌, inl, inr, arith}
 use Rattle.std.specs.Int.{bit_at}
 use Rattle.std.proofs.lemmas.Bool.{cases_eq, eq-eqb, ne_eqb, or_right}
 use Rattle.std.proofs.lemmas.Nat.Bits.{bit_at-suc, bit_at_lowest}
 use Rattle.rht_words.specs.declared.geometry.Geometry.{Geometry}
+use Rattle.rht_words.specs.declared.op.Op.TheVariants.{Add}
 use Rattle.rht_words.specs.Members.{In}
 use Rattle.rht_words.specs.Operations.{op_place, word_after}
-use Rattle.rht_words.specs.Places.{WorkLock, Slot, StateWord, PageMap, place_of}
+use Rattle.rht_words.specs.Places.{WorkLock, Section, Slot, StateWord, PageMap, place_of}
 use Rattle.rht_words.proofs.Members.{one_if}
 use Rattle.rht_arena.specs.Laws.{map_place, map_bit}
 use Rattle.rht_core.specs.Traces.{Did}
 use Rattle.rht_core.specs.Refused.{turned, turns}
+use Rattle.rht_core.proofs.Events.SectionsInRuns.{odd_by}
 use Rattle.rht_ghost.proofs.Theory.Steps.{Holding, LeavesBits}
 
 -- ---- one bit
@@ -128,6 +130,14 @@ clears_lowest there did on even before =
           sym (ap (λ w. bit_at w bit) before ∙ others_same after even bit other);
     }
 
+-- an addition of 1 turns the lowest bit
+adds_one : (old new : ℕ) → new ≡ (old + 1) % 2 ^ 64 → (bit_at old 0 + bit_at new 0) % 2 ≡ 1
+adds_one old new is = omega (arith, is, bit_at_lowest old, bit_at_lowest new)
+
+pub turned-adds : (there place : ℕ) (did : Did) → did.op ≡ Add there 1 → there ≡ place → turned place 0 did ≡ 1
+turned-adds there place did adds here =
+    turned-here place 0 did (ap op_place adds ∙ here) ∙ adds_one did.old _ (ap (word_after did.old) adds)
+
 -- ---- how often a list of operations turns a bit
 
 pub turns-push : (place bit : ℕ) (steps : List Did) (did : Did)
@@ -155,6 +165,11 @@ module _ (g : Geometry) where
   slot_bit None place bit = 0
   slot_bit (Some slot) place bit = one_bit (place_of g (Slot slot StateWord)) 0 place bit
 
+  -- the caller's section is open
+  abbrev pub section_bit : ℕ → Bool → ℕ → ℕ → ℕ
+  section_bit c false place bit = 0
+  section_bit c true place bit = one_bit (place_of g (Section c)) 0 place bit
+
   -- the bit is that of one of these pages
   abbrev pub is_of_page : ℕ → ℕ → ℕ → Bool
   is_of_page page place bit = (place_of g (PageMap (page / 64)) == place) && (page % 64 == bit)
@@ -166,10 +181,22 @@ module _ (g : Geometry) where
   abbrev pub pages_bit : List ℕ → ℕ → ℕ → ℕ
   pages_bit pages place bit = one_if (is_of_pages pages place bit)
 
-  abbrev pub held_bits : Holding → ℕ → ℕ → ℕ
-  held_bits h place bit =
+  -- of all that this caller's call holds
+  abbrev pub held_bits : ℕ → Holding → ℕ → ℕ → ℕ
+  held_bits c h place bit =
       node_bit h.node place bit + locked_bit h.lock place bit + work_bit h.worker place bit
-      + slot_bit h.slot place bit + pages_bit h.pages place bit
+      + slot_bit h.slot place bit + pages_bit h.pages place bit + section_bit c h.section place bit
+
+  -- so the lowest bit of its word is 1 just where it is open
+  pub section_bit-here : (c : ℕ) (open_now : Bool) (place : ℕ) → place_of g (Section c) ≡ place
+      → section_bit c open_now place 0 ≡ odd_by open_now
+  section_bit-here c false place here = refl
+  section_bit-here c true place here = one_bit-here (place_of g (Section c)) 0 place 0 here refl
+
+  pub section_bit-far : (c : ℕ) (open_now : Bool) (place bit : ℕ) → place_of g (Section c) ≢ place
+      → section_bit c open_now place bit ≡ 0
+  section_bit-far c false place bit far = refl
+  section_bit-far c true place bit far = one_bit-far (place_of g (Section c)) 0 place bit far
 
   -- the bit of a page of the list
   pub record IsPageAt (pages : List ℕ) (place bit : ℕ) : Type 0 where

@@ -1,27 +1,28 @@
 -- What the bits that a call has turned come to where it takes or gives back a node, a lock, the work lock or
--- a slot, and where it does what others don't see. What an operation finds that gives something back is known
--- from who has it.
-use Rattle.std.proofs.Common.{◌≡◌, ℕ, ◌+◌, ◌/◌, ◌%◌, ◌<◌, true, false, List, Some, None, refl, sym, ap, ◌∙◌, subst, inl, inr, arith}
+-- a slot, where it opens or closes its read section, and where it does what others don't see. What an operation
+-- finds that gives something back is known from who has it.
+use Rattle.std.proofs.Common.{◌≡◌, ℕ, ◌+◌, ◌/◌, ◌%◌, ◌<◌, Bool, true, false, List, Some, None, refl, sym, ap, ◌∙◌, subst, inl, inr, arith}
 use Rattle.std.specs.Int.{bit_at}
 use Rattle.std.proofs.lemmas.Bool.{cases_eq}
 use Rattle.std.proofs.lemmas.List.Quantifiers.{Any-push}
 use Rattle.rht_words.specs.declared.env.Env.{Env}
 use Rattle.rht_words.specs.declared.geometry.Geometry.{Geometry}
-use Rattle.rht_words.specs.declared.op.Op.TheVariants.{Store, Exchange, Or}
+use Rattle.rht_words.specs.declared.op.Op.TheVariants.{Store, Exchange, Add, Or}
 use Rattle.rht_words.specs.Maps.{bit_of}
 use Rattle.rht_words.specs.Operations.{op_place, old_of, word_after}
-use Rattle.rht_words.specs.Places.{WorkLock, Slot, StateWord, NodeMap, Node, place_of}
+use Rattle.rht_words.specs.Places.{WorkLock, Section, Slot, StateWord, NodeMap, Node, place_of}
 use Rattle.rht_words.proofs.BitChanges.{bit_at-set, bit_at-set_other}
 use Rattle.rht_words.proofs.PlacesApart.{parts_in_order}
 use Rattle.rht_model.specs.declared.history.Call.{Call}
 use Rattle.rht_arena.specs.Laws.{map_place, map_bit}
 use Rattle.rht_arena.specs.RunLaws.{page_place}
 use Rattle.rht_core.specs.Refused.{GivesBackNode, GivesBackSlot}
+use Rattle.rht_core.proofs.Events.SectionsInRuns.{odd_by}
 use Rattle.rht_ghost.proofs.Theory.Ghosts.{NodeHeld, SlotHeld, lock_bit, state_word}
 use Rattle.rht_ghost.proofs.Theory.Wholes.{place_at}
 use Rattle.rht_ghost.proofs.Theory.Steps.{bare, Holding, mem, IsAside, DoesQuiet, DoesTakeNode, DoesGiveNode, DoesTakeLock, DoesDropLock, DoesTakeSlot, DoesGiveSlot, DoesTakeWork, DoesGiveWork}
-use Rattle.rht_core.proofs.Undoing.TurnedBits.{turned-far, turned-none, TurnsOne, turned-one, sets_lowest, clears_lowest, node_bit, locked_bit, work_bit, slot_bit, held_bits}
-use Rattle.rht_core.proofs.Undoing.GoingBack.{unturned, comes, goes, sum_is, clear_where, GoesBack, Kept, MayBeLeft, by_node, by_lock, by_worker, by_slot, own_node, own_slot, HadOrTakes, off_map, leaves_bit, behind_map, not_in_node_map, not_in_nodes, not_state, not_in_slots, not_first, same_had, with_same}
+use Rattle.rht_core.proofs.Undoing.TurnedBits.{turned-far, turned-none, turned-adds, TurnsOne, turned-one, sets_lowest, clears_lowest, node_bit, locked_bit, work_bit, slot_bit, section_bit, section_bit-here, section_bit-far, held_bits}
+use Rattle.rht_core.proofs.Undoing.GoingBack.{unturned, comes, goes, sum_is, clear_where, GoesBack, Kept, MayBeLeft, EvenBetween, by_node, by_lock, by_worker, by_slot, by_section, own_node, own_slot, HadOrTakes, off_map, leaves_bit, behind_map, not_in_node_map, not_in_nodes, not_state, not_in_slots, not_first, not_section, same_had, with_same}
 
 module _ {env : Env} {mix : ℕ → ℕ → ℕ → ℕ} {words_at : ℕ → List ℕ} {call : Call}
     (step : GoesBack env mix words_at call) where
@@ -48,8 +49,8 @@ module _ {env : Env} {mix : ℕ → ℕ → ℕ → ℕ} {words_at : ℕ → Lis
   pub quiet : DoesQuiet g step.did.op step.did.old step.before (bare step.after) → Kept step
   quiet does =
       with_same step does.holds refl refl had (λ place bit low.
-      let same : held_bits g step.after place bit ≡ held_bits g step.before place bit =
-      ap (λ (x : Holding). held_bits g x place bit) does.holds in
+      let same : held_bits g step.caller step.after place bit ≡ held_bits g step.caller step.before place bit =
+      ap (λ (x : Holding). held_bits g step.caller x place bit) does.holds in
       elim does.leaves [
         | inl leaves ↦ inr (unturned _ _ _ (turned-none place bit step.did low leaves) same)
         | inr aside ↦ elim (cases_eq (op_place step.did.op) place) [
@@ -217,6 +218,38 @@ module _ {env : Env} {mix : ℕ → ℕ → ℕ → ℕ} {words_at : ℕ → Lis
       inr (by_worker step false false does.holds place bit
       (goes _ _ _ (turned-one there 0 place bit step.did low (stores_none there does.giving one)
       ∙ sym (ap (λ b. work_bit g b place bit) does.has)) refl)))
+
+  -- ---- a read section
+
+  pub turn_section : (was now : Bool) → odd_by was + odd_by now ≡ 1 → step.caller < 16
+      → step.did.op ≡ Add (place_of g (Section step.caller)) 1 → step.before.section ≡ was
+      → bare step.after ≡ record (bare step.before) { section = now } → Kept step
+  turn_section was now one few adds had holds =
+      let there = place_of g (Section step.caller) in
+      let on : op_place step.did.op ≡ there = ap op_place adds in
+      with_same step holds refl refl
+      (same_had step holds refl
+      (off_map step (λ page within at. not_section env step.caller few page (sym on ∙ at))))
+      (λ place bit low. elim (cases_eq there place) [
+        | inr far ↦
+            let none = section_bit-far g step.caller step.before.section place bit far in
+            inr (by_section step now holds place bit
+            (unturned _ _ _ (turned-far place bit step.did (λ at. far (sym on ∙ at)))
+            (section_bit-far g step.caller now place bit far ∙ sym none)))
+        | inl here ↦ elim (cases_eq bit 0) [
+          | inr above ↦ inl (inl (inr (inr (inr (inr (record { there = sym here; above = omega (arith, above) }))))))
+          | inl lowest ↦ inr (by_section step now holds place bit
+              (subst (λ b. EvenBetween step place b (section_bit g step.caller step.before.section place b)
+              (section_bit g step.caller now place b)) (sym lowest)
+              (even_where _ _ _
+              (turned-adds there place step.did adds here)
+              (section_bit-here g step.caller step.before.section place here ∙ ap odd_by had)
+              (section_bit-here g step.caller now place here) one)))
+        ]
+      ])
+    where
+      even_where : (t x y : ℕ) → t ≡ 1 → x ≡ odd_by was → y ≡ odd_by now → odd_by was + odd_by now ≡ 1 → (t + x + y) % 2 ≡ 0
+      even_where t x y turns first second sum = omega (arith, turns, first, second, sum)
 
   -- ---- a slot
 

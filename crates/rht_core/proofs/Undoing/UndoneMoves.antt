@@ -1,12 +1,14 @@
 -- What each move of a call makes of the bits that the call has turned: none is turned an odd number of times
 -- but those of what it holds, those of words of its own node and slot, and those that may be left turned.
-use Rattle.std.proofs.Common.{◌⊎◌, ℕ, List, sym, ap, ◌∙◌, inl, inr}
+use Rattle.std.proofs.Common.{◌⊎◌, ℕ, ◌<◌, true, false, List, refl, sym, ap, ◌∙◌, subst, inl, inr}
 use Rattle.rht_words.specs.declared.env.Env.{Env}
+use Rattle.rht_words.specs.declared.op.Op.TheVariants.{Add}
+use Rattle.rht_words.specs.Places.{Section, place_of}
 use Rattle.rht_model.specs.declared.history.Call.{Call}
 use Rattle.rht_ghost.proofs.Theory.Steps.{bare, Holding, LeavesBits, DoesLinkBehind, Move, Quiet, TakesNode, GivesNode, TakesLock, DropsLock, Raises, Links, Lowers, Rebinds, LinksBehind, Arms, TakesSlot, GivesSlot, TakesPages, GivesPages, TakesWork, GivesWork, BeginsMoving, Opens, Closes, mem, Does, ReadyFor, SaysChange}
 use Rattle.rht_ghost.proofs.Theory.Steps as moves
 use Rattle.rht_core.proofs.Undoing.GoingBack.{GoesBack, Kept}
-use Rattle.rht_core.proofs.Undoing.UndoneHoldings.{quiet, take_node, give_node, take_lock, drop_lock, take_work, give_work, take_slot, give_slot}
+use Rattle.rht_core.proofs.Undoing.UndoneHoldings.{quiet, take_node, give_node, take_lock, drop_lock, take_work, give_work, take_slot, give_slot, turn_section}
 use Rattle.rht_core.proofs.Undoing.UndonePages.{take_pages, give_pages}
 use Rattle.rht_core.proofs.Undoing.UndoneTables.{attach, enter}
 
@@ -51,7 +53,9 @@ module _ {env : Env} {mix : ℕ → ℕ → ℕ → ℕ} {words_at : ℕ → Lis
       let moving = ap (λ (x : Holding). x.moving) does.holds in
       absurd (let e = sym step.may.still_then ∙ moving in cc)
   kept_by (Opens d) ready does =
-      let inside = ap (λ (x : Holding). x.section) does.holds in
-      absurd (let e = sym step.may.outside_then ∙ inside in cc)
-  kept_by (Closes d) ready does = absurd (let e = sym step.may.outside ∙ does.inside in cc)
+      inr (turn_section step false true refl (subst (λ c. c < 16) ready does.within)
+      (does.turns ∙ ap (λ c. Add (place_of env.geometry (Section c)) 1) ready) does.outside does.holds)
+  kept_by (Closes d) ready does =
+      inr (turn_section step true false refl (subst (λ c. c < 16) ready does.within)
+      (does.turns ∙ ap (λ c. Add (place_of env.geometry (Section c)) 1) ready) does.inside does.holds)
   kept_by _ ready does = absurd (let e = sym step.may.still ∙ does.moves in cc)

@@ -31,7 +31,7 @@ entered-more g words_at entry page steps did is = record {
   took = is.took;
 }
 
-module _ (g : Geometry) (words_at : ℕ → List ℕ) (call : Call) where
+module _ (g : Geometry) (words_at : ℕ → List ℕ) (c : ℕ) (call : Call) where
   -- ---- what a call may have turned
 
   -- a word of the node that the call has
@@ -53,14 +53,14 @@ module _ (g : Geometry) (words_at : ℕ → List ℕ) (call : Call) where
   IsOwn h place = IsOfOwnNode h place ⊎ IsOfOwnSlot h place
 
   abbrev pub IsLeft : Holding → List Did → ℕ → ℕ → Type 0
-  IsLeft h steps place bit = IsExcepted g words_at call steps place bit ⊎ IsOwn h place
+  IsLeft h steps place bit = IsExcepted g words_at c call steps place bit ⊎ IsOwn h place
 
   -- Of what a call holds after these operations: each bit is turned an odd number of times just where it is
   -- one of what the call holds, but for words of its own and for those that may be left; its node, its slot
   -- and its pages are there, and it has taken these.
   pub record Undoes (h : Holding) (steps : List Did) : Type 0 where
     pub even : (place bit : ℕ) → bit < 64
-        → IsLeft h steps place bit ⊎ ((turns place bit steps + held_bits g h place bit) % 2 ≡ 0)
+        → IsLeft h steps place bit ⊎ ((turns place bit steps + held_bits g c h place bit) % 2 ≡ 0)
     pub node_in : (node : ℕ) → h.node ≡ Some node → node < g.nodes
     pub slot_in : (slot : ℕ) → h.slot ≡ Some slot → slot < 8
     pub pages_in : (page : ℕ) → In page h.pages → page < g.pages
@@ -111,15 +111,15 @@ module _ (g : Geometry) (words_at : ℕ → List ℕ) (call : Call) where
           of_it = is.of_it;
         }
 
-    excepted-more : (place bit : ℕ) → IsExcepted g words_at call steps place bit
-        → IsExcepted g words_at call all place bit
+    excepted-more : (place bit : ℕ) → IsExcepted g words_at c call steps place bit
+        → IsExcepted g words_at c call all place bit
     excepted-more place bit (inl serial) = inl serial
     excepted-more place bit (inr (inl node)) = inr (inl (node_given-more place node))
     excepted-more place bit (inr (inr (inl slot))) = inr (inr (inl (slot_given-more place slot)))
-    excepted-more place bit (inr (inr (inr (may, inl attached)))) =
-        inr (inr (inr (may, inl (attached-more place bit attached))))
-    excepted-more place bit (inr (inr (inr (may, inr entered)))) =
-        inr (inr (inr (
+    excepted-more place bit (inr (inr (inr (inl (may, inl attached))))) =
+        inr (inr (inr (inl (may, inl (attached-more place bit attached)))))
+    excepted-more place bit (inr (inr (inr (inl (may, inr entered))))) =
+        inr (inr (inr (inl (
           may,
           inr (record {
             entry = entered.entry;
@@ -127,7 +127,8 @@ module _ (g : Geometry) (words_at : ℕ → List ℕ) (call : Call) where
             entered = entered-more g words_at entered.entry entered.page steps did entered.entered;
             of_it = entered.of_it;
           }),
-        )))
+        ))))
+    excepted-more place bit (inr (inr (inr (inr own)))) = inr (inr (inr (inr own)))
 
     -- the call had this page, and the operation doesn't give it back
     pub record StillHas (h : Holding) (page : ℕ) : Type 0 where
@@ -144,7 +145,7 @@ module _ (g : Geometry) (words_at : ℕ → List ℕ) (call : Call) where
       pub own : (place bit : ℕ) → IsOwn h place → IsLeft h' all place bit
       pub turn : (place bit : ℕ) → bit < 64
           → IsLeft h' all place bit
-          ⊎ ((turned place bit did + held_bits g h place bit + held_bits g h' place bit) % 2 ≡ 0)
+          ⊎ ((turned place bit did + held_bits g c h place bit + held_bits g c h' place bit) % 2 ≡ 0)
       pub node_in : (node : ℕ) → h'.node ≡ Some node → node < g.nodes
       pub slot_in : (slot : ℕ) → h'.slot ≡ Some slot → slot < 8
       pub had : (page : ℕ) → In page h'.pages → StillHas h page ⊎ Takes page
@@ -198,9 +199,9 @@ module _ (g : Geometry) (words_at : ℕ → List ℕ) (call : Call) where
         | inr even ↦ elim (keeps.turn place bit low) [
           | inl left ↦ inl left
           | inr now ↦ inr (
-              ap (λ n. (n + held_bits g h' place bit) % 2) (turns-push place bit steps did)
-              ∙ one_more (turns place bit steps) (turned place bit did) (held_bits g h place bit)
-              (held_bits g h' place bit) even now)
+              ap (λ n. (n + held_bits g c h' place bit) % 2) (turns-push place bit steps did)
+              ∙ one_more (turns place bit steps) (turned place bit did) (held_bits g c h place bit)
+              (held_bits g c h' place bit) even now)
         ]
       ];
       node_in = keeps.node_in;

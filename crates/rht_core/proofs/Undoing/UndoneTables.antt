@@ -47,7 +47,7 @@ module _ {env : Env} {mix : ℕ → ℕ → ℕ → ℕ} {words_at : ℕ → Lis
       → ((place ≡ place_of g (Slot does.last FutureWord)) ⊎ IsOfSlot g slot place
       ⊎ IsOfPages g with_pages.shape place bit)
       → MayBeLeft step place bit =
-      λ place bit of_it. inl (inr (inr (inr (
+      λ place bit of_it. inl (inr (inr (inr (inl (
         with_pages.may,
         inl (record {
           table = does.last;
@@ -56,7 +56,7 @@ module _ {env : Env} {mix : ℕ → ℕ → ℕ → ℕ} {words_at : ℕ → Lis
           attached = attached;
           of_it = of_it;
         }),
-      )))) in
+      ))))) in
       record {
         own = λ place bit own. elim own [
           | inl node ↦ own_node step node_same place bit node
@@ -140,7 +140,7 @@ module _ {env : Env} {mix : ℕ → ℕ → ℕ → ℕ} {words_at : ℕ → Lis
 
       left : (place bit : ℕ) → ((place ≡ place_of g (PageWord j)) ⊎ IsBitOf p place bit)
           → MayBeLeft step place bit
-      left place bit of_it = inl (inr (inr (inr (
+      left place bit of_it = inl (inr (inr (inr (inl (
         may.may,
         inr (record {
           entry = j;
@@ -148,7 +148,7 @@ module _ {env : Env} {mix : ℕ → ℕ → ℕ → ℕ} {words_at : ℕ → Lis
           entered = entered;
           of_it = of_it;
         }),
-      ))))
+      )))))
 
       page_bit : (place bit : ℕ) → IsBitOf p place bit ⊎ (IsBitOf p place bit → ⊥)
       page_bit place bit = elim (cases_eq place (place_of g (PageMap (p / 64)))) [

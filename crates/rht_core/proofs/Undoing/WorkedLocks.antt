@@ -1,17 +1,18 @@
--- Operations after which a call that has ended keeps a lock, the fewest of each kind: a resizing that locks an empty bucket and never
--- stores its word back, so that whoever has loaded the old table waits for ever; a bind that does so; and any call that takes the work
--- lock. Of the first one nothing was said before, since its reply isn't one that changes nothing.
+-- Operations after which a call that has ended keeps a lock or its section, the fewest of each kind: a resizing that locks an empty bucket
+-- and never stores its word back, so that whoever has loaded the old table waits for ever; a bind that does so; any call that takes the
+-- work lock; and one that opens its section and never closes it. Of the first one nothing was said before, since its reply isn't one that
+-- changes nothing.
 use Rattle.std.proofs.Common.{◌≡◌, ℕ, ◌+◌, ◌*◌, ◌%◌, ◌<◌, List, [], ◌∷◌, true, refl, ap}
 use Rattle.rht_words.specs.declared.geometry.Geometry.{Geometry}
 use Rattle.rht_words.specs.declared.op.Op.TheVariants.{Exchange}
-use Rattle.rht_words.specs.Places.{WorkLock, PageWord, place_of}
+use Rattle.rht_words.specs.Places.{WorkLock, Section, PageWord, place_of}
 use Rattle.rht_model.specs.declared.history.Call.{Call}
 use Rattle.rht_model.specs.declared.history.Call.TheVariants.{Bind, Work}
 use Rattle.rht_core.specs.Traces.{Did}
 use Rattle.rht_core.specs.Refused.{turns}
 use Rattle.rht_core.specs.LetGo.{HasEnteredAt}
 use Rattle.rht_core.proofs.Undoing.TurnedBits.{turned-here}
-use Rattle.rht_core.proofs.Undoing.WorkedRefusals.{locks_it, never_taken}
+use Rattle.rht_core.proofs.Undoing.WorkedRefusals.{locks_it, never_taken, opens, keeps_section}
 
 -- the call turned the lowest bit of this word of a page an odd number of times, and entered no page there
 pub record KeepsBucket (g : Geometry) (words_at : ℕ → List ℕ) (call : Call) (steps : List Did) (index : ℕ) : Type 0 where
@@ -39,3 +40,8 @@ module _ (g : Geometry) (words_at : ℕ → List ℕ) (index : ℕ) (within : in
 -- the work lock, taken and never given back
 pub work_kept : (g : Geometry) → turns (place_of g WorkLock) 0 (record { index = 0; op = Exchange (place_of g WorkLock) 0 1; old = 0 } ∷ []) % 2 ≡ 1
 work_kept g = refl
+
+-- a section, opened and never closed
+pub section_kept : (g : Geometry) (words_at : ℕ → List ℕ) (c : ℕ) (few : c < 16)
+    → turns (place_of g (Section c)) 0 (opens g words_at c few ∷ []) % 2 ≡ 1
+section_kept g words_at c few = (keeps_section g words_at c few 0).odd

@@ -1,14 +1,14 @@
 -- Operations after which a call that changes nothing hasn't undone what it did, the fewest of each kind: a bind that never unlocks an empty
 -- bucket, or enters a page that it never took, which is the same exchange; one that enters a page where none is missing, or that came to no
 -- table before, whatever the words say; one that leaks a slot which it had made a table in and given back before; a resizing that leaves
--- the work lock taken; and a look-up that leaves its bucket locked.
+-- the work lock taken; a look-up that leaves its bucket locked; and one that never leaves its section.
 use Rattle.std.proofs.Common.{◌≡◌, ◌≢◌, ◌⊎◌, ℕ, ◌+◌, ◌*◌, ◌/◌, ◌%◌, ◌<◌, Bool, true, List, [], ◌∷◌, ◌++◌, length, length-append, refl, sym, ap, ◌∙◌, subst, inl, inr, arith}
 use Rattle.std.specs.List.{AllByRecursion, Any}
 use Rattle.rht_words.specs.declared.env.Env.{Env}
 use Rattle.rht_words.specs.declared.geometry.Geometry.{Geometry}
 use Rattle.rht_words.specs.declared.op.Op.{Op}
-use Rattle.rht_words.specs.declared.op.Op.TheVariants.{Load, Store, Exchange, And}
-use Rattle.rht_words.specs.Places.{CurrentTable, NextSerial, WorkLock, Slot, SlotWord, FutureWord, StateWord, LoadedSection, PageMap, PageWord, words_in, place_of}
+use Rattle.rht_words.specs.declared.op.Op.TheVariants.{Load, Store, Exchange, Add, And}
+use Rattle.rht_words.specs.Places.{CurrentTable, NextSerial, WorkLock, Section, Slot, SlotWord, FutureWord, StateWord, LoadedSection, PageMap, PageWord, words_in, place_of}
 use Rattle.rht_words.proofs.EachElement.{AllByRecursion-cut}
 use Rattle.rht_words.proofs.PlacesApart.{parts_in_order}
 use Rattle.rht_model.specs.declared.history.Call.{Call}
@@ -24,7 +24,7 @@ use Rattle.rht_core.specs.ResizeCauses.{Attaches}
 use Rattle.rht_core.specs.Refused.{changes_nothing, turned, turns, IsTableWord, GivesBackNode, GivesBackSlot, AttachedWith, IsMissingEntry, PutsPage, EnteredWhenTaken, IsExcepted, IsUndone}
 use Rattle.rht_core.proofs.Histories.Behind.{Any-push_cases, Any-none}
 use Rattle.rht_core.proofs.Reasons.WorkedPages.{none_is}
-use Rattle.rht_core.proofs.Undoing.TurnedBits.{turned-here, turned-far, turned-same}
+use Rattle.rht_core.proofs.Undoing.TurnedBits.{turned-here, turned-far, turned-same, turned-adds}
 
 -- an operation that found this word
 abbrev done : Op → ℕ → Did
@@ -35,7 +35,7 @@ pub record Breaks (g : Geometry) (words_at : ℕ → List ℕ) (call : Call) (st
   pub place_in : place < words_in g
   pub bit_in : bit < 64
   pub odd : turns place bit steps % 2 ≡ 1
-  pub unexcepted : IsExcepted g words_at call steps place bit → ⊥
+  pub unexcepted : (c : ℕ) → IsExcepted g words_at c call steps place bit → ⊥
 
 module _ (g : Geometry) (words_at : ℕ → List ℕ) where
   -- none of these operations attaches a table
@@ -154,13 +154,14 @@ module _ (g : Geometry) (words_at : ℕ → List ℕ) where
       unexcepted = unexcepted;
     }
       where
-        unexcepted : IsExcepted g words_at call (locks_it ∷ []) bucket 0 → ⊥
-        unexcepted (inl serial) = behind_serial serial
-        unexcepted (inr (inl node)) = gives_no_node node.node (one_only (GivesBackNode g node.node) locks_it node.given)
-        unexcepted (inr (inr (inl slot))) = gives_no_slot slot.slot (one_only (GivesBackSlot g slot.slot) locks_it slot.given)
-        unexcepted (inr (inr (inr (may, inl it)))) =
+        unexcepted : (c : ℕ) → IsExcepted g words_at c call (locks_it ∷ []) bucket 0 → ⊥
+        unexcepted c (inl serial) = behind_serial serial
+        unexcepted c (inr (inl node)) = gives_no_node node.node (one_only (GivesBackNode g node.node) locks_it node.given)
+        unexcepted c (inr (inr (inl slot))) = gives_no_slot slot.slot (one_only (GivesBackSlot g slot.slot) locks_it slot.given)
+        unexcepted c (inr (inr (inr (inl (may, inl it))))) =
             none_attached (locks_it ∷ []) (other_exchange bucket 1 0 behind_slots, tt) it.table it.slot it.shape it.attached
-        unexcepted (inr (inr (inr (may, inr it)))) = never_taken locks_it it.entry it.page it.entered
+        unexcepted c (inr (inr (inr (inl (may, inr it))))) = never_taken locks_it it.entry it.page it.entered
+        unexcepted c (inr (inr (inr (inr own)))) = absurd (let above = own.above in omega (arith, above))
 
     pub never_unlocked : (port owner : ℕ) → Breaks g words_at (Bind port owner true) (locks_it ∷ []) bucket 0
     never_unlocked port owner = lock_kept (Bind port owner true)
@@ -204,15 +205,15 @@ module _ (g : Geometry) (words_at : ℕ → List ℕ) where
               → Any P (looks ∷ takes_page ∷ locks_it ∷ []) → ⊥
           all_three P first second third = none_is P (looks ∷ takes_page ∷ locks_it ∷ []) (first, (second, (third, tt)))
 
-          unexcepted : IsExcepted g words_at (Bind port owner true) (looks ∷ takes_page ∷ locks_it ∷ []) bucket 0 → ⊥
-          unexcepted (inl serial) = behind_serial serial
-          unexcepted (inr (inl node)) =
+          unexcepted : (c : ℕ) → IsExcepted g words_at c (Bind port owner true) (looks ∷ takes_page ∷ locks_it ∷ []) bucket 0 → ⊥
+          unexcepted c (inl serial) = behind_serial serial
+          unexcepted c (inr (inl node)) =
               all_three (GivesBackNode g node.node) (λ is. let gives = is.gives in absurd (cc))
               (λ is. let gives = is.gives in absurd (cc)) (gives_no_node node.node) node.given
-          unexcepted (inr (inr (inl slot))) =
+          unexcepted c (inr (inr (inl slot))) =
               all_three (GivesBackSlot g slot.slot) (λ is. let gives = is.gives in absurd (cc))
               (λ is. let gives = is.gives in absurd (cc)) (gives_no_slot slot.slot) slot.given
-          unexcepted (inr (inr (inr (may, inl it)))) =
+          unexcepted c (inr (inr (inr (inl (may, inl it))))) =
               none_attached (looks ∷ takes_page ∷ locks_it ∷ []) (
                 (λ table slot attaches. let is = attaches.exchanges in absurd (cc)),
                 (
@@ -221,7 +222,8 @@ module _ (g : Geometry) (words_at : ℕ → List ℕ) where
                 ),
               )
               it.table it.slot it.shape it.attached
-          unexcepted (inr (inr (inr (may, inr it)))) = entered_here it.entry it.page it.entered
+          unexcepted c (inr (inr (inr (inl (may, inr it))))) = entered_here it.entry it.page it.entered
+          unexcepted c (inr (inr (inr (inr own)))) = absurd (let above = own.above in omega (arith, above))
 
       -- and one that came to no table, whatever the words say of slots
       pub came_to_none : seen ≢ place_of g CurrentTable → (port owner : ℕ)
@@ -273,17 +275,18 @@ module _ (g : Geometry) (words_at : ℕ → List ℕ) where
       before_pages entry page (inr bit) =
           let at = bit.0 in let order = parts_in_order g in absurd (omega (arith, at, order.page_map))
 
-      unexcepted : IsExcepted g words_at (Bind port owner true) steps state 0 → ⊥
-      unexcepted (inl serial) = absurd (omega (arith, serial))
-      unexcepted (inr (inl node)) =
+      unexcepted : (c : ℕ) → IsExcepted g words_at c (Bind port owner true) steps state 0 → ⊥
+      unexcepted c (inl serial) = absurd (omega (arith, serial))
+      unexcepted c (inr (inl node)) =
           let order = parts_in_order g in
           let there = node.there in absurd (omega (arith, there, order.page_map, order.nodes))
-      unexcepted (inr (inr (inl slot))) = no_table_word slot.slot slot.word slot.of_table slot.there
-      unexcepted (inr (inr (inr (may, inl it)))) =
+      unexcepted c (inr (inr (inl slot))) = no_table_word slot.slot slot.word slot.of_table slot.there
+      unexcepted c (inr (inr (inr (inl (may, inl it))))) =
           none_attached steps
           (other_exchange state 1 0 no_future, (stores_none, (other_exchange state 1 0 no_future, tt)))
           it.table it.slot it.shape it.attached
-      unexcepted (inr (inr (inr (may, inr it)))) = before_pages it.entry it.page it.of_it
+      unexcepted c (inr (inr (inr (inl (may, inr it))))) = before_pages it.entry it.page it.of_it
+      unexcepted c (inr (inr (inr (inr own)))) = absurd (let above = own.above in omega (arith, above))
 
   -- ---- a resizing that leaves the work lock taken
 
@@ -298,38 +301,65 @@ module _ (g : Geometry) (words_at : ℕ → List ℕ) where
       steps : List Did
       steps = done (Exchange (place_of g WorkLock) 0 1) 0 ∷ []
 
-      unexcepted : IsExcepted g words_at Work steps 1 0 → ⊥
-      unexcepted (inl serial) = absurd (omega (arith, serial))
-      unexcepted (inr (inl node)) =
+      unexcepted : (c : ℕ) → IsExcepted g words_at c Work steps 1 0 → ⊥
+      unexcepted c (inl serial) = absurd (omega (arith, serial))
+      unexcepted c (inr (inl node)) =
           let order = parts_in_order g in
           let there = node.there in absurd (omega (arith, there, order.page_map, order.nodes))
-      unexcepted (inr (inr (inl slot))) = let there = slot.there in absurd (omega (arith, there))
-      unexcepted (inr (inr (inr attached))) = attached.0
+      unexcepted c (inr (inr (inl slot))) = let there = slot.there in absurd (omega (arith, there))
+      unexcepted c (inr (inr (inr (inl attached)))) = attached.0
+      unexcepted c (inr (inr (inr (inr own)))) = absurd (let above = own.above in omega (arith, above))
 
--- ---- a look-up that leaves its bucket locked
+  -- ---- a look-up that never leaves its section
 
-module _ (M : Type 0) (mix : ℕ → ℕ → ℕ → ℕ) (env : Env) (events : List Event) where
+  module _ (c : ℕ) (few : c < 16) where
+    abbrev section : ℕ
+    section = place_of g (Section c)
+
+    abbrev pub opens : Did
+    opens = done (Add section 1) 0
+
+    pub keeps_section : (port : ℕ) → Breaks g words_at (Find port) (opens ∷ []) section 0
+    keeps_section port = record {
+      place_in = let order = parts_in_order g in omega (arith, few, order.page_map, order.nodes, order.pages);
+      bit_in = omega arith;
+      odd = ap (λ n. (n + 0) % 2) (turned-adds section section opens refl refl);
+      unexcepted = unexcepted;
+    }
+      where
+        unexcepted : (d : ℕ) → IsExcepted g words_at d (Find port) (opens ∷ []) section 0 → ⊥
+        unexcepted d (inl serial) = absurd (omega (arith, serial))
+        unexcepted d (inr (inl node)) =
+            let order = parts_in_order g in
+            let there = node.there in absurd (omega (arith, few, there, order.page_map, order.nodes))
+        unexcepted d (inr (inr (inl slot))) = let there = slot.there in absurd (omega (arith, few, there))
+        unexcepted d (inr (inr (inr (inl attached)))) = attached.0
+        unexcepted d (inr (inr (inr (inr own)))) = absurd (let above = own.above in omega (arith, above))
+
+-- ---- look-ups that the law refuses
+
+module _ (M : Type 0) (mix : ℕ → ℕ → ℕ → ℕ) (env : Env) (events : List Event) (c : ℕ) where
   abbrev words_then : ℕ → List ℕ
   words_then = words_before M mix env events
 
   -- a call with operations that break it hasn't undone what it did
   not_undone : (past : Past) (place bit : ℕ) → Breaks env.geometry words_then past.done.call past.steps place bit
-      → IsUndone M mix env events past → ⊥
+      → IsUndone M mix env events c past → ⊥
   not_undone past place bit breaks undone = elim (undone.even place bit breaks.place_in breaks.bit_in) [
-    | inl excepted ↦ breaks.unexcepted excepted
+    | inl excepted ↦ breaks.unexcepted c excepted
     | inr even ↦ let odd = breaks.odd in absurd (omega (arith, odd, even))
   ]
 
   -- what the law says of a call, where it speaks of the calls that this picks out
   abbrev Says : (Call → Reply → Bool) → Past → Type 0
-  Says speaks_of past = speaks_of past.done.call past.done.reply ≡ true → IsUndone M mix env events past
+  Says speaks_of past = speaks_of past.done.call past.done.reply ≡ true → IsUndone M mix env events c past
 
   -- of refusals alone
   abbrev is_refused : Call → Reply → Bool
   is_refused call reply = is_refusal reply
 
   module _ (port index : ℕ) (within : index < 64 * env.geometry.pages) where
-    -- the look-up locks an empty bucket, and ends
+    -- one that locks an empty bucket, and ends
     abbrev looked_up : Reply → Past
     looked_up reply = record {
       done = ended_with (Find port) (plain_ending reply);
@@ -337,7 +367,7 @@ module _ (M : Type 0) (mix : ℕ → ℕ → ℕ → ℕ) (env : Env) (events : 
       steps = locks_it env.geometry words_then index within ∷ [];
     }
 
-    breaks_it : (reply : Reply) → IsUndone M mix env events (looked_up reply) → ⊥
+    breaks_it : (reply : Reply) → IsUndone M mix env events c (looked_up reply) → ⊥
     breaks_it reply =
         not_undone (looked_up reply) (bucket env.geometry words_then index within) 0
         (lock_kept env.geometry words_then index within (Find port))
@@ -355,3 +385,9 @@ module _ (M : Type 0) (mix : ℕ → ℕ → ℕ → ℕ) (env : Env) (events : 
 
     pub missing_broken : Says changes_nothing (looked_up Missing) → ⊥
     missing_broken says = breaks_it Missing (says refl)
+
+  -- the law refuses one that never leaves its section
+  pub stayed_broken : (few : c < 16) (port : ℕ)
+      → Says changes_nothing
+      (record { done = ended_with (Find port) (plain_ending Missing); begin = 0; steps = opens env.geometry words_then c few ∷ [] }) → ⊥
+  stayed_broken few port says = not_undone _ _ 0 (keeps_section env.geometry words_then c few port) (says refl)

@@ -23,15 +23,13 @@ fn a_list_grows_at_its_front(rt: HostRuntime) -> Result<(), Fail> {
         (Op::store(286, 639), 0),
         (Op::store(319, 4), 3),
     ];
+    // The look-up opens its section, of word 8, and loads the owner of the first node alone.
+    let opened = [(Op::add(8, 1), 0), (Op::load(0), 0)];
     let found = [
         (Op::load(319), 4),
-        (Op::exchange(319, 4, 5), 4),
         (Op::load(287), 5),
         (Op::load(288), 3),
-        (Op::load(289), 2),
-        (Op::load(284), 9),
-        (Op::load(285), 0),
-        (Op::store(319, 4), 5),
+        (Op::add(8, 1), 1),
     ];
     let config = Config {
         kind: Kind::Listed,
@@ -53,7 +51,7 @@ fn a_list_grows_at_its_front(rt: HostRuntime) -> Result<(), Fail> {
             steps(0, &located(1)),
             ends(0, &in_front, bind(5, 3), BOUND),
             begins(0, FIND_5),
-            steps(0, &[(Op::load(0), 0)]),
+            steps(0, &opened),
             steps(0, &located(1)),
             ends(0, &found, FIND_5, Reply::Found { owner: 3 }),
             // The node of port 69 is before those of port 5 in the chain; one owner may come twice.

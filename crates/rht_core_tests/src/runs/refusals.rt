@@ -50,9 +50,9 @@ fn only_enrolled_and_idle_callers_begin(rt: HostRuntime) -> Result<(), Fail> {
             idles(1),
             begins(1, FIND_5),
             begins(1, bind(5, 9)),
-            steps(1, &[(Op::load(0), 0)]),
+            steps(1, &[(Op::add(9, 1), 0)]),
             begins(1, bind(5, 9)),
-            steps(1, &[(Op::load(24), 6)]),
+            steps(1, &[(Op::load(0), 0)]),
         ],
     )
 }

@@ -133,9 +133,10 @@ pub record IsRight (call : Call) (has : Option ℕ) (answer : Answer) : Type 0 w
   pub replied : IsReplied call answer
   pub tells : TellsNode call has answer.reply
 
--- calls whose answers are shown to be right elsewhere
+-- Calls whose answers are shown to be right over whole runs: a look-up takes no lock, so what it answers rests on what was so when it began.
 abbrev pub may_claim : Call → Bool
-may_claim call = false
+may_claim (Find port) = true
+may_claim _ = false
 
 module _ (kind : Kind) (c : ℕ) (call : Call) where
   -- the answer is legal on these bindings, and leaves them; or the call isn't about bindings
@@ -374,6 +375,16 @@ module _ (kind : Kind) (c : ℕ) (call : Call) where
       known = refl;
       same = record { reply = refl; owners = refl };
     };
+    right = right;
+    takes_none = none;
+  }))
+
+  -- an answer is claimed
+  pub claims : (has : Option ℕ) (early : Option Answer) (There : Type 0) (bindings : Multimap) (answer : Answer)
+      → may_claim call ≡ true → IsRight call has answer → takes_out answer.reply ≡ false
+      → TellsOrRecalls has early There bindings None (Some answer)
+  claims has early There bindings answer may right none = inr (inr (record {
+    claims = record { may = may; unknown = refl; answer = answer; known = refl };
     right = right;
     takes_none = none;
   }))

@@ -1,17 +1,12 @@
-use Rattle.rht_nest.specs.Locate.{locate_new}
-use Rattle.rht_find.specs.declared.find.FindAt.TheVariants.{Locating, ListLink}
-use Rattle.rht_run.specs.Rides.{IsRiding}
+use Rattle.std.specs.Prelude.{◌≤◌}
+use Rattle.rht_find.specs.Find.{locating}
 use Rattle.rht_run.specs.PieceFrames.{find_at}
+use Rattle.rht_run.specs.Rides.{IsRiding, steps_in}
 use Rattle.rht_run.proofs.table.Table.drive_find.Given as goal
 
--- the port's bucket in this table comes next
-abbrev pub invariant-loop : goal.invariant-loop
-invariant-loop g l =
-    IsRiding g.M.Mix.mix_of l.self g.K.Ride.riding
-    (find_at l.env l.number l.port (Locating (locate_new l.env.geometry l.table))) l.seat
-
--- the link behind this node comes next
-abbrev pub invariant-loop-2 : goal.invariant-loop-2
-invariant-loop-2 g l =
-    IsRiding g.M.Mix.mix_of l.self g.K.Ride.riding
-    (find_at l.env l.number l.port (ListLink l.table l.bucket l.node l.owner)) l.seat
+-- the port's bucket in this table comes next, and each round has made an operation
+abbrev pub invariant-loop-rounds : goal.invariant-loop-rounds
+invariant-loop-rounds g l = record {
+  riding : IsRiding g.M.Mix.mix_of l.self g.K.Ride.riding (find_at l.env l.number l.port (locating l.env l.table)) l.seat;
+  made : l.rounds ≤ steps_in l.seat;
+}

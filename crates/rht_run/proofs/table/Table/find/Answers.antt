@@ -4,6 +4,7 @@ use Rattle.rht_model.specs.declared.history.Reply.{Reply}
 use Rattle.rht_run.specs.Rides.{riding_of, HasEnded}
 use Rattle.rht_run.proofs.CallSteps.{answered}
 use Rattle.rht_run.proofs.CallCauses.{called_caused}
+use Rattle.rht_run.proofs.LookupCalls.{looked}
 use Rattle.rht_run.proofs.Rides.{before, called}
 use Rattle.rht_run.proofs.table.Table.find.Goals as goal
 
@@ -28,3 +29,8 @@ pub returns-clause-cause : goal.returns-clause-cause
 returns-clause-cause g c =
     let has = returns-clause-called g c in
     called_caused g.M.Mix.mix_of c.args.self.now (Find c.args.port) c.looked_up.result c.args.pass.now _ has
+
+pub returns-clause-looked : goal.returns-clause-looked
+returns-clause-looked g c =
+    let has = returns-clause-called g c in
+    looked g.M.Mix.mix_of c.args.self.now c.args.port c.looked_up.result c.args.pass.now _ has

@@ -3,11 +3,14 @@ use Rattle.std.specs.Prelude.{Option}
 use Rattle.rht_model.specs.declared.history.Call.{Call}
 use Rattle.rht_core.specs.Locals.{plan_of}
 use Rattle.rht_run.specs.Passes.{CanPerform}
-use Rattle.rht_run.proofs.Performed.{room_for, ready}
+use Rattle.rht_run.proofs.Performed.{number_few, room_for, ready}
 use Rattle.rht_run.proofs.table.Table.go.Goals as goal
 
-pub begin_if-requires : goal.begin_if-requires
-begin_if-requires g c =
+pub begin_if-requires-clause-caller : goal.begin_if-requires-clause-caller
+begin_if-requires-clause-caller g c = number_few g.M.Mix.mix_of c.args.self.now c.args.pass.now c.requires.pass
+
+pub begin_if-requires-clause-room : goal.begin_if-requires-clause-room
+begin_if-requires-clause-room g c =
     room_for g.M.Mix.mix_of c.args.self.now c.args.pass.now c.requires.pass c.args.begins c.requires.can
 
 pub perform-old-requires : goal.perform-old-requires

@@ -1,6 +1,6 @@
 use Rattle.std.proofs.Common.{◌∙◌, sym, ap}
 use Rattle.std.specs.Prelude.{Some}
-use Rattle.rht_run.proofs.Rides.{may_perform, has_stepped, of_piece}
+use Rattle.rht_run.proofs.Rides.{may_perform, has_stepped, has_counted, of_piece}
 use Rattle.rht_run.proofs.table.Table.operate.Goals as goal
 
 pub perform-requires : goal.perform-requires
@@ -25,3 +25,8 @@ returns-clause-piece g c =
     (g.F.Frame.holding c.args.frame.now c.args.piece.now) c.perform.new.seat c.perform.result c.requires
     (λ room. g.met.F.Frame.keeps c.args.frame.now c.args.piece.now room c.perform.result)
     c.perform.ensures.seat c.perform.ensures.went)
+
+pub returns-clause-counted : goal.returns-clause-counted
+returns-clause-counted g c =
+    has_counted g.M.Mix.mix_of c.args.self.now g.K.Ride.riding c.args.seat.now
+    (g.F.Frame.holding c.args.frame.now c.args.piece.now) c.perform.new.seat c.perform.result c.requires c.perform.ensures.went

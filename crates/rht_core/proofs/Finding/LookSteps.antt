@@ -1,0 +1,261 @@
+-- How many operations a look-up has made in each of its states. In a table each operation leaves fewer to come (`lessens`), tables come in
+-- the order in which they were attached, and there are at most eight.
+use Rattle.std.proofs.Common.{◌≡◌, ℕ, ◌+◌, ◌*◌, ◌<◌, ◌≤◌, nat_lt, List, true, Option, Some, None, refl, sym, ap, ◌∙◌, subst, arith}
+use Rattle.std.specs.Prelude.{◌==◌}
+use Rattle.std.proofs.Math.Nat.{mul-le-mul_right}
+use Rattle.std.proofs.lemmas.Bool.{cond_both}
+use Rattle.rht_words.specs.declared.env.Env.{Env}
+use Rattle.rht_words.specs.declared.machine.Next.{Next}
+use Rattle.rht_words.specs.declared.machine.Next.TheVariants.{Go, Done}
+use Rattle.rht_words.specs.Links.{node_of, slot_of, table_of, head_of, marker_of}
+use Rattle.rht_words.specs.Operations.{old_of}
+use Rattle.rht_words.specs.Places.{Slot, FutureWord}
+use Rattle.rht_words.specs.Ports.{word_of}
+use Rattle.rht_words.proofs.Memory.{Memory}
+use Rattle.rht_nest.specs.Reach.{ReachModel, reach_plan, reach_after}
+use Rattle.rht_nest.specs.declared.place.Bucket.{Bucket}
+use Rattle.rht_nest.specs.declared.place.Bucket.TheVariants as buckets
+use Rattle.rht_nest.proofs.Reaches.{reach_after-table}
+use Rattle.rht_model.specs.declared.history.Reply.{Reply}
+use Rattle.rht_find.specs.Find.{plan_at, goes, says, reached, walked_anew, chain_ended, led_to, compared, next_table, IsFindAtIn}
+use Rattle.rht_find.specs.FindBound.{left_in_table, table_steps}
+use Rattle.rht_find.specs.declared.find.Head.{Head}
+use Rattle.rht_find.specs.declared.find.FindAt.{FindAt}
+use Rattle.rht_find.specs.declared.find.FindAt.TheVariants as at
+use Rattle.rht_find.proofs.FindBounds.{lessens}
+use Rattle.rht_ghost.proofs.Theory.Ghosts.{Ghost, has_table, index_at}
+use Rattle.rht_ghost.proofs.Theory.Wholes.{Whole}
+use Rattle.rht_ghost.proofs.Theory.Passed.{TablesGrow}
+use Rattle.rht_ghost.proofs.Theory.Steps.{mem}
+use Rattle.rht_ghost.proofs.Pieces.TableLoads.{LeadsBehind, future_leads}
+use Rattle.rht_core.proofs.Finding.Places.{Places}
+use Rattle.rht_core.proofs.Finding.Lookups.{LookMeans}
+use Rattle.rht_core.proofs.Returning.FewTables.{few_tables}
+
+-- ---- of numbers: `t` operations in a table, and the load of its future
+
+-- so many up to the last one in the table with this index, from the beginning of the call on
+abbrev most_in : ℕ → ℕ → ℕ
+most_in t index = 2 + index * (t + 1) + t
+
+-- and up to the closing of the section
+abbrev most_of : ℕ → ℕ
+most_of t = 2 + 8 * (t + 1)
+
+most_in-first : (t index made : ℕ) → made ≤ 1 → made + 1 + t ≤ most_in t index
+most_in-first t index made few = omega (arith, few)
+
+most_in-next : (t index made : ℕ) → made ≤ most_in t index → made + 1 + t ≤ most_in t (index + 1)
+most_in-next t index made few = omega (arith, few)
+
+most_in-seven : (t index : ℕ) → index ≤ 7 → most_in t index ≤ most_in t 7
+most_in-seven t index low = let more = mul-le-mul_right (t + 1) low in omega (arith, more)
+
+most_in-all : (t made : ℕ) → made ≤ most_in t 7 → made + 1 ≤ most_of t
+most_in-all t made few = omega (arith, few)
+
+most_of-first : (t made : ℕ) → made ≤ 1 → made ≤ most_of t
+most_of-first t made few = omega (arith, few)
+
+most_of-in : (t index made left : ℕ) → index ≤ 7 → made + left ≤ most_in t index → made ≤ most_of t
+most_of-in t index made left low few = let more = most_in-seven t index low in omega (arith, few, more)
+
+fewer : (made left now most : ℕ) → made + left ≤ most → now < left → made + 1 + now ≤ most
+fewer made left now most few less = omega (arith, few, less)
+
+none_left : (made left most : ℕ) → made + 1 + left ≤ most → made + 1 ≤ most
+none_left made left most few = omega (arith, few)
+
+at_most : (made most most' : ℕ) → made ≤ most → most ≤ most' → made ≤ most'
+at_most made most most' few more = omega (arith, few, more)
+
+-- ---- by states
+
+module _ (env : Env) where
+  abbrev left_at : FindAt → ℕ
+  left_at = left_in_table env
+
+  -- the most up to the last one in the table of this slot
+  abbrev most_at : Ghost → ℕ → ℕ
+  most_at G slot = most_in (table_steps env) (index_at G slot)
+
+  -- it has made so many operations in this state
+  abbrev pub IsSpent : Ghost → FindAt → ℕ → Type 0
+  IsSpent G at.Opening made = made ≤ 0
+  IsSpent G at.CurrentTable made = made ≤ 1
+  IsSpent G (at.Locating reach) made = made + left_at (at.Locating reach) ≤ most_at G reach.table
+  IsSpent G (at.Heading head) made = made + left_at (at.Heading head) ≤ most_at G head.table
+  IsSpent G (at.Key head node visited) made = made + left_at (at.Key head node visited) ≤ most_at G head.table
+  IsSpent G (at.Link head node visited) made = made + left_at (at.Link head node visited) ≤ most_at G head.table
+  IsSpent G (at.Future table) made = made ≤ most_at G table
+  IsSpent G (at.Owner node) made = made ≤ most_in (table_steps env) 7
+  IsSpent G (at.Closing reply) made = made ≤ most_of (table_steps env)
+
+  -- it is in the table of this slot, or at an owner
+  abbrev IsOfTable : ℕ → FindAt → Type 0
+  IsOfTable slot at.Opening = ⊥
+  IsOfTable slot at.CurrentTable = ⊥
+  IsOfTable slot (at.Locating reach) = reach.table ≡ slot
+  IsOfTable slot (at.Heading head) = head.table ≡ slot
+  IsOfTable slot (at.Key head node visited) = head.table ≡ slot
+  IsOfTable slot (at.Link head node visited) = head.table ≡ slot
+  IsOfTable slot (at.Future table) = table ≡ slot
+  IsOfTable slot (at.Owner node) = Unit {0}
+  IsOfTable slot (at.Closing reply) = ⊥
+
+  -- where so many were left, one more was made and fewer are left
+  spent_in : (G : Ghost) (slot made left : ℕ) (state : FindAt) → IsOfTable slot state → index_at G slot ≤ 7
+      → made + left ≤ most_at G slot → left_at state < left → IsSpent G state (made + 1)
+  spent_in G slot made left at.Opening of low few less = absurd of
+  spent_in G slot made left at.CurrentTable of low few less = absurd of
+  spent_in G slot made left (at.Locating reach) of low few less =
+      subst (λ s. made + 1 + left_at (at.Locating reach) ≤ most_at G s) (sym of)
+      (fewer made left (left_at (at.Locating reach)) (most_at G slot) few less)
+  spent_in G slot made left (at.Heading head) of low few less =
+      subst (λ s. made + 1 + left_at (at.Heading head) ≤ most_at G s) (sym of)
+      (fewer made left (left_at (at.Heading head)) (most_at G slot) few less)
+  spent_in G slot made left (at.Key head node visited) of low few less =
+      subst (λ s. made + 1 + left_at (at.Key head node visited) ≤ most_at G s) (sym of)
+      (fewer made left (left_at (at.Key head node visited)) (most_at G slot) few less)
+  spent_in G slot made left (at.Link head node visited) of low few less =
+      subst (λ s. made + 1 + left_at (at.Link head node visited) ≤ most_at G s) (sym of)
+      (fewer made left (left_at (at.Link head node visited)) (most_at G slot) few less)
+  spent_in G slot made left (at.Future table) of low few less =
+      subst (λ s. made + 1 ≤ most_at G s) (sym of)
+      (none_left made 0 (most_at G slot) (fewer made left 0 (most_at G slot) few less))
+  spent_in G slot made left (at.Owner node) of low few less =
+      at_most (made + 1) (most_at G slot) (most_in (table_steps env) 7)
+      (none_left made 0 (most_at G slot) (fewer made left 0 (most_at G slot) few less))
+      (most_in-seven (table_steps env) (index_at G slot) low)
+  spent_in G slot made left (at.Closing reply) of low few less = absurd of
+
+  -- ---- it stays in its table
+
+  reached-of : (reach : ReachModel) (next : Next Bucket) → IsOfTable reach.table (reached env reach next)
+  reached-of reach Go = refl
+  reached-of reach (Done (buckets.At place)) = refl
+  reached-of reach (Done (buckets.Absent entry)) = refl
+
+  walked_anew-of : (head : Head) → IsOfTable head.table (walked_anew head)
+  walked_anew-of head = cond_both (nat_lt 0 head.left) _ _ (IsOfTable head.table) (λ t. refl) (λ f. refl)
+
+  chain_ended-of : (head : Head) (link : ℕ) → IsOfTable head.table (chain_ended head link)
+  chain_ended-of head link =
+      cond_both (link == marker_of head.place) _ _ (IsOfTable head.table) (λ t. refl) (λ f. walked_anew-of head)
+
+  led_to-of : (head : Head) (visited link : ℕ) (node : Option ℕ)
+      → IsOfTable head.table (led_to env.geometry head visited link node)
+  led_to-of head visited link None = chain_ended-of head link
+  led_to-of head visited link (Some node) =
+      cond_both (nat_lt visited env.geometry.nodes) _ _ (IsOfTable head.table) (λ t. refl) (λ f. chain_ended-of head link)
+
+  compared-of : (port : ℕ) (head : Head) (node visited key : ℕ) → IsOfTable head.table (compared port head node visited key)
+  compared-of port head node visited key =
+      cond_both (key == word_of port) _ _ (IsOfTable head.table) (λ t. tt) (λ f. refl)
+
+  module _ (mix : ℕ → ℕ → ℕ → ℕ) (port since : ℕ) (Says : Reply → Type 0) (words : List ℕ) (G : Ghost) (P : Places)
+      (whole : Whole env mix (mem env mix words) G) where
+    abbrev M : Memory
+    M = mem env mix words
+
+    -- ---- there are at most eight tables
+
+    few_attached : G.attached ≤ 8
+    few_attached =
+        few_tables (λ τ. (G.table τ).slot) 0 G.attached (record {
+          within = λ τ low l. (whole.tables.each τ (omega (arith, l))).slot_in;
+          own = λ τ σ low less l same.
+              let first = (whole.tables.each τ (omega (arith, less, l))).index in
+              let second = (whole.tables.each σ (omega (arith, l))).index in
+              let both : τ ≡ σ = sym first ∙ ap (index_at G) same ∙ second in
+              omega (arith, less, both);
+        })
+
+    low_index : (slot : ℕ) → index_at G slot < G.attached → index_at G slot ≤ 7
+    low_index slot l = let few = few_attached in omega (arith, l, few)
+
+    -- ---- each operation
+
+    future_spent : (table made : ℕ) → index_at G table < G.attached → (future : Option ℕ)
+        → LeadsBehind env mix M G whole table future → made ≤ most_at G table → IsSpent G (next_table env future) (made + 1)
+    future_spent table made attached None last few =
+        most_in-all (table_steps env) made
+        (at_most made (most_at G table) (most_in (table_steps env) 7) few
+        (most_in-seven (table_steps env) (index_at G table) (low_index table attached)))
+    future_spent table made attached (Some next) behind few =
+        subst (λ i. made + 1 + table_steps env ≤ most_in (table_steps env) i) (sym behind.index)
+        (most_in-next (table_steps env) (index_at G table) made few)
+
+    -- but the last one, behind which the call has ended
+    pub spent_leads : (caller made : ℕ) (state : FindAt) → says state ≡ Go → IsFindAtIn env state
+        → LookMeans env mix port since Says M G P state → IsSpent G state made
+        → IsSpent G (goes mix env port state (old_of words (plan_at env caller state))) (made + 1)
+    spent_leads caller made at.Opening goes_on within known few = omega (arith, few)
+    spent_leads caller made at.CurrentTable goes_on within known few =
+        most_in-first (table_steps env) (index_at G (table_of (old_of words (plan_at env caller at.CurrentTable)))) made few
+    spent_leads caller made (at.Locating reach) goes_on within known few =
+        let word = old_of words (reach_plan reach) in
+        let r = reach_after mix port reach word in
+        spent_in G reach.table made (left_at (at.Locating reach)) (reached env r.0 r.1)
+        (subst (λ s. IsOfTable s (reached env r.0 r.1)) (reach_after-table mix port reach word) (reached-of r.0 r.1))
+        (low_index reach.table known.0.0.attached) few (lessens mix env port (at.Locating reach) word within tt)
+    spent_leads caller made (at.Heading head) goes_on within known few =
+        let word = old_of words (plan_at env caller (at.Heading head)) in
+        let link = head_of head.place word in
+        spent_in G head.table made (left_at (at.Heading head)) _
+        (led_to-of head 0 link (node_of env.geometry.nodes link))
+        (low_index head.table known.0.of.attached) few (lessens mix env port (at.Heading head) word within tt)
+    spent_leads caller made (at.Key head node visited) goes_on within known few =
+        let word = old_of words (plan_at env caller (at.Key head node visited)) in
+        spent_in G head.table made (left_at (at.Key head node visited)) _ (compared-of port head node visited word)
+        (low_index head.table known.0.of.attached) few (lessens mix env port (at.Key head node visited) word within tt)
+    spent_leads caller made (at.Link head node visited) goes_on within known few =
+        let link = old_of words (plan_at env caller (at.Link head node visited)) in
+        spent_in G head.table made (left_at (at.Link head node visited)) _
+        (led_to-of head visited link (node_of env.geometry.nodes link))
+        (low_index head.table known.0.of.attached) few (lessens mix env port (at.Link head node visited) link within tt)
+    spent_leads caller made (at.Future table) goes_on within known few =
+        future_spent table made known.0.attached (slot_of (M (Slot table FutureWord)))
+        (future_leads env mix M G whole table known.0.table) few
+    spent_leads caller made (at.Owner node) goes_on within known few = most_in-all (table_steps env) made few
+    spent_leads caller made (at.Closing reply) goes_on within known few = absurd (cc)
+
+    -- so many are within the bound, in whatever state
+    pub spent_most : (made : ℕ) (state : FindAt) → LookMeans env mix port since Says M G P state → IsSpent G state made
+        → made ≤ most_of (table_steps env)
+    spent_most made at.Opening known few = most_of-first (table_steps env) made (omega (arith, few))
+    spent_most made at.CurrentTable known few = most_of-first (table_steps env) made few
+    spent_most made (at.Locating reach) known few =
+        most_of-in (table_steps env) (index_at G reach.table) made (left_at (at.Locating reach))
+        (low_index reach.table known.0.0.attached) few
+    spent_most made (at.Heading head) known few =
+        most_of-in (table_steps env) (index_at G head.table) made (left_at (at.Heading head))
+        (low_index head.table known.0.of.attached) few
+    spent_most made (at.Key head node visited) known few =
+        most_of-in (table_steps env) (index_at G head.table) made (left_at (at.Key head node visited))
+        (low_index head.table known.0.of.attached) few
+    spent_most made (at.Link head node visited) known few =
+        most_of-in (table_steps env) (index_at G head.table) made (left_at (at.Link head node visited))
+        (low_index head.table known.0.of.attached) few
+    spent_most made (at.Future table) known few =
+        most_of-in (table_steps env) (index_at G table) made 0 (low_index table known.0.attached) (omega (arith, few))
+    spent_most made (at.Owner node) known few = most_of-in (table_steps env) 7 made 0 (omega arith) (omega (arith, few))
+    spent_most made (at.Closing reply) known few = few
+
+    -- and it stays so behind an operation of anybody else
+    module _ (G' : Ghost) (grow : TablesGrow env mix G G') where
+      same_most : (slot : ℕ) → has_table (G.slot slot) ≡ true → (count : ℕ) → count ≤ most_at G slot → count ≤ most_at G' slot
+      same_most slot has count few =
+          subst (λ i. count ≤ most_in (table_steps env) i) (sym (grow.indices slot has)) few
+
+      pub spent_stays : (made : ℕ) (state : FindAt) → LookMeans env mix port since Says M G P state → IsSpent G state made
+          → IsSpent G' state made
+      spent_stays made at.Opening known few = few
+      spent_stays made at.CurrentTable known few = few
+      spent_stays made (at.Locating reach) known few = same_most reach.table known.0.0.table _ few
+      spent_stays made (at.Heading head) known few = same_most head.table known.0.of.table _ few
+      spent_stays made (at.Key head node visited) known few = same_most head.table known.0.of.table _ few
+      spent_stays made (at.Link head node visited) known few = same_most head.table known.0.of.table _ few
+      spent_stays made (at.Future table) known few = same_most table known.0.table _ few
+      spent_stays made (at.Owner node) known few = few
+      spent_stays made (at.Closing reply) known few = few

@@ -1,5 +1,0 @@
-use Rattle.rht_look.proofs.FindBounds.{leaves_table}
-use Rattle.rht_look.proofs.laws.leaves_table.Goals as goal
-
-pub returns : goal.returns
-returns c = leaves_table

@@ -1,5 +1,0 @@
-use Rattle.rht_look.proofs.FindBounds.{loads_only}
-use Rattle.rht_look.proofs.laws.loads_only.Goals as goal
-
-pub returns : goal.returns
-returns c = loads_only
