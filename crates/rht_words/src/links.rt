@@ -29,12 +29,10 @@ pub fn node_of(nodes: u32, link: u64) -> Option<u32>
     ensures node { result ≡ node_of nodes link }
     ensures within { IfSome result (λ node. node < nodes) }
 {
-    if link % 2 != 0 || link < 2 {
-        return None;
-    }
-    let node = link / 2 - 1;
-    if node < nodes as u64 {
-        Some(node as u32)
+    // a rotation by one bit, less one: 0 and the odd links give numbers past every node's
+    let number = (link % 2 * (1 << 63) + link / 2).wrapping_sub(1);
+    if number < nodes as u64 {
+        Some(number as u32)
     } else {
         None
     }
@@ -99,11 +97,8 @@ pub fn slot_of(future: u64) -> Option<u32>
     ensures table { result ≡ slot_of future }
     ensures slot { IfSome result (λ slot. slot < 8) }
 {
-    if 1 <= future && future <= 8 {
-        Some((future - 1) as u32)
-    } else {
-        None
-    }
+    let slot = future.wrapping_sub(1);
+    if slot < 8 { Some(slot as u32) } else { None }
 }
 
 /// The entry of a nested table that leads to a page.
@@ -120,8 +115,9 @@ pub fn entry_of(page: u32) -> u64
 pub fn page_of(pages: u32, entry: u64) -> Option<u32>
     ensures { result ≡ page_of pages entry }
 {
-    if 1 <= entry && entry <= pages as u64 {
-        Some((entry - 1) as u32)
+    let page = entry.wrapping_sub(1);
+    if page < pages as u64 {
+        Some(page as u32)
     } else {
         None
     }
