@@ -4,7 +4,8 @@
 ghost use Rattle.std.specs.Prelude.{◌≡◌};
 ghost use Rattle.rht_model.specs.declared.history.Call.TheVariants.{Bind as BindCall};
 ghost use Rattle.rht_model.specs.declared.history.Reply.TheVariants.{Bound};
-ghost use Rattle.rht_bind.specs.Bind.{first_attempt, replacing};
+ghost use Rattle.rht_words.specs.Operations.{op_place};
+ghost use Rattle.rht_bind.specs.Bind.{plan_at, first_attempt, replacing};
 ghost use Rattle.rht_bind.specs.declared.bind.BindAt.TheVariants.{Locating, ListLink};
 ghost use Rattle.rht_run.specs.Pieces.{nested_locate};
 ghost use Rattle.rht_core.specs.Locals.{doing_after};
@@ -56,8 +57,8 @@ impl<M: Mix> Table<M> {
             owner,
             once,
         };
-        let geometry = env.geometry;
-        let begun = self.begin_with_node::<K, BindFilling>(seat, &frame, geometry, port, owner);
+        let starts = self.starts();
+        let begun = self.begin_with_node::<K, BindFilling>(seat, &frame, starts, port, owner);
         let Some(taken) = begun else {
             never(rt);
             unreachable!()
@@ -79,7 +80,7 @@ impl<M: Mix> Table<M> {
                 once,
                 attempt,
             };
-            let way = self.find_way::<K, BindLocating>(seat, &frame, geometry, port, table);
+            let way = self.find_way::<K, BindLocating>(seat, &frame, starts, port, table);
             let (shape, place) = match way {
                 Way::Flat { shape, place } => (shape, place),
                 Way::Nested { shape, bucket } => {
@@ -99,8 +100,7 @@ impl<M: Mix> Table<M> {
                 shape,
             };
             let key = word_of(port);
-            let Some(probed) = self.probe::<K, BindProbing>(seat, &frame, geometry, place, key)
-            else {
+            let Some(probed) = self.probe::<K, BindProbing>(seat, &frame, starts, place, key) else {
                 never(rt);
                 unreachable!()
             };
@@ -123,7 +123,10 @@ impl<M: Mix> Table<M> {
                 }
                 let found = first;
                 let at = BindAt::FoundOwner { claimed, found };
-                let other = owner_of(self.binding::<K>(seat, env, number, port, owner, once, at));
+                let place = starts.owner(found);
+                let other = owner_of(self.binding_at::<K>(
+                    seat, env, number, port, owner, once, at, place,
+                ));
                 let reply = Reply::Exists { owner: other };
                 let at = unlocking(claimed, Then::Answer(reply));
                 self.binding::<K>(seat, env, number, port, owner, once, at);
@@ -185,7 +188,8 @@ impl<M: Mix> Table<M> {
                 );
             }
             let at = BindAt::Link { claimed };
-            self.binding::<K>(seat, env, number, port, owner, once, at);
+            let place = starts.chain_link(node);
+            self.binding_at::<K>(seat, env, number, port, owner, once, at, place);
             let at = BindAt::Raise { claimed };
             let count = self.binding::<K>(seat, env, number, port, owner, once, at);
             let kick = kicks(env, claimed, count);
@@ -353,5 +357,26 @@ impl<M: Mix> Table<M> {
     {
         let bind = Bind::<M>::new(env, number, port, owner, once).with(at);
         self.operate::<K, Reply, Bind<M>, Whole>(seat, &Whole, &bind)
+    }
+
+    /// The same, where its place is known.
+    #[inline(always)]
+    fn binding_at<K: Ride>(
+        &self,
+        seat: &mut Seat<(), SeatView<M>>,
+        env: Env,
+        number: u32,
+        port: Port,
+        owner: u32,
+        once: bool,
+        at: BindAt,
+        place: usize,
+    ) -> u64
+        requires riding { IsRiding M.mix_of self.now K.riding (bind_at env number port owner once at) seat.old }
+        requires place { place ≡ op_place (plan_at env at) }
+        ensures { Stepped M.mix_of self.now K.riding (doing_after M.mix_of (bind_at env number port owner once at) result) seat.new }
+    {
+        let bind = Bind::<M>::new(env, number, port, owner, once).with(at);
+        self.operate_at::<K, Reply, Bind<M>, Whole>(seat, &Whole, &bind, place)
     }
 }

@@ -1,9 +1,11 @@
 //! The look-up of a port, in straight code.
 
 ghost use Rattle.std.specs.Prelude.{◌≡◌};
+ghost use Rattle.rht_words.specs.Operations.{op_place};
 ghost use Rattle.rht_model.specs.declared.history.Call.TheVariants.{Find as FindCall};
 ghost use Rattle.rht_core.specs.Locals.{doing_after};
 ghost use Rattle.rht_run.specs.Rides.{IsBefore, IsRiding, HasEnded, Stepped, looked_up, owner_in};
+ghost use Rattle.rht_find.specs.Find.{plan_at};
 ghost use Rattle.rht_find.specs.declared.find.FindAt.TheVariants.{Locating};
 ghost use Rattle.rht_run.specs.Pieces.{nested_locate};
 ghost use Rattle.rht_run.specs.PieceFrames.{find_at};
@@ -38,6 +40,7 @@ impl<M: Mix> Table<M> {
         ensures { HasEnded M.mix_of self.now K.riding (looked_up result) seat.new }
     {
         let env = self.env;
+        let starts = self.starts();
         let find = Find::<M>::new(env, number, port);
         let mut table = table_of(self.begin::<K, Reply, Find<M>, Whole>(seat, &Whole, &find));
         for _ in 0..u64::MAX {
@@ -45,8 +48,7 @@ impl<M: Mix> Table<M> {
                 env,
                 caller: number,
             };
-            let geometry = env.geometry;
-            let way = self.find_way::<K, FindLocating>(seat, &frame, geometry, port, table);
+            let way = self.find_way::<K, FindLocating>(seat, &frame, starts, port, table);
             let place = match way {
                 Way::Flat { place, .. } => place,
                 Way::Nested { shape, bucket } => {
@@ -60,8 +62,7 @@ impl<M: Mix> Table<M> {
                 table,
             };
             let key = word_of(port);
-            let Some(probed) = self.probe::<K, FindProbing>(seat, &frame, env.geometry, place, key)
-            else {
+            let Some(probed) = self.probe::<K, FindProbing>(seat, &frame, starts, place, key) else {
                 never(rt);
                 unreachable!()
             };
@@ -95,7 +96,8 @@ impl<M: Mix> Table<M> {
                 bucket,
                 node,
             };
-            let owner = owner_of(self.finding::<K>(seat, env, number, port, at));
+            let place = starts.owner(node);
+            let owner = owner_of(self.finding_at::<K>(seat, env, number, port, at, place));
             let mut node = node;
             for _ in 0..u64::MAX {
                 let at = FindAt::ListLink {
@@ -104,7 +106,8 @@ impl<M: Mix> Table<M> {
                     node,
                     owner,
                 };
-                let link = self.finding::<K>(seat, env, number, port, at);
+                let place = starts.list_link(node);
+                let link = self.finding_at::<K>(seat, env, number, port, at, place);
                 let Some(next) = node_of(env.geometry.nodes, link) else {
                     let then = Then::Answer(Reply::Found { owner });
                     let at = FindAt::Unlocking {
@@ -121,7 +124,8 @@ impl<M: Mix> Table<M> {
                     node: next,
                     owner,
                 };
-                self.finding::<K>(seat, env, number, port, at);
+                let place = starts.owner(next);
+                self.finding_at::<K>(seat, env, number, port, at, place);
                 node = next;
             }
             never(rt);
@@ -168,6 +172,25 @@ impl<M: Mix> Table<M> {
     {
         let find = Find::<M>::new(env, number, port).with(at);
         self.operate::<K, Reply, Find<M>, Whole>(seat, &Whole, &find)
+    }
+
+    /// The same, where its place is known.
+    #[inline(always)]
+    fn finding_at<K: Ride>(
+        &self,
+        seat: &mut Seat<(), SeatView<M>>,
+        env: Env,
+        number: u32,
+        port: Port,
+        at: FindAt,
+        place: usize,
+    ) -> u64
+        requires riding { IsRiding M.mix_of self.now K.riding (find_at env number port at) seat.old }
+        requires place { place ≡ op_place (plan_at env at) }
+        ensures { Stepped M.mix_of self.now K.riding (doing_after M.mix_of (find_at env number port at) result) seat.new }
+    {
+        let find = Find::<M>::new(env, number, port).with(at);
+        self.operate_at::<K, Reply, Find<M>, Whole>(seat, &Whole, &find, place)
     }
 }
 

@@ -6,7 +6,8 @@ ghost use Rattle.rht_model.specs.declared.history.Reply.TheVariants.{Released};
 ghost use Rattle.rht_core.specs.Locals.{doing_after};
 ghost use Rattle.rht_release.specs.FoundPort.{relink_of};
 ghost use Rattle.rht_release.specs.declared.release.ReleaseAt.TheVariants.{Seeking, LinkBehind, Unlinking, Lowering};
-ghost use Rattle.rht_release.specs.Release.{promoting};
+ghost use Rattle.rht_words.specs.Operations.{op_place};
+ghost use Rattle.rht_release.specs.Release.{plan_at, promoting};
 ghost use Rattle.rht_run.specs.Rides.{IsBefore, IsRiding, HasEnded, Stepped};
 ghost use Rattle.rht_run.specs.Seeks.{release_at, nested_seek};
 
@@ -15,6 +16,7 @@ use crate::ride::{Ride, never};
 use crate::seats::SeatView;
 use crate::seeking::{Sought, nested_seek};
 use crate::seeks::ReleaseSeeking;
+use crate::starts::Starts;
 use crate::table::Table;
 use atomic_table::Seat;
 use rht_model::Reply;
@@ -48,9 +50,8 @@ impl<M: Mix> Table<M> {
             caller: number,
             owner,
         };
-        let geometry = env.geometry;
-        let Some(sought) = self.seek::<K, ReleaseSeeking>(seat, &frame, geometry, port, table)
-        else {
+        let starts = self.starts();
+        let Some(sought) = self.seek::<K, ReleaseSeeking>(seat, &frame, starts, port, table) else {
             never(rt);
             unreachable!()
         };
@@ -75,12 +76,16 @@ impl<M: Mix> Table<M> {
                 node,
                 before,
             };
-            let other = owner_of(self.releasing::<K>(seat, env, number, port, owner, at));
+            let place = starts.owner(node);
+            let other = owner_of(self.releasing_at::<K>(seat, env, number, port, owner, at, place));
             if other == owner {
-                return self.take_out::<K>(seat, env, number, port, owner, found, node, before);
+                return self.take_out::<K>(
+                    seat, env, starts, number, port, owner, found, node, before,
+                );
             }
             let at = ReleaseAt::ListLink { found, node };
-            let link = self.releasing::<K>(seat, env, number, port, owner, at);
+            let place = starts.list_link(node);
+            let link = self.releasing_at::<K>(seat, env, number, port, owner, at, place);
             let Some(next) = node_of(env.geometry.nodes, link) else {
                 let at = unlocking(found, None);
                 self.releasing::<K>(seat, env, number, port, owner, at);
@@ -99,6 +104,7 @@ impl<M: Mix> Table<M> {
         &self,
         seat: &mut Seat<(), SeatView<M>>,
         env: Env,
+        starts: Starts,
         number: u32,
         port: Port,
         owner: u32,
@@ -106,7 +112,8 @@ impl<M: Mix> Table<M> {
         node: u32,
         before: Option<u32>,
     ) -> Reply
-        requires { IsRiding M.mix_of self.now K.riding (release_at env number port owner (LinkBehind found node before)) seat.old }
+        requires starts { starts.geometry ≡ env.geometry }
+        requires riding { IsRiding M.mix_of self.now K.riding (release_at env number port owner (LinkBehind found node before)) seat.old }
         ensures { HasEnded M.mix_of self.now K.riding result seat.new }
     {
         let at = ReleaseAt::LinkBehind {
@@ -114,7 +121,8 @@ impl<M: Mix> Table<M> {
             node,
             before,
         };
-        let behind = self.releasing::<K>(seat, env, number, port, owner, at);
+        let place = starts.list_link(node);
+        let behind = self.releasing_at::<K>(seat, env, number, port, owner, at, place);
         if let Some(before) = before {
             let at = ReleaseAt::CuttingOut {
                 found,
@@ -129,7 +137,8 @@ impl<M: Mix> Table<M> {
         }
         let second = node_of(env.geometry.nodes, behind);
         let at = ReleaseAt::ChainLink { found, second };
-        let link = self.releasing::<K>(seat, env, number, port, owner, at);
+        let place = starts.chain_link(found.node);
+        let link = self.releasing_at::<K>(seat, env, number, port, owner, at, place);
         if let Some(second) = second {
             let at = ReleaseAt::SecondLink {
                 found,
@@ -243,5 +252,25 @@ impl<M: Mix> Table<M> {
     {
         let release = Release::<M>::new(env, number, port, owner).with(at);
         self.operate::<K, Reply, Release<M>, Whole>(seat, &Whole, &release)
+    }
+
+    /// The same, where its place is known.
+    #[inline(always)]
+    fn releasing_at<K: Ride>(
+        &self,
+        seat: &mut Seat<(), SeatView<M>>,
+        env: Env,
+        number: u32,
+        port: Port,
+        owner: u32,
+        at: ReleaseAt,
+        place: usize,
+    ) -> u64
+        requires riding { IsRiding M.mix_of self.now K.riding (release_at env number port owner at) seat.old }
+        requires place { place ≡ op_place (plan_at env at) }
+        ensures { Stepped M.mix_of self.now K.riding (doing_after M.mix_of (release_at env number port owner at) result) seat.new }
+    {
+        let release = Release::<M>::new(env, number, port, owner).with(at);
+        self.operate_at::<K, Reply, Release<M>, Whole>(seat, &Whole, &release, place)
     }
 }

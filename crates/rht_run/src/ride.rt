@@ -5,6 +5,7 @@
 //! The seat's view has it, for the proofs alone.
 
 ghost use Rattle.std.specs.Prelude.{◌≡◌, Option, None, Some};
+ghost use Rattle.rht_words.specs.Operations.{op_place};
 ghost use Rattle.rht_model.specs.Rooms.{emptied};
 ghost use Rattle.rht_model.specs.declared.history.Reply.{Reply as ReplyOf};
 ghost use Rattle.rht_callers.specs.declared.local.Doing.TheVariants.{Idle};
@@ -55,7 +56,7 @@ impl<M: Mix> Table<M> {
         ensures piece { Stepped M.mix_of self.now K.riding (piece_next (λ p. F.holding frame.now p) (λ a. F.behind frame.now a) (P.after_of piece.now result)) seat.new }
     {
         let op = piece.planned();
-        self.perform::<Brand>(seat, op)
+        self.perform::<Brand>(seat, op, op.place())
     }
 
     /// The operation that this piece plans, in the machine that holds it.
@@ -70,8 +71,26 @@ impl<M: Mix> Table<M> {
         ensures doing { Stepped M.mix_of self.now K.riding (doing_after M.mix_of (F.holding frame.now piece.now) result) seat.new }
         ensures piece { Stepped M.mix_of self.now K.riding (piece_next (λ p. F.holding frame.now p) (λ a. F.behind frame.now a) (P.after_of piece.now result)) seat.new }
     {
+        let place = piece.planned().place();
+        self.operate_at::<K, A, P, F>(seat, frame, piece, place)
+    }
+
+    /// The same, where its place is known: so it need not be worked out from the geometry.
+    #[inline(always)]
+    pub(crate) fn operate_at<K: Ride, A, P: Piece<M, A>, F: Frame<M, P, A>>(
+        &self,
+        seat: &mut Seat<(), SeatView<M>>,
+        frame: &F,
+        piece: &P,
+        place: usize,
+    ) -> u64
+        requires riding { IsRiding M.mix_of self.now K.riding (F.holding frame.now piece.now) seat.old }
+        requires place { place ≡ op_place (P.plan_of piece.now) }
+        ensures doing { Stepped M.mix_of self.now K.riding (doing_after M.mix_of (F.holding frame.now piece.now) result) seat.new }
+        ensures piece { Stepped M.mix_of self.now K.riding (piece_next (λ p. F.holding frame.now p) (λ a. F.behind frame.now a) (P.after_of piece.now result)) seat.new }
+    {
         let op = piece.planned();
-        self.perform::<Brand>(seat, op)
+        self.perform::<Brand>(seat, op, place)
     }
 
     /// Runs a machine from where it stands to its reply, one operation after another. It is for the

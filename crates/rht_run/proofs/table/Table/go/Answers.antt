@@ -10,8 +10,8 @@ pub begin_if-requires : goal.begin_if-requires
 begin_if-requires g c =
     room_for g.M.Mix.mix_of c.args.self.now c.args.pass.now c.requires.pass c.args.begins c.requires.can
 
-pub perform-old-requires : goal.perform-old-requires
-perform-old-requires g c =
+pub perform-old-requires-clause-can : goal.perform-old-requires-clause-can
+perform-old-requires-clause-can g c =
     subst (λ (b : Option Call). CanPerform b c.args.self.now c.args.pass.now.seat c.in-Some.op) c.requires.begins
     (ready g.M.Mix.mix_of c.args.self.now c.args.pass.now c.args.begins c.in-Some.op c.requires.pass c.requires.can
     (ap plan_of (sym c.begin_if.ensures) ∙ sym c.plan.ensures.plan ∙ c.in-Some.is))

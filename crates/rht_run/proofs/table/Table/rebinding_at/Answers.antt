@@ -1,0 +1,9 @@
+use Rattle.std.proofs.Common.{◌∙◌, sym, ap, subst}
+use Rattle.rht_words.specs.declared.env.Env.{Env}
+use Rattle.rht_release.specs.Rebind.{RebindModel, IsRebindAtIn}
+use Rattle.rht_run.proofs.table.Table.rebinding_at.Goals as goal
+
+pub with-rebind-requires : goal.with-rebind-requires
+with-rebind-requires g c =
+    let is = c.requires.riding.in_range in
+    subst (λ (env : Env). IsRebindAtIn env c.args.at) (sym is.same_env ∙ sym (ap (λ (m : RebindModel). m.env) c.new.ensures)) is.at_in
