@@ -91,6 +91,7 @@ impl<M: Mix> Table<M> {
     }
 
     /// Takes a free node, once a word of the node map was looked at. It answers as `begin_with_node` does.
+    /// The first operation stands before the loop: there the compiler sees that it claims a node, mostly the one taken.
     #[inline(always)]
     fn take_node<K: Ride, F: Frame<M, NewNode, Option<u32>>>(
         &self,
@@ -103,8 +104,11 @@ impl<M: Mix> Table<M> {
         requires { Stepped M.mix_of self.now K.riding (piece_next (λ p. F.holding frame.now p) (λ a. F.behind frame.now a) (new_node_told new.now (node_taken take answer))) seat.old }
         ensures { IfSome result (λ taken. Stepped M.mix_of self.now K.riding (node_then (λ p. F.holding frame.now p) (λ a. F.behind frame.now a) new.now taken) seat.new) }
     {
-        let mut take = take;
-        let mut answer = answer;
+        if let Next::Done(taken) = answer {
+            return Some(taken);
+        }
+        let word = self.filling::<K, F>(seat, frame, new, NewNodeAt::Taking { take });
+        let (mut take, mut answer) = take.after(word);
         for _ in 0..u64::MAX {
             if let Next::Done(taken) = answer {
                 return Some(taken);

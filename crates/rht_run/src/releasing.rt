@@ -1,6 +1,6 @@
 //! The release of a port, in straight code.
 
-ghost use Rattle.std.specs.Prelude.{◌≡◌, false};
+ghost use Rattle.std.specs.Prelude.{◌≡◌, false, Some};
 ghost use Rattle.rht_model.specs.declared.history.Call.TheVariants.{Release as ReleaseCall};
 ghost use Rattle.rht_model.specs.declared.history.Reply.TheVariants.{Released};
 ghost use Rattle.rht_core.specs.Locals.{doing_after};
@@ -8,7 +8,7 @@ ghost use Rattle.rht_release.specs.FoundPort.{relink_of};
 ghost use Rattle.rht_release.specs.declared.release.ReleaseAt.TheVariants.{Seeking, LinkBehind, Unlinking, Lowering};
 ghost use Rattle.rht_words.specs.Operations.{op_place};
 ghost use Rattle.rht_release.specs.Release.{plan_at, promoting};
-ghost use Rattle.rht_run.specs.Rides.{IsBefore, IsRiding, HasEnded, Stepped};
+ghost use Rattle.rht_run.specs.Rides.{IsBefore, IsRiding, HasEnded, Stepped, released, kick_in};
 ghost use Rattle.rht_run.specs.Seeks.{release_at, nested_seek};
 
 use crate::pieces::Whole;
@@ -27,8 +27,9 @@ use rht_words::{Env, Port, link_of, node_of, owner_of, table_of};
 use std::sync::Wait;
 
 impl<M: Mix> Table<M> {
-    /// Takes the binding out, from the first operation to the reply.
-    #[inline(always)]
+    /// Takes the binding out, from the first operation to the reply. It answers whether `work` has something to
+    /// do, or that there is no such binding: that goes back in registers where a reply would go through memory.
+    #[inline(never)]
     pub(crate) fn drive_release<R: Wait, K: Ride>(
         &self,
         rt: &R,
@@ -36,11 +37,11 @@ impl<M: Mix> Table<M> {
         number: u32,
         port: Port,
         owner: u32,
-    ) -> Reply
+    ) -> Option<bool>
         requires before { IsBefore M.mix_of self.now K.riding seat.old }
         requires number { K.riding.number ≡ number }
         requires call { K.riding.call ≡ ReleaseCall port owner }
-        ensures { HasEnded M.mix_of self.now K.riding result seat.new }
+        ensures { HasEnded M.mix_of self.now K.riding (released result) seat.new }
     {
         let env = self.env;
         let release = Release::<M>::new(env, number, port, owner);
@@ -57,7 +58,7 @@ impl<M: Mix> Table<M> {
         };
         let found = match sought {
             Sought::Found { found } => found,
-            Sought::Nowhere => return Reply::Absent,
+            Sought::Nowhere => return None,
             Sought::Nested {
                 table,
                 shape,
@@ -89,7 +90,7 @@ impl<M: Mix> Table<M> {
             let Some(next) = node_of(env.geometry.nodes, link) else {
                 let at = unlocking(found, None);
                 self.releasing::<K>(seat, env, number, port, owner, at);
-                return Reply::Absent;
+                return None;
             };
             before = Some(node);
             node = next;
@@ -111,10 +112,10 @@ impl<M: Mix> Table<M> {
         found: FoundPort,
         node: u32,
         before: Option<u32>,
-    ) -> Reply
+    ) -> Option<bool>
         requires starts { starts.geometry ≡ env.geometry }
         requires riding { IsRiding M.mix_of self.now K.riding (release_at env number port owner (LinkBehind found node before)) seat.old }
-        ensures { HasEnded M.mix_of self.now K.riding result seat.new }
+        ensures { HasEnded M.mix_of self.now K.riding (released result) seat.new }
     {
         let at = ReleaseAt::LinkBehind {
             found,
@@ -133,7 +134,7 @@ impl<M: Mix> Table<M> {
             self.releasing::<K>(seat, env, number, port, owner, at);
             let at = unlocking(found, Some(node));
             self.releasing::<K>(seat, env, number, port, owner, at);
-            return Reply::Released { kick: false };
+            return Some(false);
         }
         let second = node_of(env.geometry.nodes, behind);
         let at = ReleaseAt::ChainLink { found, second };
@@ -147,7 +148,7 @@ impl<M: Mix> Table<M> {
             };
             self.releasing::<K>(seat, env, number, port, owner, at);
             self.promoting::<K>(seat, env, number, port, owner, found, second);
-            return Reply::Released { kick: false };
+            return Some(false);
         }
         self.unlinking::<K>(seat, env, number, port, owner, found, link);
         let shape = found.shape;
@@ -156,9 +157,7 @@ impl<M: Mix> Table<M> {
             shape,
         };
         let count = self.releasing::<K>(seat, env, number, port, owner, at);
-        Reply::Released {
-            kick: kicks(env, shape, count),
-        }
+        Some(kicks(env, shape, count))
     }
 
     /// Puts the list's second node in the first one's place, and unlocks the bucket.
@@ -226,14 +225,15 @@ impl<M: Mix> Table<M> {
         table: u32,
         shape: u64,
         bucket: u32,
-    ) -> Reply
-        requires { IsRiding M.mix_of self.now K.riding (release_at self.now.env number port owner (Seeking (nested_seek self.now.env.geometry table shape bucket))) seat.old }
-        ensures { HasEnded M.mix_of self.now K.riding result seat.new }
+    ) -> Option<bool>
+        requires call { K.riding.call ≡ ReleaseCall port owner }
+        requires riding { IsRiding M.mix_of self.now K.riding (release_at self.now.env number port owner (Seeking (nested_seek self.now.env.geometry table shape bucket))) seat.old }
+        ensures { HasEnded M.mix_of self.now K.riding (released result) seat.new }
     {
         let seek = nested_seek(self.env.geometry, table, shape, bucket);
         let at = ReleaseAt::Seeking { seek };
         let release = Release::<M>::new(self.env, number, port, owner).with(at);
-        self.run_whole::<R, K, Release<M>, Whole>(rt, seat, &Whole, release)
+        kick_in(self.run_whole::<R, K, Release<M>, Whole>(rt, seat, &Whole, release))
     }
 
     /// The operation of the release in this state.
@@ -272,5 +272,26 @@ impl<M: Mix> Table<M> {
     {
         let release = Release::<M>::new(env, number, port, owner).with(at);
         self.operate_at::<K, Reply, Release<M>, Whole>(seat, &Whole, &release, place)
+    }
+}
+
+/// The reply of a release: the binding was taken out, with this kick, or there is none.
+#[inline(always)]
+pub(crate) fn released(kick: Option<bool>) -> Reply
+    ensures { result ≡ released kick }
+{
+    match kick {
+        Some(kick) => Reply::Released { kick },
+        None => Reply::Absent,
+    }
+}
+
+/// The kick in the reply of a release.
+fn kick_in(reply: Reply) -> Option<bool>
+    ensures { result ≡ kick_in reply }
+{
+    match reply {
+        Reply::Released { kick } => Some(kick),
+        _ => None,
     }
 }
