@@ -28,7 +28,7 @@ use Rattle.rht_run.specs.Passes.{HasCalled}
 use Rattle.rht_run.specs.Caused.{IsTracedCall, LooksUp, HasLookedUp}
 use Rattle.rht_run.specs.Rides.{Riding, riding_pass, steps_in, IsRiding}
 use Rattle.rht_run.proofs.CallCauses.{traced_call}
-use Rattle.rht_run.proofs.Performed.{of_run, number_few}
+use Rattle.rht_run.proofs.Performed.{of_run}
 
 -- ---- how many operations
 
@@ -61,12 +61,6 @@ module _ {M : Type 0} (mix : ℕ → ℕ → ℕ → ℕ) where
       (λ env c local book. book.call ≡ Some (Find port) → book.steps ≤ find_bound env)
       (λ env events c admitted. short_now M mix env events c port admitted) (is.call ∙ ap Some looks) in
       omega (arith, few, many, find_bound-small t.env)
-
-  -- the caller of a look-up that is driven has one of the sixteen numbers
-  pub caller_few : (t : Table M) (r : Riding) (m : FindModel) (seat : Seat (Unit {0}) (SeatView M)) → IsRiding mix t r (Finding m) seat
-      → m.caller < 16
-  caller_few t r m seat is =
-      omega (arith, is.in_range.same_caller, number_few mix t (riding_pass r (Finding m) seat) is.pass)
 
 -- ---- what it has to show
 

@@ -1,6 +1,6 @@
 -- A call that is driven from outside its pass goes as its caller does in the run: each operation is one that a pass would make
 -- which had the caller, so what is known of passes is known here.
-use Rattle.std.proofs.Common.{◌≡◌, ℕ, true, false, List, [], ◌∷◌, ◌++◌, map, refl, sym, ap, ◌∙◌, subst}
+use Rattle.std.proofs.Common.{◌≡◌, ℕ, ◌<◌, true, false, List, [], ◌∷◌, ◌++◌, map, refl, sym, ap, ◌∙◌, subst}
 use Rattle.std.specs.Prelude.{Option, Some, None}
 use Rattle.atomic_table.specs.declared.shared.Seat.{Seat}
 use Rattle.rht_words.specs.declared.op.Op.{Op}
@@ -23,7 +23,7 @@ use Rattle.rht_run.specs.declared.pass.Pass.{Pass}
 use Rattle.rht_run.specs.Rule.{Went, book_then, local_then, held_then, held_stepped}
 use Rattle.rht_run.specs.Passes.{CanPerform, IsSameSeat, IsPassOf, HasCalled, book_in, book_of}
 use Rattle.rht_run.specs.Rides.{Riding, riding_of, riding_local, riding_pass, owners_in, pairs_in, IsBefore, IsRiding, HasEnded, Stepped, HasCounted, piece_next}
-use Rattle.rht_run.proofs.Performed.{local_in, ready, still}
+use Rattle.rht_run.proofs.Performed.{local_in, number_few, ready, still}
 
 module _ {M : Type 0} where
   -- who is in no call does nothing
@@ -41,6 +41,13 @@ module _ {M : Type 0} (mix : ℕ → ℕ → ℕ → ℕ) (t : Table M) (r : Rid
   riding_range : (doing : Doing M) (seat : Seat (Unit {0}) (SeatView M)) → IsPassOf mix t (riding_pass r doing seat)
       → IsDoingIn t.env r.number doing
   riding_range doing seat is = (local_in mix t (riding_pass r doing seat) is).doing
+
+  -- it has one of the sixteen numbers, and so has a caller before its call
+  pub riding_few : (doing : Doing M) (seat : Seat (Unit {0}) (SeatView M)) → IsRiding mix t r doing seat → r.number < 16
+  riding_few doing seat is = number_few mix t (riding_pass r doing seat) is.pass
+
+  pub before_few : (seat : Seat (Unit {0}) (SeatView M)) → IsBefore mix t r seat → r.number < 16
+  before_few seat is = number_few mix t record { seat = seat; number = r.number; local = is.local } is.pass
 
   -- what is said of the seat behind an operation, by what the pass would be that had its caller, and by the book
   said : (seat : Seat (Unit {0}) (SeatView M)) (next : Doing M × Option Reply) (book : Book)

@@ -77,7 +77,7 @@ module _ {M : Type 0} where
   abbrev pub bind_filled : Env → ℕ → ℕ → ℕ → Bool → Option ℕ → Doing M × Option Reply
   bind_filled env caller port owner once None = (Idle, Some NoNode)
   bind_filled env caller port owner once (Some node) =
-      (bind_at env caller port owner once (binds.CurrentTable (first_attempt node)), None)
+      (bind_at env caller port owner once (binds.Opening (first_attempt node)), None)
 
   pub bind_filling : (env : Env) (caller port owner : ℕ) (once : Bool) (next : NewNodeModel × Next (Option ℕ))
       → doing_next Binding (moved (record { env = env; caller = caller; port = port; owner = owner; once = once; at = binds.Filling next.0 }) (filled next.0 next.1))

@@ -13,10 +13,10 @@ use Rattle.rht_chain.specs.Probe.{ProbeModel, probe_new}
 use Rattle.rht_chain.specs.declared.probe.Probed.{Probed}
 use Rattle.rht_arena.specs.NewNode.{NewNodeModel}
 use Rattle.rht_release.specs.Seek.{SeekModel, seek_new, seek_after, locating, bucket_or_early, located, port_at, found_or_future, probed}
-use Rattle.rht_release.specs.Release.{ReleaseModel, release_after, moved as release_moved, sought as release_sought_at}
+use Rattle.rht_release.specs.Release.{ReleaseModel, release_after, closing, sought as release_sought_at}
 use Rattle.rht_release.specs.declared.release.ReleaseAt.{ReleaseAt}
 use Rattle.rht_release.specs.declared.release.ReleaseAt.TheVariants as releases
-use Rattle.rht_release.specs.Rebind.{RebindModel, rebind_after, filled, giving, moved as rebind_moved, sought as rebind_sought_at}
+use Rattle.rht_release.specs.Rebind.{RebindModel, rebind_after, filled, absent, moved as rebind_moved, sought as rebind_sought_at}
 use Rattle.rht_release.specs.declared.rebind.RebindAt.{RebindAt}
 use Rattle.rht_release.specs.declared.rebind.RebindAt.TheVariants as rebinds
 use Rattle.rht_release.specs.declared.found_port.FoundPort.{FoundPort}
@@ -122,18 +122,15 @@ module _ {M : Type 0} where
 
   -- and has found the port, or found that no table binds it
   abbrev pub release_sought : Env → ℕ → ℕ → ℕ → Option FoundPort → Doing M × Option Reply
-  release_sought env caller port owner None = (Idle, Some Absent)
+  release_sought env caller port owner None = (release_at env caller port owner (closing Absent None), None)
   release_sought env caller port owner (Some found) =
       (release_at env caller port owner (releases.Owner found found.node None), None)
 
   pub release_seeking : (env : Env) (caller port owner : ℕ) (next : SeekModel × Next (Option FoundPort))
-      → doing_next Releasing (
-        (release_moved (record { env = env; caller = caller; port = port; owner = owner; at = releases.Seeking next.0 }) (release_sought_at next.0 next.1)).0,
-        without_node (release_moved (record { env = env; caller = caller; port = port; owner = owner; at = releases.Seeking next.0 }) (release_sought_at next.0 next.1)).1,
-      )
-      ≡ piece_next (λ (p : PortSeek). release_at env caller p.port owner (releases.Seeking p.seek))
+      → ◌≡◌ {A = Doing M × Option Reply} (release_at env caller port owner (release_sought_at next.0 next.1), None)
+      (piece_next (λ (p : PortSeek). release_at env caller p.port owner (releases.Seeking p.seek))
       (λ found. release_sought env caller found.0 owner found.1)
-      (record { port = port; seek = next.0 }, sought_of port next.1)
+      (record { port = port; seek = next.0 }, sought_of port next.1))
   release_seeking env caller port owner (seek, Go) = refl
   release_seeking env caller port owner (seek, Done None) = refl
   release_seeking env caller port owner (seek, Done (Some found)) = refl
@@ -149,12 +146,12 @@ module _ {M : Type 0} where
   abbrev pub rebind_filled : Env → ℕ → ℕ → ℕ → ℕ → Option ℕ → Doing M × Option Reply
   rebind_filled env caller port owner new None = (Idle, Some NoNode)
   rebind_filled env caller port owner new (Some node) =
-      (rebind_at env caller port owner new (rebinds.Seeking node (seek_new env.geometry)), None)
+      (rebind_at env caller port owner new (rebinds.Opening node), None)
 
   pub rebind_filling : (env : Env) (caller port owner new : ℕ) (next : NewNodeModel × Next (Option ℕ))
       → doing_next Rebinding (
-        (rebind_moved (record { env = env; caller = caller; port = port; owner = owner; new_owner = new; at = rebinds.Filling next.0 }) (filled env.geometry next.0 next.1)).0,
-        without_node (rebind_moved (record { env = env; caller = caller; port = port; owner = owner; new_owner = new; at = rebinds.Filling next.0 }) (filled env.geometry next.0 next.1)).1,
+        (rebind_moved (record { env = env; caller = caller; port = port; owner = owner; new_owner = new; at = rebinds.Filling next.0 }) (filled next.0 next.1)).0,
+        without_node (rebind_moved (record { env = env; caller = caller; port = port; owner = owner; new_owner = new; at = rebinds.Filling next.0 }) (filled next.0 next.1)).1,
       )
       ≡ piece_next (λ p. rebind_at env caller port owner new (rebinds.Filling p))
       (λ node. rebind_filled env caller port owner new node) next
@@ -165,12 +162,12 @@ module _ {M : Type 0} where
   -- and has found the port with this node, or found that no table binds it
   abbrev pub rebind_sought : Env → ℕ → ℕ → ℕ → ℕ → ℕ → Option FoundPort → Doing M × Option Reply
   rebind_sought env caller port owner new node None =
-      (rebind_at env caller port owner new (giving env.geometry node), None)
+      (rebind_at env caller port owner new (absent node), None)
   rebind_sought env caller port owner new node (Some found) =
       (rebind_at env caller port owner new (rebinds.Owner node found), None)
 
   pub rebind_seeking : (env : Env) (caller port owner new node : ℕ) (next : SeekModel × Next (Option FoundPort))
-      → ◌≡◌ {A = Doing M × Option Reply} (rebind_at env caller port owner new (rebind_sought_at env.geometry node next.0 next.1), None)
+      → ◌≡◌ {A = Doing M × Option Reply} (rebind_at env caller port owner new (rebind_sought_at node next.0 next.1), None)
       (piece_next (λ (p : PortSeek). rebind_at env caller p.port owner new (rebinds.Seeking node p.seek))
       (λ found. rebind_sought env caller found.0 owner new node found.1)
       (record { port = port; seek = next.0 }, sought_of port next.1))

@@ -11,7 +11,7 @@ use Rattle.rht_nest.specs.Tables.{is_nested}
 use Rattle.rht_nest.specs.Make.{make_new}
 use Rattle.rht_model.specs.declared.history.Reply.{Reply}
 use Rattle.rht_move.specs.LastTable.{LastTableModel}
-use Rattle.rht_move.specs.Work.{bucket_of_root, last_seen, locked, entry_table, entry_table_seen, unlocking, second_locked}
+use Rattle.rht_move.specs.Work.{bucket_of_root, last_seen, letting_go, locked, entry_table, entry_table_seen, unlocking, second_locked}
 use Rattle.rht_move.specs.declared.last_table.Last.{Last}
 use Rattle.rht_move.specs.declared.last_entry.Entry.{Entry}
 use Rattle.rht_move.specs.declared.rehash.Rehash.{Rehash}
@@ -46,7 +46,7 @@ bucket_or_end g rehash number =
 
 -- it has stopped, or all buckets are empty
 abbrev pub move_ended : Rehash → Bool → WorkAt
-move_ended rehash true = works.LettingGo (Moved true)
+move_ended rehash true = letting_go (Moved true)
 move_ended rehash false = works.Publishing rehash
 
 -- an entry goes to the last table, where that is flat, and else the bucket keeps it

@@ -3,9 +3,10 @@
 
 ghost use Rattle.std.specs.Prelude.{◌≡◌};
 ghost use Rattle.rht_model.specs.declared.history.Call.TheVariants.{Bind as BindCall};
-ghost use Rattle.rht_model.specs.declared.history.Reply.TheVariants.{Bound};
 ghost use Rattle.rht_bind.specs.Bind.{first_attempt, replacing};
-ghost use Rattle.rht_bind.specs.declared.bind.BindAt.TheVariants.{Locating, ListLink};
+ghost use Rattle.rht_bind.specs.Endings.{answering};
+ghost use Rattle.rht_bind.specs.declared.bind.BindAt.TheVariants.{Locating, ListLink, Closing};
+ghost use Rattle.rht_bind.specs.declared.bind.ending.Ending.TheVariants.{Bound};
 ghost use Rattle.rht_run.specs.Pieces.{nested_locate};
 ghost use Rattle.rht_core.specs.Locals.{doing_after};
 ghost use Rattle.rht_run.specs.Rides.{IsBefore, IsRiding, HasEnded, Stepped};
@@ -18,8 +19,8 @@ use crate::seats::SeatView;
 use crate::table::Table;
 use atomic_table::Seat;
 use rht_bind::{
-    Attempt, Bind, BindAt, Claimed, FoundList, Full, giving, kicks, publishing, unlocking,
-    unlocking_full,
+    Attempt, Bind, BindAt, Claimed, Ending, FoundList, Full, answering, giving, kicks, publishing,
+    unlocking, unlocking_full,
 };
 use rht_chain::{Locked, Relink, Then};
 use rht_model::Reply;
@@ -69,6 +70,8 @@ impl<M: Mix> Table<M> {
             node,
             attached: false,
         };
+        let at = BindAt::Opening { attempt };
+        self.binding::<K>(seat, env, number, port, owner, once, at);
         let at = BindAt::CurrentTable { attempt };
         let mut table = table_of(self.binding::<K>(seat, env, number, port, owner, once, at));
         for _ in 0..u64::MAX {
@@ -127,9 +130,8 @@ impl<M: Mix> Table<M> {
                 let reply = Reply::Exists { owner: other };
                 let at = unlocking(claimed, Then::Answer(reply));
                 self.binding::<K>(seat, env, number, port, owner, once, at);
-                let at = giving(env, claimed.attempt.node, reply);
-                self.binding::<K>(seat, env, number, port, owner, once, at);
-                return reply;
+                let node = claimed.attempt.node;
+                return self.refusing::<K>(seat, env, number, port, owner, once, node, reply);
             }
             let length = probed.seen.length;
             let at = BindAt::Future { claimed, length };
@@ -164,9 +166,7 @@ impl<M: Mix> Table<M> {
                 let reply = Reply::TooBig { count };
                 let at = unlocking(claimed, Then::Answer(reply));
                 self.binding::<K>(seat, env, number, port, owner, once, at);
-                let at = giving(env, node, reply);
-                self.binding::<K>(seat, env, number, port, owner, once, at);
-                return reply;
+                return self.refusing::<K>(seat, env, number, port, owner, once, node, reply);
             }
             if above_100(ports, Shape::from(shape).size(), env.config.max) {
                 return self.grow::<R, K>(
@@ -191,7 +191,7 @@ impl<M: Mix> Table<M> {
             let kick = kicks(env, claimed, count);
             let at = publishing(env, claimed, kick);
             self.binding::<K>(seat, env, number, port, owner, once, at);
-            return Reply::Bound { kick };
+            return self.bound::<K>(seat, env, number, port, owner, once, kick);
         }
         never(rt);
         unreachable!()
@@ -219,9 +219,8 @@ impl<M: Mix> Table<M> {
         let at = BindAt::LinkBehind { list, link };
         self.binding::<K>(seat, env, number, port, owner, once, at);
         self.replacing_first::<K>(seat, env, number, port, owner, once, list);
-        Reply::Bound {
-            kick: list.claimed.attempt.attached,
-        }
+        let kick = list.claimed.attempt.attached;
+        self.bound::<K>(seat, env, number, port, owner, once, kick)
     }
 
     /// Puts the node in the place of the list's first one in the chain, and unlocks the bucket.
@@ -237,7 +236,7 @@ impl<M: Mix> Table<M> {
         list: FoundList,
     )
         requires { IsRiding M.mix_of self.now K.riding (bind_at env number port owner once (replacing env list)) seat.old }
-        ensures { HasEnded M.mix_of self.now K.riding (Bound list.claimed.attempt.attached) seat.new }
+        ensures { IsRiding M.mix_of self.now K.riding (bind_at env number port owner once (Closing (Bound list.claimed.attempt.attached))) seat.new }
     {
         let Locked { place, word } = list.claimed.bucket;
         let link = link_of(list.claimed.attempt.node);
@@ -250,6 +249,50 @@ impl<M: Mix> Table<M> {
         let (relink, _) = relink.after();
         let at = BindAt::Replacing { list, relink };
         self.binding::<K>(seat, env, number, port, owner, once, at);
+    }
+
+    /// Closes the read section, with which the bind ends: the port is bound.
+    #[inline(always)]
+    fn bound<K: Ride>(
+        &self,
+        seat: &mut Seat<(), SeatView<M>>,
+        env: Env,
+        number: u32,
+        port: Port,
+        owner: u32,
+        once: bool,
+        kick: bool,
+    ) -> Reply
+        requires { IsRiding M.mix_of self.now K.riding (bind_at env number port owner once (Closing (Bound kick))) seat.old }
+        ensures { HasEnded M.mix_of self.now K.riding result seat.new }
+    {
+        let ending = Ending::Bound { kick };
+        let at = BindAt::Closing { ending };
+        self.binding::<K>(seat, env, number, port, owner, once, at);
+        Reply::Bound { kick }
+    }
+
+    /// Closes the read section and gives the node back, and the bind has this answer.
+    #[inline(always)]
+    fn refusing<K: Ride>(
+        &self,
+        seat: &mut Seat<(), SeatView<M>>,
+        env: Env,
+        number: u32,
+        port: Port,
+        owner: u32,
+        once: bool,
+        node: u32,
+        reply: Reply,
+    ) -> Reply
+        requires { IsRiding M.mix_of self.now K.riding (bind_at env number port owner once (answering node reply)) seat.old }
+        ensures { HasEnded M.mix_of self.now K.riding result seat.new }
+    {
+        let at = answering(node, reply);
+        self.binding::<K>(seat, env, number, port, owner, once, at);
+        let at = giving(env, node, reply);
+        self.binding::<K>(seat, env, number, port, owner, once, at);
+        reply
     }
 
     /// Binds the port from a nested table on.

@@ -4,11 +4,11 @@ ghost use Rattle.std.specs.Prelude.{◌≡◌};
 ghost use Rattle.rht_words.specs.declared.config.Kind.TheVariants.{Single};
 ghost use Rattle.rht_model.specs.declared.history.Call.TheVariants.{Rebind as RebindCall};
 ghost use Rattle.rht_core.specs.Locals.{doing_after};
-ghost use Rattle.rht_release.specs.Rebind.{replacing};
-ghost use Rattle.rht_model.specs.declared.history.Reply.TheVariants.{Rebound};
+ghost use Rattle.rht_release.specs.Rebind.{absent, replacing};
 ghost use Rattle.rht_run.specs.Rides.{IsBefore, IsRiding, HasEnded, Stepped};
 ghost use Rattle.rht_run.specs.Seeks.{rebind_at, nested_seek};
-ghost use Rattle.rht_release.specs.declared.rebind.RebindAt.TheVariants.{Seeking};
+ghost use Rattle.rht_release.specs.declared.rebind.RebindAt.TheVariants.{Seeking, Closing};
+ghost use Rattle.rht_release.specs.declared.rebind.RebindEnd.TheVariants.{Rebound};
 
 use crate::pieces::Whole;
 use crate::ride::{Ride, never};
@@ -19,8 +19,8 @@ use crate::table::Table;
 use atomic_table::Seat;
 use rht_model::Reply;
 use rht_policy::Mix;
-use rht_release::rebind::{giving, owner_compared};
-use rht_release::{FoundPort, Rebind, RebindAt, SeekAt};
+use rht_release::rebind::{absent, giving, owner_compared};
+use rht_release::{FoundPort, Rebind, RebindAt, RebindEnd, SeekAt};
 use rht_words::{Env, Port, link_of, owner_of, table_of};
 use std::sync::Wait;
 
@@ -59,6 +59,8 @@ impl<M: Mix> Table<M> {
         let Some(node) = taken else {
             return Reply::NoNode;
         };
+        let at = RebindAt::Opening { node };
+        self.rebinding::<K>(seat, env, number, port, owner, new, at);
         let frame = RebindSeeking {
             env,
             caller: number,
@@ -75,9 +77,7 @@ impl<M: Mix> Table<M> {
         let found = match sought {
             Sought::Found { found } => found,
             Sought::Nowhere => {
-                let at = giving(env.geometry, node);
-                self.rebinding::<K>(seat, env, number, port, owner, new, at);
-                return Reply::Absent;
+                return self.refusing::<K>(seat, env, number, port, owner, new, node);
             }
             Sought::Nested {
                 table,
@@ -94,15 +94,39 @@ impl<M: Mix> Table<M> {
         let at = owner_compared(node, found, first == owner);
         let RebindAt::ChainLink { .. } = at else {
             self.rebinding::<K>(seat, env, number, port, owner, new, at);
-            let at = giving(env.geometry, node);
-            self.rebinding::<K>(seat, env, number, port, owner, new, at);
-            return Reply::Absent;
+            return self.refusing::<K>(seat, env, number, port, owner, new, node);
         };
         let link = self.rebinding::<K>(seat, env, number, port, owner, new, at);
         let at = RebindAt::Link { node, found, link };
         self.rebinding::<K>(seat, env, number, port, owner, new, at);
         self.replacing::<K>(seat, env, number, port, owner, new, node, found);
+        let removed = found.node;
+        let end = RebindEnd::Rebound { removed };
+        let at = RebindAt::Closing { end };
+        self.rebinding::<K>(seat, env, number, port, owner, new, at);
         Reply::Rebound
+    }
+
+    /// Closes the read section and gives the new node back: the port isn't bound to the old owner.
+    #[inline(always)]
+    fn refusing<K: Ride>(
+        &self,
+        seat: &mut Seat<(), SeatView<M>>,
+        env: Env,
+        number: u32,
+        port: Port,
+        owner: u32,
+        new: u32,
+        node: u32,
+    ) -> Reply
+        requires { IsRiding M.mix_of self.now K.riding (rebind_at env number port owner new (absent node)) seat.old }
+        ensures { HasEnded M.mix_of self.now K.riding result seat.new }
+    {
+        let at = absent(node);
+        self.rebinding::<K>(seat, env, number, port, owner, new, at);
+        let at = giving(env.geometry, node);
+        self.rebinding::<K>(seat, env, number, port, owner, new, at);
+        Reply::Absent
     }
 
     /// Puts the new node in the old one's place, and unlocks the bucket.
@@ -119,7 +143,7 @@ impl<M: Mix> Table<M> {
         found: FoundPort,
     )
         requires { IsRiding M.mix_of self.now K.riding (rebind_at env number port owner new (replacing env.geometry node found)) seat.old }
-        ensures { HasEnded M.mix_of self.now K.riding Rebound seat.new }
+        ensures { IsRiding M.mix_of self.now K.riding (rebind_at env number port owner new (Closing (Rebound found.node))) seat.new }
     {
         let relink = found.relink(env.geometry, link_of(node));
         let at = RebindAt::Replacing {

@@ -1,11 +1,11 @@
 //! The release of a port, in straight code.
 
-ghost use Rattle.std.specs.Prelude.{◌≡◌, false};
+ghost use Rattle.std.specs.Prelude.{◌≡◌, false, Some};
 ghost use Rattle.rht_model.specs.declared.history.Call.TheVariants.{Release as ReleaseCall};
 ghost use Rattle.rht_model.specs.declared.history.Reply.TheVariants.{Released};
 ghost use Rattle.rht_core.specs.Locals.{doing_after};
 ghost use Rattle.rht_release.specs.FoundPort.{relink_of};
-ghost use Rattle.rht_release.specs.declared.release.ReleaseAt.TheVariants.{Seeking, LinkBehind, Unlinking, Lowering};
+ghost use Rattle.rht_release.specs.declared.release.ReleaseAt.TheVariants.{Seeking, LinkBehind, Unlinking, Lowering, Closing};
 ghost use Rattle.rht_release.specs.Release.{promoting};
 ghost use Rattle.rht_run.specs.Rides.{IsBefore, IsRiding, HasEnded, Stepped};
 ghost use Rattle.rht_run.specs.Seeks.{release_at, nested_seek};
@@ -19,8 +19,8 @@ use crate::table::Table;
 use atomic_table::Seat;
 use rht_model::Reply;
 use rht_policy::Mix;
-use rht_release::release::{kicks, unlocking};
-use rht_release::{FoundPort, Release, ReleaseAt};
+use rht_release::release::{closing, kicks, unlocking};
+use rht_release::{FoundPort, Release, ReleaseAt, SeekAt};
 use rht_words::{Env, Port, link_of, node_of, owner_of, table_of};
 use std::sync::Wait;
 
@@ -42,13 +42,15 @@ impl<M: Mix> Table<M> {
     {
         let env = self.env;
         let release = Release::<M>::new(env, number, port, owner);
-        let table = table_of(self.begin::<K, Reply, Release<M>, Whole>(seat, &Whole, &release));
+        self.begin::<K, Reply, Release<M>, Whole>(seat, &Whole, &release);
         let frame = ReleaseSeeking {
             env,
             caller: number,
             owner,
         };
         let geometry = env.geometry;
+        let at = SeekAt::CurrentTable;
+        let table = table_of(self.seeking::<K, ReleaseSeeking>(seat, &frame, geometry, port, at));
         let Some(sought) = self.seek::<K, ReleaseSeeking>(seat, &frame, geometry, port, table)
         else {
             never(rt);
@@ -56,7 +58,10 @@ impl<M: Mix> Table<M> {
         };
         let found = match sought {
             Sought::Found { found } => found,
-            Sought::Nowhere => return Reply::Absent,
+            Sought::Nowhere => {
+                let reply = Reply::Absent;
+                return self.answering::<K>(seat, env, number, port, owner, reply, None);
+            }
             Sought::Nested {
                 table,
                 shape,
@@ -84,7 +89,8 @@ impl<M: Mix> Table<M> {
             let Some(next) = node_of(env.geometry.nodes, link) else {
                 let at = unlocking(found, None);
                 self.releasing::<K>(seat, env, number, port, owner, at);
-                return Reply::Absent;
+                let reply = Reply::Absent;
+                return self.answering::<K>(seat, env, number, port, owner, reply, None);
             };
             before = Some(node);
             node = next;
@@ -125,7 +131,8 @@ impl<M: Mix> Table<M> {
             self.releasing::<K>(seat, env, number, port, owner, at);
             let at = unlocking(found, Some(node));
             self.releasing::<K>(seat, env, number, port, owner, at);
-            return Reply::Released { kick: false };
+            let reply = Reply::Released { kick: false };
+            return self.answering::<K>(seat, env, number, port, owner, reply, Some(node));
         }
         let second = node_of(env.geometry.nodes, behind);
         let at = ReleaseAt::ChainLink { found, second };
@@ -138,18 +145,38 @@ impl<M: Mix> Table<M> {
             };
             self.releasing::<K>(seat, env, number, port, owner, at);
             self.promoting::<K>(seat, env, number, port, owner, found, second);
-            return Reply::Released { kick: false };
+            let reply = Reply::Released { kick: false };
+            return self.answering::<K>(seat, env, number, port, owner, reply, Some(found.node));
         }
         self.unlinking::<K>(seat, env, number, port, owner, found, link);
         let shape = found.shape;
-        let at = ReleaseAt::Lowering {
-            node: found.node,
-            shape,
-        };
+        let node = found.node;
+        let at = ReleaseAt::Lowering { node, shape };
         let count = self.releasing::<K>(seat, env, number, port, owner, at);
-        Reply::Released {
+        let reply = Reply::Released {
             kick: kicks(env, shape, count),
-        }
+        };
+        self.answering::<K>(seat, env, number, port, owner, reply, Some(node))
+    }
+
+    /// Closes the read section, with which the release ends so: this node was taken out, or none.
+    #[inline(always)]
+    fn answering<K: Ride>(
+        &self,
+        seat: &mut Seat<(), SeatView<M>>,
+        env: Env,
+        number: u32,
+        port: Port,
+        owner: u32,
+        reply: Reply,
+        removed: Option<u32>,
+    ) -> Reply
+        requires { IsRiding M.mix_of self.now K.riding (release_at env number port owner (Closing reply removed)) seat.old }
+        ensures { HasEnded M.mix_of self.now K.riding result seat.new }
+    {
+        let at = closing(reply, removed);
+        self.releasing::<K>(seat, env, number, port, owner, at);
+        reply
     }
 
     /// Puts the list's second node in the first one's place, and unlocks the bucket.
@@ -165,7 +192,7 @@ impl<M: Mix> Table<M> {
         second: u32,
     )
         requires { IsRiding M.mix_of self.now K.riding (release_at env number port owner (promoting env.geometry found second)) seat.old }
-        ensures { HasEnded M.mix_of self.now K.riding (Released false) seat.new }
+        ensures { IsRiding M.mix_of self.now K.riding (release_at env number port owner (Closing (Released false) (Some found.node))) seat.new }
     {
         let relink = found.relink(env.geometry, link_of(second));
         let at = ReleaseAt::Promoting { found, relink };

@@ -3,8 +3,9 @@
 
 ghost use Rattle.std.specs.Prelude.{◌≡◌};
 ghost use Rattle.rht_model.specs.declared.history.Call.TheVariants.{Work as WorkCall};
-ghost use Rattle.rht_move.specs.Work.{bucket_of_root, not_made, reply_of};
+ghost use Rattle.rht_move.specs.Work.{bucket_of_root, letting_go, not_made, reply_of};
 ghost use Rattle.rht_move.specs.declared.work.WorkAt.TheVariants as works;
+ghost use Rattle.rht_move.specs.declared.work.ending.Ending.TheVariants as endings;
 ghost use Rattle.rht_nest.specs.Unmake.{unmake_new};
 ghost use Rattle.rht_run.specs.Rides.{IsBefore, IsRiding, HasEnded};
 ghost use Rattle.rht_run.specs.WorkPieces.{work_at, wanted_of, rehash_of, making};
@@ -18,6 +19,7 @@ use atomic_table::Seat;
 use rht_model::Reply;
 use rht_move::work::attaching::is_later;
 use rht_move::work::choice::{Choice, choice_of};
+use rht_move::work::ending::{Ending, letting_go};
 use rht_move::work::moving::bucket_of_root;
 use rht_move::work::{Due, Outcome, Wanted, WorkAt, reply_of};
 use rht_move::{Last, Rehash, Work};
@@ -57,10 +59,11 @@ impl<M: Mix> Table<M> {
         seat: &mut Seat<(), SeatView<M>>,
         caller: u32,
     ) -> Reply
-        requires { IsRiding M.mix_of self.now K.riding (work_at self.now.env caller works.CurrentTable) seat.old }
+        requires { IsRiding M.mix_of self.now K.riding (work_at self.now.env caller works.Opening) seat.old }
         ensures { HasEnded M.mix_of self.now K.riding result seat.new }
     {
         let env = self.env;
+        self.working::<K>(seat, env, caller, WorkAt::Opening);
         let root = table_of(self.working::<K>(seat, env, caller, WorkAt::CurrentTable));
         let frame = WorkSeeking { env, caller, root };
         let Some(last) = self.last_table::<K, WorkSeeking>(seat, &frame, env.geometry, root) else {
@@ -266,7 +269,8 @@ impl<M: Mix> Table<M> {
         self.retire::<K>(seat, env, caller, root, true)
     }
 
-    /// Retires the table of this slot. With `again` a further call has something to do.
+    /// Closes the read section, and retires the table of this slot. With `again` a further call has
+    /// something to do.
     #[inline(always)]
     fn retire<K: Ride>(
         &self,
@@ -276,16 +280,34 @@ impl<M: Mix> Table<M> {
         root: u32,
         again: bool,
     ) -> Reply
-        requires { IsRiding M.mix_of self.now K.riding (work_at env caller (works.Retiring root again)) seat.old }
+        requires { IsRiding M.mix_of self.now K.riding (work_at env caller (works.Closing (endings.Retiring root again))) seat.old }
         ensures { HasEnded M.mix_of self.now K.riding result seat.new }
     {
+        let ending = Ending::Retiring { root, again };
+        self.working::<K>(seat, env, caller, WorkAt::Closing { ending });
         self.working::<K>(seat, env, caller, WorkAt::Retiring { root, again });
-        self.let_go::<K>(seat, env, caller, Outcome::Moved { again })
+        self.unlock_work::<K>(seat, env, caller, Outcome::Moved { again })
+    }
+
+    /// Closes the read section, and lets go of the work lock.
+    #[inline(always)]
+    fn let_go<K: Ride>(
+        &self,
+        seat: &mut Seat<(), SeatView<M>>,
+        env: Env,
+        caller: u32,
+        outcome: Outcome,
+    ) -> Reply
+        requires { IsRiding M.mix_of self.now K.riding (work_at env caller (letting_go outcome)) seat.old }
+        ensures { HasEnded M.mix_of self.now K.riding result seat.new }
+    {
+        self.working::<K>(seat, env, caller, letting_go(outcome));
+        self.unlock_work::<K>(seat, env, caller, outcome)
     }
 
     /// Lets go of the work lock, and answers.
     #[inline(always)]
-    fn let_go<K: Ride>(
+    fn unlock_work<K: Ride>(
         &self,
         seat: &mut Seat<(), SeatView<M>>,
         env: Env,

@@ -1,7 +1,12 @@
-use Rattle.std.proofs.Common.{◌∙◌, sym, ap, subst}
+use Rattle.std.proofs.Common.{◌∙◌, sym, ap, subst, arith}
 use Rattle.rht_words.specs.declared.env.Env.{Env}
 use Rattle.rht_bind.specs.Bind.{BindModel, IsBindAtIn}
+use Rattle.rht_run.proofs.Rides.{riding_few}
 use Rattle.rht_run.proofs.table.Table.binding.Goals as goal
+
+pub new-requires : goal.new-requires
+new-requires g c =
+    omega (arith, c.requires.in_range.same_caller, riding_few g.M.Mix.mix_of c.args.self.now g.K.Ride.riding _ c.args.seat.now c.requires)
 
 pub with-bind-requires : goal.with-bind-requires
 with-bind-requires g c =

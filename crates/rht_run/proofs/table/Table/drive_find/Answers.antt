@@ -2,18 +2,12 @@ use Rattle.std.proofs.Common.{arith}
 use Rattle.rht_find.specs.Find.{locating}
 use Rattle.rht_run.specs.PieceFrames.{find_at}
 use Rattle.rht_run.proofs.LookupCalls.{look_ends}
-use Rattle.rht_run.proofs.Performed.{number_few}
+use Rattle.rht_run.proofs.Rides.{before_few}
 use Rattle.rht_run.proofs.table.Table.drive_find.Goals as goal
 
 pub new-find-requires : goal.new-find-requires
 new-find-requires g c =
-    let is = c.requires.before in
-    omega (
-      arith,
-      c.requires.number,
-      number_few g.M.Mix.mix_of c.args.self.now
-          record { seat = c.args.seat.now; number = g.K.Ride.riding.number; local = is.local } is.pass,
-    )
+    omega (arith, c.requires.number, before_few g.M.Mix.mix_of c.args.self.now g.K.Ride.riding c.args.seat.now c.requires.before)
 
 pub unreachable-requires : goal.unreachable-requires
 unreachable-requires g c =

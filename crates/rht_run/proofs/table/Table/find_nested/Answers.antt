@@ -1,4 +1,4 @@
-use Rattle.std.proofs.Common.{◌∙◌, sym, ap, subst}
+use Rattle.std.proofs.Common.{◌∙◌, sym, ap, subst, arith}
 use Rattle.rht_find.specs.declared.find.FindAt.TheVariants.{Locating}
 use Rattle.rht_model.specs.declared.history.Call.{Call}
 use Rattle.rht_model.specs.declared.history.Reply.{Reply}
@@ -6,14 +6,12 @@ use Rattle.rht_core.specs.Replies.{IsReplyTo}
 use Rattle.rht_run.specs.Looking.{nested_reach}
 use Rattle.rht_run.specs.Rides.{HasEnded, looked_up}
 use Rattle.rht_run.proofs.CallSteps.{drive_answered, looked_up-owner_in}
-use Rattle.rht_run.proofs.LookupCalls.{caller_few}
+use Rattle.rht_run.proofs.Rides.{riding_few}
 use Rattle.rht_run.proofs.table.Table.find_nested.Goals as goal
 
 pub new-find-requires : goal.new-find-requires
 new-find-requires g c =
-    caller_few g.M.Mix.mix_of c.args.self.now g.K.Ride.riding
-    record { env = c.args.self.now.env; caller = c.args.number; port = c.args.port; at = Locating (nested_reach c.args.self.now.env.geometry c.args.table c.args.shape c.args.bucket) }
-    c.args.seat.now c.requires.riding
+    omega (arith, c.requires.riding.in_range.same_caller, riding_few g.M.Mix.mix_of c.args.self.now g.K.Ride.riding _ c.args.seat.now c.requires.riding)
 
 -- the machine has ended with a reply of a look-up
 pub returns : goal.returns

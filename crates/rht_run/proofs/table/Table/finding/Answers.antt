@@ -1,13 +1,12 @@
-use Rattle.std.proofs.Common.{◌∙◌, sym, ap, subst}
+use Rattle.std.proofs.Common.{◌∙◌, sym, ap, subst, arith}
 use Rattle.rht_words.specs.declared.env.Env.{Env}
 use Rattle.rht_find.specs.Find.{FindModel, IsFindAtIn}
-use Rattle.rht_run.proofs.LookupCalls.{caller_few}
+use Rattle.rht_run.proofs.Rides.{riding_few}
 use Rattle.rht_run.proofs.table.Table.finding.Goals as goal
 
 pub new-requires : goal.new-requires
 new-requires g c =
-    caller_few g.M.Mix.mix_of c.args.self.now g.K.Ride.riding
-    record { env = c.args.env; caller = c.args.number; port = c.args.port; at = c.args.at } c.args.seat.now c.requires
+    omega (arith, c.requires.in_range.same_caller, riding_few g.M.Mix.mix_of c.args.self.now g.K.Ride.riding _ c.args.seat.now c.requires)
 
 pub with-find-requires : goal.with-find-requires
 with-find-requires g c =

@@ -1,7 +1,12 @@
-use Rattle.std.proofs.Common.{◌∙◌, sym, ap, subst}
+use Rattle.std.proofs.Common.{◌∙◌, sym, ap, subst, arith}
 use Rattle.rht_words.specs.declared.env.Env.{Env}
 use Rattle.rht_release.specs.Rebind.{RebindModel, IsRebindAtIn}
+use Rattle.rht_run.proofs.Rides.{riding_few}
 use Rattle.rht_run.proofs.table.Table.rebinding.Goals as goal
+
+pub new-requires : goal.new-requires
+new-requires g c =
+    omega (arith, c.requires.in_range.same_caller, riding_few g.M.Mix.mix_of c.args.self.now g.K.Ride.riding _ c.args.seat.now c.requires)
 
 pub with-rebind-requires : goal.with-rebind-requires
 with-rebind-requires g c =
