@@ -131,7 +131,7 @@ impl<M: Mix> Table<M> {
                 let at = unlocking(claimed, Then::Answer(reply));
                 self.binding::<K>(seat, env, number, port, owner, once, at);
                 let node = claimed.attempt.node;
-                return self.refusing::<K>(seat, env, number, port, owner, once, node, reply);
+                return self.give_up_bind::<K>(seat, env, number, port, owner, once, node, reply);
             }
             let length = probed.seen.length;
             let at = BindAt::Future { claimed, length };
@@ -166,7 +166,7 @@ impl<M: Mix> Table<M> {
                 let reply = Reply::TooBig { count };
                 let at = unlocking(claimed, Then::Answer(reply));
                 self.binding::<K>(seat, env, number, port, owner, once, at);
-                return self.refusing::<K>(seat, env, number, port, owner, once, node, reply);
+                return self.give_up_bind::<K>(seat, env, number, port, owner, once, node, reply);
             }
             if above_100(ports, Shape::from(shape).size(), env.config.max) {
                 return self.grow::<R, K>(
@@ -191,7 +191,7 @@ impl<M: Mix> Table<M> {
             let kick = kicks(env, claimed, count);
             let at = publishing(env, claimed, kick);
             self.binding::<K>(seat, env, number, port, owner, once, at);
-            return self.bound::<K>(seat, env, number, port, owner, once, kick);
+            return self.close_bound::<K>(seat, env, number, port, owner, once, kick);
         }
         never(rt);
         unreachable!()
@@ -220,7 +220,7 @@ impl<M: Mix> Table<M> {
         self.binding::<K>(seat, env, number, port, owner, once, at);
         self.replacing_first::<K>(seat, env, number, port, owner, once, list);
         let kick = list.claimed.attempt.attached;
-        self.bound::<K>(seat, env, number, port, owner, once, kick)
+        self.close_bound::<K>(seat, env, number, port, owner, once, kick)
     }
 
     /// Puts the node in the place of the list's first one in the chain, and unlocks the bucket.
@@ -253,7 +253,7 @@ impl<M: Mix> Table<M> {
 
     /// Closes the read section, with which the bind ends: the port is bound.
     #[inline(always)]
-    fn bound<K: Ride>(
+    fn close_bound<K: Ride>(
         &self,
         seat: &mut Seat<(), SeatView<M>>,
         env: Env,
@@ -274,7 +274,7 @@ impl<M: Mix> Table<M> {
 
     /// Closes the read section and gives the node back, and the bind has this answer.
     #[inline(always)]
-    fn refusing<K: Ride>(
+    fn give_up_bind<K: Ride>(
         &self,
         seat: &mut Seat<(), SeatView<M>>,
         env: Env,

@@ -77,7 +77,7 @@ impl<M: Mix> Table<M> {
         let found = match sought {
             Sought::Found { found } => found,
             Sought::Nowhere => {
-                return self.refusing::<K>(seat, env, number, port, owner, new, node);
+                return self.give_up_rebind::<K>(seat, env, number, port, owner, new, node);
             }
             Sought::Nested {
                 table,
@@ -94,7 +94,7 @@ impl<M: Mix> Table<M> {
         let at = owner_compared(node, found, first == owner);
         let RebindAt::ChainLink { .. } = at else {
             self.rebinding::<K>(seat, env, number, port, owner, new, at);
-            return self.refusing::<K>(seat, env, number, port, owner, new, node);
+            return self.give_up_rebind::<K>(seat, env, number, port, owner, new, node);
         };
         let link = self.rebinding::<K>(seat, env, number, port, owner, new, at);
         let at = RebindAt::Link { node, found, link };
@@ -109,7 +109,7 @@ impl<M: Mix> Table<M> {
 
     /// Closes the read section and gives the new node back: the port isn't bound to the old owner.
     #[inline(always)]
-    fn refusing<K: Ride>(
+    fn give_up_rebind<K: Ride>(
         &self,
         seat: &mut Seat<(), SeatView<M>>,
         env: Env,

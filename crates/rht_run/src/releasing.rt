@@ -60,7 +60,7 @@ impl<M: Mix> Table<M> {
             Sought::Found { found } => found,
             Sought::Nowhere => {
                 let reply = Reply::Absent;
-                return self.answering::<K>(seat, env, number, port, owner, reply, None);
+                return self.close_release::<K>(seat, env, number, port, owner, reply, None);
             }
             Sought::Nested {
                 table,
@@ -90,7 +90,7 @@ impl<M: Mix> Table<M> {
                 let at = unlocking(found, None);
                 self.releasing::<K>(seat, env, number, port, owner, at);
                 let reply = Reply::Absent;
-                return self.answering::<K>(seat, env, number, port, owner, reply, None);
+                return self.close_release::<K>(seat, env, number, port, owner, reply, None);
             };
             before = Some(node);
             node = next;
@@ -132,7 +132,7 @@ impl<M: Mix> Table<M> {
             let at = unlocking(found, Some(node));
             self.releasing::<K>(seat, env, number, port, owner, at);
             let reply = Reply::Released { kick: false };
-            return self.answering::<K>(seat, env, number, port, owner, reply, Some(node));
+            return self.close_release::<K>(seat, env, number, port, owner, reply, Some(node));
         }
         let second = node_of(env.geometry.nodes, behind);
         let at = ReleaseAt::ChainLink { found, second };
@@ -146,7 +146,7 @@ impl<M: Mix> Table<M> {
             self.releasing::<K>(seat, env, number, port, owner, at);
             self.promoting::<K>(seat, env, number, port, owner, found, second);
             let reply = Reply::Released { kick: false };
-            return self.answering::<K>(seat, env, number, port, owner, reply, Some(found.node));
+            return self.close_release::<K>(seat, env, number, port, owner, reply, Some(found.node));
         }
         self.unlinking::<K>(seat, env, number, port, owner, found, link);
         let shape = found.shape;
@@ -156,12 +156,12 @@ impl<M: Mix> Table<M> {
         let reply = Reply::Released {
             kick: kicks(env, shape, count),
         };
-        self.answering::<K>(seat, env, number, port, owner, reply, Some(node))
+        self.close_release::<K>(seat, env, number, port, owner, reply, Some(node))
     }
 
     /// Closes the read section, with which the release ends so: this node was taken out, or none.
     #[inline(always)]
-    fn answering<K: Ride>(
+    fn close_release<K: Ride>(
         &self,
         seat: &mut Seat<(), SeatView<M>>,
         env: Env,
