@@ -1,11 +1,11 @@
 -- What the operations of a call show of tables and of the count of ports.
 use Rattle.std.specs.Prelude.{◌≡◌, ◌≢◌, ℕ, Some, ◌+◌, ◌<◌, ◌≤◌, ◌==◌, ◌&&◌, not, List, ◌∷◌, ◌++◌, take, count_by}
 use Rattle.std.specs.List.{AllByRecursion, range_with_len}
-use Rattle.rht_words.specs.declared.op.Op.TheVariants.{Load}
+use Rattle.rht_words.specs.declared.op.Op.TheVariants.{Load, Add}
 use Rattle.rht_words.specs.declared.env.Env.{Env}
 use Rattle.rht_words.specs.declared.geometry.Geometry.{Geometry}
 use Rattle.rht_words.specs.Links.{table_of, slot_of}
-use Rattle.rht_words.specs.Places.{Address, CurrentTable, PortCount, Slot, ShapeWord, FutureWord, IsAddress, place_of}
+use Rattle.rht_words.specs.Places.{Address, CurrentTable, PortCount, Section, Slot, ShapeWord, FutureWord, IsAddress, place_of}
 use Rattle.rht_core.specs.declared.event.Event.{Event}
 use Rattle.rht_callers.specs.Locals.{is_idle}
 use Rattle.rht_core.specs.Runs.{Core, local_of, run_of}
@@ -30,14 +30,18 @@ LoadsCurrent g table did = LoadsWord g CurrentTable did × (table_of did.old ≡
 abbrev pub IsNoCurrentLoad : Geometry → Did → Type 0
 IsNoCurrentLoad g did = did.op ≢ Load (place_of g CurrentTable)
 
--- The operations came to the table of this slot from their last load of the current table on. That found this one, or from it they came to
--- another one, and then loaded this one as its future.
+-- nor opens or closes a read section
+abbrev pub StaysInSection : Geometry → Did → Type 0
+StaysInSection g did = IsNoCurrentLoad g did × ((caller : ℕ) → caller < 16 → did.op ≢ Add (place_of g (Section caller)) 1)
+
+-- The operations came to the table of this slot from their last load of the current table on, in the section in which they made that. It
+-- found this one, or from it they came to another one, and then loaded this one as its future.
 pub data CameTo (g : Geometry) : ℕ → List Did → Type 0 where
   as_current :
       (table : ℕ) (before : List Did) (at : Did) (behind steps : List Did)
       → LoadsCurrent g table at
       → steps ≡ before ++ at ∷ behind
-      → AllByRecursion (IsNoCurrentLoad g) behind
+      → AllByRecursion (StaysInSection g) behind
       → CameTo g table steps
   as_future :
       (front table : ℕ) (before : List Did) (at : Did) (behind steps : List Did)
@@ -45,7 +49,7 @@ pub data CameTo (g : Geometry) : ℕ → List Did → Type 0 where
       → LoadsWord g (Slot front FutureWord) at
       → slot_of at.old ≡ Some table
       → steps ≡ before ++ at ∷ behind
-      → AllByRecursion (IsNoCurrentLoad g) behind
+      → AllByRecursion (StaysInSection g) behind
       → CameTo g table steps
 
 -- the operation doesn't load the shape of a table
@@ -53,7 +57,7 @@ abbrev pub IsNoShapeLoad : Geometry → Did → Type 0
 IsNoShapeLoad g did = (table : ℕ) → table < 8 → did.op ≢ Load (place_of g (Slot table ShapeWord))
 
 -- The last table of which these operations loaded the shape is that of this slot, and this shape was found. They had come to
--- that table before, from their last load of the current table up to then.
+-- that table before, from their last load of the current table up to then, in one section.
 pub record LastWalked (g : Geometry) (table shape : ℕ) (steps : List Did) : Type 0 where
   pub before : List Did
   pub at : Did

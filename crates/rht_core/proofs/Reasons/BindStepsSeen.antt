@@ -53,7 +53,7 @@ use Rattle.rht_core.proofs.Reasons.NamedFutures.{no_slot, future_few}
 use Rattle.rht_words.specs.Machines.{GoesOrEnds}
 use Rattle.rht_core.proofs.Reasons.PagesMissed.{SawGrowing, SawGrown, grow-saw, SeesMissing, SeesMissing-push}
 use Rattle.rht_core.proofs.Tracing.TracedJobs.{Performs, StandsIn}
-use Rattle.rht_core.proofs.Reasons.TablesWalked.{IsAside, grow_loads, IsNoRaise, no_load, aside, elsewhere, node_loads, probe_loads, relink_stores, came-current, came-future, walked-came, LastWalked-push, Walked, Walked-push, WalkedSeeing, WalkedSeeing-push, make_loads, grow_current, other_load, nodes_behind}
+use Rattle.rht_core.proofs.Reasons.TablesWalked.{IsAside, grow_loads, IsNoRaise, no_load, aside, elsewhere, node_loads, probe_loads, relink_stores, came-current, came-future, walked-came, LastWalked-push, Walked, Walked-push, WalkedSeeing, WalkedSeeing-push, make_loads, grow_stays, other_load, nodes_behind}
 use Rattle.rht_core.proofs.Reasons.KeyLoads.{no_key, no_key-before, no_key-grow}
 use Rattle.rht_core.proofs.Reasons.RoomSeen.{ShortSeen, RoomSeen, RoomSeen-push, room-seen}
 use Rattle.rht_core.proofs.Reasons.ChainsCounted.{HasWalked, HasWalked-push, CountedUnless, WalkCounted, CountedNext, probe-counted, long-counted, short-counted}
@@ -280,7 +280,7 @@ module _ (env : Env) (words_at : ℕ → List ℕ) (mix : ℕ → ℕ → ℕ �
         let After = SawGrown env.geometry after in
         let apart : IsAside env.geometry did = record {
           no_shape = grow_loads env.geometry grow.entry grow.at did does.planned;
-          no_current = grow_current env.geometry grow.entry grow.at did does.planned;
+          stays = grow_stays env.geometry grow.entry grow.at did does.planned;
           no_raise = λ adds. grow-none env.geometry grow.entry grow.at (sym does.planned ∙ adds);
         } in
         let seeing : WalkedSeeing env.geometry table shape
@@ -364,7 +364,7 @@ module _ (env : Env) (words_at : ℕ → List ℕ) (mix : ℕ → ℕ → ℕ �
         unlocked-saw attempt next (steps ++ did ∷ [])
         (SawThen-push env words_at mix port next steps did
         (still env did _ does.planned (λ place load. cc) (λ place value adds. cc) (λ table old new l e. cc))
-        saw)
+        (aside env.geometry did _ does.planned (λ place load. cc) (λ place value adds. cc)).stays saw)
     bind-saw (at.UnlockingFull growing unlock) steps did does now saw so unraised =
         Behind-push env.geometry growing.table growing.shape (SawWhy env words_at mix port growing.table growing.why growing.shape)
         (SawWhy env words_at mix port growing.table growing.why growing.shape) steps did

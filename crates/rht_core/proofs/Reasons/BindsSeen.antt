@@ -26,7 +26,7 @@ use Rattle.rht_bind.specs.BindHeld.{answer_of_ending}
 use Rattle.rht_bind.specs.declared.bind.BindAt.{BindAt}
 use Rattle.rht_bind.specs.declared.bind.BindAt.TheVariants as at
 use Rattle.rht_core.specs.Traces.{Did, performed_of}
-use Rattle.rht_core.specs.Seen.{CameTo, IsNoShapeLoad, LastWalked}
+use Rattle.rht_core.specs.Seen.{CameTo, IsNoShapeLoad, LastWalked, StaysInSection}
 use Rattle.rht_core.specs.ResizeCauses.{IsUnboundAt}
 use Rattle.rht_words.specs.Machines.{GoesOrEnds}
 use Rattle.rht_core.proofs.Reasons.PagesMissed.{SawGrowing, SeesMissing, NoPageSeen, NoPageSeen-push}
@@ -153,16 +153,16 @@ module _ (env : Env) (words_at : ℕ → List ℕ) (mix : ℕ → ℕ → ℕ �
       let before = map performed_of steps in
       subst (SawAllBelow env.geometry env.geometry.nodes) (sym (map-append performed_of steps (did ∷ [])))
       (SawAllBelow-push env.geometry env.geometry.nodes before (performed_of did) saw)
-  SawFor-push (TooBig count) steps did none saw = TooBigSeen-push count steps did none.aside.no_shape saw
+  SawFor-push (TooBig count) steps did none saw = TooBigSeen-push count steps did none.no_shape saw
   SawFor-push (Bound kick) steps did none saw = Raised-push env words_at mix port kick steps did none saw
   SawFor-push (Exists owner) steps did none saw = saw
   SawFor-push (Again table) steps did none saw =
-      FollowedSeen-push env words_at mix port table steps did none.aside.no_shape saw
+      FollowedSeen-push env words_at mix port table steps did none.no_shape saw
   SawFor-push (Busy root last) steps did none saw =
-      BusySeen-push env words_at mix port root last steps did none.aside.no_shape saw
+      BusySeen-push env words_at mix port root last steps did none.no_shape saw
   SawFor-push (NoTable size) steps did none saw = elim saw [
-    | inl full ↦ inl (NoTableSeen-push env words_at mix port size steps did none.aside.no_shape full)
-    | inr missed ↦ inr (NoPageSeen-push env words_at mix port size steps did none.aside.no_shape missed)
+    | inl full ↦ inl (NoTableSeen-push env words_at mix port size steps did none.no_shape full)
+    | inr missed ↦ inr (NoPageSeen-push env words_at mix port size steps did none.no_shape missed)
   ]
   SawFor-push _ steps did none saw = absurd saw
 
@@ -171,7 +171,7 @@ module _ (env : Env) (words_at : ℕ → List ℕ) (mix : ℕ → ℕ → ℕ �
   SawForReply-push None steps did none saw = tt
   SawForReply-push (Some reply) steps did none saw = SawFor-push reply steps did none saw
 
-  pub SawThen-push : (next : Then Reply) (steps : List Did) (did : Did) → IsStill env did → SawThen next steps
-      → SawThen next (steps ++ did ∷ [])
-  SawThen-push (Table table) steps did none came = CameTo-append env.geometry table steps (did ∷ []) (none.aside.no_current, tt) came
-  SawThen-push (Answer reply) steps did none saw = SawFor-push reply steps did none saw
+  pub SawThen-push : (next : Then Reply) (steps : List Did) (did : Did) → IsStill env did
+      → StaysInSection env.geometry did → SawThen next steps → SawThen next (steps ++ did ∷ [])
+  SawThen-push (Table table) steps did none stays came = CameTo-append env.geometry table steps (did ∷ []) (stays, tt) came
+  SawThen-push (Answer reply) steps did none stays saw = SawFor-push reply steps did none saw

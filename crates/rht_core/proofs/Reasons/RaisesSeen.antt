@@ -23,9 +23,9 @@ use Rattle.rht_chain.specs.declared.relink.RelinkAt.TheVariants as relinks
 use Rattle.rht_bind.specs.Bind.{kicks}
 use Rattle.rht_bind.specs.declared.bind.Claimed.{Claimed}
 use Rattle.rht_core.specs.Traces.{Did}
-use Rattle.rht_core.specs.Seen.{LastWalked}
+use Rattle.rht_core.specs.Seen.{IsNoShapeLoad, LastWalked}
 use Rattle.rht_core.specs.Causes.{IsRaise}
-use Rattle.rht_core.proofs.Reasons.TablesWalked.{IsNoRaise, IsAside, no_load, aside, LastWalked-push, Walked, WalkedSeeing}
+use Rattle.rht_core.proofs.Reasons.TablesWalked.{IsNoRaise, no_load, LastWalked-push, Walked, WalkedSeeing}
 use Rattle.rht_core.proofs.Reasons.RoomSeen.{RoomSeen, RaisedSeen, RaisedSeen-push}
 use Rattle.rht_core.proofs.Reasons.AttachedTables.{IsNoFutureExchange, IsNoAttach, no_attach, AttachedSo, AttachedSo-push}
 
@@ -53,25 +53,24 @@ unmake-no_add h slot unmakes.SlotBack place value adds = cc
 module _ (env : Env) where
   -- the operation tells nothing of the last table that was walked, raises no count, and attaches no table
   pub record IsStill (did : Did) : Type 0 where
-    pub aside : IsAside env.geometry did
+    pub no_shape : IsNoShapeLoad env.geometry did
+    pub no_raise : IsNoRaise env.geometry did
     pub no_attach : IsNoAttach env.geometry did
 
   -- such are operations that load nothing, add nothing and attach no table
   pub still : (did : Did) (op : Op) → did.op ≡ op → ((place : ℕ) → op ≢ Load place)
       → ((place value : ℕ) → op ≢ Add place value) → IsNoFutureExchange env.geometry op → IsStill did
   still did op is none no_add apart = record {
-    aside = aside env.geometry did op is none no_add;
+    no_shape = no_load env.geometry did op is none;
+    no_raise = λ adds. no_add (place_of env.geometry PortCount) 1 (sym is ∙ adds);
     no_attach = no_attach env.geometry did op is apart;
   }
 
   -- such is what opens or closes a section
   pub turning-still : (c : ℕ) (did : Did) → did.op ≡ Add (place_of env.geometry (Section c)) 1 → IsStill did
   turning-still c did is = record {
-    aside = record {
-      no_shape = no_load env.geometry did _ is (λ place load. cc);
-      no_current = λ load. let both = sym is ∙ load in cc;
-      no_raise = λ adds. absurd (let at : 8 + c ≡ 2 = ap op_place (sym is ∙ adds) in omega (arith, at));
-    };
+    no_shape = no_load env.geometry did _ is (λ place load. cc);
+    no_raise = λ adds. absurd (let at : 8 + c ≡ 2 = ap op_place (sym is ∙ adds) in omega (arith, at));
     no_attach = no_attach env.geometry did _ is (λ table old new l e. cc);
   }
 
@@ -130,16 +129,16 @@ module _ (env : Env) (words_at : ℕ → List ℕ) (mix : ℕ → ℕ → ℕ �
     table = raised.table;
     shape = raised.shape;
     walked =
-        LastWalked-push env.geometry raised.table raised.shape steps did none.aside.no_shape raised.walked;
+        LastWalked-push env.geometry raised.table raised.shape steps did none.no_shape raised.walked;
     unraised = raised.unraised;
     each =
         AllByRecursion-push (SaysOfRaise env words_at raised.attached raised.shape kick) raised.walked.behind did
         raised.each
-        (λ adds. absurd (none.aside.no_raise adds));
+        (λ adds. absurd (none.no_raise adds));
     some = elim raised.some [
       | inl seen ↦ inl (RaisedSeen-push env words_at mix port raised.table raised.shape raised.walked.behind did seen)
       | inr nothing ↦ inr (record {
-        unraised = AllByRecursion-push (IsNoRaise env.geometry) raised.walked.behind did nothing.unraised none.aside.no_raise;
+        unraised = AllByRecursion-push (IsNoRaise env.geometry) raised.walked.behind did nothing.unraised none.no_raise;
         same = nothing.same;
         listed = nothing.listed;
       })

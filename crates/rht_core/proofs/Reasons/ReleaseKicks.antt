@@ -48,7 +48,7 @@ use Rattle.rht_release.specs.declared.release.ReleaseAt.TheVariants as at
 use Rattle.rht_release.specs.Release.{plan_at, after_at, sought, owner_compared, list_followed, cut_or_chain, unlink_or_promote, promoted, unlinked, removed_reply, kicks, IsReleaseAtIn}
 use Rattle.rht_move.specs.Choice.{is_sparse}
 use Rattle.rht_core.specs.Traces.{Did}
-use Rattle.rht_core.specs.Seen.{CameTo, IsNoShapeLoad, LastWalked, IsNoCurrentLoad}
+use Rattle.rht_core.specs.Seen.{CameTo, IsNoShapeLoad, LastWalked, StaysInSection}
 use Rattle.rht_core.specs.Causes.{IsLowering, IsSparseBy, KicksOnRelease}
 use Rattle.rht_core.proofs.Reasons.RaisesSeen.{turning-still}
 use Rattle.rht_core.proofs.Reasons.TablesWalked.{IsAside, aside, node_loads, probe_loads, relink_stores, CameTo-append, came-current, came-future, walked-came, Walked, Walked-push, WalkedAt, CameBehind, CameBeyond, WalkedNext, TellsNone, same_table, locate-walked}
@@ -126,7 +126,7 @@ module _ (env : Env) where
 
   -- the operation lowers no count, and tells nothing of the last table that was walked
   pub record IsQuiet (did : Did) : Type 0 where
-    pub aside : IsAside env.geometry did
+    pub no_shape : IsNoShapeLoad env.geometry did
     pub none : IsNoLowering did
 
   -- It lowered the count with this operation, and by this the table that it walked last is due to shrink or isn't; or it lowered
@@ -242,7 +242,7 @@ module _ (env : Env) where
       came-future env.geometry table next steps did within is named came
 
   left-saw : (g : Geometry) (table : ℕ) (unlock : Unlock) (future : Option ℕ) (h : Geometry) (steps : List Did) (did : Did)
-      → IsNoCurrentLoad env.geometry did → IfSome future (λ next. CameTo env.geometry next steps)
+      → StaysInSection env.geometry did → IfSome future (λ next. CameTo env.geometry next steps)
       → let next = left g table unlock future in
       SawAtRelease (sought (record { geometry = h; at = next.0 }) next.1) (steps ++ did ∷ [])
   left-saw g table unlock None h steps did none came = tt
@@ -271,7 +271,7 @@ module _ (env : Env) where
   seek-saw mix port h (seeks.Future table bucket) steps did within is saw =
       led-saw table (slot_of did.old) steps did within.table_in is refl saw
   seek-saw mix port h (seeks.Leaving table unlock future) steps did within is saw =
-      left-saw h table unlock future h steps did (λ load. let same = sym is ∙ load in cc) saw
+      left-saw h table unlock future h steps did (aside env.geometry did _ is (λ other load. cc) (λ other by adds. cc)).stays saw
 
   -- ---- in the port's list
 
@@ -417,7 +417,7 @@ module _ (env : Env) where
       (unlocked-saw removed steps did saw.0 (stores did _ _ is) saw.1 (no_sub did _ is (λ place value same. cc)), tt)
   release-saw mix c port owner (at.Closing reply removed) steps did within is saw =
       closed-saw reply steps did
-      (record { aside = (turning-still env c did is).aside; none = no_sub did _ is (λ place value same. cc) }) saw.0
+      (record { no_shape = (turning-still env c did is).no_shape; none = no_sub did _ is (λ place value same. cc) }) saw.0
 
   -- ---- the kick
 
@@ -470,7 +470,7 @@ module _ (env : Env) where
 
       none_loaded : AllByRecursion (IsNoShapeLoad env.geometry) saw.rest
       none_loaded =
-          AllByRecursion-weaker IsQuiet (IsNoShapeLoad env.geometry) (λ did quiet. quiet.aside.no_shape) saw.rest saw.quiet
+          AllByRecursion-weaker IsQuiet (IsNoShapeLoad env.geometry) (λ did quiet. quiet.no_shape) saw.rest saw.quiet
 
       none_kicked : (dids : List Did) → AllByRecursion IsNoLowering dids → AllByRecursion Kicked dids
       none_kicked [] none = tt

@@ -12,7 +12,7 @@ use Rattle.rht_words.specs.declared.op.Op.TheVariants.{Load, Add}
 use Rattle.rht_words.specs.declared.geometry.Geometry.{Geometry}
 use Rattle.rht_words.specs.Links.{table_of, slot_of}
 use Rattle.rht_words.specs.Operations.{op_place}
-use Rattle.rht_words.specs.Places.{CurrentTable, PageMap, PortCount, Node, NodeWord, ChainLink, KeyWord, Slot, ShapeWord, SeedWord, FutureWord, PageWord, IsBucketPlace, nodes_at, pages_at, place_of}
+use Rattle.rht_words.specs.Places.{CurrentTable, PageMap, PortCount, Section, Node, NodeWord, ChainLink, KeyWord, Slot, ShapeWord, SeedWord, FutureWord, PageWord, IsBucketPlace, nodes_at, pages_at, place_of}
 use Rattle.rht_words.proofs.EachElement.{Any-append_left, AllByRecursion-push, AllByRecursion-append}
 use Rattle.rht_words.proofs.PlacesApart.{parts_in_order}
 use Rattle.rht_nest.specs.Locate.{LocateModel, locate_plan_at, locate_after_at, hashed, entry_followed, IsLocateAtIn}
@@ -50,7 +50,7 @@ use Rattle.rht_nest.specs.Make.{make_plan_at}
 use Rattle.rht_nest.specs.declared.make.MakeAt.{MakeAt}
 use Rattle.rht_nest.specs.declared.make.MakeAt.TheVariants as makes
 use Rattle.rht_core.specs.Traces.{Did}
-use Rattle.rht_core.specs.Seen.{CameTo, as_current, as_future, IsNoCurrentLoad, IsNoShapeLoad, LastWalked}
+use Rattle.rht_core.specs.Seen.{CameTo, as_current, as_future, StaysInSection, IsNoShapeLoad, LastWalked}
 use Rattle.rht_core.specs.Causes.{IsRaise}
 use Rattle.rht_core.specs.ResizeCauses.{IsNoKeyLoad}
 use Rattle.rht_core.proofs.Reasons.KeyLoads.{no_key-before, no_key-behind}
@@ -64,7 +64,7 @@ module _ (g : Geometry) where
 
   pub record IsAside (did : Did) : Type 0 where
     pub no_shape : IsNoShapeLoad g did
-    pub no_current : IsNoCurrentLoad g did
+    pub stays : StaysInSection g did
     pub no_raise : IsNoRaise did
 
   -- an operation that is no load
@@ -78,7 +78,10 @@ module _ (g : Geometry) where
   aside did op is no_load_is no_add =
       record {
         no_shape = no_load did op is no_load_is;
-        no_current = λ load. no_load_is (place_of g CurrentTable) (sym is ∙ load);
+        stays = (
+          (λ load. no_load_is (place_of g CurrentTable) (sym is ∙ load)),
+          (λ caller few adds. no_add (place_of g (Section caller)) 1 (sym is ∙ adds)),
+        );
         no_raise = λ adds. no_add (place_of g PortCount) 1
             (sym is ∙ adds);
       }
@@ -93,7 +96,7 @@ module _ (g : Geometry) where
       → ((table : ℕ) → table < 8 → place ≢ place_of g (Slot table ShapeWord)) → IsAside did
   elsewhere did place is behind_first apart = record {
     no_shape = other_load did place is apart;
-    no_current = λ load. behind_first (let same = sym is ∙ load in cc);
+    stays = ((λ load. behind_first (let same = sym is ∙ load in cc)), (λ caller few adds. let same = sym is ∙ adds in cc));
     no_raise = λ adds. let same = sym is ∙ adds in cc;
   }
 
@@ -147,15 +150,19 @@ module _ (g : Geometry) where
   run_loads h pages (runs.Claim first index) did is = no_load did _ is (λ place load. cc)
   run_loads h pages (runs.GiveBack first index bits) did is = no_load did _ is (λ place load. cc)
 
-  -- and so no current table
-  run_current : (h : Geometry) (pages : ℕ) (state : TakeRunAt) (did : Did) → did.op ≡ take_run_plan_at h pages state
-      → IsNoCurrentLoad g did
-  run_current h pages (runs.MapWord first index) did is load =
-      let order = parts_in_order h in
-      let same : place_of h (PageMap index) ≡ place_of g CurrentTable = (let both = sym is ∙ load in cc) in
-      absurd (omega (arith, same, order.page_map))
-  run_current h pages (runs.Claim first index) did is load = let same = sym is ∙ load in cc
-  run_current h pages (runs.GiveBack first index bits) did is load = let same = sym is ∙ load in cc
+  -- and so no current table, and it adds nothing
+  run_stays : (h : Geometry) (pages : ℕ) (state : TakeRunAt) (did : Did) → did.op ≡ take_run_plan_at h pages state
+      → StaysInSection g did
+  run_stays h pages (runs.MapWord first index) did is =
+      let order = parts_in_order h in (
+        (λ load. let same : place_of h (PageMap index) ≡ place_of g CurrentTable = (let both = sym is ∙ load in cc) in
+        absurd (omega (arith, same, order.page_map))),
+        (λ caller few adds. let same = sym is ∙ adds in cc),
+      )
+  run_stays h pages (runs.Claim first index) did is =
+      ((λ load. let same = sym is ∙ load in cc), (λ caller few adds. let same = sym is ∙ adds in cc))
+  run_stays h pages (runs.GiveBack first index bits) did is =
+      ((λ load. let same = sym is ∙ load in cc), (λ caller few adds. let same = sym is ∙ adds in cc))
 
   -- nor does the entering of a page
   pub grow_loads : (entry : ℕ) (state : GrowAt) (did : Did) → did.op ≡ grow_plan_at entry state → IsNoShapeLoad g did
@@ -163,11 +170,13 @@ module _ (g : Geometry) where
   grow_loads entry (grows.Entering page) did is = no_load did _ is (λ place load. cc)
   grow_loads entry (grows.Giving there give) did is = no_load did _ is (λ place load. cc)
 
-  -- nor does that load the current table
-  pub grow_current : (entry : ℕ) (state : GrowAt) (did : Did) → did.op ≡ grow_plan_at entry state → IsNoCurrentLoad g did
-  grow_current entry (grows.Taking take) did is load = run_current take.geometry take.pages take.at did is load
-  grow_current entry (grows.Entering page) did is load = let same = sym is ∙ load in cc
-  grow_current entry (grows.Giving there give) did is load = let same = sym is ∙ load in cc
+  -- nor does that load the current table or add anything
+  pub grow_stays : (entry : ℕ) (state : GrowAt) (did : Did) → did.op ≡ grow_plan_at entry state → StaysInSection g did
+  grow_stays entry (grows.Taking take) did is = run_stays take.geometry take.pages take.at did is
+  grow_stays entry (grows.Entering page) did is =
+      ((λ load. let same = sym is ∙ load in cc), (λ caller few adds. let same = sym is ∙ adds in cc))
+  grow_stays entry (grows.Giving there give) did is =
+      ((λ load. let same = sym is ∙ load in cc), (λ caller few adds. let same = sym is ∙ adds in cc))
 
   -- nor does the making of a table load a shape
   pub make_loads : (h : Geometry) (exponent seed : ℕ) (state : MakeAt) (did : Did)
@@ -178,17 +187,17 @@ module _ (g : Geometry) where
 
   -- ---- the way to a table
 
-  -- what came to a table has come to it while the current table isn't loaded again
-  pub CameTo-append : (table : ℕ) (steps more : List Did) → AllByRecursion (IsNoCurrentLoad g) more → CameTo g table steps
+  -- what came to a table has come to it while the current table isn't loaded again, in the same section
+  pub CameTo-append : (table : ℕ) (steps more : List Did) → AllByRecursion (StaysInSection g) more → CameTo g table steps
       → CameTo g table (steps ++ more)
   CameTo-append table steps more none (as_current _ before at behind _ loads split last) =
       as_current table before at (behind ++ more) (steps ++ more) loads
       (ap (λ l. l ++ more) split ∙ append_assoc before (at ∷ behind) more)
-      (AllByRecursion-append (IsNoCurrentLoad g) behind more last none)
+      (AllByRecursion-append (StaysInSection g) behind more last none)
   CameTo-append table steps more none (as_future front _ before at behind _ came loads named split last) =
       as_future front table before at (behind ++ more) (steps ++ more) came loads named
       (ap (λ l. l ++ more) split ∙ append_assoc before (at ∷ behind) more)
-      (AllByRecursion-append (IsNoCurrentLoad g) behind more last none)
+      (AllByRecursion-append (StaysInSection g) behind more last none)
 
   -- by the load of the current table
   pub came-current : (steps : List Did) (did : Did) → did.op ≡ Load (place_of g CurrentTable)
@@ -220,11 +229,11 @@ module _ (g : Geometry) where
     last = AllByRecursion-push (IsNoShapeLoad g) walked.behind did walked.last none;
   }
 
-  -- since then no count was raised, and the current table wasn't loaded again
+  -- since then no count was raised, the current table wasn't loaded again, and the section stayed open
   pub record Walked (table shape : ℕ) (steps : List Did) : Type 0 where
     pub last : LastWalked g table shape steps
     pub unraised : AllByRecursion IsNoRaise last.behind
-    pub in_attempt : AllByRecursion (IsNoCurrentLoad g) last.behind
+    pub in_attempt : AllByRecursion (StaysInSection g) last.behind
 
   unfoldable pub Walked-push : (table shape : ℕ) (steps : List Did) (did : Did) → IsAside did → Walked table shape steps
       → Walked table shape (steps ++ did ∷ [])
@@ -232,7 +241,7 @@ module _ (g : Geometry) where
   Walked-push table shape steps did is walked = record {
     last = LastWalked-push table shape steps did is.no_shape walked.last;
     unraised = AllByRecursion-push IsNoRaise walked.last.behind did walked.unraised is.no_raise;
-    in_attempt = AllByRecursion-push (IsNoCurrentLoad g) walked.last.behind did walked.in_attempt is.no_current;
+    in_attempt = AllByRecursion-push (StaysInSection g) walked.last.behind did walked.in_attempt is.stays;
   }
 
   -- a table that was walked was come to
@@ -241,10 +250,16 @@ module _ (g : Geometry) where
       let last = walked.last in
       subst (CameTo g table) (sym last.split)
       (CameTo-append table last.before (last.at ∷ last.behind)
-      ((λ load. let same = sym last.loaded ∙ load in absurd (no_first table (ap op_place same))), walked.in_attempt) last.reached)
+      (shape_stays last.at table last.loaded, walked.in_attempt) last.reached)
     where
       no_first : (t : ℕ) → place_of g (Slot t ShapeWord) ≡ place_of g CurrentTable → ⊥
       no_first t same = omega (arith, same)
+
+      shape_stays : (did : Did) (t : ℕ) → did.op ≡ Load (place_of g (Slot t ShapeWord)) → StaysInSection g did
+      shape_stays did t is = (
+        (λ load. let same = sym is ∙ load in absurd (no_first t (ap op_place same))),
+        (λ caller few adds. let same = sym is ∙ adds in cc),
+      )
 
   -- it begins with the load of the shape
   Walked-new : (table : ℕ) (steps : List Did) (did : Did) → table < 8
@@ -379,7 +394,7 @@ module _ (g : Geometry) where
   came-behind table None steps did within is named came = tt
   came-behind table (Some next) steps did within is named came = came-future table next steps did within is named came
 
-  came-longer : (early : Option ℕ) (steps : List Did) (did : Did) → IsNoCurrentLoad g did → CameBehind early steps
+  came-longer : (early : Option ℕ) (steps : List Did) (did : Did) → StaysInSection g did → CameBehind early steps
       → CameBehind early (steps ++ did ∷ [])
   came-longer None steps did none came = tt
   came-longer (Some next) steps did none came = CameTo-append next steps (did ∷ []) (none, tt) came
@@ -436,5 +451,5 @@ module _ (g : Geometry) where
         WalkedSeeing-push m.table shape Seen Seen steps did apart
             (λ behind seen. early-push (SeesNone m.table shape) early behind did (no_key-behind g did (entry_place way) is high) seen)
             walked.0,
-        came-longer early steps did apart.no_current walked.1,
+        came-longer early steps did apart.stays walked.1,
       )

@@ -1,15 +1,15 @@
 -- What a new attempt forgets: right behind a load of the current table no other table is come to, whatever was come to before. So a bind
 -- that tries again can't go on in a table of the attempt before.
-use Rattle.std.proofs.Common.{◌≡◌, ◌≢◌, ◌⊎◌, ℕ, List, [], ◌∷◌, ◌++◌, length, length-append, refl, sym, ap, ◌∙◌, subst, inl, inr, arith}
+use Rattle.std.proofs.Common.{◌≡◌, ◌≢◌, ◌<◌, ◌⊎◌, ℕ, List, [], ◌∷◌, ◌++◌, length, length-append, refl, sym, ap, ◌∙◌, subst, inl, inr, arith}
 use Rattle.std.specs.List.{AllByRecursion}
 use Rattle.rht_words.specs.declared.geometry.Geometry.{Geometry}
-use Rattle.rht_words.specs.declared.op.Op.TheVariants.{Load}
+use Rattle.rht_words.specs.declared.op.Op.TheVariants.{Load, Add}
 use Rattle.rht_words.specs.Links.{table_of}
 use Rattle.rht_words.specs.Operations.{op_place}
-use Rattle.rht_words.specs.Places.{CurrentTable, Slot, FutureWord, place_of}
+use Rattle.rht_words.specs.Places.{CurrentTable, Section, Slot, FutureWord, place_of}
 use Rattle.rht_words.proofs.EachElement.{AllByRecursion-cut}
 use Rattle.rht_core.specs.Traces.{Did}
-use Rattle.rht_core.specs.Seen.{CameTo, as_current, as_future}
+use Rattle.rht_core.specs.Seen.{CameTo, StaysInSection, as_current, as_future}
 use Rattle.rht_core.proofs.Reasons.TablesWalked.{came-current, came-future}
 
 -- the last item of a list is the one at which it is cut, or one of those behind
@@ -33,16 +33,30 @@ module _ (g : Geometry) where
   pub only_current : (table : ℕ) (before : List Did) (did : Did) → did.op ≡ Load (place_of g CurrentTable)
       → CameTo g table (before ++ did ∷ []) → table_of did.old ≡ table
   only_current table before did is (as_current _ front at behind _ loads split last) =
-      elim (last_in (λ d. d.op ≢ Load (place_of g CurrentTable)) before did front at behind split last) [
+      elim (last_in (StaysInSection g) before did front at behind split last) [
         | inl same ↦ ap (λ (d : Did). table_of d.old) same ∙ loads.1
-        | inr other ↦ absurd (other is)
+        | inr other ↦ absurd (other.0 is)
       ]
   only_current table before did is (as_future from _ front at behind _ came loads named split last) =
-      elim (last_in (λ d. d.op ≢ Load (place_of g CurrentTable)) before did front at behind split last) [
+      elim (last_in (StaysInSection g) before did front at behind split last) [
         | inl same ↦
             let both = sym is ∙ ap (λ (d : Did). d.op) same ∙ loads.loads in
             absurd (no_first from (sym (ap op_place both)))
-        | inr other ↦ absurd (other is)
+        | inr other ↦ absurd (other.0 is)
+      ]
+
+  -- who has just opened or closed a section has come to no table in it
+  pub none_outside : (c : ℕ) → c < 16 → (table : ℕ) (before : List Did) (did : Did) → did.op ≡ Add (place_of g (Section c)) 1
+      → CameTo g table (before ++ did ∷ []) → ⊥
+  none_outside c few table before did is (as_current _ front at behind _ loads split last) =
+      elim (last_in (StaysInSection g) before did front at behind split last) [
+        | inl same ↦ let both = sym is ∙ ap (λ (d : Did). d.op) same ∙ loads.0.loads in cc
+        | inr other ↦ other.1 c few is
+      ]
+  none_outside c few table before did is (as_future from _ front at behind _ came loads named split last) =
+      elim (last_in (StaysInSection g) before did front at behind split last) [
+        | inl same ↦ let both = sym is ∙ ap (λ (d : Did). d.op) same ∙ loads.loads in cc
+        | inr other ↦ other.1 c few is
       ]
 
 -- ---- a bind that tries again and walks a table of the try before
