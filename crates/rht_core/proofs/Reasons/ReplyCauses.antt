@@ -115,29 +115,29 @@ module _ (env : Env) (c : ℕ) where
   work-cause words_at past (Moved again) saw is = elim saw [
     | inl has ↦ inl (replaced-published again past.steps has)
     | inr stops ↦ inr (record {
-        more = stops.more;
-        choice = stops.choice;
-        chose = stops.chose;
-        tried = stops.tried;
-        last = stops.last;
-        before = stops.before;
-        futures = stops.futures;
-        shape = stops.shape;
-        behind = stops.behind;
-        split = stops.split;
-        futures_read = stops.futures_read;
-        apart = stops.apart;
-        shape_read = stops.shape_read;
-        nested = stops.nested;
-        current = stops.current;
-        front = stops.ends.front;
-        closing = stops.ends.closing;
-        rest = stops.ends.rest;
-        behind_split = stops.ends.split;
-        front_stores = stops.ends.front_stores;
-        closes = stops.ends.closes;
-        rest_stores = stops.ends.rest_stores;
-      })
+      more = stops.more;
+      choice = stops.choice;
+      chose = stops.chose;
+      tried = stops.tried;
+      last = stops.last;
+      before = stops.before;
+      futures = stops.futures;
+      shape = stops.shape;
+      behind = stops.behind;
+      split = stops.split;
+      futures_read = stops.futures_read;
+      apart = stops.apart;
+      shape_read = stops.shape_read;
+      nested = stops.nested;
+      current = stops.current;
+      front = stops.ends.front;
+      closing = stops.ends.closing;
+      rest = stops.ends.rest;
+      behind_split = stops.ends.split;
+      front_stores = stops.ends.front_stores;
+      closes = stops.ends.closes;
+      rest_stores = stops.ends.rest_stores;
+    })
   ]
   work-cause words_at past Idle saw is = idle-nothing past.steps saw
   work-cause words_at past (NoTable size) saw is = saw
