@@ -154,11 +154,11 @@ pub record SawNoRun (g : Geometry) (pages : ℕ) (steps : List Performed) : Type
   pub are : steps ≡ first ++ behind
   pub runs : AreRunsTaken g pages 0 [] first
 
--- A resizing attaches a table behind this one. It had chosen that one of this size is due behind this one, which was the last. Behind that it
--- stored this shape in the slot last, that of a flat table of this size, and a serial that it had drawn.
-pub record AttachesDue (env : Env) (table slot shape : ℕ) (before : List Did) : Type 0 where
+-- A resizing of this caller attaches a table behind this one. It had chosen that one of this size is due behind this one, which was the last.
+-- Behind that it stored this shape in the slot last, that of a flat table of this size, and a serial that it had drawn.
+pub record AttachesDue (env : Env) (c table slot shape : ℕ) (before : List Did) : Type 0 where
   pub size : ℕ
-  pub chose : HasChosen env (choices.Attach size) before
+  pub chose : HasChosen env c (choices.Attach size) before
   pub last : chose.last ≡ table
   pub stored : StoresLast env.geometry slot shape chose.behind
   pub numbered : StoresDrawn env.geometry slot chose.behind
@@ -215,7 +215,7 @@ module _ (M : Type 0) (mix : ℕ → ℕ → ℕ → ℕ) (env : Env) (events : 
   -- why a call attaches the table of this slot, which has this shape, behind another one: only binds and resizings do
   abbrev pub AttachCause : Call → ℕ → ℕ → ℕ → List Did → Did → Type 0
   AttachCause (Bind port owner once) table slot shape before did = AttachesFull port table slot shape before did
-  AttachCause Work table slot shape before did = AttachesDue env table slot shape before
+  AttachCause Work table slot shape before did = AttachesDue env c table slot shape before
   AttachCause _ table slot shape before did = ⊥
 
   -- the call has taken this slot for a table of its own, which isn't in force by the words before

@@ -49,14 +49,15 @@ RebindCause env past Absent = Unit {0}
 RebindCause env past NoNode = SawNoNode env past
 RebindCause env past _ = ⊥
 
--- why a resizing ended with this reply: another caller was at work, a table was due that couldn't be had, nothing was due, or another
--- table became the current one, or the move stopped before a nested one. `words_at` gives the words before the event with each number
-abbrev pub WorkCause : Env → (ℕ → List ℕ) → Past → Reply → Type 0
-WorkCause env words_at past Elsewhere = SawElsewhere env.geometry past.steps
-WorkCause env words_at past (Moved again) = SawMoved env words_at again past.steps
-WorkCause env words_at past Idle = SawNothingDue env past.steps
-WorkCause env words_at past (NoTable size) = SawNoTableDue env size past.steps
-WorkCause env words_at past _ = ⊥
+-- Why a resizing of this caller ended with this reply: another caller was at work, a table was due that couldn't be had, or nothing was due.
+-- Or another table became the current one, or the move stopped before a nested one. `words_at` gives the words before the event with each
+-- number.
+abbrev pub WorkCause : Env → ℕ → (ℕ → List ℕ) → Past → Reply → Type 0
+WorkCause env c words_at past Elsewhere = SawElsewhere env.geometry past.steps
+WorkCause env c words_at past (Moved again) = SawMoved env c words_at again past.steps
+WorkCause env c words_at past Idle = SawNothingDue env c past.steps
+WorkCause env c words_at past (NoTable size) = SawNoTableDue env c size past.steps
+WorkCause env c words_at past _ = ⊥
 
 -- and by the raised count a table of this shape is due to grow
 pub record IsDueBy (env : Env) (shape : ℕ) (did : Did) : Type 0 where
@@ -144,7 +145,7 @@ module _ (M : Type 0) (mix : ℕ → ℕ → ℕ → ℕ) where
   CauseOf env events c past (All port) reply = AllCause reply
   CauseOf env events c past (Release port owner) reply = ReleaseCause env past reply
   CauseOf env events c past (Rebind port owner new) reply = RebindCause env past reply
-  CauseOf env events c past Work reply = WorkCause env (words_before M mix env events) past reply
+  CauseOf env events c past Work reply = WorkCause env c (words_before M mix env events) past reply
   CauseOf env events c past Count reply = CountCause env events c past reply
   CauseOf env events c past _ reply = ⊥
 

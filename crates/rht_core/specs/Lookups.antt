@@ -2,11 +2,11 @@
 -- they nor readings of the count ever do; and that they read in one read section.
 use Rattle.std.specs.Prelude.{◌≡◌, ◌≢◌, ◌⊎◌, ℕ, ◌+◌, ◌<◌, ◌≤◌, List, [], ◌∷◌, ◌++◌, length, Some}
 use Rattle.std.specs.List.{AllByRecursion}
-use Rattle.rht_words.specs.declared.op.Op.TheVariants.{Load, Add}
+use Rattle.rht_words.specs.declared.op.Op.TheVariants.{Load}
 use Rattle.rht_words.specs.declared.env.Env.{Env}
 use Rattle.rht_words.specs.declared.geometry.Geometry.{Geometry}
 use Rattle.rht_words.specs.Operations.{op_place}
-use Rattle.rht_words.specs.Places.{WorkLock, Section, IsBucketPlace, place_of}
+use Rattle.rht_words.specs.Places.{WorkLock, IsBucketPlace, place_of}
 use Rattle.rht_model.specs.declared.history.Call.{Call}
 use Rattle.rht_model.specs.declared.history.Call.TheVariants.{Find, Count}
 use Rattle.rht_model.specs.declared.history.Reply.TheVariants.{Found}
@@ -15,6 +15,7 @@ use Rattle.rht_find.specs.FindBound.{find_bound}
 use Rattle.rht_core.specs.declared.event.Event.{Event}
 use Rattle.rht_core.specs.Runs.{IsAdmitted}
 use Rattle.rht_core.specs.Traces.{Did, Past, Traced, traced_of, behind_call}
+use Rattle.rht_core.specs.Seen.{TurnsSection}
 use Rattle.rht_core.specs.RunHistories.{bindings_behind}
 
 -- ---- how many operations
@@ -40,11 +41,7 @@ IsHarmlessCall env call steps = LooksOrCounts call → AllByRecursion (IsHarmles
 
 -- ---- reading in one section
 
--- the operation adds 1 to the section word of this caller
-abbrev pub TurnsSection : Geometry → ℕ → Did → Type 0
-TurnsSection g c did = did.op ≡ Add (place_of g (Section c)) 1
-
--- it loads a word
+-- the operation loads a word
 abbrev pub IsLoad : Did → Type 0
 IsLoad did = did.op ≡ Load (op_place did.op)
 

@@ -1,4 +1,4 @@
--- What the operations of a call show of tables and of the count of ports.
+-- What the operations of a call show of tables, of the count of ports and of their caller's read section.
 use Rattle.std.specs.Prelude.{◌≡◌, ◌≢◌, ℕ, Some, ◌+◌, ◌<◌, ◌≤◌, ◌==◌, ◌&&◌, not, List, ◌∷◌, ◌++◌, take, count_by}
 use Rattle.std.specs.List.{AllByRecursion, range_with_len}
 use Rattle.rht_words.specs.declared.op.Op.TheVariants.{Load, Add}
@@ -16,6 +16,10 @@ use Rattle.rht_stands.specs.StandsFor.{stands_for, AreBound}
 abbrev pub others_in_call : {M : Type 0} → Core M → ℕ → ℕ
 others_in_call core c =
     count_by (λ other. not (other == c) && not (is_idle (local_of core other))) (range_with_len 0 core.env.geometry.callers)
+
+-- the operation adds 1 to the section word of this caller
+abbrev pub TurnsSection : Geometry → ℕ → Did → Type 0
+TurnsSection g c did = did.op ≡ Add (place_of g (Section c)) 1
 
 -- the operation loads this word of the table
 pub record LoadsWord (g : Geometry) (address : Address) (did : Did) : Type 0 where

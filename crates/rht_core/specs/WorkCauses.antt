@@ -2,20 +2,20 @@
 -- Every address that a row names is one of the table's words, since places alone don't tell it from a word that isn't there.
 use Rattle.std.specs.Prelude.{◌≡◌, ◌≢◌, ◌↔◌, ℕ, ◌<◌, ◌==◌, ◌⊎◌, Bool, true, false, List, [], ◌∷◌, ◌++◌, map, Option, Some, None}
 use Rattle.std.specs.List.{AllByRecursion, Any}
-use Rattle.rht_words.specs.declared.op.Op.TheVariants.{Add, Store, Exchange}
+use Rattle.rht_words.specs.declared.op.Op.TheVariants.{Store, Exchange}
 use Rattle.rht_words.specs.declared.env.Env.{Env}
 use Rattle.rht_words.specs.declared.geometry.Geometry.{Geometry}
 use Rattle.rht_words.specs.Links.{table_of, slot_of, future_of}
 use Rattle.rht_words.specs.Machines.{Performed}
 use Rattle.rht_words.specs.Operations.{op_place}
-use Rattle.rht_words.specs.Places.{CurrentTable, WorkLock, PortCount, Section, Slot, ShapeWord, FutureWord, place_of, word_at}
+use Rattle.rht_words.specs.Places.{CurrentTable, WorkLock, PortCount, Slot, ShapeWord, FutureWord, place_of, word_at}
 use Rattle.rht_words.specs.Shapes.{unpacked, size_of}
 use Rattle.rht_nest.specs.MakeLaws.{StoresInSlot}
 use Rattle.rht_nest.specs.Tables.{is_nested}
 use Rattle.rht_move.specs.declared.work.choice.Choice.{Choice}
 use Rattle.rht_move.specs.declared.work.choice.Choice.TheVariants as choices
 use Rattle.rht_core.specs.Due.{due}
-use Rattle.rht_core.specs.Seen.{LoadsWord}
+use Rattle.rht_core.specs.Seen.{LoadsWord, TurnsSection}
 use Rattle.rht_core.specs.ResizeCauses.{Loaded, Attaches, SawNoRoom}
 use Rattle.rht_core.specs.Traces.{Did, performed_of}
 
@@ -41,12 +41,6 @@ pub record TakesWorkLock (g : Geometry) (did : Did) : Type 0 where
   pub tries : TriesWorkLock g did
   pub free : did.old ≡ 0
 
--- the operation opened or closed the read section of a caller
-pub record OpensOrCloses (g : Geometry) (did : Did) : Type 0 where
-  pub caller : ℕ
-  pub within : caller < 16
-  pub turns : did.op ≡ Add (place_of g (Section caller)) 1
-
 -- ---- what was chosen
 
 -- the operation loaded the future of the table of this slot, and found that of this one in it, or none
@@ -60,9 +54,9 @@ AreFuturesRead g root last (did ∷ []) = ReadsFuture g root None did × (root �
 AreFuturesRead g root last (did ∷ next ∷ dids) =
     (slot : ℕ) × ReadsFuture g root (Some slot) did × AreFuturesRead g slot last (next ∷ dids)
 
--- A resizing took the work lock, opened its read section, loaded which table is the current one, looked for the last table behind it,
--- loaded that one's shape and the count of ports, and by these chose what is due.
-pub record HasChosen (env : Env) (choice : Choice) (steps : List Did) : Type 0 where
+-- A resizing of this caller took the work lock, opened the caller's own read section and loaded which table is the current one. From there
+-- it looked for the last table, loaded that one's shape and the count of ports, and by these chose what is due.
+pub record HasChosen (env : Env) (c : ℕ) (choice : Choice) (steps : List Did) : Type 0 where
   pub root : ℕ
   pub last : ℕ
   pub lock : Did
@@ -74,7 +68,7 @@ pub record HasChosen (env : Env) (choice : Choice) (steps : List Did) : Type 0 w
   pub behind : List Did
   pub split : steps ≡ (lock ∷ opening ∷ current ∷ futures) ++ shape ∷ count ∷ behind
   pub took : TakesWorkLock env.geometry lock
-  pub opens : OpensOrCloses env.geometry opening
+  pub opens : TurnsSection env.geometry c opening
   pub current_read : Loaded env.geometry CurrentTable current.old current
   pub root_is : table_of current.old ≡ root
   pub futures_read : AreFuturesRead env.geometry root last futures
@@ -86,14 +80,14 @@ pub record HasChosen (env : Env) (choice : Choice) (steps : List Did) : Type 0 w
 
 -- A table of this size was due, for which each slot was found taken, or each run of pages in its turn, by a page that the call had not
 -- taken, and the current table could not be moved instead: it was the last one, or the last one was nested.
-pub record SawNoTableDue (env : Env) (size : ℕ) (steps : List Did) : Type 0 where
-  pub chose : HasChosen env (choices.Attach size) steps
+pub record SawNoTableDue (env : Env) (c size : ℕ) (steps : List Did) : Type 0 where
+  pub chose : HasChosen env c (choices.Attach size) steps
   pub stays : (chose.root ≡ chose.last) ⊎ (is_nested chose.shape.old ≡ true)
   pub room : SawNoRoom env.geometry size false chose.behind
 
 -- no table was due, and behind this the current table was found to have no future
-pub record SawNothingDue (env : Env) (steps : List Did) : Type 0 where
-  pub chose : HasChosen env choices.Nothing steps
+pub record SawNothingDue (env : Env) (c : ℕ) (steps : List Did) : Type 0 where
+  pub chose : HasChosen env c choices.Nothing steps
   pub none : Any (ReadsFuture env.geometry chose.root None) chose.behind
 
 -- ---- what was moved
@@ -140,9 +134,9 @@ IsUnattached g last choices.Nothing steps = ⊥
 
 -- A resizing made the table the current one that it had loaded as the future of the one which was current, and then looked for a
 -- further one behind that. It says that there is more to do exactly where it found one, or where a table that was due wasn't attached.
-pub record SawPublished (env : Env) (again : Bool) (steps : List Did) : Type 0 where
+pub record SawPublished (env : Env) (c : ℕ) (again : Bool) (steps : List Did) : Type 0 where
   pub choice : Choice
-  pub chose : HasChosen env choice steps
+  pub chose : HasChosen env c choice steps
   pub table : ℕ
   pub behind : List Did
   pub published : HasPublished env.geometry table behind chose.behind
@@ -159,10 +153,6 @@ pub record StoresOther (g : Geometry) (did : Did) : Type 0 where
   pub value : ℕ
   pub stores : did.op ≡ Store place value
   pub other : place ≢ place_of g CurrentTable
-
--- or closed a read section
-abbrev pub StoresOrCloses : Geometry → Did → Type 0
-StoresOrCloses g did = StoresOther g did ⊎ OpensOrCloses g did
 
 -- the operation tried to attach the table of this slot behind that of another, which may have had a future by then
 pub record TriesToAttach (g : Geometry) (table slot : ℕ) (did : Did) : Type 0 where
@@ -186,14 +176,15 @@ abbrev pub HasTriedIfNeeded : Geometry → ℕ → ℕ → ℕ → Choice → Li
 HasTriedIfNeeded g root last shape choice steps =
     (size : ℕ) → choice ≡ choices.Attach size → (root ≡ last) ⊎ (is_nested shape ≡ true) → HasTried g last size steps
 
--- Behind its choice a resizing looked anew for the last table behind the current one, which was another one, and loaded that it was
--- nested; nothing is moved to such a table. There the current table was still the one that it had chosen from, and where it couldn't do
--- without the table that was due it had tried to attach that. Behind that it stored words and closed a read section, and left which
--- table is the current one; and it says that there is more to do. `words_at` gives the words before the event with each number.
-pub record SawStopped (env : Env) (words_at : ℕ → List ℕ) (again : Bool) (steps : List Did) : Type 0 where
+-- Behind its choice a resizing looked anew for the last table behind the current one, which was another one. It loaded that this was
+-- nested; nothing is moved to such a table. There the current table was still the one that it had chosen from. Where it couldn't do without
+-- the table that was due it had tried to attach that. Behind the load it closed its caller's own read section, once. All its other operations
+-- behind the load stored words, and none of them that of the current table. And it says that there is more to do. `words_at` gives the words
+-- before the event with each number.
+pub record SawStopped (env : Env) (c : ℕ) (words_at : ℕ → List ℕ) (again : Bool) (steps : List Did) : Type 0 where
   pub more : again ≡ true
   pub choice : Choice
-  pub chose : HasChosen env choice steps
+  pub chose : HasChosen env c choice steps
   pub tried : HasTriedIfNeeded env.geometry chose.root chose.last chose.shape.old choice chose.behind
   pub last : ℕ
   pub before : List Did
@@ -206,8 +197,14 @@ pub record SawStopped (env : Env) (words_at : ℕ → List ℕ) (again : Bool) (
   pub shape_read : Loaded env.geometry (Slot last ShapeWord) shape.old shape
   pub nested : is_nested shape.old ≡ true
   pub current : table_of (word_at env.geometry (words_at shape.index) CurrentTable) ≡ chose.root
-  pub stores : AllByRecursion (StoresOrCloses env.geometry) behind
+  pub front : List Did
+  pub closing : Did
+  pub rest : List Did
+  pub behind_split : behind ≡ front ++ closing ∷ rest
+  pub front_stores : AllByRecursion (StoresOther env.geometry) front
+  pub closes : TurnsSection env.geometry c closing
+  pub rest_stores : AllByRecursion (StoresOther env.geometry) rest
 
 -- A resizing that moved made another table the current one, or stopped before a nested one.
-abbrev pub SawMoved : Env → (ℕ → List ℕ) → Bool → List Did → Type 0
-SawMoved env words_at again steps = SawPublished env again steps ⊎ SawStopped env words_at again steps
+abbrev pub SawMoved : Env → ℕ → (ℕ → List ℕ) → Bool → List Did → Type 0
+SawMoved env c words_at again steps = SawPublished env c again steps ⊎ SawStopped env c words_at again steps

@@ -136,18 +136,19 @@ pub fn taken_alone<M: Mix>()
 /// that led to no page, at which the way to the port's bucket ends. Behind that each page was seen taken in
 /// its turn.
 ///
-/// A `Work` that was answered `Elsewhere` found the work lock taken. Any other one took it, opened a read
-/// section, looked for the last table from the current one on and chose by its shape and by the count what
-/// is due: for `NoTable` a table that wasn't to be had, while the last one is the current one or nested; for
-/// `Idle` nothing, and the current table had no future. `Moved` stored another current table and then
-/// loaded its future; there is more to do exactly where it found one, or attached no flat table of the
-/// size that was due.
+/// A `Work` that was answered `Elsewhere` found the work lock taken. Any other one took it, and then opened
+/// its own caller's read section. It loaded which table is the current one, and looked for the last table
+/// from there on. By that table's shape and by the count of ports it chose what is due. For `NoTable` that
+/// was a table that wasn't to be had, while the last one was the current one or nested. For `Idle` nothing
+/// was due, and the current table had no future. `Moved` stored another current table and then loaded its
+/// future. There is more to do exactly where it found one, or attached no flat table of the size that was
+/// due.
 ///
 /// Or `Moved` stopped, and there is more to do. It looked for the last table anew, found another one than
-/// the current one, and loaded that this is nested. Behind that it stored words alone, none of them that of
-/// the current table, but for the closing of read sections. At that load the current table was still the one
-/// that it had chosen from. Where a table was due while the last one was the current one or nested, it had
-/// tried to attach a flat one of the size that was due behind that.
+/// the current one, and loaded that this is nested. At that load the current table was still the one that it
+/// had chosen from. Where a table was due while the last one was the current one or nested, it had tried to
+/// attach a flat one of the due size behind that. Behind that load it closed its own caller's read section,
+/// once. All its other operations behind the load stored words, and none of them that of the current table.
 ///
 /// `Found` and `Missing` of a look-up, `Listed` of a listing, `Absent` of a release, `Rebound` and
 /// `Absent` of a rebind have nothing to show here. No other reply of these calls comes, and a call of

@@ -42,7 +42,7 @@ use Rattle.rht_core.proofs.Events.Invariants.{step_of}
 use Rattle.rht_core.proofs.Events.InvariantRuns.{has_inv}
 use Rattle.rht_core.proofs.Events.JobsOfCallers.{first-so, first_rebind-so, each_goes, same_call}
 use Rattle.rht_core.proofs.Events.Worlds.{induct_by_last, take-push, take-push_all, run_of-push, step_none, step_words}
-use Rattle.rht_core.proofs.Tracing.TracedJobs.{Performs, LeadsOn, IsKeeping, IsAtJob, jobs_keep_standing}
+use Rattle.rht_core.proofs.Tracing.TracedJobs.{Performs, LeadsOn, IsKeeping, IsAtJob, jobs_keep_own}
 use Rattle.rht_core.proofs.Tracing.TracedRuns.{world-traced_of}
 use Rattle.rht_core.proofs.Tracing.TracesInRuns.{remembers}
 use Rattle.rht_core.proofs.Reasons.CausesInRuns.{JobSaw, EndsSeen, job-leads, first_job-saw}
@@ -156,22 +156,22 @@ module _ (M : Type 0) (mix : ℕ → ℕ → ℕ → ℕ) (env : Env) (roomy : I
   abbrev AreFew : List Event → Type 0
   AreFew events = (i : ℕ) → HasFew env (words_before M mix env events i)
 
-  module _ (events : List Event) (few : AreFew events) (unmade : AreUnmade events) where
+  module _ (events : List Event) (few : AreFew events) (unmade : AreUnmade events) (c : ℕ) where
     abbrev words_at : ℕ → List ℕ
     words_at = words_before M mix env events
 
     -- with what a call has seen, it is calm
     abbrev Now : Job → List Did → Type 0
-    Now job steps = JobSaw env words_at mix job steps × CalmJob env job
+    Now job steps = JobSaw env c words_at mix job steps × CalmJob env job
 
     abbrev Ended : Call → Ending → List Did → Type 0
-    Ended call ending steps = EndsSeen M mix env events call ending steps × CalmEnd env call ending
+    Ended call ending steps = EndsSeen M mix env events c call ending steps × CalmEnd env call ending
 
     abbrev CalmOn : Job → Job × Next Ending → Type 0
     CalmOn job next = GoesOn (CalmJob env) (CalmEnd env) job next
 
     both-lead : (job : Job) (all : List Did) (next : Job × Next Ending)
-        → LeadsOn M mix env (JobSaw env words_at mix) (EndsSeen M mix env events) job all next → CalmOn job next
+        → LeadsOn M mix env (JobSaw env c words_at mix) (EndsSeen M mix env events c) job all next → CalmOn job next
         → LeadsOn M mix env Now Ended job all next
     both-lead job all (after, Go) saw calm = (saw, calm)
     both-lead job all (after, Done ending) saw calm = (saw, calm)
@@ -200,15 +200,15 @@ module _ (M : Type 0) (mix : ℕ → ℕ → ℕ → ℕ) (env : Env) (roomy : I
     first-calm (Rebind port owner new) = first_rebind-so (CalmJob env) env port owner new tt
     first-calm _ = tt
 
-    calls-calm : (c : ℕ) → IsAdmitted env.config.kind events
+    calls-calm : IsAdmitted env.config.kind events
         → let r : Traced M = traced_of mix env events in IsKeeping M mix env Now Ended (view_of r.world c) (r.traces c)
-    calls-calm c admitted =
-        jobs_keep_standing M mix env Now Ended events record {
-          begins = λ call job is. (first_job-saw M mix env events call job is, first-so (CalmJob env) (first_job env call) job (first-calm call) is);
-          goes = λ job steps did performs now kept.
+    calls-calm admitted =
+        jobs_keep_own M mix env Now Ended events c record {
+          begins = λ call job is. (first_job-saw M mix env events c call job is, first-so (CalmJob env) (first_job env call) job (first-calm call) is);
+          goes = λ job steps did performs own now kept.
               both-lead job (steps ++ did ∷ []) (job_after mix env job did.old)
-              (job-leads M mix env events job steps did performs now kept.0) (job-calm job steps did performs now.now kept);
-        } c admitted
+              (job-leads M mix env events c job steps did performs own now kept.0) (job-calm job steps did performs now.now kept);
+        } admitted
 
   -- ---- one event
 
@@ -228,7 +228,7 @@ module _ (M : Type 0) (mix : ℕ → ℕ → ℕ → ℕ) (env : Env) (roomy : I
         let r : Traced M = traced_of mix env events in
         let now = (calls-calm events few unmade c admitted).now in
         let local = ap (λ (v : World M). job_of (local_of v.core c).doing) (world-traced_of M mix env events) ∙ is in
-        (subst (λ (j : Option Job). IsAtJob M mix env (Now events few unmade) (Ended events few unmade) j (r.world.books c) (r.traces c).steps)
+        (subst (λ (j : Option Job). IsAtJob M mix env (Now events few unmade c) (Ended events few unmade c) j (r.world.books c) (r.traces c).steps)
         local now).now.1
 
     -- so what it performs leaves the words of the slots
@@ -279,14 +279,14 @@ module _ (M : Type 0) (mix : ℕ → ℕ → ℕ → ℕ) (env : Env) (roomy : I
         taken = λ c.
             subst (λ (v : World M). AllByRecursion Taken (v.books c).finished) (world-traced_of M mix env events)
             (subst (AllByRecursion Taken) ((remembers M mix env events admitted).traces c).past
-            (all_taken events few unmade (r.traces c).past (calls-calm events few unmade c admitted).past));
+            (all_taken events few unmade c (r.traces c).past (calls-calm events few unmade c admitted).past));
       }
     where
-      all_taken : (events : List Event) (few : AreFew events) (unmade : AreUnmade events) (calls : List Past)
-          → AllByRecursion (λ (past : Past). Ended events few unmade past.done.call (ending_in past.done) past.steps) calls
+      all_taken : (events : List Event) (few : AreFew events) (unmade : AreUnmade events) (c : ℕ) (calls : List Past)
+          → AllByRecursion (λ (past : Past). Ended events few unmade c past.done.call (ending_in past.done) past.steps) calls
           → AllByRecursion Taken (map (λ past. past.done) calls)
-      all_taken events few unmade [] all = tt
-      all_taken events few unmade (past ∷ calls) all = (all.0.1, all_taken events few unmade calls all.1)
+      all_taken events few unmade c [] all = tt
+      all_taken events few unmade c (past ∷ calls) all = (all.0.1, all_taken events few unmade c calls all.1)
 
 pub few_ports : (M : Type 0) (mix : ℕ → ℕ → ℕ → ℕ) → FewPorts M mix
 few_ports M mix env events admitted has =

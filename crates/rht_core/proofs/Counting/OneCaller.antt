@@ -68,7 +68,7 @@ use Rattle.rht_core.proofs.Events.KeptAtEvents.{views_kept, ghosts_kept}
 use Rattle.rht_core.proofs.Events.JobsOfCallers.{first-so, first_rebind-so, each_goes, same_call, left-job, doing_after-reply}
 use Rattle.rht_core.proofs.Events.RangesInRuns.{AllIn, opens-all, event-all}
 use Rattle.rht_core.proofs.Events.Worlds.{induct_by_last, run_of-push}
-use Rattle.rht_core.proofs.Tracing.TracedJobs.{Performs, IsAtJob, jobs_keep_standing}
+use Rattle.rht_core.proofs.Tracing.TracedJobs.{Performs, IsAtJob, jobs_keep_own}
 use Rattle.rht_core.proofs.Tracing.TracedRuns.{world-traced_of}
 use Rattle.rht_core.proofs.Reasons.CausesInRuns.{JobSaw, EndsSeen, job-leads, first_job-saw}
 use Rattle.rht_core.proofs.Reasons.CalmCalls.{below-max, below-size}
@@ -182,18 +182,18 @@ module _ (env : Env) where
           (slot-good env mix IsSized does.words does.ghost does.whole here.sized slot aim.table)
 
       -- so each call goes on so, or ends so
-      one-leads : (job : Job) (steps : List Did) → (does : Performs mix env job did) → AreSized does.ghost
-          → word_at env.geometry does.words PortCount ≤ 16 → JobSaw env words_at mix job steps → OneJob job
+      one-leads : (c : ℕ) (job : Job) (steps : List Did) → (does : Performs mix env job did) → AreSized does.ghost
+          → word_at env.geometry does.words PortCount ≤ 16 → JobSaw env c words_at mix job steps → OneJob job
           → OneOn job (job_after mix env job did.old)
-      one-leads (binds port owner once state) steps does sized low saw one =
+      one-leads c (binds port owner once state) steps does sized low saw one =
           next-goes OneJob OneEnd (binds port owner once state) (binds port owner once) plain_ending (bind_after_at mix env port once state did.old)
           (calm-bind env Any Any words_at (λ i. (few i).bound) mix port owner once state steps did does saw.0 one
           (bind-sees port owner once state (record { does = does; sized = sized; low = low })))
-      one-leads (works state) steps does sized low saw one =
+      one-leads c (works state) steps does sized low saw one =
           next-goes OneJob OneEnd (works state) works plain_ending (work.after_at mix env state did.old)
           (work-one (work.after_at mix env state did.old)
           (sized-work env keeps mix state did.old does.within one (work-sees state (record { does = does; sized = sized }))))
-      one-leads job steps does sized low saw one =
+      one-leads c job steps does sized low saw one =
           each_goes OneJob (OneEnd (call_of job)) (call_of job) (job_after mix env job did.old) (same_call mix env job did.old)
           (λ other same. other-one other (ap may_make same)) (λ ending. tt)
 
@@ -291,20 +291,20 @@ module _ (L : Type 0) (mix : ℕ → ℕ → ℕ → ℕ) (env : Env) (keeps : e
       one = subst (λ (j : Option Job). IfSome j (OneJob env keeps)) of.is (has.ones c).0
 
       -- what the call has seen so far
-      saw : JobSaw env (words_before L mix env events) mix of.job ((traced_of {M = L} mix env events).traces c).steps
+      saw : JobSaw env c (words_before L mix env events) mix of.job ((traced_of {M = L} mix env events).traces c).steps
       saw =
           let r : Traced L = traced_of mix env events in
-          let Now = JobSaw env (words_before L mix env events) mix in
-          let Ended = EndsSeen L mix env events in
-          let now = (jobs_keep_standing L mix env Now Ended events
-          record { begins = first_job-saw L mix env events; goes = job-leads L mix env events } c admitted).now in
+          let Now = JobSaw env c (words_before L mix env events) mix in
+          let Ended = EndsSeen L mix env events c in
+          let now = (jobs_keep_own L mix env Now Ended events c
+          record { begins = first_job-saw L mix env events c; goes = job-leads L mix env events c } admitted).now in
           let local = ap (λ (v : World L). job_of (local_of v.core c).doing) (world-traced_of L mix env events) ∙ of.is in
           (subst (λ (j : Option Job). IsAtJob L mix env Now Ended j (r.world.books c) (r.traces c).steps) local now).now
 
       leads : OneOn env keeps of.job (job_after mix env of.job did.old)
       unfolding performs
       leads =
-          one-leads env keeps first mix (words_before L mix env events) few did of.job
+          one-leads env keeps first mix (words_before L mix env events) few did c of.job
           ((traced_of {M = L} mix env events).traces c).steps performs has.sized few-now.count saw one
 
       -- the caller afterwards

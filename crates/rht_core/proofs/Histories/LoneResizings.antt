@@ -30,13 +30,13 @@ use Rattle.rht_core.specs.Traces.{Did, Past, traced_of, behind_call}
 use Rattle.rht_core.specs.Worked.{IsAloneDuring, words_behind}
 use Rattle.rht_core.proofs.Events.JobsOfCallers.{each_goes, same_call}
 use Rattle.rht_core.proofs.Tracing.LoneCalls.{found_first, left_so}
-use Rattle.rht_core.proofs.Tracing.TracedJobs.{Performs, LeadsOn, IsEndedSo, jobs_keep_in}
+use Rattle.rht_core.proofs.Tracing.TracedJobs.{Performs, StandsIn, LeadsOn, IsEndedSo, jobs_keep_own}
 use Rattle.rht_core.proofs.Reasons.LastTables.{AreSame}
 use Rattle.rht_core.proofs.Reasons.LoneWorks.{CalmAt, CalmReply, CalmNext, calm-work}
 use Rattle.rht_core.proofs.Reasons.WorksSeen.{SawReplaced, SawAtWork, SawNextWork}
 use Rattle.rht_core.proofs.Reasons.WorkStepsSeen.{work-saw}
 
-module _ (M : Type 0) (mix : ℕ → ℕ → ℕ → ℕ) (env : Env) (events : List Event) where
+module _ (M : Type 0) (mix : ℕ → ℕ → ℕ → ℕ) (env : Env) (events : List Event) (c : ℕ) where
   abbrev words_at : ℕ → List ℕ
   words_at = words_before M mix env events
 
@@ -62,11 +62,11 @@ module _ (M : Type 0) (mix : ℕ → ℕ → ℕ → ℕ) (env : Env) (events : 
   -- ---- what is kept
 
   abbrev Now : Job → List Did → Type 0
-  Now (works state) steps = SawAtWork env words_at state steps × ((now : List ℕ) → IsStill steps now → CalmAt env words_at mix state steps now)
+  Now (works state) steps = SawAtWork env c words_at state steps × ((now : List ℕ) → IsStill steps now → CalmAt env c words_at mix state steps now)
   Now _ steps = Unit {0}
 
   abbrev Ended : Call → Ending → List Did → Type 0
-  Ended Work ending steps = (now : List ℕ) → IsStill steps now → CalmReply env words_at mix ending.answer.reply steps
+  Ended Work ending steps = (now : List ℕ) → IsStill steps now → CalmReply env c words_at mix ending.answer.reply steps
   Ended _ ending steps = Unit {0}
 
   -- a resizing begins with the work lock
@@ -107,30 +107,31 @@ module _ (M : Type 0) (mix : ℕ → ℕ → ℕ → ℕ) (env : Env) (events : 
   other-kept (works state) all other = absurd (cc)
   other-kept _ all other = tt
 
-  work-kept : (all : List Did) (next : WorkAt × Next Reply) → SawNextWork env words_at all next
-      → ((now : List ℕ) → IsStill all now → CalmNext env words_at mix all now next)
+  work-kept : (all : List Did) (next : WorkAt × Next Reply) → SawNextWork env c words_at all next
+      → ((now : List ℕ) → IsStill all now → CalmNext env c words_at mix all now next)
       → GoesOrEnds (λ state. Now (works state) all) (λ reply. Ended Work (plain_ending reply) all) next
   work-kept all (state, Go) saw calm = (saw, calm)
   work-kept all (state, Done reply) saw calm = calm
 
-  goes : (job : Job) (steps : List Did) (did : Did) (performs : Performs mix env job did)
-      → performs.words ≡ words_before M mix env events did.index → Now job steps
+  goes : (job : Job) (steps : List Did) (did : Did) (performs : Performs mix env job did) → performs.caller ≡ c
+      → StandsIn mix env words_at job did performs → Now job steps
       → LeadsOn M mix env Now Ended job (steps ++ did ∷ []) (job_after mix env job did.old)
-  goes (works state) steps did performs here kept =
+  goes (works state) steps did performs own stands kept =
+      let here = stands.now in
       let next = work.after_at mix env state did.old in
       next-leads (works state) works plain_ending (steps ++ did ∷ []) next
-      (work-kept (steps ++ did ∷ []) next (work-saw env words_at mix state steps did performs here kept.0)
-      (λ now still. calm-work env words_at mix state steps did performs now
+      (work-kept (steps ++ did ∷ []) next (work-saw env c words_at mix state steps did performs own here kept.0)
+      (λ now still. calm-work env c words_at mix state steps did performs own now
       (subst (λ words. AreSame env (applied words did.op) now) (sym here) (still steps [] did refl)) kept.0
-      (subst (CalmAt env words_at mix state steps) (sym here) (kept.1 (words_at did.index) (still-before steps did now still)))))
-  goes job steps did performs here kept =
+      (subst (CalmAt env c words_at mix state steps) (sym here) (kept.1 (words_at did.index) (still-before steps did now still)))))
+  goes job steps did performs own stands kept =
       let all = steps ++ did ∷ [] in
       each_goes (λ after. Now after all) (λ ending. Ended (call_of job) ending all) (call_of job) (job_after mix env job did.old)
       (same_call mix env job did.old) (λ other same. other-kept other all (ap is_work same)) (λ ending. tt)
 
   -- ---- a call that is alone
 
-  module _ (c : ℕ) (past : Past) (admitted : IsAdmitted env.config.kind events)
+  module _ (past : Past) (admitted : IsAdmitted env.config.kind events)
       (ended : Contains ((traced_of {M = M} mix env events).traces c).past past)
       (alone : IsAloneDuring M mix env events c past) where
     all_still : IsStill past.steps (words_behind M mix env events (behind_call past))
@@ -144,12 +145,12 @@ module _ (M : Type 0) (mix : ℕ → ℕ → ℕ → ℕ) (env : Env) (events : 
 
     -- where it answers that it moved, it has made another table the current one
     pub moved_alone : past.done.call ≡ Work → (again : Bool) → past.done.reply ≡ Moved again
-        → SawReplaced env again past.steps
+        → SawReplaced env c again past.steps
     moved_alone is again =
         let calls = ((traced_of {M = M} mix env events).traces c).past in
         let P = IsEndedSo M mix env Now Ended in
         let kept : AllByRecursion P calls =
-        (jobs_keep_in M mix env Now Ended events record { begins = begins; goes = goes } c admitted).past in
+        (jobs_keep_own M mix env Now Ended events c record { begins = begins; goes = goes } admitted).past in
         let mine : P past = All-contains P calls past (All-from_recursion P calls kept) ended in
         (subst (λ call. Ended call (ending_in past.done) past.steps) is mine)
         (words_behind M mix env events (behind_call past)) all_still again

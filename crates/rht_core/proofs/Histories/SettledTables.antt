@@ -28,9 +28,9 @@ use Rattle.rht_core.specs.Alone.{IsQuiet}
 use Rattle.rht_stands.specs.StandsFor.{shape_of, tables_from}
 use Rattle.rht_core.specs.Runs.{local_of, run_of, IsAdmitted, IsAdmittedEvent}
 use Rattle.rht_core.specs.Traces.{Did, Past, traced_of, IsRising, behind_call}
-use Rattle.rht_core.specs.Seen.{words_before}
+use Rattle.rht_core.specs.Seen.{TurnsSection, words_before}
 use Rattle.rht_core.specs.ResizeCauses.{Loaded}
-use Rattle.rht_core.specs.WorkCauses.{OpensOrCloses, AreFuturesRead, HasChosen}
+use Rattle.rht_core.specs.WorkCauses.{AreFuturesRead, HasChosen}
 use Rattle.rht_core.specs.Worked.{IsSettled, HasReplaced, IsAloneDuring, words_behind, Worked}
 use Rattle.rht_core.proofs.Tracing.StepsInTraces.{rising_around}
 use Rattle.rht_core.proofs.Reasons.ChoicesMade.{chosen_by}
@@ -58,7 +58,7 @@ chosen-none size smaller false true false false is = absurd (cc)
 chosen-none size smaller false false alone true is = absurd (cc)
 chosen-none size smaller false false alone false is = record { not_full = refl; not_sparse = refl; flat = refl }
 
-module _ (env : Env) where
+module _ (env : Env) (c : ℕ) where
   -- ---- which words the operations of such a call leave
 
   -- the operation is a load
@@ -78,11 +78,11 @@ module _ (env : Env) where
   futures-load root last (did ∷ next ∷ dids) (slot, read, rest) =
       ((_, read.0.word.loads), futures-load slot last (next ∷ dids) rest)
 
-  module _ (steps : List Did) (saw : SawIdle env steps) where
-    abbrev chose : HasChosen env choices.Nothing steps
+  module _ (steps : List Did) (saw : SawIdle env c steps) where
+    abbrev chose : HasChosen env c choices.Nothing steps
     chose = saw.chose
 
-    abbrev idle : IsIdle env (chosen_by env choices.Nothing steps chose) chose.behind
+    abbrev idle : IsIdle env c (chosen_by env c choices.Nothing steps chose) chose.behind
     idle = saw.so
 
     -- those of the call, one after another
@@ -98,7 +98,7 @@ module _ (env : Env) where
         let apart : place_of env.geometry WorkLock ≢ place =
         λ same. other (place_of-apart env.geometry address WorkLock there tt (sym same)) in
         let rest : AllByRecursion (Spares place) idle.rest =
-        AllByRecursion-weaker (IsBesideTables env) (Spares place) aside idle.rest idle.beside in
+        AllByRecursion-weaker (IsBesideTables env c) (Spares place) aside idle.rest idle.beside in
         let end : AllByRecursion (Spares place) (chose.shape ∷ chose.count ∷ idle.future ∷ idle.rest) = (
           inr (ap (word_after chose.shape.old) chose.shape_read.word.loads),
           (
@@ -113,12 +113,11 @@ module _ (env : Env) where
           (turned chose.opening chose.opens, (inr (ap (word_after chose.current.old) chose.current_read.word.loads), futures)),
         )
       where
-        turned : (did : Did) → OpensOrCloses env.geometry did → Spares (place_of env.geometry address) did
-        turned did turns = inl (λ same. outside turns.caller
-            (place_of-apart env.geometry address (Section turns.caller) there turns.within
-            (sym same ∙ ap op_place turns.turns)))
+        turned : (did : Did) → TurnsSection env.geometry c did → Spares (place_of env.geometry address) did
+        turned did turns = inl (λ same. outside c
+            (place_of-apart env.geometry address (Section c) there idle.few (sym same ∙ ap op_place turns)))
 
-        aside : (did : Did) → IsBesideTables env did → Spares (place_of env.geometry address) did
+        aside : (did : Did) → IsBesideTables env c did → Spares (place_of env.geometry address) did
         aside did (inl on) = inl (λ same. other (place_of-apart env.geometry address WorkLock there tt (sym same ∙ on)))
         aside did (inr turns) = turned did turns
 
@@ -160,7 +159,7 @@ module _ (M : Type 0) (mix : ℕ → ℕ → ℕ → ℕ) (env : Env) (events : 
     | inr other ↦ alone (behind_call past) d (begins_before M mix env events c past admitted ended alone) (omega arith) other
   ]
 
-  module _ (saw : SawIdle env past.steps) where
+  module _ (saw : SawIdle env c past.steps) where
     -- what it loaded of a word that isn't one of the work lock, the enrolled callers or sections stands there at its end
     stands : (address : Address) (value : ℕ) (did : Did) → Contains past.steps did
         → Loaded env.geometry address value did → address ≢ WorkLock → ((k : ℕ) → address ≢ Section k) → address ≢ EnrolledCallers
@@ -169,12 +168,12 @@ module _ (M : Type 0) (mix : ℕ → ℕ → ℕ → ℕ) (env : Env) (events : 
         loaded_at_end M mix env events c past admitted ended alone address value did there loaded other
         (AllByRecursion-weaker (Spares (place_of env.geometry address))
         (λ d. did.index ≤ d.index → d.index < behind_call past → Spares (place_of env.geometry address) d)
-        (λ d spares first last. spares) past.steps (all_spare env past.steps saw address loaded.word.there unlocked outside))
+        (λ d spares first last. spares) past.steps (all_spare env c past.steps saw address loaded.word.there unlocked outside))
 
     abbrev root : ℕ
     root = saw.chose.root
 
-    abbrev found_idle : IsIdle env (chosen_by env choices.Nothing past.steps saw.chose) saw.chose.behind
+    abbrev found_idle : IsIdle env c (chosen_by env c choices.Nothing past.steps saw.chose) saw.chose.behind
     found_idle = saw.so
 
     -- the current table's future, loaded last
@@ -182,7 +181,7 @@ module _ (M : Type 0) (mix : ℕ → ℕ → ℕ → ℕ) (env : Env) (events : 
     no_future =
         ap slot_of
         (stands (Slot root FutureWord) found_idle.future.old found_idle.future
-        (behind_there env past.steps saw found_idle.future (2, omega arith, refl)) found_idle.future_read (λ e. cc) (λ k e. cc) (λ e. cc))
+        (behind_there env c past.steps saw found_idle.future (2, omega arith, refl)) found_idle.future_read (λ e. cc) (λ k e. cc) (λ e. cc))
         ∙ found_idle.none
 
     -- so the search for the last table ended at the current one
@@ -196,7 +195,7 @@ module _ (M : Type 0) (mix : ℕ → ℕ → ℕ → ℕ) (env : Env) (events : 
         absurd (cc)
 
     last_is : root ≡ saw.chose.last
-    last_is = ends_there saw.chose.last saw.chose.futures saw.chose.futures_read (future_there env past.steps saw)
+    last_is = ends_there saw.chose.last saw.chose.futures saw.chose.futures_read (future_there env c past.steps saw)
 
     -- what is due where so many ports are bound, in a table of this shape that is the only one
     abbrev choice_with : ℕ → ℕ → Choice
@@ -215,16 +214,16 @@ module _ (M : Type 0) (mix : ℕ → ℕ → ℕ → ℕ) (env : Env) (events : 
         let most = env.geometry.within.nodes_within.1 in
         let ports = word_at g after PortCount in
         let counts : ports ≡ chose.count.old =
-        stands PortCount chose.count.old chose.count (behind_there env past.steps saw chose.count (1, omega arith, refl))
+        stands PortCount chose.count.old chose.count (behind_there env c past.steps saw chose.count (1, omega arith, refl))
         chose.count_read (λ e. cc) (λ k e. cc) (λ e. cc) in
         let clamp : min chose.count.old 65536 ≡ ports = omega (arith, few, most, counts) in
         let current : table_of (word_at g after CurrentTable) ≡ root =
-        ap table_of (stands CurrentTable chose.current.old chose.current (current_there env past.steps saw) chose.current_read
+        ap table_of (stands CurrentTable chose.current.old chose.current (current_there env c past.steps saw) chose.current_read
         (λ e. cc) (λ k e. cc) (λ e. cc)) ∙ chose.root_is in
         let shape : shape_of g after root ≡ chose.shape.old =
         ap (λ s. word_at g after (Slot s ShapeWord)) last_is
         ∙ stands (Slot chose.last ShapeWord) chose.shape.old chose.shape
-        (behind_there env past.steps saw chose.shape (0, omega arith, refl)) chose.shape_read (λ e. cc) (λ k e. cc) (λ e. cc) in
+        (behind_there env c past.steps saw chose.shape (0, omega arith, refl)) chose.shape_read (λ e. cc) (λ k e. cc) (λ e. cc) in
         let size = size_of (unpacked (shape_of g after root)) in
         let none : IsNoneDue (is_above_75 ports size env.config.max) (is_sparse env ports size) (is_nested (shape_of g after root)) =
         chosen-none size (shrunk_size ports env.config.min) (is_above_75 ports size env.config.max) (is_sparse env ports size)
@@ -246,11 +245,11 @@ module _ (M : Type 0) (mix : ℕ → ℕ → ℕ → ℕ) (env : Env) (events : 
 
   -- ---- another table
 
-  module _ (again : Bool) (saw : SawReplaced env again past.steps) where
-    abbrev chosen_then : HasChosen env saw.choice past.steps
+  module _ (again : Bool) (saw : SawReplaced env c again past.steps) where
+    abbrev chosen_then : HasChosen env c saw.choice past.steps
     chosen_then = saw.since.chose
 
-    abbrev published : IsPublished env (chosen_by env saw.choice past.steps chosen_then) chosen_then.behind
+    abbrev published : IsPublished env c (chosen_by env c saw.choice past.steps chosen_then) chosen_then.behind
     published = saw.since.so.published
 
     abbrev lock : Did
@@ -309,7 +308,7 @@ module _ (M : Type 0) (mix : ℕ → ℕ → ℕ → ℕ) (env : Env) (events : 
         let first : P lock = λ from to. inl
         (λ same. let both = sym (ap op_place chosen_then.took.tries) ∙ same in absurd (omega (arith, both))) in
         let second : P opening = λ from to. inl
-        (λ same. let both = sym (ap op_place chosen_then.opens.turns) ∙ same in absurd (omega (arith, both))) in
+        (λ same. let both = sym (ap op_place chosen_then.opens) ∙ same in absurd (omega (arith, both))) in
         subst (AllByRecursion P) (sym from_load) (first, (second, (here, later)))
 
     -- nor behind the store
@@ -343,11 +342,11 @@ module _ (M : Type 0) (mix : ℕ → ℕ → ℕ → ℕ) (env : Env) (events : 
         }
 
   -- what the operations of the call show
-  saw_work : past.done.call ≡ Work → SawForWork env words_at past.done.reply past.steps
+  saw_work : past.done.call ≡ Work → SawForWork env c words_at past.done.reply past.steps
   saw_work is =
       let calls = ((traced_of {M = M} mix env events).traces c).past in
-      let P = λ (p : Past). SawOf env words_at mix p.done.call p.done.reply p.steps in
-      subst (λ call. SawOf env words_at mix call past.done.reply past.steps) is
+      let P = λ (p : Past). SawOf env c words_at mix p.done.call p.done.reply p.steps in
+      subst (λ call. SawOf env c words_at mix call past.done.reply past.steps) is
       (All-contains P calls past (All-from_recursion P calls (past-saw M mix env events c admitted)) ended)
 
 pub worked : (M : Type 0) (mix : ℕ → ℕ → ℕ → ℕ) → Worked M mix
@@ -355,7 +354,7 @@ worked M mix env events c past admitted ended work alone =
     let saw = saw_work M mix env events c past admitted ended alone work in
     record {
       idle = λ is. settled M mix env events c past admitted ended alone
-          (subst (λ reply. SawForWork env (words_before M mix env events) reply past.steps) is saw);
+          (subst (λ reply. SawForWork env c (words_before M mix env events) reply past.steps) is saw);
       moved = λ again is. replaced M mix env events c past admitted ended alone again
           (moved_alone M mix env events c past admitted ended alone work again is);
     }

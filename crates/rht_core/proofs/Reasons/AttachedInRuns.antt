@@ -186,7 +186,7 @@ attached M mix env events c admitted =
     (record {
       begins = λ call job is.
           let none = begins M mix env events c call job is in
-          (first_job-saw M mix env events call job is, refusals.begins M mix env events c call job is, tt, none.0, none.1);
+          (first_job-saw M mix env events c call job is, refusals.begins M mix env events c call job is, tt, none.0, none.1);
       goes = λ job steps did performs own stands kept. goes M mix env events c admitted steps did job performs own stands kept;
     }) admitted in
     let were = at_events M mix env events admitted c in

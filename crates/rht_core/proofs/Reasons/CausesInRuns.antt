@@ -32,7 +32,7 @@ use Rattle.rht_words.specs.Machines.{GoesOrEnds}
 use Rattle.rht_core.proofs.Tracing.RepliesInRuns.{Holds, Answered, runs-right}
 use Rattle.rht_core.proofs.Tracing.TracesAtEvents.{at_events}
 use Rattle.rht_core.proofs.Events.JobsOfCallers.{first-so, first_rebind-so}
-use Rattle.rht_core.proofs.Tracing.TracedJobs.{Performs, StandsIn, LeadsOn, IsEndedSo, jobs_keep_standing}
+use Rattle.rht_core.proofs.Tracing.TracedJobs.{Performs, StandsIn, LeadsOn, IsEndedSo, jobs_keep_own}
 use Rattle.rht_move.specs.Work as work
 use Rattle.rht_core.proofs.Reasons.WorksSeen.{SawForWork, SawAtWork}
 use Rattle.rht_core.proofs.Reasons.WorkStepsSeen.{work-saw}
@@ -47,7 +47,7 @@ use Rattle.rht_core.proofs.Reasons.ReplyCauses.{LoadedCount, SawForCount, find-c
 
 -- ---- what any call has seen
 
-module _ (env : Env) (words_at : ℕ → List ℕ) (mix : ℕ → ℕ → ℕ → ℕ) where
+module _ (env : Env) (c : ℕ) (words_at : ℕ → List ℕ) (mix : ℕ → ℕ → ℕ → ℕ) where
   -- what the operations of any call saw for it to have this reply; a look-up and a listing have nothing to
   -- show, and of the others there is no machine yet
   abbrev pub SawOf : Call → Reply → List Did → Type 0
@@ -57,7 +57,7 @@ module _ (env : Env) (words_at : ℕ → List ℕ) (mix : ℕ → ℕ → ℕ �
   SawOf (Release port owner) reply steps = SawForRelease env reply steps
   SawOf (Rebind port owner new) reply steps = SawForRebind env reply steps
   SawOf (Walk from limit) reply steps = ⊥
-  SawOf Work reply steps = SawForWork env words_at reply steps
+  SawOf Work reply steps = SawForWork env c words_at reply steps
   SawOf Tidy reply steps = ⊥
   SawOf Count reply steps = SawForCount env reply steps
 
@@ -69,25 +69,25 @@ module _ (env : Env) (words_at : ℕ → List ℕ) (mix : ℕ → ℕ → ℕ �
   JobSaw (lists port room state) steps = Unit {0}
   JobSaw (releases port owner state) steps = SawRelease env state steps
   JobSaw (rebinds port owner new state) steps = SawAtRebind env state steps
-  JobSaw (works state) steps = SawAtWork env words_at state steps
+  JobSaw (works state) steps = SawAtWork env c words_at state steps
   JobSaw counts steps = Unit {0}
 
 -- ---- runs
 
-module _ (M : Type 0) (mix : ℕ → ℕ → ℕ → ℕ) (env : Env) (events : List Event) where
+module _ (M : Type 0) (mix : ℕ → ℕ → ℕ → ℕ) (env : Env) (events : List Event) (c : ℕ) where
   -- the words before the event with each number
   abbrev words_at : ℕ → List ℕ
   words_at = words_before M mix env events
 
   abbrev pub EndsSeen : Call → Ending → List Did → Type 0
-  EndsSeen call ending steps = SawOf env words_at mix call ending.answer.reply steps
+  EndsSeen call ending steps = SawOf env c words_at mix call ending.answer.reply steps
 
   -- an operation leads on where what is seen behind it is enough for the next state, or for the end
   next-leads : {S A : Type 0} (start : Job) (job : S → Job) (ending : A → Ending) (all : List Did)
       (next : S × Next A)
-      → GoesOrEnds (λ state. JobSaw env words_at mix (job state) all)
-      (λ end. SawOf env words_at mix (call_of start) (ending end).answer.reply all) next
-      → LeadsOn M mix env (JobSaw env words_at mix) EndsSeen start all (job_next job ending next)
+      → GoesOrEnds (λ state. JobSaw env c words_at mix (job state) all)
+      (λ end. SawOf env c words_at mix (call_of start) (ending end).answer.reply all) next
+      → LeadsOn M mix env (JobSaw env c words_at mix) EndsSeen start all (job_next job ending next)
   next-leads start job ending all (state, Go) saw = saw
   next-leads start job ending all (state, Done end) saw = saw
 
@@ -98,64 +98,64 @@ module _ (M : Type 0) (mix : ℕ → ℕ → ℕ → ℕ) (env : Env) (events : 
   nothing-saw (state, Done end) = tt
 
   pub job-leads : (job : Job) (steps : List Did) (did : Did)
-      → (performs : Performs mix env job did) → StandsIn mix env words_at job did performs
-      → JobSaw env words_at mix job steps
-      → LeadsOn M mix env (JobSaw env words_at mix) EndsSeen job (steps ++ did ∷ [])
+      → (performs : Performs mix env job did) → performs.caller ≡ c → StandsIn mix env words_at job did performs
+      → JobSaw env c words_at mix job steps
+      → LeadsOn M mix env (JobSaw env c words_at mix) EndsSeen job (steps ++ did ∷ [])
       (job_after mix env job did.old)
-  job-leads (finds port state) steps did performs now saw =
+  job-leads (finds port state) steps did performs own now saw =
       let next = find_after_at mix env port state did.old in
       next-leads (finds port state) (finds port) plain_ending (steps ++ did ∷ []) next (nothing-saw next)
-  job-leads (binds port owner once state) steps did performs now saw =
+  job-leads (binds port owner once state) steps did performs own now saw =
       next-leads (binds port owner once state) (binds port owner once) plain_ending (steps ++ did ∷ [])
       (after_at mix env port once state did.old)
       (all-saw env words_at mix port (after_at mix env port once state did.old) (steps ++ did ∷ [])
       (bind-saw env words_at mix port owner once state steps did performs now saw.0 saw.1.0 saw.1.1)
       (attached-saw env mix performs.caller port once state steps did performs.within.at_in performs.planned saw.1.0)
       (unraised-saw env mix performs.caller port once state steps did performs.planned saw.1.1))
-  job-leads (lists port room state) steps did performs now saw =
+  job-leads (lists port room state) steps did performs own now saw =
       let after = all.room_after state room did.old in
       let next = all.after_at mix env port state did.old in
       next-leads (lists port room state) (lists port after) (listing_ending after) (steps ++ did ∷ []) next
       (nothing-saw next)
-  job-leads (releases port owner state) steps did performs now saw =
+  job-leads (releases port owner state) steps did performs own now saw =
       let next = release.after_at mix env port owner state did.old in
       next-leads (releases port owner state) (releases port owner) node_ending (steps ++ did ∷ []) next
       (release-saw env mix performs.caller port owner state steps did performs.within performs.planned saw)
-  job-leads (rebinds port owner new state) steps did performs now saw =
+  job-leads (rebinds port owner new state) steps did performs own now saw =
       next-leads (rebinds port owner new state) (rebinds port owner new) node_ending (steps ++ did ∷ [])
       (rebind.after_at mix env port owner state did.old)
       (rebind-saw env mix port owner new state steps did performs saw)
-  job-leads (works state) steps did performs now saw =
+  job-leads (works state) steps did performs own now saw =
       next-leads (works state) works plain_ending (steps ++ did ∷ []) (work.after_at mix env state did.old)
-      (work-saw env words_at mix state steps did performs now.now saw)
-  job-leads counts steps did performs now saw =
+      (work-saw env c words_at mix state steps did performs own now.now saw)
+  job-leads counts steps did performs own now saw =
       Any-push (LoadedCount env did.old) steps did (record { loaded = performs.planned; found = refl })
 
   -- below the first node there is none
-  first-saw : (call : Call) → IfSome (first_job env call) (λ job. JobSaw env words_at mix job [])
+  first-saw : (call : Call) → IfSome (first_job env call) (λ job. JobSaw env c words_at mix job [])
   first-saw (Bind port owner once) = (λ node l. absurd (omega arith), (tt, tt))
   first-saw (Release port owner) = (tt, tt)
   first-saw (Rebind port owner new) =
-      first_rebind-so (λ job. JobSaw env words_at mix job []) env port owner new (λ node l. absurd (omega arith))
+      first_rebind-so (λ job. JobSaw env c words_at mix job []) env port owner new (λ node l. absurd (omega arith))
   first-saw Work = refl
   first-saw _ = tt
 
   pub first_job-saw : (call : Call) (job : Job) → first_job env call ≡ Some job
-      → JobSaw env words_at mix job []
-  first_job-saw call job is = first-so (λ j. JobSaw env words_at mix j []) (first_job env call) job (first-saw call) is
+      → JobSaw env c words_at mix job []
+  first_job-saw call job is = first-so (λ j. JobSaw env c words_at mix j []) (first_job env call) job (first-saw call) is
 
   -- what the operations of each call that has ended have seen
-  pub past-saw : (c : ℕ) → IsAdmitted env.config.kind events
-      → AllByRecursion (λ (past : Past). SawOf env words_at mix past.done.call past.done.reply past.steps)
+  pub past-saw : IsAdmitted env.config.kind events
+      → AllByRecursion (λ (past : Past). SawOf env c words_at mix past.done.call past.done.reply past.steps)
       ((traced_of {M = M} mix env events).traces c).past
-  past-saw c admitted =
-      (jobs_keep_standing M mix env (JobSaw env words_at mix) EndsSeen events
-      record { begins = first_job-saw; goes = job-leads } c admitted).past
+  past-saw admitted =
+      (jobs_keep_own M mix env (JobSaw env c words_at mix) EndsSeen events c
+      record { begins = first_job-saw; goes = job-leads } admitted).past
 
   -- ---- the causes
 
-  module _ (c : ℕ) (admitted : IsAdmitted env.config.kind events) where
-    cause_of : (past : Past) (call : Call) (reply : Reply) → SawOf env words_at mix call reply past.steps
+  module _ (admitted : IsAdmitted env.config.kind events) where
+    cause_of : (past : Past) (call : Call) (reply : Reply) → SawOf env c words_at mix call reply past.steps
         → IsReplyTo call reply → AllByRecursion (IsRecorded M mix env events c) past.steps
         → IsRising (past.begin + 1) past.steps → CauseOf M mix env events c past call reply
     cause_of past (Bind port owner once) reply saw right recorded rising =
@@ -165,14 +165,14 @@ module _ (M : Type 0) (mix : ℕ → ℕ → ℕ → ℕ) (env : Env) (events : 
     cause_of past (Release port owner) reply saw right recorded rising =
         release-cause M mix env events c admitted past reply saw right recorded
     cause_of past (Rebind port owner new) reply saw right recorded rising = rebind-cause env past reply saw right
-    cause_of past Work reply saw right recorded rising = work-cause env words_at past reply saw right
+    cause_of past Work reply saw right recorded rising = work-cause env c words_at past reply saw right
     cause_of past Count reply saw right recorded rising =
         count-cause M mix env events c admitted past reply saw recorded
     cause_of past _ reply saw right recorded rising = absurd saw
 
     all_caused : (from : ℕ) (calls : List Past)
         → AllByRecursion
-        (λ (past : Past). SawOf env words_at mix past.done.call past.done.reply past.steps) calls
+        (λ (past : Past). SawOf env c words_at mix past.done.call past.done.reply past.steps) calls
         → AllByRecursion (IsEndedSo M mix env (Holds M mix env) (Answered M mix env)) calls
         → AllByRecursion (IsPastCall M mix env events c) calls → AreInOrder from calls
         → AllByRecursion (HasCause M mix env events c) calls

@@ -90,7 +90,7 @@ module _ (M : Type 0) (mix : ℕ → ℕ → ℕ → ℕ) (env : Env) (events : 
 
   abbrev pub SeenCause : Call → ℕ → ℕ → ℕ → List Did → Type 0
   SeenCause (Bind port owner once) table slot shape before = SeenFull port table slot shape before
-  SeenCause Work table slot shape before = AttachesDue env table slot shape before
+  SeenCause Work table slot shape before = AttachesDue env c table slot shape before
   SeenCause _ table slot shape before = ⊥
 
   pub record AttachesSeen (call : Call) (table : ℕ) (before : List Did) (did : Did) : Type 0 where
@@ -124,11 +124,11 @@ module _ (M : Type 0) (mix : ℕ → ℕ → ℕ → ℕ) (env : Env) (events : 
 
   abbrev pub Now : Job → List Did → Type 0
   Now job steps =
-      JobSaw env words_at mix job steps × refusals.Going M mix env events c job steps × EachBehind (ChangesSeen (call_of job)) [] steps
+      JobSaw env c words_at mix job steps × refusals.Going M mix env events c job steps × EachBehind (ChangesSeen (call_of job)) [] steps
       × HasTakenWork job steps × HasTakenPages job steps
 
   abbrev pub Ended : Call → Ending → List Did → Type 0
-  Ended call ending steps = EndsSeen M mix env events call ending steps × EachBehind (ChangesSeen call) [] steps
+  Ended call ending steps = EndsSeen M mix env events c call ending steps × EachBehind (ChangesSeen call) [] steps
 
   -- ---- an operation
 
@@ -189,7 +189,7 @@ module _ (M : Type 0) (mix : ℕ → ℕ → ℕ → ℕ) (env : Env) (events : 
     ]
 
     attaching : (job : Job) (table slot : ℕ) → AttachesNow env did slot table job → Attaches g table slot did
-        → (performs : Performs mix env job did) → performs.words ≡ words_at did.index → JobSaw env words_at mix job steps
+        → (performs : Performs mix env job did) → performs.words ≡ words_at did.index → JobSaw env c words_at mix job steps
         → refusals.Going M mix env events c job steps → HasTakenPages job steps → AttachesSeen (call_of job) table steps did
     attaching job table slot (by_bind port owner once growing shape same) attaches performs now saw going paged =
         let made = performs.knows.knowing.means.making in
@@ -215,7 +215,7 @@ module _ (M : Type 0) (mix : ℕ → ℕ → ℕ → ℕ) (env : Env) (events : 
           attaches = attaches;
           own =
               own_table slot performs.caller performs.words performs.ghost performs.whole now made.has.mine
-              (to_attach-taken env root last slot shape steps saw);
+              (to_attach-taken env c root last slot shape steps saw);
           shape = shape;
           shape_is = subst (λ ws. word_at g ws (Slot slot ShapeWord) ≡ shape) now made.shape_is;
           none_behind = subst (λ ws. word_at g ws (Slot slot FutureWord) ≡ 0) now made.future_is;
@@ -235,7 +235,7 @@ module _ (M : Type 0) (mix : ℕ → ℕ → ℕ → ℕ) (env : Env) (events : 
 
     -- a page is entered where the way to the port's bucket ends, by the words as they then are
     entering : (job : Job) (entry page : ℕ) → EntersNow env entry page job → (performs : Performs mix env job did)
-        → performs.words ≡ words_at did.index → JobSaw env words_at mix job steps → HasTaken g page steps
+        → performs.words ≡ words_at did.index → JobSaw env c words_at mix job steps → HasTaken g page steps
         → PutsPage g entry page did → EnterCause g words_at mix (call_of job) entry steps did
     entering job entry page (by_entering port owner once attempt table shape place grow p at_is on) performs now saw took enters =
         let same_g = performs.within.at_in.place_in.geometry_same in
@@ -264,7 +264,7 @@ module _ (M : Type 0) (mix : ℕ → ℕ → ℕ → ℕ) (env : Env) (events : 
         }
 
     entered : (job : Job) (entry : ℕ) (performs : Performs mix env job did) → performs.words ≡ words_at did.index
-        → JobSaw env words_at mix job steps → refusals.Going M mix env events c job steps → entry < 64 * g.pages
+        → JobSaw env c words_at mix job steps → refusals.Going M mix env events c job steps → entry < 64 * g.pages
         → (there : EntersThere env mix performs.caller performs.ghost did (held_of job) (held_next (job_after mix env job did.old)) entry)
         → EnterCause g words_at mix (call_of job) entry steps did
     entered job entry performs now saw going low there =
@@ -310,17 +310,17 @@ module _ (M : Type 0) (mix : ℕ → ℕ → ℕ → ℕ) (env : Env) (events : 
         })
 
     stated : (job : Job) (slot : ℕ) (performs : Performs mix env job did) → performs.words ≡ words_at did.index
-        → JobSaw env words_at mix job steps → HasTakenWork job steps → ChangesState g slot did
+        → JobSaw env c words_at mix job steps → HasTakenWork job steps → ChangesState g slot did
         → StateHere env mix performs.caller (mem env mix performs.words) performs.ghost did (held_of job) (held_next (job_after mix env job did.old)) slot
         → StateCause M mix env events c (call_of job) slot steps did
     stated job slot performs now saw taken changed (inl takes) =
         inl (makes_then job slot (job_after mix env job did.old) (same_call mix env job did.old) takes.has, takes.takes)
     stated job slot performs now saw taken changed (inr (inl gives)) =
-        let is = own_slot env words_at mix performs.caller (mem env mix performs.words) performs.ghost steps slot job performs.knows saw gives.has in
+        let is = own_slot env c words_at mix performs.caller (mem env mix performs.words) performs.ghost steps slot job performs.knows saw gives.has in
         inr (inl (own_table slot performs.caller performs.words performs.ghost performs.whole now is.held is.taken, gives.gives))
     stated job slot performs now saw taken changed (inr (inr here)) =
         let gone =
-        gone_on env words_at mix performs.caller performs.words performs.ghost performs.whole did performs.found slot changed.slot_in here.can
+        gone_on env c words_at mix performs.caller performs.words performs.ghost performs.whole did performs.found slot changed.slot_in here.can
         here.stores changed.other steps job performs.planned here.moves performs.knows saw in
         inr (inr (
           moving_works job here.moves,
@@ -413,7 +413,7 @@ module _ (M : Type 0) (mix : ℕ → ℕ → ℕ → ℕ) (env : Env) (events : 
         ]
 
     changes : (job : Job) (performs : Performs mix env job did) → StandsIn mix env words_at job did performs
-        → JobSaw env words_at mix job steps → refusals.Going M mix env events c job steps → HasTakenWork job steps
+        → JobSaw env c words_at mix job steps → refusals.Going M mix env events c job steps → HasTakenWork job steps
         → HasTakenPages job steps → ChangesSeen (call_of job) steps did
     changes job performs stands saw going taken paged =
         let now = stands.now in
@@ -426,7 +426,7 @@ module _ (M : Type 0) (mix : ℕ → ℕ → ℕ → ℕ) (env : Env) (events : 
           tables = λ slot changed. elim (by_move env mix performs.caller there performs.ghost did (held_of job) (held_next next) slot fits
               changed step.move step.ready does) [
                 | inl has ↦
-                    let is = own_slot env words_at mix performs.caller there performs.ghost steps slot job performs.knows saw has in
+                    let is = own_slot env c words_at mix performs.caller there performs.ghost steps slot job performs.knows saw has in
                     inl (own_table slot performs.caller performs.words performs.ghost performs.whole now is.held is.taken)
                 | inr here ↦
                     inr (attaching job slot here.made_slot
@@ -458,7 +458,7 @@ module _ (M : Type 0) (mix : ℕ → ℕ → ℕ → ℕ) (env : Env) (events : 
     -- an operation leads on with this too
     by_next : (job : Job) (next : Job × Next Ending) → call_of next.0 ≡ call_of job
         → EachBehind (ChangesSeen (call_of job)) [] (steps ++ did ∷ [])
-        → LeadsOn M mix env (JobSaw env words_at mix) (EndsSeen M mix env events) job (steps ++ did ∷ []) next
+        → LeadsOn M mix env (JobSaw env c words_at mix) (EndsSeen M mix env events c) job (steps ++ did ∷ []) next
         → LeadsOn M mix env (refusals.Going M mix env events c) (refusals.Undone M mix env events c) job (steps ++ did ∷ []) next
         → ((held_next next).worker ≡ true → HasWorkLock g (steps ++ did ∷ []))
         → IfGoes next (λ after. HasTakenPages after (steps ++ did ∷ []))
@@ -473,8 +473,8 @@ module _ (M : Type 0) (mix : ℕ → ℕ → ℕ → ℕ) (env : Env) (events : 
     goes job performs own stands (saw, going, each, taken, paged) =
         by_next job (job_after mix env job did.old) (same_call mix env job did.old)
         (each-push (ChangesSeen (call_of job)) [] steps did each (changes job performs stands saw going taken paged))
-        (job-leads M mix env events job steps did performs stands saw)
-        (refusals.goes M mix env events c job steps did performs own stands.now (saw-came env words_at mix job steps saw) going)
+        (job-leads M mix env events c job steps did performs own stands saw)
+        (refusals.goes M mix env events c job steps did performs own stands.now (saw-came env c words_at mix job steps saw) going)
         (worked job performs stands.now taken)
         (pages_then job performs (job_after mix env job did.old) (ghost_after env mix performs.caller performs.step.move performs.ghost)
         performs.step.made.whole performs.step.knows

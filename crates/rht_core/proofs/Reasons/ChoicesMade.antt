@@ -15,7 +15,8 @@ use Rattle.rht_move.specs.declared.work.choice.Choice.{Choice}
 use Rattle.rht_move.specs.LastTable.{next_or_shape}
 use Rattle.rht_core.specs.Traces.{Did}
 use Rattle.rht_core.specs.ResizeCauses.{Loaded}
-use Rattle.rht_core.specs.WorkCauses.{TakesWorkLock, OpensOrCloses, ReadsFuture, AreFuturesRead, HasChosen}
+use Rattle.rht_core.specs.Seen.{TurnsSection}
+use Rattle.rht_core.specs.WorkCauses.{TakesWorkLock, ReadsFuture, AreFuturesRead, HasChosen}
 
 module _ (g : Geometry) where
   -- the futures that were loaded lead from one table to another
@@ -58,7 +59,7 @@ pub record Chosen : Type 0 where
   pub last : ℕ
   pub shape : ℕ
 
-module _ (env : Env) where
+module _ (env : Env) (c : ℕ) where
   -- ---- up to the choice
 
   -- it took the work lock, opened its section and loaded the current table, and these were its operations behind
@@ -68,7 +69,7 @@ module _ (env : Env) where
     pub current : Did
     pub split : steps ≡ lock ∷ opening ∷ current ∷ rest
     pub took : TakesWorkLock env.geometry lock
-    pub opens : OpensOrCloses env.geometry opening
+    pub opens : TurnsSection env.geometry c opening
     pub current_read : Loaded env.geometry CurrentTable current.old current
     pub root_is : table_of current.old ≡ root
 
@@ -96,7 +97,7 @@ module _ (env : Env) where
     pub opening : Did
     pub only : steps ≡ lock ∷ opening ∷ []
     pub took : TakesWorkLock env.geometry lock
-    pub opens : OpensOrCloses env.geometry opening
+    pub opens : TurnsSection env.geometry c opening
 
   -- and looks for the last table, or has found it
   pub record SeekSaw (root : ℕ) (at : LastTableAt) (steps : List Did) : Type 0 where
@@ -115,12 +116,12 @@ module _ (env : Env) where
 
   -- ---- behind the choice
 
-  abbrev pub chosen_by : (choice : Choice) (steps : List Did) → HasChosen env choice steps → Chosen
+  abbrev pub chosen_by : (choice : Choice) (steps : List Did) → HasChosen env c choice steps → Chosen
   chosen_by choice steps chose = record { root = chose.root; last = chose.last; shape = chose.shape.old }
 
   -- it has chosen this, and that is so of its operations since
   pub record Since (choice : Choice) (So : Chosen → List Did → Type 0) (steps : List Did) : Type 0 where
-    pub chose : HasChosen env choice steps
+    pub chose : HasChosen env c choice steps
     pub so : So (chosen_by choice steps chose) chose.behind
 
   -- or something
@@ -130,8 +131,8 @@ module _ (env : Env) where
 
   -- what was chosen stays so
   unfoldable pub HasChosen-push : (choice : Choice) (steps : List Did) (did : Did)
-      → HasChosen env choice steps
-      → HasChosen env choice (steps ++ did ∷ [])
+      → HasChosen env c choice steps
+      → HasChosen env c choice (steps ++ did ∷ [])
   HasChosen-push choice steps did chose = record {
     root = chose.root;
     last = chose.last;

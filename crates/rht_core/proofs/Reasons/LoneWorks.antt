@@ -52,6 +52,7 @@ use Rattle.rht_move.specs.LastEntry.{LastEntryModel, last_entry_after}
 use Rattle.rht_move.specs.Work.{plan_at, after_at, lock_seen, letting_go, last_seen, begun, made, not_made, attached, future_or_idle, bucket_of_root, next_bucket, entry_passed, locked, unlocking, entry_table_seen, with_word, entry_or_empty, walked, second_locked, cut_off, unlocked_bucket, retiring, reply_of}
 use Rattle.rht_core.specs.Jobs.{works}
 use Rattle.rht_core.specs.Traces.{Did}
+use Rattle.rht_core.specs.Seen.{TurnsSection}
 use Rattle.rht_ghost.proofs.Theory.Ghosts.{has_table, index_at}
 use Rattle.rht_ghost.proofs.Theory.Steps.{mem, by_test}
 use Rattle.rht_core.proofs.Tracing.TracedJobs.{Performs}
@@ -75,7 +76,7 @@ or-none : (a b : Bool) → (a || b) ≡ false → b ≡ false
 or-none true b is = absurd (cc)
 or-none false b is = is
 
-module _ (env : Env) (words_at : ℕ → List ℕ) (mix : ℕ → ℕ → ℕ → ℕ) where
+module _ (env : Env) (c : ℕ) (words_at : ℕ → List ℕ) (mix : ℕ → ℕ → ℕ → ℕ) where
   -- ---- what it knows in a state
 
   -- the last table is flat
@@ -97,10 +98,10 @@ module _ (env : Env) (words_at : ℕ → List ℕ) (mix : ℕ → ℕ → ℕ �
 
   -- where it answers that it moved it has made another table the current one
   abbrev CalmEnd : Outcome → List Did → Type 0
-  CalmEnd outcome steps = (again : Bool) → outcome ≡ outcomes.Moved again → SawReplaced env again steps
+  CalmEnd outcome steps = (again : Bool) → outcome ≡ outcomes.Moved again → SawReplaced env c again steps
 
   abbrev pub CalmReply : Reply → List Did → Type 0
-  CalmReply reply steps = (again : Bool) → reply ≡ replies.Moved again → SawReplaced env again steps
+  CalmReply reply steps = (again : Bool) → reply ≡ replies.Moved again → SawReplaced env c again steps
 
   abbrev pub CalmAt : WorkAt → List Did → List ℕ → Type 0
   CalmAt at.WorkLock steps words = Unit {0}
@@ -366,78 +367,78 @@ module _ (env : Env) (words_at : ℕ → List ℕ) (mix : ℕ → ℕ → ℕ �
       (λ f. eqb-false did.old 0 f (finds_none env mix root last slot shape did does now still old was))
 
   -- an operation of a resizing that is alone, behind which it knows what its next state says
-  pub calm-work : (state : WorkAt) (steps : List Did) (did : Did) (does : Performs mix env (works state) did) (now : List ℕ)
-      → AreSame env (applied does.words did.op) now → SawAtWork env words_at state steps → CalmAt state steps does.words
+  pub calm-work : (state : WorkAt) (steps : List Did) (did : Did) (does : Performs mix env (works state) did) → does.caller ≡ c → (now : List ℕ)
+      → AreSame env (applied does.words did.op) now → SawAtWork env c words_at state steps → CalmAt state steps does.words
       → CalmNext (steps ++ did ∷ []) now (after_at mix env state did.old)
-  calm-work at.WorkLock steps did does now still saw calm = calm-lock (steps ++ did ∷ []) now did.old
-  calm-work at.Opening steps did does now still saw calm = tt
-  calm-work at.CurrentTable steps did does now still saw calm = tt
-  calm-work (at.LastTable root seek) steps did does now still saw calm =
+  calm-work at.WorkLock steps did does own now still saw calm = calm-lock (steps ++ did ∷ []) now did.old
+  calm-work at.Opening steps did does own now still saw calm = tt
+  calm-work at.CurrentTable steps did does own now still saw calm = tt
+  calm-work (at.LastTable root seek) steps did does own now still saw calm =
       calm-last root seek.geometry seek.at did does (steps ++ did ∷ []) now still calm
-  calm-work (at.Count root last) steps did does now still saw calm =
+  calm-work (at.Count root last) steps did does own now still saw calm =
       calm-begun (steps ++ did ∷ []) now root last did.old (choice_of env did.old last.shape (root == last.table)) refl
       (leaves (at.Count root last) did does now still last.table last.shape (λ table old new l e. cc) calm)
-  calm-work (at.Making wanted make) steps did does now still saw calm =
+  calm-work (at.Making wanted make) steps did does own now still saw calm =
       calm-made (steps ++ did ∷ []) now wanted (make_after make did.old).0 (make_after make did.old).1
       (leaves (at.Making wanted make) did does now still wanted.last.table wanted.last.shape
       (make-none env.geometry make.geometry make.exponent make.seed make.at) calm)
-  calm-work (at.Attaching root last slot shape) steps did does now still saw calm =
+  calm-work (at.Attaching root last slot shape) steps did does own now still saw calm =
       calm-attached root last slot shape did does (steps ++ did ∷ []) now still calm.0 calm.1
-  calm-work (at.Unmaking root unmake) steps did does now still saw calm = absurd calm
-  calm-work (at.RootFuture root due) steps did does now still saw calm =
+  calm-work (at.Unmaking root unmake) steps did does own now still saw calm = absurd calm
+  calm-work (at.RootFuture root due) steps did does own now still saw calm =
       calm-future (steps ++ did ∷ []) now root due (slot_of did.old)
       (leaves-flat (at.RootFuture root due) did does now still (λ table old new l e. cc) calm)
-  calm-work (at.RootShape root future again) steps did does now still saw calm =
+  calm-work (at.RootShape root future again) steps did does own now still saw calm =
       calm-root (steps ++ did ∷ []) now (record { root = root; future = future; shape = did.old; again = again }) 0
       (leaves-flat (at.RootShape root future again) did does now still (λ table old new l e. cc) calm)
-  calm-work (at.Entry rehash number place) steps did does now still saw calm =
+  calm-work (at.Entry rehash number place) steps did does own now still saw calm =
       calm-passed (steps ++ did ∷ []) now rehash number (place_after place did.old).0 (place_after place did.old).1
       (leaves-flat (at.Entry rehash number place) did does now still (λ table old new l e. cc) calm)
-  calm-work (at.Locking rehash number lock) steps did does now still saw calm =
+  calm-work (at.Locking rehash number lock) steps did does own now still saw calm =
       calm-locked (steps ++ did ∷ []) now rehash number (lock_after lock did.old).0 (lock_after lock did.old).1
       (leaves-flat (at.Locking rehash number lock) did does now still
       (lock-none env.geometry lock.place lock.at does.within.lock_in.place_in) calm)
-  calm-work (at.EntryTable emptying seek) steps did does now still saw calm =
+  calm-work (at.EntryTable emptying seek) steps did does own now still saw calm =
       calm-table emptying seek.geometry seek.at did does (steps ++ did ∷ []) now still calm.0 calm.1
-  calm-work (at.Seed emptying last) steps did does now still saw calm =
+  calm-work (at.Seed emptying last) steps did does own now still saw calm =
       leaves-flat (at.Seed emptying last) did does now still (λ table old new l e. cc) calm
-  calm-work (at.BucketWord emptying target) steps did does now still saw calm =
+  calm-work (at.BucketWord emptying target) steps did does own now still saw calm =
       calm-entry (steps ++ did ∷ []) now (with_word emptying (unlocked did.old)) target
       (node_of env.geometry.nodes (head_of emptying.bucket.place (unlocked did.old)))
       (leaves-flat (at.BucketWord emptying target) did does now still (λ table old new l e. cc) calm)
-  calm-work (at.Walking emptying target walk) steps did does now still saw calm =
+  calm-work (at.Walking emptying target walk) steps did does own now still saw calm =
       calm-walked (steps ++ did ∷ []) now emptying target (last_entry_after walk did.old).0 (last_entry_after walk did.old).1
       (leaves-flat (at.Walking emptying target walk) did does now still (λ table old new l e. cc) calm)
-  calm-work (at.Key emptying target entry) steps did does now still saw calm =
+  calm-work (at.Key emptying target entry) steps did does own now still saw calm =
       leaves-flat (at.Key emptying target entry) did does now still (λ table old new l e. cc) calm
-  calm-work (at.LockingSecond emptying entry table lock) steps did does now still saw calm =
+  calm-work (at.LockingSecond emptying entry table lock) steps did does own now still saw calm =
       calm-second (steps ++ did ∷ []) now emptying entry table (lock_after lock did.old).0 (lock_after lock did.old).1
       (leaves-flat (at.LockingSecond emptying entry table lock) did does now still
       (lock-none env.geometry lock.place lock.at does.within.lock_in.place_in) calm)
-  calm-work (at.EntryLink emptying entry second) steps did does now still saw calm =
+  calm-work (at.EntryLink emptying entry second) steps did does own now still saw calm =
       leaves-flat (at.EntryLink emptying entry second) did does now still (λ table old new l e. cc) calm
-  calm-work (at.Linking emptying entry second) steps did does now still saw calm =
+  calm-work (at.Linking emptying entry second) steps did does own now still saw calm =
       leaves-flat (at.Linking emptying entry second) did does now still (λ table old new l e. cc) calm
-  calm-work (at.CuttingOff emptying entry) steps did does now still saw calm =
+  calm-work (at.CuttingOff emptying entry) steps did does own now still saw calm =
       calm-cut (steps ++ did ∷ []) now emptying entry.before
       (leaves-flat (at.CuttingOff emptying entry) did does now still (cut-none env emptying.bucket.place entry.before) calm)
-  calm-work (at.Unlocking rehash number unlock true) steps did does now still saw calm = absurd calm
-  calm-work (at.Unlocking rehash number unlock false) steps did does now still saw calm =
+  calm-work (at.Unlocking rehash number unlock true) steps did does own now still saw calm = absurd calm
+  calm-work (at.Unlocking rehash number unlock false) steps did does own now still saw calm =
       calm-next (steps ++ did ∷ []) now rehash number
       (leaves-flat (at.Unlocking rehash number unlock false) did does now still (λ table old new l e. cc) calm)
-  calm-work (at.Publishing rehash) steps did does now still saw calm = tt
-  calm-work (at.NewFuture rehash) steps did does now still saw calm =
+  calm-work (at.Publishing rehash) steps did does own now still saw calm = tt
+  calm-work (at.NewFuture rehash) steps did does own now still saw calm =
       calm-retiring (steps ++ did ∷ []) now rehash (slot_of did.old)
-  calm-work (at.Closing (endings.Retiring root again)) steps did does now still saw calm = tt
-  calm-work (at.Closing (endings.LettingGo outcome)) steps did does now still saw calm = λ again is.
-      turned-saw env again steps did (record { caller = does.caller; within = does.few; turns = does.planned }) (calm again is)
-  calm-work (at.Retiring root again) steps did does now still saw calm = λ answered is.
+  calm-work (at.Closing (endings.Retiring root again)) steps did does own now still saw calm = tt
+  calm-work (at.Closing (endings.LettingGo outcome)) steps did does own now still saw calm = λ again is.
+      turned-saw env c again steps did (subst (λ k. TurnsSection env.geometry k did) own does.planned) (calm again is)
+  calm-work (at.Retiring root again) steps did does own now still saw calm = λ answered is.
       let same : again ≡ answered = cc in
-      subst (λ a. SawReplaced env a (steps ++ did ∷ [])) same
-      (stored-saw env again (Slot root StateWord) 2 steps did (does.within, tt) (λ e. cc) does.planned saw.0)
-  calm-work (at.LettingGo outcome) steps did does now still saw calm = λ again is.
+      subst (λ a. SawReplaced env c a (steps ++ did ∷ [])) same
+      (stored-saw env c again (Slot root StateWord) 2 steps did (does.within, tt) (λ e. cc) does.planned saw.0)
+  calm-work (at.LettingGo outcome) steps did does own now still saw calm = λ again is.
       let moved : outcome ≡ outcomes.Moved again = moved-outcome outcome again is in
-      stored-saw env again WorkLock 0 steps did tt (λ e. cc) does.planned (calm again moved)
+      stored-saw env c again WorkLock 0 steps did tt (λ e. cc) does.planned (calm again moved)
     where
       moved-outcome : (outcome : Outcome) (again : Bool) → reply_of outcome ≡ replies.Moved again → outcome ≡ outcomes.Moved again
       moved-outcome outcomes.Idle again is = absurd (cc)

@@ -36,15 +36,15 @@ use Rattle.rht_move.specs.LastTable.{next_or_shape}
 use Rattle.rht_move.specs.LastEntry.{LastEntryModel}
 use Rattle.rht_move.specs.Work.{cut_plan, bucket_of_root, next_bucket, entry_passed, locked, unlocking, entry_or_empty, walked, second_locked, cut_off, unlocked_bucket, retiring}
 use Rattle.rht_core.specs.Traces.{Did}
-use Rattle.rht_core.specs.Seen.{LoadsWord}
+use Rattle.rht_core.specs.Seen.{LoadsWord, TurnsSection}
 use Rattle.rht_core.specs.ResizeCauses.{Loaded}
-use Rattle.rht_core.specs.WorkCauses.{OpensOrCloses, ReadsFuture, StoresOther, StoresOrCloses, SawStopped}
+use Rattle.rht_core.specs.WorkCauses.{ReadsFuture, StoresOther}
 use Rattle.rht_ghost.proofs.Theory.Steps.{by_test}
 use Rattle.rht_core.proofs.Tracing.LoneCalls.{Spares}
 use Rattle.rht_core.specs.Attached.{HasGoneOn}
 use Rattle.rht_core.proofs.Reasons.AttachedTables.{IsNoFutureExchange, IsNoAttach, no_attach}
 use Rattle.rht_core.proofs.Reasons.ChoicesMade.{Chosen, futures_next, chosen_by, HasChosen-push, SinceSome-push}
-use Rattle.rht_core.proofs.Reasons.WorksSeen.{IsPublished, HasMoved, FindsFurther, FindsNoneFurther, SawReplaced, RehashSaw, LooksAnew, AnewSaw, SaysMissing-push, IsTried-push, IsMoving-push, Moves-push, UnlockingSaw, SawAtWork}
+use Rattle.rht_core.proofs.Reasons.WorksSeen.{IsPublished, HasMoved, FindsFurther, FindsNoneFurther, SawReplaced, RehashSaw, LooksAnew, AnewSaw, SaysMissing-push, IsTried-push, IsMoving-push, Moves-push, HasStopped, UnlockingSaw, SawAtWork}
 use Rattle.rht_core.proofs.Reasons.TablesDue.{reads}
 
 -- the cutting off of an entry exchanges no future
@@ -53,18 +53,18 @@ pub cut-none : (env : Env) (place : ℕ) (before : Option ℕ)
 cut-none env place None table old new l e = cc
 cut-none env place (Some before) table old new l e = cc
 
-module _ (env : Env) where
+module _ (env : Env) (c : ℕ) where
   -- no operation of the move attaches a table
   pub goes : (rehash : Rehash) (op : Op) (steps : List Did) (did : Did) → did.op ≡ op
       → IsNoFutureExchange env.geometry op
-      → RehashSaw env rehash steps → RehashSaw env rehash (steps ++ did ∷ [])
+      → RehashSaw env c rehash steps → RehashSaw env c rehash (steps ++ did ∷ [])
   goes rehash op steps did is none saw =
-      Moves-push env rehash.root rehash.future rehash.again steps did
+      Moves-push env c rehash.root rehash.future rehash.again steps did
       (no_attach env.geometry did op is none) saw
 
   -- for an entry no future is loaded yet
-  anew-saw : (rehash : Rehash) (all : List Did) → RehashSaw env rehash all
-      → AnewSaw env rehash (seeks.Future rehash.root) all
+  anew-saw : (rehash : Rehash) (all : List Did) → RehashSaw env c rehash all
+      → AnewSaw env c rehash (seeks.Future rehash.root) all
   anew-saw rehash all moves =
       let since = moves.since in
       record {
@@ -85,8 +85,8 @@ module _ (env : Env) where
 
   -- and then one after another
   anew-more : (root slot : ℕ) (next : Option ℕ) (behind : List Did) (did : Did)
-      → ReadsFuture env.geometry slot next did → LooksAnew env (seeks.Future slot) root behind
-      → LooksAnew env (next_or_shape slot next) root (behind ++ did ∷ [])
+      → ReadsFuture env.geometry slot next did → LooksAnew env c (seeks.Future slot) root behind
+      → LooksAnew env c (next_or_shape slot next) root (behind ++ did ∷ [])
   anew-more root slot next behind did reads seek = record {
     before = seek.before;
     futures = seek.futures ++ did ∷ [];
@@ -95,12 +95,12 @@ module _ (env : Env) where
   }
 
   pub sought-saw : (rehash : Rehash) (slot : ℕ) (next : Option ℕ) (steps : List Did) (did : Did)
-      → ReadsFuture env.geometry slot next did → AnewSaw env rehash (seeks.Future slot) steps
-      → AnewSaw env rehash (next_or_shape slot next) (steps ++ did ∷ [])
+      → ReadsFuture env.geometry slot next did → AnewSaw env c rehash (seeks.Future slot) steps
+      → AnewSaw env c rehash (next_or_shape slot next) (steps ++ did ∷ [])
   sought-saw rehash slot next steps did reads saw =
       let quiet = no_attach env.geometry did _ reads.0.word.loads (λ table old new l e. cc) in
-      SinceSome-push env steps did saw (λ choice of behind anew. (
-        IsMoving-push env rehash.root rehash.future rehash.again choice of behind did quiet anew.0,
+      SinceSome-push env c steps did saw (λ choice of behind anew. (
+        IsMoving-push env c rehash.root rehash.future rehash.again choice of behind did quiet anew.0,
         anew-more of.root slot next behind did reads anew.1,
       ))
 
@@ -121,11 +121,11 @@ module _ (env : Env) where
   -- ---- another table is the current one
 
   pub publish-saw : (rehash : Rehash) (steps : List Did) (did : Did) → rehash.future < 8
-      → did.op ≡ Store (place_of env.geometry CurrentTable) rehash.future → RehashSaw env rehash steps
-      → HasMoved env rehash (steps ++ did ∷ [])
+      → did.op ≡ Store (place_of env.geometry CurrentTable) rehash.future → RehashSaw env c rehash steps
+      → HasMoved env c rehash (steps ++ did ∷ [])
   publish-saw rehash steps did l is saw =
       let quiet = no_attach env.geometry did _ is (λ table old new l e. cc) in
-      SinceSome-push env steps did saw (λ choice of behind moving. record {
+      SinceSome-push env c steps did saw (λ choice of behind moving. record {
         published = record {
           table = rehash.future;
           later = [];
@@ -140,14 +140,14 @@ module _ (env : Env) where
           leave = tt;
         };
         same = refl;
-        says = SaysMissing-push env rehash.again of.last choice behind did quiet moving.says;
+        says = SaysMissing-push env c rehash.again of.last choice behind did quiet moving.says;
         last = refl;
       })
 
   -- what came behind that stays so
   unfoldable IsPublished-push : (of : Chosen) (behind : List Did) (did : Did)
-      → Spares (place_of env.geometry CurrentTable) did → IsPublished env of behind
-      → IsPublished env of (behind ++ did ∷ [])
+      → Spares (place_of env.geometry CurrentTable) did → IsPublished env c of behind
+      → IsPublished env c of (behind ++ did ∷ [])
   IsPublished-push of behind did spares is =
       let published = is.published in
       record {
@@ -182,11 +182,11 @@ module _ (env : Env) where
 
   -- what attaches nothing, loads nothing and leaves the current table finds nothing
   left-saw : (again : Bool) (steps : List Did) (did : Did) → IsNoAttach env.geometry did → ((place : ℕ) → did.op ≢ Load place)
-      → op_place did.op ≢ place_of env.geometry CurrentTable → SawReplaced env again steps
-      → SawReplaced env again (steps ++ did ∷ [])
+      → op_place did.op ≢ place_of env.geometry CurrentTable → SawReplaced env c again steps
+      → SawReplaced env c again (steps ++ did ∷ [])
   unfolding IsPublished-push
   left-saw again steps did quiet no_load apart replaced =
-      SinceSome-push env steps did replaced (λ choice of behind saw.
+      SinceSome-push env c steps did replaced (λ choice of behind saw.
       let published = saw.published in
       let table = published.table in
       record {
@@ -196,10 +196,10 @@ module _ (env : Env) where
             saw.looked;
         says = elim saw.says [
           | inl further ↦
-              inl (further.0, Any-append_left (FindsFurther env table) published.later (did ∷ []) further.1)
+              inl (further.0, Any-append_left (FindsFurther env c table) published.later (did ∷ []) further.1)
           | inr says ↦ inr (
-            SaysMissing-push env again of.last choice behind did quiet says.0,
-            AllByRecursion-push (FindsNoneFurther env table) published.later did says.1
+            SaysMissing-push env c again of.last choice behind did quiet says.0,
+            AllByRecursion-push (FindsNoneFurther env c table) published.later did says.1
                 (λ finds. no_load _ finds.1.0.word.loads),
           )
         ];
@@ -208,32 +208,31 @@ module _ (env : Env) where
   -- so does a store of another word
   pub stored-saw : (again : Bool) (address : Address) (value : ℕ) (steps : List Did) (did : Did)
       → IsAddress env.geometry address → address ≢ CurrentTable
-      → did.op ≡ Store (place_of env.geometry address) value → SawReplaced env again steps
-      → SawReplaced env again (steps ++ did ∷ [])
+      → did.op ≡ Store (place_of env.geometry address) value → SawReplaced env c again steps
+      → SawReplaced env c again (steps ++ did ∷ [])
   stored-saw again address value steps did there other is replaced =
       left-saw again steps did (no_attach env.geometry did _ is (λ table old new l e. cc)) (λ place load. let both = sym is ∙ load in cc)
       (λ same. other (place_of-apart env.geometry address CurrentTable there tt (sym (ap op_place is) ∙ same))) replaced
 
-  -- and what opens or closes a section
-  pub turned-saw : (again : Bool) (steps : List Did) (did : Did) → OpensOrCloses env.geometry did → SawReplaced env again steps
-      → SawReplaced env again (steps ++ did ∷ [])
+  -- and what opens or closes the caller's section
+  pub turned-saw : (again : Bool) (steps : List Did) (did : Did) → TurnsSection env.geometry c did → SawReplaced env c again steps
+      → SawReplaced env c again (steps ++ did ∷ [])
   turned-saw again steps did turns replaced =
-      left-saw again steps did (no_attach env.geometry did _ turns.turns (λ table old new l e. cc))
-      (λ place load. let both = sym turns.turns ∙ load in cc)
-      (λ same. let at : 8 + turns.caller ≡ 0 = sym (ap op_place turns.turns) ∙ same in omega (arith, at)) replaced
+      left-saw again steps did (no_attach env.geometry did _ turns (λ table old new l e. cc)) (λ place load. let both = sym turns ∙ load in cc)
+      (λ same. let at : 8 + c ≡ 0 = sym (ap op_place turns) ∙ same in omega (arith, at)) replaced
 
-module _ (env : Env) (words_at : ℕ → List ℕ) where
+module _ (env : Env) (c : ℕ) (words_at : ℕ → List ℕ) where
   abbrev Sees : WorkAt → List Did → Type 0
-  Sees = SawAtWork env words_at
+  Sees = SawAtWork env c words_at
 
-  pub root-saw : (rehash : Rehash) (number : ℕ) (all : List Did) → RehashSaw env rehash all
+  pub root-saw : (rehash : Rehash) (number : ℕ) (all : List Did) → RehashSaw env c rehash all
       → Sees (bucket_of_root env.geometry rehash number) all
   root-saw rehash number all saw =
       by_test (λ t. Sees (cond t (at.Entry rehash number (nested_place env.geometry rehash.shape number))
       (at.Locking rehash number (lock_new (flat_place env.geometry rehash.shape number)))) all)
       (is_nested rehash.shape) (λ t. saw) (λ f. saw)
 
-  next-saw : (rehash : Rehash) (number : ℕ) (all : List Did) → RehashSaw env rehash all
+  next-saw : (rehash : Rehash) (number : ℕ) (all : List Did) → RehashSaw env c rehash all
       → Sees (next_bucket env.geometry rehash number) all
   next-saw rehash number all saw =
       by_test
@@ -242,45 +241,45 @@ module _ (env : Env) (words_at : ℕ → List ℕ) where
       (λ t. root-saw rehash (number + 1) all saw) (λ f. saw)
 
   pub passed-saw : (rehash : Rehash) (number : ℕ) (place : PlaceModel) (next : Next Bucket) (all : List Did)
-      → RehashSaw env rehash all → Sees (entry_passed env.geometry rehash number place next) all
+      → RehashSaw env c rehash all → Sees (entry_passed env.geometry rehash number place next) all
   passed-saw rehash number place Go all saw = saw
   passed-saw rehash number place (Done (At word)) all saw = saw
   passed-saw rehash number place (Done (Absent entry)) all saw = next-saw rehash number all saw
 
   pub locked-saw : (rehash : Rehash) (number : ℕ) (lock : LockModel) (next : Next ℕ) (all : List Did)
-      → RehashSaw env rehash all
+      → RehashSaw env c rehash all
       → Sees (locked env.geometry rehash number lock next) all
   locked-saw rehash number lock Go all saw = saw
-  locked-saw rehash number lock (Done word) all saw = anew-saw env rehash all saw
+  locked-saw rehash number lock (Done word) all saw = anew-saw env c rehash all saw
 
   pub entry-saw : (emptying : Emptying) (target : Target) (first : Option ℕ) (all : List Did)
-      → RehashSaw env emptying.rehash all
+      → RehashSaw env c emptying.rehash all
       → Sees (entry_or_empty env.geometry emptying target first) all
   entry-saw emptying target None all saw = saw
   entry-saw emptying target (Some first) all saw = saw
 
   pub walked-saw : (emptying : Emptying) (target : Target) (walk : LastEntryModel) (next : Next Entry)
       (all : List Did)
-      → RehashSaw env emptying.rehash all → Sees (walked emptying target walk next) all
+      → RehashSaw env c emptying.rehash all → Sees (walked emptying target walk next) all
   walked-saw emptying target walk Go all saw = saw
   walked-saw emptying target walk (Done entry) all saw = saw
 
   pub second_locked-saw : (emptying : Emptying) (entry : Entry) (table : ℕ) (lock : LockModel) (next : Next ℕ)
       (all : List Did)
-      → RehashSaw env emptying.rehash all → Sees (second_locked emptying entry table lock next) all
+      → RehashSaw env c emptying.rehash all → Sees (second_locked emptying entry table lock next) all
   second_locked-saw emptying entry table lock Go all saw = saw
   second_locked-saw emptying entry table lock (Done word) all saw = saw
 
-  pub cut-saw : (emptying : Emptying) (before : Option ℕ) (all : List Did) → RehashSaw env emptying.rehash all
+  pub cut-saw : (emptying : Emptying) (before : Option ℕ) (all : List Did) → RehashSaw env c emptying.rehash all
       → Sees (cut_off env.geometry emptying before) all
-  cut-saw emptying None all saw = anew-saw env emptying.rehash all saw
-  cut-saw emptying (Some before) all saw = anew-saw env emptying.rehash all saw
+  cut-saw emptying None all saw = anew-saw env c emptying.rehash all saw
+  cut-saw emptying (Some before) all saw = anew-saw env c emptying.rehash all saw
 
   -- where the last one is nested the move stops; the current table is the one that it moves
   pub found-saw : (emptying : Emptying) (slot : ℕ) (steps : List Did) (did : Did)
       → Loaded env.geometry (Slot slot ShapeWord) did.old did → emptying.rehash.root ≢ slot
       → table_of (word_at env.geometry (words_at did.index) CurrentTable) ≡ emptying.rehash.root
-      → AnewSaw env emptying.rehash (seeks.Shape slot) steps
+      → AnewSaw env c emptying.rehash (seeks.Shape slot) steps
       → let last : Last = record { table = slot; shape = did.old } in
       Sees (cond (is_nested did.old) (unlocking emptying true) (at.Seed emptying last)) (steps ++ did ∷ [])
   unfolding HasChosen-push
@@ -297,9 +296,9 @@ module _ (env : Env) (words_at : ℕ → List ℕ) where
       (λ t. record {
         more = refl;
         choice = choice;
-        chose = HasChosen-push env choice steps did since.chose;
+        chose = HasChosen-push env c choice steps did since.chose;
         tried =
-            IsTried-push env choice (chosen_by env choice steps since.chose) since.chose.behind did
+            IsTried-push env c choice (chosen_by env c choice steps since.chose) since.chose.behind did
             moving.tried;
         last = slot;
         before = found.before;
@@ -312,22 +311,23 @@ module _ (env : Env) (words_at : ℕ → List ℕ) where
         shape_read = loaded;
         nested = t;
         current = current ∙ sym moving.root_same;
-        stores = tt;
+        ends = tt;
       })
-      (λ f. SinceSome-push env steps did saw (λ choice of behind anew.
-      IsMoving-push env rehash.root rehash.future rehash.again choice of behind did quiet anew.0))
+      (λ f. SinceSome-push env c steps did saw (λ choice of behind anew.
+      IsMoving-push env c rehash.root rehash.future rehash.again choice of behind did quiet anew.0))
 
-  -- and then other words are stored alone, and a section closed
-  pub SawStopped-push : (again : Bool) (steps : List Did) (did : Did) → StoresOrCloses env.geometry did
-      → SawStopped env words_at again steps
-      → SawStopped env words_at again (steps ++ did ∷ [])
+  -- it has stopped later too
+  pub HasStopped-push : {Ends After : List Did → Type 0} (again : Bool) (steps : List Did) (did : Did)
+      → HasStopped env c words_at Ends again steps
+      → ((behind : List Did) → Ends behind → After (behind ++ did ∷ []))
+      → HasStopped env c words_at After again (steps ++ did ∷ [])
   unfolding HasChosen-push
-  SawStopped-push again steps did stores saw = record {
+  HasStopped-push again steps did saw further = record {
     more = saw.more;
     choice = saw.choice;
-    chose = HasChosen-push env saw.choice steps did saw.chose;
+    chose = HasChosen-push env c saw.choice steps did saw.chose;
     tried =
-        IsTried-push env saw.choice (chosen_by env saw.choice steps saw.chose) saw.chose.behind did saw.tried;
+        IsTried-push env c saw.choice (chosen_by env c saw.choice steps saw.chose) saw.chose.behind did saw.tried;
     last = saw.last;
     before = saw.before;
     futures = saw.futures;
@@ -340,17 +340,19 @@ module _ (env : Env) (words_at : ℕ → List ℕ) where
     shape_read = saw.shape_read;
     nested = saw.nested;
     current = saw.current;
-    stores = AllByRecursion-push (StoresOrCloses env.geometry) saw.behind did saw.stores stores;
+    ends = further saw.behind saw.ends;
   }
 
   pub unlocked-saw : (rehash : Rehash) (number : ℕ) (stop : Bool) (steps : List Did) (did : Did)
       → StoresOther env.geometry did → IsNoAttach env.geometry did
-      → UnlockingSaw env words_at rehash stop steps
+      → UnlockingSaw env c words_at rehash stop steps
       → Sees (unlocked_bucket env.geometry rehash number stop) (steps ++ did ∷ [])
-  unlocked-saw rehash number true steps did stores quiet saw = inr (SawStopped-push true steps did (inl stores) saw)
+  unlocked-saw rehash number true steps did stores quiet saw =
+      inr (HasStopped-push true steps did saw
+      (λ behind ends. AllByRecursion-push (StoresOther env.geometry) behind did ends stores))
   unlocked-saw rehash number false steps did stores quiet saw =
       next-saw rehash number (steps ++ did ∷ [])
-      (Moves-push env rehash.root rehash.future rehash.again steps did quiet saw)
+      (Moves-push env c rehash.root rehash.future rehash.again steps did quiet saw)
 
   -- ---- another table is the current one
 
@@ -372,7 +374,7 @@ module _ (env : Env) (words_at : ℕ → List ℕ) where
           (reads env (Slot rehash.future FutureWord) did (l, tt) is)
 
       gone : HasGoneOn env.geometry rehash.root (steps ++ did ∷ [])
-      gone = HasGoneOn-push env rehash.root steps did saw.1
+      gone = HasGoneOn-push env c rehash.root steps did saw.1
 
       looked : (table : ℕ) (later : List Did) → table ≡ rehash.future
           → Any (LoadsWord env.geometry (Slot table FutureWord)) (later ++ did ∷ [])
@@ -382,14 +384,14 @@ module _ (env : Env) (words_at : ℕ → List ℕ) where
       go : (next : Option ℕ) → slot_of did.old ≡ next
           → Sees (retiring rehash next) (steps ++ did ∷ [])
       go None finds = (
-        SinceSome-push env steps did saw.0 (λ choice of behind moved.
+        SinceSome-push env c steps did saw.0 (λ choice of behind moved.
             let table = moved.published.table in
             record {
-              published = IsPublished-push env of behind did spares moved.published;
+              published = IsPublished-push env c of behind did spares moved.published;
               looked = looked table moved.published.later moved.same;
               says = inr (
-                SaysMissing-push env rehash.again of.last choice behind did quiet moved.says,
-                subst (λ later. AllByRecursion (FindsNoneFurther env table) (later ++ did ∷ []))
+                SaysMissing-push env c rehash.again of.last choice behind did quiet moved.says,
+                subst (λ later. AllByRecursion (FindsNoneFurther env c table) (later ++ did ∷ []))
                     (sym moved.last)
                     ((λ further. let one = further.1.1 in let none = finds in cc), tt),
               );
@@ -397,14 +399,14 @@ module _ (env : Env) (words_at : ℕ → List ℕ) where
         gone,
       )
       go (Some next) finds = (
-        SinceSome-push env steps did saw.0 (λ choice of behind moved.
+        SinceSome-push env c steps did saw.0 (λ choice of behind moved.
             let table = moved.published.table in
             record {
-              published = IsPublished-push env of behind did spares moved.published;
+              published = IsPublished-push env c of behind did spares moved.published;
               looked = looked table moved.published.later moved.same;
               says = inl (
                 refl,
-                Any-push (FindsFurther env table) moved.published.later did
+                Any-push (FindsFurther env c table) moved.published.later did
                     (next, (loaded table moved.same, finds)),
               );
             }),

@@ -37,7 +37,7 @@ use Rattle.rht_core.proofs.Reasons.BindsSeen.{SawAt}
 use Rattle.rht_core.proofs.Reasons.WorksSeen.{SawAtWork, to_attach-taken}
 use Rattle.rht_core.proofs.Reasons.CausesInRuns.{JobSaw}
 
-module _ (env : Env) (words_at : ℕ → List ℕ) (mix : ℕ → ℕ → ℕ → ℕ) (c : ℕ) (M : Memory) (G : Ghost) (steps : List Did)
+module _ (env : Env) (own : ℕ) (words_at : ℕ → List ℕ) (mix : ℕ → ℕ → ℕ → ℕ) (c : ℕ) (M : Memory) (G : Ghost) (steps : List Did)
     (slot : ℕ) where
   abbrev g : Geometry
   g = env.geometry
@@ -121,7 +121,7 @@ module _ (env : Env) (words_at : ℕ → List ℕ) (mix : ℕ → ℕ → ℕ �
       absurd (slotless (front-tableless list.claimed (has_relinked list.before relink.at)) slot has)
   bind-own port owner once _ knows saw has = absurd (cc)
 
-  work-own : (state : WorkAt) → JobKnows env mix c (works state) M G → SawAtWork env words_at state steps
+  work-own : (state : WorkAt) → JobKnows env mix c (works state) M G → SawAtWork env own words_at state steps
       → (held_of_work state).slot ≡ Some slot → IsOwnSlot
   work-own (working.Making wanted make) knows saw has =
       let chose = saw.chose in
@@ -137,8 +137,8 @@ module _ (env : Env) (words_at : ℕ → List ℕ) (mix : ℕ → ℕ → ℕ �
       let same : s ≡ slot = cc in
       record {
         taken =
-            to_attach-taken env root last slot shape steps
-            (subst (λ x. SawAtWork env words_at (working.Attaching root last x shape) steps) same saw);
+            to_attach-taken env own root last slot shape steps
+            (subst (λ x. SawAtWork env own words_at (working.Attaching root last x shape) steps) same saw);
         held = subst (λ x. G.slot x ≡ SlotHeld c) same knows.knowing.means.making.has.mine;
       }
   work-own (working.Unmaking root unmake) knows saw has =
@@ -149,7 +149,7 @@ module _ (env : Env) (words_at : ℕ → List ℕ) (mix : ℕ → ℕ → ℕ �
       }
   work-own _ knows saw has = absurd (cc)
 
-  pub own_slot : (job : Job) → JobKnows env mix c job M G → JobSaw env words_at mix job steps
+  pub own_slot : (job : Job) → JobKnows env mix c job M G → JobSaw env own words_at mix job steps
       → (held_of job).slot ≡ Some slot → IsOwnSlot
   own_slot (binds port owner once state) knows saw has = bind-own port owner once state knows saw.0 has
   own_slot (works state) knows saw has = work-own state knows saw has

@@ -50,9 +50,10 @@ module _ (env : Env) where
   rebind-cause past NoNode saw is = saw
   rebind-cause past _ saw is = absurd is
 
+module _ (env : Env) (c : ℕ) where
   -- whether it is to say that a table is missing is whether none of the size that was due is attached
   says-right : (again : Bool) (last : ℕ) (choice : Choice) (behind : List Did)
-      → SaysMissing env again last choice behind
+      → SaysMissing env c again last choice behind
       → (again ≡ true) ↔ IsUnattached env.geometry last choice behind
   says-right true last (Attach size) behind missing = (
     λ is has.
@@ -67,8 +68,8 @@ module _ (env : Env) where
   says-right false last Later behind none = absurd none
   says-right false last Nothing behind is = (λ is. absurd (cc), λ so. absurd so)
 
-  replaced-published : (again : Bool) (steps : List Did) → SawReplaced env again steps
-      → SawPublished env again steps
+  replaced-published : (again : Bool) (steps : List Did) → SawReplaced env c again steps
+      → SawPublished env c again steps
   replaced-published again steps saw =
       let since = saw.since in
       let published = since.so.published in
@@ -88,7 +89,7 @@ module _ (env : Env) where
                 λ is. inr (right.0 is),
                 λ either. elim either [
                   | inl (k, did, within, is, finds) ↦
-                      let NoneFurther = FindsNoneFurther env published.table in
+                      let NoneFurther = FindsNoneFurther env c published.table in
                       let none = All-from_recursion NoneFurther published.later says.1 k did within in
                       absurd (subst NoneFurther is none finds)
                   | inr so ↦ right.1 so
@@ -98,7 +99,7 @@ module _ (env : Env) where
       }
 
   -- so it saw that nothing was due
-  idle-nothing : (steps : List Did) → SawIdle env steps → SawNothingDue env steps
+  idle-nothing : (steps : List Did) → SawIdle env c steps → SawNothingDue env c steps
   idle-nothing steps saw =
       let idle = saw.so in
       record {
@@ -109,17 +110,41 @@ module _ (env : Env) where
       }
 
   pub work-cause : (words_at : ℕ → List ℕ) (past : Past) (reply : Reply)
-      → SawForWork env words_at reply past.steps
-      → IsWorkReply reply → WorkCause env words_at past reply
+      → SawForWork env c words_at reply past.steps
+      → IsWorkReply reply → WorkCause env c words_at past reply
   work-cause words_at past (Moved again) saw is = elim saw [
     | inl has ↦ inl (replaced-published again past.steps has)
-    | inr stops ↦ inr stops
+    | inr stops ↦ inr (record {
+      more = stops.more;
+      choice = stops.choice;
+      chose = stops.chose;
+      tried = stops.tried;
+      last = stops.last;
+      before = stops.before;
+      futures = stops.futures;
+      shape = stops.shape;
+      behind = stops.behind;
+      split = stops.split;
+      futures_read = stops.futures_read;
+      apart = stops.apart;
+      shape_read = stops.shape_read;
+      nested = stops.nested;
+      current = stops.current;
+      front = stops.ends.front;
+      closing = stops.ends.closing;
+      rest = stops.ends.rest;
+      behind_split = stops.ends.split;
+      front_stores = stops.ends.front_stores;
+      closes = stops.ends.closes;
+      rest_stores = stops.ends.rest_stores;
+    })
   ]
   work-cause words_at past Idle saw is = idle-nothing past.steps saw
   work-cause words_at past (NoTable size) saw is = saw
   work-cause words_at past Elsewhere saw is = saw
   work-cause words_at past _ saw is = absurd is
 
+module _ (env : Env) where
   -- the operation loaded this count of ports
   pub record LoadedCount (count : ℕ) (did : Did) : Type 0 where
     pub loaded : did.op ≡ Load (place_of env.geometry PortCount)

@@ -39,7 +39,8 @@ use Rattle.rht_move.specs.LastTable.{last_table_plan_at, last_table_after, next_
 use Rattle.rht_move.specs.Work.{lock_seen, letting_go, seeking, last_seen, begun, made, not_made, attached, unmade, is_later, future_or_idle, IsMakingIn}
 use Rattle.rht_core.specs.Traces.{Did, performed_of}
 use Rattle.rht_core.specs.ResizeCauses.{Loaded, Attaches, AreSlotsTaken, AreRunsTaken, SawNoRoom}
-use Rattle.rht_core.specs.WorkCauses.{OpensOrCloses, ReadsFuture, HasChosen, IsSized, TriesToAttach, HasTried}
+use Rattle.rht_core.specs.Seen.{TurnsSection}
+use Rattle.rht_core.specs.WorkCauses.{ReadsFuture, HasChosen, IsSized, TriesToAttach, HasTried}
 use Rattle.rht_ghost.proofs.Theory.Steps.{by_test}
 use Rattle.rht_core.proofs.Reasons.AttachedTables.{IsNoAttach, no_attach, make-none}
 use Rattle.rht_core.proofs.Reasons.MakesSeen.{SawMaking, SawMade, IsShaped, saw_nothing, make-saw}
@@ -62,14 +63,14 @@ module _ (env : Env) where
       → did.op ≡ Load (place_of env.geometry address) → Loaded env.geometry address did.old did
   reads address did there is = record { word = record { there = there; loads = is }; found = refl }
 
-module _ (env : Env) (words_at : ℕ → List ℕ) where
+module _ (env : Env) (c : ℕ) (words_at : ℕ → List ℕ) where
   abbrev Sees : WorkAt → List Did → Type 0
-  Sees = SawAtWork env words_at
+  Sees = SawAtWork env c words_at
 
   pub lock-saw : (steps : List Did) (did : Did) → did.op ≡ Exchange (place_of env.geometry WorkLock) 0 1 → steps ≡ []
-      → SawNextWork env words_at (steps ++ did ∷ []) (lock_seen did.old)
+      → SawNextWork env c words_at (steps ++ did ∷ []) (lock_seen did.old)
   lock-saw steps did is none =
-      by_test (λ t. SawNextWork env words_at (steps ++ did ∷ [])
+      by_test (λ t. SawNextWork env c words_at (steps ++ did ∷ [])
       (cond t (at.Opening, Go) (at.WorkLock, Done Elsewhere)))
       (did.old == 0)
       (λ t. record {
@@ -83,7 +84,7 @@ module _ (env : Env) (words_at : ℕ → List ℕ) where
         finds = record { tries = is; taken = eqb-false did.old 0 f };
       })
 
-  pub opening-saw : (steps : List Did) (did : Did) → OpensOrCloses env.geometry did → HasLock env steps → HasOpened env (steps ++ did ∷ [])
+  pub opening-saw : (steps : List Did) (did : Did) → TurnsSection env.geometry c did → HasLock env c steps → HasOpened env c (steps ++ did ∷ [])
   opening-saw steps did opens has = record {
     lock = has.lock;
     opening = did;
@@ -92,7 +93,7 @@ module _ (env : Env) (words_at : ℕ → List ℕ) where
     opens = opens;
   }
 
-  pub current-saw : (steps : List Did) (did : Did) → did.op ≡ Load (place_of env.geometry CurrentTable) → HasOpened env steps
+  pub current-saw : (steps : List Did) (did : Did) → did.op ≡ Load (place_of env.geometry CurrentTable) → HasOpened env c steps
       → Sees (seeking env.geometry (table_of did.old)) (steps ++ did ∷ [])
   current-saw steps did is has = record {
     futures = [];
@@ -110,17 +111,17 @@ module _ (env : Env) (words_at : ℕ → List ℕ) where
   }
 
   seek-saw : (root slot : ℕ) (steps : List Did) (did : Did) (next : Option ℕ)
-      → ReadsFuture env.geometry slot next did → SeekSaw env root (seeks.Future slot) steps
-      → SeekSaw env root (next_or_shape slot next) (steps ++ did ∷ [])
+      → ReadsFuture env.geometry slot next did → SeekSaw env c root (seeks.Future slot) steps
+      → SeekSaw env c root (next_or_shape slot next) (steps ++ did ∷ [])
   seek-saw root slot steps did next reads seek = record {
     futures = seek.futures ++ did ∷ [];
-    began = Began-push env root seek.futures steps did seek.began;
+    began = Began-push env c root seek.futures steps did seek.began;
     are = futures_next env.geometry root slot next seek.futures did seek.are reads;
   }
 
   pub last-saw : (root : ℕ) (h : Geometry) (state : LastTableAt) (steps : List Did) (did : Did)
       → IsLastTableAtIn state
-      → FindsSmall state did → did.op ≡ last_table_plan_at env.geometry state → SeekSaw env root state steps
+      → FindsSmall state did → did.op ≡ last_table_plan_at env.geometry state → SeekSaw env c root state steps
       → let next = last_table_after (record { geometry = h; at = state }) did.old in
       Sees (last_seen root next.0 next.1) (steps ++ did ∷ [])
   last-saw root h (seeks.Future slot) steps did l small is seek =
@@ -129,7 +130,7 @@ module _ (env : Env) (words_at : ℕ → List ℕ) where
   last-saw root h (seeks.Shape slot) steps did l small is found = record {
     futures = found.futures;
     shape = did;
-    began = Began-push env root found.futures steps did found.began;
+    began = Began-push env c root found.futures steps did found.began;
     read = found.are;
     shape_read = reads env (Slot slot ShapeWord) did (l, tt) is;
     same = refl;
@@ -139,10 +140,10 @@ module _ (env : Env) (words_at : ℕ → List ℕ) where
   -- the load of the count is the last one by which it chooses
   chosen-saw : (root : ℕ) (last : Last) (choice : Choice) (steps : List Did) (did : Did)
       → did.op ≡ Load (place_of env.geometry PortCount)
-      → choice_of env did.old last.shape (root == last.table) ≡ choice → Measures env root last steps
-      → HasChosen env choice (steps ++ did ∷ [])
+      → choice_of env did.old last.shape (root == last.table) ≡ choice → Measures env c root last steps
+      → HasChosen env c choice (steps ++ did ∷ [])
   chosen-saw root last choice steps did is chosen saw =
-      let began = Began-push env root (saw.futures ++ saw.shape ∷ []) steps did saw.began in
+      let began = Began-push env c root (saw.futures ++ saw.shape ∷ []) steps did saw.began in
       record {
         root = root;
         last = last.table;
@@ -167,7 +168,7 @@ module _ (env : Env) (words_at : ℕ → List ℕ) where
 
   pub begun-saw : (root : ℕ) (last : Last) (choice : Choice) (steps : List Did) (did : Did)
       → did.op ≡ Load (place_of env.geometry PortCount)
-      → choice_of env did.old last.shape (root == last.table) ≡ choice → Measures env root last steps
+      → choice_of env did.old last.shape (root == last.table) ≡ choice → Measures env c root last steps
       → Sees (begun env root last choice) (steps ++ did ∷ [])
   unfolding chosen-saw
   begun-saw root last (Attach size) steps did is chosen saw = record {
@@ -219,8 +220,8 @@ module _ (env : Env) (words_at : ℕ → List ℕ) where
   -- a table that was wanted is due, and isn't attached; the current one can be moved without it
   wanted-due : (wanted : Wanted) (of : Chosen) (behind : List Did)
       → ((wanted.root == wanted.last.table) || is_nested wanted.last.shape) ≡ false
-      → Wants env wanted of → NoneAttached env of.last behind
-      → IsDue env wanted.root dues.Later (Attach wanted.size) of behind
+      → Wants env c wanted of → NoneAttached env c of.last behind
+      → IsDue env c wanted.root dues.Later (Attach wanted.size) of behind
   wanted-due wanted of behind apart wants none = record {
     root_same = wants.root_same;
     saw = ((λ e. absurd (cc)), none);
@@ -241,9 +242,9 @@ module _ (env : Env) (words_at : ℕ → List ℕ) where
       neither true b is = absurd (cc)
       neither false b is = (refl, is)
 
-  refused-saw : (wanted : Wanted) (all : List Did) (chose : HasChosen env (Attach wanted.size) all)
-      → Wants env wanted (chosen_by env (Attach wanted.size) all chose)
-      → NoneAttached env chose.last chose.behind
+  refused-saw : (wanted : Wanted) (all : List Did) (chose : HasChosen env c (Attach wanted.size) all)
+      → Wants env c wanted (chosen_by env c (Attach wanted.size) all chose)
+      → NoneAttached env c chose.last chose.behind
       → SawNoRoom env.geometry wanted.size false chose.behind → Sees (not_made wanted) all
   refused-saw wanted all chose wants none room =
       let one = wanted.root == wanted.last.table in
@@ -265,7 +266,7 @@ module _ (env : Env) (words_at : ℕ → List ℕ) where
         choice = Attach wanted.size;
         since = record {
           chose = chose;
-          so = wanted-due wanted (chosen_by env (Attach wanted.size) all chose) chose.behind f wants none;
+          so = wanted-due wanted (chosen_by env c (Attach wanted.size) all chose) chose.behind f wants none;
         };
       })
     where
@@ -319,13 +320,13 @@ module _ (env : Env) (words_at : ℕ → List ℕ) where
 
   pub made-saw : (wanted : Wanted) (make : MakeModel) (steps : List Did) (did : Did)
       → IsMakingIn env wanted make
-      → did.op ≡ make_plan make → Makes env wanted make steps
+      → did.op ≡ make_plan make → Makes env c wanted make steps
       → Sees (made wanted (make_after make did.old).0 (make_after make did.old).1) (steps ++ did ∷ [])
   made-saw wanted make steps did within is saw =
       let next = make_after_at make.geometry make.exponent make.nested make.at did.old in
-      go next (Since-push env (Attach wanted.size) steps did saw (λ of behind making. record {
+      go next (Since-push env c (Attach wanted.size) steps did saw (λ of behind making. record {
         wants = making.wants;
-        none = NoneAttached-push env of.last behind did quiet making.none;
+        none = NoneAttached-push env c of.last behind did quiet making.none;
         made = making-saw wanted make behind did within is making.made;
         own = make-own env.geometry make.exponent make.geometry make.seed make.nested make.at behind did is making.own;
       }))
@@ -335,7 +336,7 @@ module _ (env : Env) (words_at : ℕ → List ℕ) where
           (make-none env.geometry make.geometry make.exponent make.seed make.at)
 
       go : (r : MakeAt × Next (Option (ℕ × ℕ)))
-          → Since env (Attach wanted.size) (IsMaking env wanted make.exponent r) (steps ++ did ∷ [])
+          → Since env c (Attach wanted.size) (IsMaking env c wanted make.exponent r) (steps ++ did ∷ [])
           → Sees (made wanted (record make { at = r.0 }) r.1) (steps ++ did ∷ [])
       go (state, Go) since = since
       go (state, Done None) since =
@@ -375,7 +376,7 @@ module _ (env : Env) (words_at : ℕ → List ℕ) where
   -- ---- the table is attached, or another one was
 
   pub attached-saw : (root last slot shape : ℕ) (steps : List Did) (did : Did) → last < 8 → slot < 8
-      → did.op ≡ Exchange (place_of env.geometry (Slot last FutureWord)) 0 (future_of slot) → IsToAttach env root last slot shape steps
+      → did.op ≡ Exchange (place_of env.geometry (Slot last FutureWord)) 0 (future_of slot) → IsToAttach env c root last slot shape steps
       → Sees (attached env.geometry root slot shape did.old) (steps ++ did ∷ [])
   attached-saw root last slot shape steps did last_in slot_in is (size, since) =
       by_test
@@ -383,7 +384,7 @@ module _ (env : Env) (words_at : ℕ → List ℕ) where
       (cond t (at.RootFuture root dues.Attached) (at.Unmaking root (unmake_new env.geometry slot shape)))
       (steps ++ did ∷ []))
       (did.old == 0)
-      (λ t. some (Since-push env (Attach size) steps did since (λ of behind due. record {
+      (λ t. some (Since-push env c (Attach size) steps did since (λ of behind due. record {
         root_same = due.root_same;
         saw = record {
           slot = slot;
@@ -405,26 +406,26 @@ module _ (env : Env) (words_at : ℕ → List ℕ) where
         at_once = λ e. absurd (cc);
       })))
       (λ f. (
-        some (Since-push env (Attach size) steps did since (λ of behind due. record {
+        some (Since-push env c (Attach size) steps did since (λ of behind due. record {
           root_same = due.root_same;
           saw = (
             (λ e. absurd (cc)),
-            NoneAttached-push env of.last behind did
+            NoneAttached-push env c of.last behind did
                 (λ some. eqb-false did.old 0 f some.attaches.found) due.none,
           );
           tried = tried of behind due;
           at_once = λ e. absurd (cc);
         })),
         slot_taken-push env.geometry slot steps did (lost-keeps env.geometry slot did _ _ _ is (eqb-false did.old 0 f))
-            (to_attach-taken env root last slot shape steps (size, since)),
+            (to_attach-taken env c root last slot shape steps (size, since)),
       ))
     where
-      some : {due : Due} → Since env (Attach size) (IsDue env root due (Attach size)) (steps ++ did ∷ [])
-          → HasDue env root due (steps ++ did ∷ [])
+      some : {due : Due} → Since env c (Attach size) (IsDue env c root due (Attach size)) (steps ++ did ∷ [])
+          → HasDue env c root due (steps ++ did ∷ [])
       some since = record { choice = Attach size; since = since }
 
-      tried : (of : Chosen) (behind : List Did) → IsMade env root last slot shape size of behind
-          → IsTried env (Attach size) of (behind ++ did ∷ [])
+      tried : (of : Chosen) (behind : List Did) → IsMade env c root last slot shape size of behind
+          → IsTried env c (Attach size) of (behind ++ did ∷ [])
       tried of behind due other same stays =
           let sizes : size ≡ other = cc in
           subst (λ n. HasTried env.geometry of.last n (behind ++ did ∷ [])) sizes (record {
@@ -440,26 +441,26 @@ module _ (env : Env) (words_at : ℕ → List ℕ) where
           })
 
   pub unmade-saw : (root : ℕ) (unmake : UnmakeModel) (next : Next (Unit {0})) (all : List Did)
-      → HasDue env root dues.Later all → OwnUnmade env.geometry unmake.slot next all → Sees (unmade root unmake next) all
+      → HasDue env c root dues.Later all → OwnUnmade env.geometry unmake.slot next all → Sees (unmade root unmake next) all
   unmade-saw root unmake Go all saw own = (saw, own)
   unmade-saw root unmake (Done done) all saw own = saw
 
   -- ---- the future of the current table
 
   -- it is to say so of what was due
-  due-says : (due : Due) (last : ℕ) (choice : Choice) (behind : List Did) → DueSaw env due last choice behind
-      → SaysMissing env (is_later due) last choice behind
-  due-says dues.Nothing last choice behind none = subst (λ c. IsSupplied env last c behind) (sym none) tt
+  due-says : (due : Due) (last : ℕ) (choice : Choice) (behind : List Did) → DueSaw env c due last choice behind
+      → SaysMissing env c (is_later due) last choice behind
+  due-says dues.Nothing last choice behind none = subst (λ made. IsSupplied env c last made behind) (sym none) tt
   due-says dues.Attached last choice behind saw = saw
   due-says dues.Later last choice behind saw = saw
 
   -- there is none only where nothing was due
-  pub future-saw : (root : ℕ) (due : Due) (next : Option ℕ) (steps : List Did) (did : Did) → root < 8
+  pub future-saw : (root : ℕ) (due : Due) (next : Option ℕ) (steps : List Did) (did : Did) → c < 16 → root < 8
       → did.op ≡ Load (place_of env.geometry (Slot root FutureWord)) → slot_of did.old ≡ next
       → (next ≡ None → due ≡ dues.Nothing)
       → ((future : ℕ) → slot_of did.old ≡ Some future → root ≢ future)
-      → HasDue env root due steps → Sees (future_or_idle root due next) (steps ++ did ∷ [])
-  future-saw root due next steps did l is finds none apart has = go due next finds none has
+      → HasDue env c root due steps → Sees (future_or_idle root due next) (steps ++ did ∷ [])
+  future-saw root due next steps did few l is finds none apart has = go due next finds none has
     where
       quiet : IsNoAttach env.geometry did
       quiet = no_attach env.geometry did _ is (λ table old new l e. cc)
@@ -470,27 +471,28 @@ module _ (env : Env) (words_at : ℕ → List ℕ) where
           (reads env (Slot root FutureWord) did (l, tt) is)
 
       go : (due : Due) (next : Option ℕ) → slot_of did.old ≡ next → (next ≡ None → due ≡ dues.Nothing)
-          → HasDue env root due steps → Sees (future_or_idle root due next) (steps ++ did ∷ [])
+          → HasDue env c root due steps → Sees (future_or_idle root due next) (steps ++ did ∷ [])
       go dues.Nothing None finds none has =
-          subst (λ c. Since env c (IsIdle env) (steps ++ did ∷ [])) has.since.so.saw
-          (Since-push env has.choice steps did has.since (λ of behind has. record {
+          subst (λ choice. Since env c choice (IsIdle env c) (steps ++ did ∷ [])) has.since.so.saw
+          (Since-push env c has.choice steps did has.since (λ of behind has. record {
             future = did;
             rest = [];
             behind_is = ap (λ s. s ++ did ∷ []) (has.at_once refl);
             future_read = loaded of.root has.root_same;
             none = finds;
             beside = tt;
+            few = few;
           }))
       go dues.Attached None finds none has = absurd (let e = none refl in cc)
       go dues.Later None finds none has = absurd (let e = none refl in cc)
       go due (Some next) finds none has =
-          SinceSome-push env steps did has (λ choice of behind due_now. record {
+          SinceSome-push env c steps did has (λ choice of behind due_now. record {
             root_same = due_now.root_same;
             followed = Any-push (ReadsFuture env.geometry of.root (Some next)) behind did
                 (loaded of.root due_now.root_same, finds);
             apart = λ same. apart next finds (sym due_now.root_same ∙ same);
             says =
-                SaysMissing-push env (is_later due) of.last choice behind did quiet
+                SaysMissing-push env c (is_later due) of.last choice behind did quiet
                 (due-says due of.last choice behind due_now.saw);
-            tried = IsTried-push env choice of behind did due_now.tried;
+            tried = IsTried-push env c choice of behind did due_now.tried;
           })

@@ -23,7 +23,7 @@ use Rattle.rht_core.proofs.Reasons.CausesInRuns.{JobSaw}
 use Rattle.rht_core.proofs.Reasons.OwnTables.{moving_works}
 use Rattle.rht_core.proofs.Reasons.WorksSeen.{SawAtWork}
 
-module _ (env : Env) (words_at : ℕ → List ℕ) (mix : ℕ → ℕ → ℕ → ℕ) (c : ℕ) (words : List ℕ) (G : Ghost)
+module _ (env : Env) (own : ℕ) (words_at : ℕ → List ℕ) (mix : ℕ → ℕ → ℕ → ℕ) (c : ℕ) (words : List ℕ) (G : Ghost)
     (whole : Whole env mix (mem env mix words) G) (did : Did) (found : did.old ≡ old_of words did.op) (slot : ℕ) (slot_in : slot < 8)
     (can : CanRetire env mix c slot G) (stores : did.op ≡ Store (place_of env.geometry (Slot slot StateWord)) 2)
     (other : word_after did.old did.op ≢ did.old) (steps : List Did) where
@@ -49,7 +49,7 @@ module _ (env : Env) (words_at : ℕ → List ℕ) (mix : ℕ → ℕ → ℕ �
   unlocking-left rehash place false means = one_left means.works.1
 
   work-gone : (state : WorkAt) → did.op ≡ job_plan env c (works state)
-      → WorkMeans env mix c (mem env mix words) G (known_at_work state) → SawAtWork env words_at state steps → HasGoneOn g slot steps
+      → WorkMeans env mix c (mem env mix words) G (known_at_work state) → SawAtWork env own words_at state steps → HasGoneOn g slot steps
   work-gone working.WorkLock is means saw = absurd (let both = sym is ∙ stores in cc)
   work-gone working.Opening is means saw = absurd (let both = sym is ∙ stores in cc)
   work-gone (working.Closing ending) is means saw = absurd (let both = sym is ∙ stores in cc)
@@ -62,6 +62,6 @@ module _ (env : Env) (words_at : ℕ → List ℕ) (mix : ℕ → ℕ → ℕ �
   work-gone _ is means saw = absurd (one_left means.works.1)
 
   pub gone_on : (job : Job) → did.op ≡ job_plan env c job → (held_of job).moving ≡ true → JobKnows env mix c job (mem env mix words) G
-      → JobSaw env words_at mix job steps → HasGoneOn g slot steps
+      → JobSaw env own words_at mix job steps → HasGoneOn g slot steps
   gone_on (works state) is moves knows saw = work-gone state is knows.knowing.means.work saw
   gone_on job is moves knows saw = absurd (let same = moving_works job moves in cc)

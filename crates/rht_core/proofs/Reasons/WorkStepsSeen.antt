@@ -3,7 +3,7 @@
 --
 -- Where a table was due there is a future to be found, by what the caller knows; and the last table that is
 -- looked for anew is another one than the current one, which is still the one that is moved.
-use Rattle.std.proofs.Common.{◌≡◌, ◌≢◌, ℕ, ◌<◌, ◌≤◌, ◌⊎◌, ◌+◌, ◌^◌, Bool, true, List, [], ◌∷◌, ◌++◌, map, refl, sym, ap, ◌∙◌, subst, inl, inr, arith}
+use Rattle.std.proofs.Common.{◌≡◌, ◌≢◌, ℕ, ◌<◌, ◌≤◌, ◌+◌, ◌^◌, true, List, [], ◌∷◌, ◌++◌, map, append_assoc, refl, sym, ap, ◌∙◌, subst, inl, inr, arith}
 use Rattle.std.specs.Prelude.{Some, None, ◌==◌}
 use Rattle.std.proofs.lemmas.List.{map-append}
 use Rattle.rht_words.specs.declared.op.Op.TheVariants.{Store}
@@ -41,7 +41,8 @@ use Rattle.rht_move.specs.Work.{after_at, closed, entry_table_seen, with_word, r
 use Rattle.rht_core.specs.Jobs.{works}
 use Rattle.rht_core.specs.Traces.{Did, performed_of}
 use Rattle.rht_core.specs.ResizeCauses.{FindsSlotsTaken, AreSlotsTaken, AreRunsTaken}
-use Rattle.rht_core.specs.WorkCauses.{OpensOrCloses, StoresOrCloses, SawNoTableDue}
+use Rattle.rht_core.specs.Seen.{TurnsSection}
+use Rattle.rht_core.specs.WorkCauses.{StoresOther, SawNoTableDue}
 use Rattle.rht_ghost.proofs.Theory.Ghosts.{index_at}
 use Rattle.rht_ghost.proofs.Theory.Steps.{mem}
 use Rattle.rht_ghost.proofs.Theory.Knowns.{Onward, Rooted}
@@ -52,9 +53,9 @@ use Rattle.rht_core.proofs.Meaning.TablesInForce.{current_slot, next_apart}
 use Rattle.rht_core.proofs.Reasons.AttachedTables.{no_attach, lock-none, unmake-none}
 use Rattle.rht_core.proofs.Reasons.MakesSeen.{runs_taken-stay}
 use Rattle.rht_core.proofs.Reasons.ChoicesMade.{HasChosen-push, Since-push}
-use Rattle.rht_core.proofs.Reasons.WorksSeen.{IsBesideTables, SawReplaced, SawIdle, AnewSaw, HasDue-push, SawForWork, SawAtWork, SawNextWork}
+use Rattle.rht_core.proofs.Reasons.WorksSeen.{IsBesideTables, SawIdle, AnewSaw, HasDue-push, Stores, StoresAndCloses, SawForWork, SawToClose, SawAtWork, SawNextWork}
 use Rattle.rht_core.proofs.Reasons.TablesDue.{reads, lock-saw, opening-saw, current-saw, FindsSmall, last-saw, begun-saw, made-saw, attached-saw, unmade-saw, future-saw}
-use Rattle.rht_core.proofs.Reasons.MovesSeen.{cut-none, publish-saw, HasGoneOn-push, stored-saw, turned-saw, goes, root-saw, passed-saw, locked-saw, entry-saw, walked-saw, second_locked-saw, cut-saw, sought-saw, found-saw, SawStopped-push, unlocking-stores, unlocked-saw, retiring-saw}
+use Rattle.rht_core.proofs.Reasons.MovesSeen.{cut-none, publish-saw, HasGoneOn-push, stored-saw, turned-saw, goes, root-saw, passed-saw, locked-saw, entry-saw, walked-saw, second_locked-saw, cut-saw, sought-saw, found-saw, HasStopped-push, unlocking-stores, unlocked-saw, retiring-saw}
 use Rattle.rht_core.proofs.Reasons.SlotsTaken.{unmake-own}
 
 -- ---- what the caller knows
@@ -138,26 +139,26 @@ module _ (env : Env) (mix : ℕ → ℕ → ℕ → ℕ) where
 
 -- ---- all states
 
-module _ (env : Env) (words_at : ℕ → List ℕ) where
+module _ (env : Env) (c : ℕ) (words_at : ℕ → List ℕ) where
   abbrev Sees : WorkAt → List Did → Type 0
-  Sees = SawAtWork env words_at
+  Sees = SawAtWork env c words_at
 
   table-saw : (mix : ℕ → ℕ → ℕ → ℕ) (emptying : Emptying) (h : Geometry) (state : LastTableAt)
       (steps : List Did) (did : Did)
       → let seek : LastTableModel = record { geometry = h; at = state } in
       (does : Performs mix env (works (at.EntryTable emptying seek)) did) → does.words ≡ words_at did.index
-      → AnewSaw env emptying.rehash state steps
+      → AnewSaw env c emptying.rehash state steps
       → let next = last_table_after seek did.old in
       Sees (entry_table_seen emptying next.0 next.1) (steps ++ did ∷ [])
   table-saw mix emptying h (seeks.Future slot) steps did does here saw =
       let is = does.planned ∙ ap (λ (g : Geometry). last_table_plan_at g (seeks.Future slot))
       does.within.seek_in.geometry_same in
-      sought-saw env emptying.rehash slot (slot_of did.old) steps did
+      sought-saw env c emptying.rehash slot (slot_of did.old) steps did
       (reads env (Slot slot FutureWord) did (does.within.seek_in.at_in, tt) is, refl) saw
   table-saw mix emptying h (seeks.Shape slot) steps did does here saw =
       let is = does.planned ∙ ap (λ (g : Geometry). last_table_plan_at g (seeks.Shape slot))
       does.within.seek_in.geometry_same in
-      found-saw env words_at emptying slot steps did
+      found-saw env c words_at emptying slot steps did
       (reads env (Slot slot ShapeWord) did (does.within.seek_in.at_in, tt) is)
       (other_last env mix emptying h slot did does)
       (subst (λ words. table_of (word_at env.geometry words CurrentTable) ≡ emptying.rehash.root) here
@@ -174,155 +175,177 @@ module _ (env : Env) (words_at : ℕ → List ℕ) where
         (λ slot l place. absurd (omega (arith, low, place)));
   }
 
-  -- the operation lets go of the work lock, or closes the section
-  abbrev ClosesOrLets : Did → Type 0
-  ClosesOrLets did = (did.op ≡ Store (place_of env.geometry WorkLock) 0) ⊎ OpensOrCloses env.geometry did
-
-  ends-beside : (did : Did) → ClosesOrLets did → IsBesideTables env did
-  ends-beside did (inl is) = inl (ap op_place is)
-  ends-beside did (inr turns) = inr turns
-
-  ends-other : (did : Did) → ClosesOrLets did → StoresOrCloses env.geometry did
-  ends-other did (inl is) = inl (record { place = _; value = _; stores = is; other = λ e. cc })
-  ends-other did (inr turns) = inr turns
-
-  replaced-more : (again : Bool) (steps : List Did) (did : Did) → ClosesOrLets did → SawReplaced env again steps
-      → SawReplaced env again (steps ++ did ∷ [])
-  replaced-more again steps did (inl is) replaced = stored-saw env again WorkLock 0 steps did tt (λ e. cc) is replaced
-  replaced-more again steps did (inr turns) replaced = turned-saw env again steps did turns replaced
-
-  -- it is on a word before the slots
-  beside-low : (did : Did) → IsBesideTables env did → op_place did.op < 24
-  beside-low did (inl on) = omega (arith, on)
-  beside-low did (inr turns) =
-      let on : op_place did.op ≡ 8 + turns.caller = ap op_place turns.turns in omega (arith, on, turns.within)
-
   no_table-push : (size : ℕ) (steps : List Did) (did : Did)
-      → IsBesideTables env did
-      → SawNoTableDue env size steps → SawNoTableDue env size (steps ++ did ∷ [])
+      → op_place did.op < 24
+      → SawNoTableDue env c size steps → SawNoTableDue env c size (steps ++ did ∷ [])
   unfolding HasChosen-push
-  no_table-push size steps did beside saw =
+  no_table-push size steps did low saw =
       let behind = saw.chose.behind in
       let more = map-append performed_of behind (did ∷ []) in
       record {
-        chose = HasChosen-push env (Attach size) steps did saw.chose;
+        chose = HasChosen-push env c (Attach size) steps did saw.chose;
         stays = saw.stays;
         room = elim saw.room [
           | inl slots ↦ inl (subst (AreSlotsTaken env.geometry) (sym more)
-              (slots_taken-stay (map performed_of behind) (performed_of did) (beside-low did beside) slots))
+              (slots_taken-stay (map performed_of behind) (performed_of did) low slots))
           | inr runs ↦ inr (subst (AreRunsTaken env.geometry (pages_due size) 0 []) (sym more)
               (runs_taken-stay env.geometry (pages_due size) 0 [] (map performed_of behind)
               (performed_of did) runs))
         ];
       }
 
-  idle-push : (steps : List Did) (did : Did) → IsBesideTables env did
-      → SawIdle env steps → SawIdle env (steps ++ did ∷ [])
+  idle-push : (steps : List Did) (did : Did) → IsBesideTables env c did
+      → SawIdle env c steps → SawIdle env c (steps ++ did ∷ [])
   idle-push steps did beside saw =
-      Since-push env Nothing steps did saw (λ of behind idle. record {
+      Since-push env c Nothing steps did saw (λ of behind idle. record {
         future = idle.future;
         rest = idle.rest ++ did ∷ [];
         behind_is = ap (λ s. s ++ did ∷ []) idle.behind_is;
         future_read = idle.future_read;
         none = idle.none;
-        beside = AllByRecursion-push (IsBesideTables env) idle.rest did idle.beside beside;
+        beside = AllByRecursion-push (IsBesideTables env c) idle.rest did idle.beside beside;
+        few = idle.few;
       })
 
-  -- an answer stays seen while the section is closed and the work lock let go of
-  ended-saw : (outcome : Outcome) (steps : List Did) (did : Did) → ClosesOrLets did
-      → SawForWork env words_at (reply_of outcome) steps
-      → SawForWork env words_at (reply_of outcome) (steps ++ did ∷ [])
-  ended-saw outcomes.Idle steps did ends saw = idle-push steps did (ends-beside did ends) saw
-  ended-saw (outcomes.NoTable size) steps did ends saw = no_table-push size steps did (ends-beside did ends) saw
-  ended-saw (outcomes.Moved again) steps did ends saw = elim saw [
-    | inl replaced ↦ inl (replaced-more again steps did ends replaced)
-    | inr stops ↦ inr (SawStopped-push env words_at again steps did (ends-other did ends) stops)
+  -- behind what it stored it closes its section
+  closes-behind : (did : Did) → TurnsSection env.geometry c did → (behind : List Did) → Stores env c words_at behind
+      → StoresAndCloses env c words_at (behind ++ did ∷ [])
+  closes-behind did turns behind stored = record {
+    front = behind;
+    closing = did;
+    rest = [];
+    split = refl;
+    front_stores = stored;
+    closes = turns;
+    rest_stores = tt;
+  }
+
+  -- and behind that it lets go of the work lock
+  lets-behind : (did : Did) → did.op ≡ Store (place_of env.geometry WorkLock) 0 → (behind : List Did)
+      → StoresAndCloses env c words_at behind → StoresAndCloses env c words_at (behind ++ did ∷ [])
+  lets-behind did is behind ends = record {
+    front = ends.front;
+    closing = ends.closing;
+    rest = ends.rest ++ did ∷ [];
+    split = ap (λ s. s ++ did ∷ []) ends.split ∙ append_assoc ends.front (ends.closing ∷ ends.rest) (did ∷ []);
+    front_stores = ends.front_stores;
+    closes = ends.closes;
+    rest_stores =
+        AllByRecursion-push (StoresOther env.geometry) ends.rest did ends.rest_stores
+        (record { place = _; value = _; stores = is; other = λ e. cc });
+  }
+
+  -- what is seen for an answer once the section is closed
+  closed-saw : (outcome : Outcome) (steps : List Did) (did : Did) → TurnsSection env.geometry c did → c < 16
+      → SawToClose env c words_at outcome steps
+      → SawForWork env c words_at (reply_of outcome) (steps ++ did ∷ [])
+  closed-saw outcomes.Idle steps did turns few saw = idle-push steps did (inr turns) saw
+  closed-saw (outcomes.NoTable size) steps did turns few saw =
+      let on : op_place did.op ≡ 8 + c = ap op_place turns in
+      no_table-push size steps did (omega (arith, on, few)) saw
+  closed-saw (outcomes.Moved again) steps did turns few saw = elim saw [
+    | inl replaced ↦ inl (turned-saw env c again steps did turns replaced)
+    | inr stops ↦ inr (HasStopped-push env c words_at again steps did stops (closes-behind did turns))
+  ]
+
+  -- and once the work lock is let go of
+  let_go-saw : (outcome : Outcome) (steps : List Did) (did : Did) → did.op ≡ Store (place_of env.geometry WorkLock) 0
+      → SawForWork env c words_at (reply_of outcome) steps
+      → SawForWork env c words_at (reply_of outcome) (steps ++ did ∷ [])
+  let_go-saw outcomes.Idle steps did is saw = idle-push steps did (inl (ap op_place is)) saw
+  let_go-saw (outcomes.NoTable size) steps did is saw =
+      let on = ap op_place is in
+      no_table-push size steps did (omega (arith, on)) saw
+  let_go-saw (outcomes.Moved again) steps did is saw = elim saw [
+    | inl replaced ↦ inl (stored-saw env c again WorkLock 0 steps did tt (λ e. cc) is replaced)
+    | inr stops ↦ inr (HasStopped-push env c words_at again steps did stops (lets-behind did is))
   ]
 
   -- the section is closed, and behind that it retires a table, or lets go of the work lock
-  closing-saw : (ending : Ending) (steps : List Did) (did : Did) → OpensOrCloses env.geometry did → Sees (at.Closing ending) steps
+  closing-saw : (ending : Ending) (steps : List Did) (did : Did) → TurnsSection env.geometry c did → c < 16
+      → Sees (at.Closing ending) steps
       → Sees (closed ending) (steps ++ did ∷ [])
-  closing-saw (endings.Retiring root again) steps did turns saw =
-      (turned-saw env again steps did turns saw.0, HasGoneOn-push env root steps did saw.1)
-  closing-saw (endings.LettingGo outcome) steps did turns saw = ended-saw outcome steps did (inr turns) saw
+  closing-saw (endings.Retiring root again) steps did turns few saw =
+      (turned-saw env c again steps did turns saw.0, HasGoneOn-push env c root steps did saw.1)
+  closing-saw (endings.LettingGo outcome) steps did turns few saw = closed-saw outcome steps did turns few saw
 
   pub work-saw : (mix : ℕ → ℕ → ℕ → ℕ) (state : WorkAt) (steps : List Did) (did : Did)
-      → (does : Performs mix env (works state) did) → does.words ≡ words_at did.index → Sees state steps
-      → SawNextWork env words_at (steps ++ did ∷ []) (after_at mix env state did.old)
-  work-saw mix at.WorkLock steps did does here saw = lock-saw env words_at steps did does.planned saw
-  work-saw mix at.Opening steps did does here saw =
-      opening-saw env words_at steps did (record { caller = does.caller; within = does.few; turns = does.planned }) saw
-  work-saw mix at.CurrentTable steps did does here saw = current-saw env words_at steps did does.planned saw
-  work-saw mix (at.LastTable root seek) steps did does here saw =
-      last-saw env words_at root seek.geometry seek.at steps did does.within.seek_in.at_in
+      → (does : Performs mix env (works state) did) → does.caller ≡ c → does.words ≡ words_at did.index → Sees state steps
+      → SawNextWork env c words_at (steps ++ did ∷ []) (after_at mix env state did.old)
+  work-saw mix at.WorkLock steps did does own here saw = lock-saw env c words_at steps did does.planned saw
+  work-saw mix at.Opening steps did does own here saw =
+      opening-saw env c words_at steps did (subst (λ k. TurnsSection env.geometry k did) own does.planned) saw
+  work-saw mix at.CurrentTable steps did does own here saw = current-saw env c words_at steps did does.planned saw
+  work-saw mix (at.LastTable root seek) steps did does own here saw =
+      last-saw env c words_at root seek.geometry seek.at steps did does.within.seek_in.at_in
       (last_small env mix root seek.geometry seek.at did does)
       (does.planned ∙ ap (λ (h : Geometry). last_table_plan_at h seek.at)
       does.within.seek_in.geometry_same) saw
-  work-saw mix (at.Count root last) steps did does here saw =
-      begun-saw env words_at root last (choice_of env did.old last.shape (root == last.table)) steps did
+  work-saw mix (at.Count root last) steps did does own here saw =
+      begun-saw env c words_at root last (choice_of env did.old last.shape (root == last.table)) steps did
       does.planned refl saw
-  work-saw mix (at.Making wanted make) steps did does here saw =
-      made-saw env words_at wanted make steps did does.within does.planned saw
-  work-saw mix (at.Attaching root last slot shape) steps did does here saw =
-      attached-saw env words_at root last slot shape steps did does.within.last_in does.within.made_in.slot_in
+  work-saw mix (at.Making wanted make) steps did does own here saw =
+      made-saw env c words_at wanted make steps did does.within does.planned saw
+  work-saw mix (at.Attaching root last slot shape) steps did does own here saw =
+      attached-saw env c words_at root last slot shape steps did does.within.last_in does.within.made_in.slot_in
       does.planned saw
-  work-saw mix (at.Unmaking root unmake) steps did does here saw =
-      unmade-saw env words_at root (unmake_after unmake did.old).0 (unmake_after unmake did.old).1
+  work-saw mix (at.Unmaking root unmake) steps did does own here saw =
+      unmade-saw env c words_at root (unmake_after unmake did.old).0 (unmake_after unmake did.old).1
       (steps ++ did ∷ [])
-      (HasDue-push env root steps did
+      (HasDue-push env c root steps did
       (no_attach env.geometry did _ does.planned
       (unmake-none env.geometry unmake.geometry unmake.slot unmake.at)) saw.0)
       (unmake-own env.geometry unmake.geometry unmake.slot unmake.at steps did does.planned saw.1)
-  work-saw mix (at.RootFuture root due) steps did does here saw =
-      future-saw env words_at root due (slot_of did.old) steps did does.within does.planned refl
+  work-saw mix (at.RootFuture root due) steps did does own here saw =
+      future-saw env c words_at root due (slot_of did.old) steps did (subst (λ k. k < 16) own does.few) does.within does.planned refl
       (nothing-found env mix root due did does)
       (other_future env mix root due did does) saw
-  work-saw mix (at.RootShape root future again) steps did does here saw =
+  work-saw mix (at.RootShape root future again) steps did does own here saw =
       let rehash : Rehash = record { root = root; future = future; shape = did.old; again = again } in
-      root-saw env words_at rehash 0 (steps ++ did ∷ [])
-      (goes env rehash _ steps did does.planned (λ table old new l e. cc) saw)
-  work-saw mix (at.Entry rehash number place) steps did does here saw =
-      passed-saw env words_at rehash number (place_after place did.old).0 (place_after place did.old).1
+      root-saw env c words_at rehash 0 (steps ++ did ∷ [])
+      (goes env c rehash _ steps did does.planned (λ table old new l e. cc) saw)
+  work-saw mix (at.Entry rehash number place) steps did does own here saw =
+      passed-saw env c words_at rehash number (place_after place did.old).0 (place_after place did.old).1
       (steps ++ did ∷ [])
-      (goes env rehash _ steps did does.planned (λ table old new l e. cc) saw)
-  work-saw mix (at.Locking rehash number lock) steps did does here saw =
-      locked-saw env words_at rehash number (lock_after lock did.old).0 (lock_after lock did.old).1
+      (goes env c rehash _ steps did does.planned (λ table old new l e. cc) saw)
+  work-saw mix (at.Locking rehash number lock) steps did does own here saw =
+      locked-saw env c words_at rehash number (lock_after lock did.old).0 (lock_after lock did.old).1
       (steps ++ did ∷ [])
-      (goes env rehash _ steps did does.planned
+      (goes env c rehash _ steps did does.planned
       (lock-none env.geometry lock.place lock.at does.within.lock_in.place_in) saw)
-  work-saw mix (at.EntryTable emptying seek) steps did does here saw =
+  work-saw mix (at.EntryTable emptying seek) steps did does own here saw =
       table-saw mix emptying seek.geometry seek.at steps did does here saw
-  work-saw mix (at.Seed emptying last) steps did does here saw =
-      goes env emptying.rehash _ steps did does.planned (λ table old new l e. cc) saw
-  work-saw mix (at.BucketWord emptying target) steps did does here saw =
-      entry-saw env words_at (with_word emptying (unlocked did.old)) target
+  work-saw mix (at.Seed emptying last) steps did does own here saw =
+      goes env c emptying.rehash _ steps did does.planned (λ table old new l e. cc) saw
+  work-saw mix (at.BucketWord emptying target) steps did does own here saw =
+      entry-saw env c words_at (with_word emptying (unlocked did.old)) target
       (node_of env.geometry.nodes (head_of emptying.bucket.place (unlocked did.old))) (steps ++ did ∷ [])
-      (goes env emptying.rehash _ steps did does.planned (λ table old new l e. cc) saw)
-  work-saw mix (at.Walking emptying target walk) steps did does here saw =
-      walked-saw env words_at emptying target (last_entry_after walk did.old).0
+      (goes env c emptying.rehash _ steps did does.planned (λ table old new l e. cc) saw)
+  work-saw mix (at.Walking emptying target walk) steps did does own here saw =
+      walked-saw env c words_at emptying target (last_entry_after walk did.old).0
       (last_entry_after walk did.old).1 (steps ++ did ∷ [])
-      (goes env emptying.rehash _ steps did does.planned (λ table old new l e. cc) saw)
-  work-saw mix (at.Key emptying target entry) steps did does here saw =
-      goes env emptying.rehash _ steps did does.planned (λ table old new l e. cc) saw
-  work-saw mix (at.LockingSecond emptying entry table lock) steps did does here saw =
-      second_locked-saw env words_at emptying entry table (lock_after lock did.old).0
+      (goes env c emptying.rehash _ steps did does.planned (λ table old new l e. cc) saw)
+  work-saw mix (at.Key emptying target entry) steps did does own here saw =
+      goes env c emptying.rehash _ steps did does.planned (λ table old new l e. cc) saw
+  work-saw mix (at.LockingSecond emptying entry table lock) steps did does own here saw =
+      second_locked-saw env c words_at emptying entry table (lock_after lock did.old).0
       (lock_after lock did.old).1 (steps ++ did ∷ [])
-      (goes env emptying.rehash _ steps did does.planned
+      (goes env c emptying.rehash _ steps did does.planned
       (lock-none env.geometry lock.place lock.at does.within.lock_in.place_in) saw)
-  work-saw mix (at.EntryLink emptying entry second) steps did does here saw =
-      goes env emptying.rehash _ steps did does.planned (λ table old new l e. cc) saw
-  work-saw mix (at.Linking emptying entry second) steps did does here saw =
-      goes env emptying.rehash _ steps did does.planned (λ table old new l e. cc) saw
-  work-saw mix (at.CuttingOff emptying entry) steps did does here saw =
-      cut-saw env words_at emptying entry.before (steps ++ did ∷ [])
-      (goes env emptying.rehash _ steps did does.planned
+  work-saw mix (at.EntryLink emptying entry second) steps did does own here saw =
+      goes env c emptying.rehash _ steps did does.planned (λ table old new l e. cc) saw
+  work-saw mix (at.Linking emptying entry second) steps did does own here saw =
+      goes env c emptying.rehash _ steps did does.planned (λ table old new l e. cc) saw
+  work-saw mix (at.CuttingOff emptying entry) steps did does own here saw =
+      cut-saw env c words_at emptying entry.before (steps ++ did ∷ [])
+      (goes env c emptying.rehash _ steps did does.planned
       (cut-none env emptying.bucket.place entry.before) saw)
-  work-saw mix (at.Unlocking rehash number unlock stop) steps did does here saw =
-      unlocked-saw env words_at rehash number stop steps did
-      (unlocking-stores env unlock did does.within.unlock_in does.planned)
+  work-saw mix (at.Unlocking rehash number unlock stop) steps did does own here saw =
+      unlocked-saw env c words_at rehash number stop steps did
+      (unlocking-stores env c unlock did does.within.unlock_in does.planned)
       (no_attach env.geometry did _ does.planned (λ table old new l e. cc)) saw
-  work-saw mix (at.Publishing rehash) steps did does here saw = (
-    publish-saw env rehash steps did does.within.tables_in.future_in does.planned saw,
+  work-saw mix (at.Publishing rehash) steps did does own here saw = (
+    publish-saw env c rehash steps did does.within.tables_in.future_in does.planned saw,
     record {
       before = steps;
       at = did;
@@ -335,12 +358,12 @@ module _ (env : Env) (words_at : ℕ → List ℕ) where
       other = next_apart env mix does.words does.ghost does.whole rehash.root rehash.future does.knows.knowing.means.work.more.followed;
     },
   )
-  work-saw mix (at.NewFuture rehash) steps did does here saw =
-      retiring-saw env words_at rehash (slot_of did.old) steps did does.within.tables_in.future_in
+  work-saw mix (at.NewFuture rehash) steps did does own here saw =
+      retiring-saw env c words_at rehash (slot_of did.old) steps did does.within.tables_in.future_in
       does.planned refl saw
-  work-saw mix (at.Retiring root again) steps did does here saw =
+  work-saw mix (at.Retiring root again) steps did does own here saw =
       inl
-      (stored-saw env again (Slot root StateWord) 2 steps did (does.within, tt) (λ e. cc) does.planned saw.0)
-  work-saw mix (at.Closing ending) steps did does here saw =
-      closing-saw ending steps did (record { caller = does.caller; within = does.few; turns = does.planned }) saw
-  work-saw mix (at.LettingGo outcome) steps did does here saw = ended-saw outcome steps did (inl does.planned) saw
+      (stored-saw env c again (Slot root StateWord) 2 steps did (does.within, tt) (λ e. cc) does.planned saw.0)
+  work-saw mix (at.Closing ending) steps did does own here saw =
+      closing-saw ending steps did (subst (λ k. TurnsSection env.geometry k did) own does.planned) (subst (λ k. k < 16) own does.few) saw
+  work-saw mix (at.LettingGo outcome) steps did does own here saw = let_go-saw outcome steps did does.planned saw

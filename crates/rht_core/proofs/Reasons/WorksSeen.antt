@@ -4,22 +4,23 @@
 -- was due there is a future to be found, by what the caller knows then. For each entry the last table is
 -- looked for anew, and where that is nested the move stops. In the end it is kept which table the resizing
 -- made the current one.
-use Rattle.std.proofs.Common.{◌≡◌, ◌≢◌, ◌⊎◌, ℕ, ◌^◌, Bool, true, false, List, [], ◌∷◌, ◌++◌, map, append_assoc, ap, ◌∙◌, subst, sym}
+use Rattle.std.proofs.Common.{◌≡◌, ◌≢◌, ◌⊎◌, ℕ, ◌<◌, ◌^◌, Bool, true, false, List, [], ◌∷◌, ◌++◌, map, append_assoc, ap, ◌∙◌, subst, sym}
 use Rattle.std.specs.Prelude.{Option, Some, None}
 use Rattle.std.specs.List.{AllByRecursion, Any}
 use Rattle.rht_words.specs.declared.env.Env.{Env}
 use Rattle.rht_words.specs.declared.machine.Next.{Next}
 use Rattle.rht_words.specs.declared.machine.Next.TheVariants.{Go}
-use Rattle.rht_words.specs.Links.{slot_of}
+use Rattle.rht_words.specs.Links.{table_of, slot_of}
 use Rattle.rht_words.specs.Machines.{GoesOrEnds}
 use Rattle.rht_words.specs.Operations.{op_place}
-use Rattle.rht_words.specs.Places.{CurrentTable, WorkLock, Slot, FutureWord, place_of}
+use Rattle.rht_words.specs.Places.{CurrentTable, WorkLock, Slot, ShapeWord, FutureWord, place_of, word_at}
 use Rattle.rht_words.specs.Sizes.{IsSizeUpTo}
 use Rattle.rht_words.proofs.EachElement.{Any-append_left, AllByRecursion-push}
 use Rattle.rht_model.specs.declared.history.Reply.{Reply}
 use Rattle.rht_model.specs.declared.history.Reply.TheVariants.{NoTable, Elsewhere, Idle, Moved}
 use Rattle.rht_nest.specs.Make.{MakeModel}
 use Rattle.rht_nest.specs.declared.make.MakeAt.{MakeAt}
+use Rattle.rht_nest.specs.Tables.{is_nested}
 use Rattle.rht_move.specs.declared.last_table.LastTableAt.{LastTableAt}
 use Rattle.rht_move.specs.declared.rehash.Rehash.{Rehash}
 use Rattle.rht_move.specs.declared.work.choice.Choice.{Choice}
@@ -27,14 +28,16 @@ use Rattle.rht_move.specs.declared.work.choice.Choice.TheVariants.{Attach, Later
 use Rattle.rht_move.specs.declared.work.Wanted.{Wanted}
 use Rattle.rht_move.specs.declared.work.Due.{Due}
 use Rattle.rht_move.specs.declared.work.Due.TheVariants as dues
+use Rattle.rht_move.specs.declared.work.Outcome.{Outcome}
+use Rattle.rht_move.specs.declared.work.Outcome.TheVariants as outcomes
 use Rattle.rht_move.specs.declared.work.ending.Ending.TheVariants as endings
 use Rattle.rht_move.specs.declared.work.WorkAt.{WorkAt}
 use Rattle.rht_move.specs.declared.work.WorkAt.TheVariants as at
 use Rattle.rht_move.specs.Work.{reply_of}
 use Rattle.rht_core.specs.Traces.{Did, performed_of}
-use Rattle.rht_core.specs.Seen.{LoadsWord}
+use Rattle.rht_core.specs.Seen.{LoadsWord, TurnsSection}
 use Rattle.rht_core.specs.ResizeCauses.{Loaded, Attaches}
-use Rattle.rht_core.specs.WorkCauses.{SawElsewhere, ReadsFuture, HasPublished, IsSized, HasAttached, SawNoTableDue, OpensOrCloses, HasTried, HasTriedIfNeeded, SawStopped}
+use Rattle.rht_core.specs.WorkCauses.{SawElsewhere, ReadsFuture, AreFuturesRead, HasChosen, HasPublished, IsSized, HasAttached, SawNoTableDue, StoresOther, HasTried, HasTriedIfNeeded}
 use Rattle.rht_core.proofs.Tracing.LoneCalls.{Spares}
 use Rattle.rht_core.proofs.Reasons.AttachedTables.{IsNoAttach}
 use Rattle.rht_core.proofs.Reasons.MakesSeen.{SawMade}
@@ -44,7 +47,7 @@ use Rattle.rht_core.specs.Attached.{HasTakenSlot, StoresDrawn, HasGoneOn}
 use Rattle.rht_core.proofs.Reasons.SlotsTaken.{Owns, slot_taken-behind}
 use Rattle.rht_words.specs.Shapes.{unpacked, size_of}
 
-module _ (env : Env) where
+module _ (env : Env) (c : ℕ) where
   -- ---- what has become of what was chosen
 
   -- no operation attached a table behind that of this slot
@@ -67,7 +70,7 @@ module _ (env : Env) where
     pub own : Owns env.geometry exponent next behind
 
   abbrev pub Makes : Wanted → MakeModel → List Did → Type 0
-  Makes wanted make = Since env (Attach wanted.size) (IsMaking wanted make.exponent (make.at, Go))
+  Makes wanted make = Since env c (Attach wanted.size) (IsMaking wanted make.exponent (make.at, Go))
 
   -- none was due, or a table of the size that was is attached
   abbrev pub IsSupplied : ℕ → Choice → List Did → Type 0
@@ -96,7 +99,7 @@ module _ (env : Env) where
     pub at_once : due ≡ dues.Nothing → behind ≡ []
 
   abbrev pub HasDue : ℕ → Due → List Did → Type 0
-  HasDue root due = SinceSome env (IsDue root due)
+  HasDue root due = SinceSome env c (IsDue root due)
 
   -- a table of the size that was due, in a slot that was taken and has this shape, is to be attached behind this one
   pub record IsMade (root last slot shape size : ℕ) (of : Chosen) (behind : List Did) : Type 0 where
@@ -110,7 +113,7 @@ module _ (env : Env) where
     pub size_is : size_of (unpacked shape) ≡ size
 
   abbrev pub IsToAttach : ℕ → ℕ → ℕ → ℕ → List Did → Type 0
-  IsToAttach root last slot shape steps = (size : ℕ) × Since env (Attach size) (IsMade root last slot shape size) steps
+  IsToAttach root last slot shape steps = (size : ℕ) × Since env c (Attach size) (IsMade root last slot shape size) steps
 
   -- its slot was taken
   pub to_attach-taken : (root last slot shape : ℕ) (steps : List Did) → IsToAttach root last slot shape steps
@@ -137,7 +140,7 @@ module _ (env : Env) where
     pub tried : IsTried choice of behind
 
   abbrev pub Moves : ℕ → ℕ → Bool → List Did → Type 0
-  Moves root future again = SinceSome env (IsMoving root future again)
+  Moves root future again = SinceSome env c (IsMoving root future again)
 
   -- it has made a table the current one that wasn't, and has left it so since
   pub record IsPublished (of : Chosen) (behind : List Did) : Type 0 where
@@ -156,7 +159,7 @@ module _ (env : Env) where
     pub last : published.later ≡ []
 
   abbrev pub HasMoved : Rehash → List Did → Type 0
-  HasMoved rehash = SinceSome env (IsMoved rehash)
+  HasMoved rehash = SinceSome env c (IsMoved rehash)
 
   -- the operation finds that the table of this slot has a future
   abbrev pub FindsFurther : ℕ → Did → Type 0
@@ -175,11 +178,11 @@ module _ (env : Env) where
         × AllByRecursion (FindsNoneFurther published.table) published.later)
 
   abbrev pub SawReplaced : Bool → List Did → Type 0
-  SawReplaced again = SinceSome env (IsReplaced again)
+  SawReplaced again = SinceSome env c (IsReplaced again)
 
-  -- the operation is on the work lock, or opens or closes a read section
+  -- the operation is on the work lock, or opens or closes the caller's read section
   abbrev pub IsBesideTables : Did → Type 0
-  IsBesideTables did = (op_place did.op ≡ place_of env.geometry WorkLock) ⊎ OpensOrCloses env.geometry did
+  IsBesideTables did = (op_place did.op ≡ place_of env.geometry WorkLock) ⊎ TurnsSection env.geometry c did
 
   -- it found nothing due, loaded that the current table has no future, and has left the words of tables alone
   -- since
@@ -190,9 +193,10 @@ module _ (env : Env) where
     pub future_read : Loaded env.geometry (Slot of.root FutureWord) future.old future
     pub none : slot_of future.old ≡ None
     pub beside : AllByRecursion IsBesideTables rest
+    pub few : c < 16
 
   abbrev pub SawIdle : List Did → Type 0
-  SawIdle = Since env Nothing IsIdle
+  SawIdle = Since env c Nothing IsIdle
 
   abbrev pub RehashSaw : Rehash → List Did → Type 0
   RehashSaw rehash = Moves rehash.root rehash.future rehash.again
@@ -209,7 +213,7 @@ module _ (env : Env) where
       IsMoving rehash.root rehash.future rehash.again choice of behind × LooksAnew at of.root behind
 
   abbrev pub AnewSaw : Rehash → LastTableAt → List Did → Type 0
-  AnewSaw rehash at = SinceSome env (IsAnew rehash at)
+  AnewSaw rehash at = SinceSome env c (IsAnew rehash at)
 
   -- ---- with an operation more that attaches no table
 
@@ -273,7 +277,7 @@ module _ (env : Env) where
 
   pub HasDue-push : (root : ℕ) (steps : List Did) (did : Did) → IsNoAttach env.geometry did
       → HasDue root dues.Later steps → HasDue root dues.Later (steps ++ did ∷ [])
-  HasDue-push root steps did quiet has = SinceSome-push env steps did has (λ choice of behind due. record {
+  HasDue-push root steps did quiet has = SinceSome-push env c steps did has (λ choice of behind due. record {
     root_same = due.root_same;
     saw = IsMissing-push of.last choice behind did quiet due.saw;
     tried = IsTried-push choice of behind did due.tried;
@@ -295,52 +299,90 @@ module _ (env : Env) where
   pub Moves-push : (root future : ℕ) (again : Bool) (steps : List Did) (did : Did)
       → IsNoAttach env.geometry did
       → Moves root future again steps → Moves root future again (steps ++ did ∷ [])
-  Moves-push root future again steps did quiet moves = SinceSome-push env steps did moves
+  Moves-push root future again steps did quiet moves = SinceSome-push env c steps did moves
       (λ choice of behind moving. IsMoving-push root future again choice of behind did quiet moving)
 
 -- where these are the words before the event with each number
-module _ (env : Env) (words_at : ℕ → List ℕ) where
-  -- it stops before a nested table
+module _ (env : Env) (c : ℕ) (words_at : ℕ → List ℕ) where
+  -- it has stored words, and not that of the current table
+  abbrev pub Stores : List Did → Type 0
+  Stores steps = AllByRecursion (StoresOther env.geometry) steps
+
+  -- and among these operations it has closed its section
+  pub record StoresAndCloses (steps : List Did) : Type 0 where
+    pub front : List Did
+    pub closing : Did
+    pub rest : List Did
+    pub split : steps ≡ front ++ closing ∷ rest
+    pub front_stores : Stores front
+    pub closes : TurnsSection env.geometry c closing
+    pub rest_stores : Stores rest
+
+  -- it stops before a nested table, and that is so of its operations behind the load by which it does
+  pub record HasStopped (Ends : List Did → Type 0) (again : Bool) (steps : List Did) : Type 0 where
+    pub more : again ≡ true
+    pub choice : Choice
+    pub chose : HasChosen env c choice steps
+    pub tried : HasTriedIfNeeded env.geometry chose.root chose.last chose.shape.old choice chose.behind
+    pub last : ℕ
+    pub before : List Did
+    pub futures : List Did
+    pub shape : Did
+    pub behind : List Did
+    pub split : chose.behind ≡ (before ++ futures) ++ shape ∷ behind
+    pub futures_read : AreFuturesRead env.geometry chose.root last futures
+    pub apart : chose.root ≢ last
+    pub shape_read : Loaded env.geometry (Slot last ShapeWord) shape.old shape
+    pub nested : is_nested shape.old ≡ true
+    pub current : table_of (word_at env.geometry (words_at shape.index) CurrentTable) ≡ chose.root
+    pub ends : Ends behind
+
   abbrev pub UnlockingSaw : Rehash → Bool → List Did → Type 0
-  UnlockingSaw rehash true steps = SawStopped env words_at true steps
-  UnlockingSaw rehash false steps = RehashSaw env rehash steps
+  UnlockingSaw rehash true steps = HasStopped Stores true steps
+  UnlockingSaw rehash false steps = RehashSaw env c rehash steps
 
   -- for an answer
   abbrev pub SawForWork : Reply → List Did → Type 0
   SawForWork Elsewhere steps = SawElsewhere env.geometry steps
-  SawForWork (NoTable size) steps = SawNoTableDue env size steps
-  SawForWork Idle steps = SawIdle env steps
-  SawForWork (Moved again) steps = SawReplaced env again steps ⊎ SawStopped env words_at again steps
+  SawForWork (NoTable size) steps = SawNoTableDue env c size steps
+  SawForWork Idle steps = SawIdle env c steps
+  SawForWork (Moved again) steps = SawReplaced env c again steps ⊎ HasStopped StoresAndCloses again steps
   SawForWork _ steps = Unit {0}
+
+  -- before it closes its section for that answer
+  abbrev pub SawToClose : Outcome → List Did → Type 0
+  SawToClose outcomes.Idle steps = SawIdle env c steps
+  SawToClose (outcomes.NoTable size) steps = SawNoTableDue env c size steps
+  SawToClose (outcomes.Moved again) steps = SawReplaced env c again steps ⊎ HasStopped Stores again steps
 
   abbrev pub SawAtWork : WorkAt → List Did → Type 0
   SawAtWork at.WorkLock steps = steps ≡ []
-  SawAtWork at.Opening steps = HasLock env steps
-  SawAtWork at.CurrentTable steps = HasOpened env steps
-  SawAtWork (at.LastTable root seek) steps = SeekSaw env root seek.at steps
-  SawAtWork (at.Count root last) steps = Measures env root last steps
-  SawAtWork (at.Making wanted make) steps = Makes env wanted make steps
-  SawAtWork (at.Attaching root last slot shape) steps = IsToAttach env root last slot shape steps
-  SawAtWork (at.Unmaking root unmake) steps = HasDue env root dues.Later steps × HasTakenSlot env.geometry unmake.slot steps
-  SawAtWork (at.RootFuture root due) steps = HasDue env root due steps
-  SawAtWork (at.RootShape root future again) steps = Moves env root future again steps
-  SawAtWork (at.Entry rehash number place) steps = RehashSaw env rehash steps
-  SawAtWork (at.Locking rehash number lock) steps = RehashSaw env rehash steps
-  SawAtWork (at.EntryTable emptying seek) steps = AnewSaw env emptying.rehash seek.at steps
-  SawAtWork (at.Seed emptying last) steps = RehashSaw env emptying.rehash steps
-  SawAtWork (at.BucketWord emptying target) steps = RehashSaw env emptying.rehash steps
-  SawAtWork (at.Walking emptying target walk) steps = RehashSaw env emptying.rehash steps
-  SawAtWork (at.Key emptying target entry) steps = RehashSaw env emptying.rehash steps
-  SawAtWork (at.LockingSecond emptying entry table lock) steps = RehashSaw env emptying.rehash steps
-  SawAtWork (at.EntryLink emptying entry second) steps = RehashSaw env emptying.rehash steps
-  SawAtWork (at.Linking emptying entry second) steps = RehashSaw env emptying.rehash steps
-  SawAtWork (at.CuttingOff emptying entry) steps = RehashSaw env emptying.rehash steps
+  SawAtWork at.Opening steps = HasLock env c steps
+  SawAtWork at.CurrentTable steps = HasOpened env c steps
+  SawAtWork (at.LastTable root seek) steps = SeekSaw env c root seek.at steps
+  SawAtWork (at.Count root last) steps = Measures env c root last steps
+  SawAtWork (at.Making wanted make) steps = Makes env c wanted make steps
+  SawAtWork (at.Attaching root last slot shape) steps = IsToAttach env c root last slot shape steps
+  SawAtWork (at.Unmaking root unmake) steps = HasDue env c root dues.Later steps × HasTakenSlot env.geometry unmake.slot steps
+  SawAtWork (at.RootFuture root due) steps = HasDue env c root due steps
+  SawAtWork (at.RootShape root future again) steps = Moves env c root future again steps
+  SawAtWork (at.Entry rehash number place) steps = RehashSaw env c rehash steps
+  SawAtWork (at.Locking rehash number lock) steps = RehashSaw env c rehash steps
+  SawAtWork (at.EntryTable emptying seek) steps = AnewSaw env c emptying.rehash seek.at steps
+  SawAtWork (at.Seed emptying last) steps = RehashSaw env c emptying.rehash steps
+  SawAtWork (at.BucketWord emptying target) steps = RehashSaw env c emptying.rehash steps
+  SawAtWork (at.Walking emptying target walk) steps = RehashSaw env c emptying.rehash steps
+  SawAtWork (at.Key emptying target entry) steps = RehashSaw env c emptying.rehash steps
+  SawAtWork (at.LockingSecond emptying entry table lock) steps = RehashSaw env c emptying.rehash steps
+  SawAtWork (at.EntryLink emptying entry second) steps = RehashSaw env c emptying.rehash steps
+  SawAtWork (at.Linking emptying entry second) steps = RehashSaw env c emptying.rehash steps
+  SawAtWork (at.CuttingOff emptying entry) steps = RehashSaw env c emptying.rehash steps
   SawAtWork (at.Unlocking rehash number unlock stop) steps = UnlockingSaw rehash stop steps
-  SawAtWork (at.Publishing rehash) steps = RehashSaw env rehash steps
-  SawAtWork (at.NewFuture rehash) steps = HasMoved env rehash steps × HasGoneOn env.geometry rehash.root steps
-  SawAtWork (at.Closing (endings.Retiring root again)) steps = SawReplaced env again steps × HasGoneOn env.geometry root steps
-  SawAtWork (at.Closing (endings.LettingGo outcome)) steps = SawForWork (reply_of outcome) steps
-  SawAtWork (at.Retiring root again) steps = SawReplaced env again steps × HasGoneOn env.geometry root steps
+  SawAtWork (at.Publishing rehash) steps = RehashSaw env c rehash steps
+  SawAtWork (at.NewFuture rehash) steps = HasMoved env c rehash steps × HasGoneOn env.geometry rehash.root steps
+  SawAtWork (at.Closing (endings.Retiring root again)) steps = SawReplaced env c again steps × HasGoneOn env.geometry root steps
+  SawAtWork (at.Closing (endings.LettingGo outcome)) steps = SawToClose outcome steps
+  SawAtWork (at.Retiring root again) steps = SawReplaced env c again steps × HasGoneOn env.geometry root steps
   SawAtWork (at.LettingGo outcome) steps = SawForWork (reply_of outcome) steps
 
   abbrev pub SawNextWork : List Did → WorkAt × Next Reply → Type 0

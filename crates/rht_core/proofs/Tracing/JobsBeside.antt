@@ -11,7 +11,7 @@ use Rattle.rht_core.specs.Jobs.{Job, first_job, job_after}
 use Rattle.rht_core.specs.Runs.{IsAdmitted}
 use Rattle.rht_core.specs.Traces.{Did, Past, traced_of}
 use Rattle.rht_core.specs.Seen.{words_before}
-use Rattle.rht_core.proofs.Tracing.TracedJobs.{Performs, StandsIn, LeadsOn, JobsKeepStanding, IsEndedSo, jobs_keep_own}
+use Rattle.rht_core.proofs.Tracing.TracedJobs.{Performs, StandsIn, LeadsOn, JobsKeepOwn, IsEndedSo, jobs_keep_own}
 
 module _ (M : Type 0) (mix : ℕ → ℕ → ℕ → ℕ) (env : Env) (events : List Event)
     (First Now : Job → List Did → Type 0) (FirstEnded Ended : Call → Ending → List Did → Type 0)
@@ -41,15 +41,15 @@ module _ (M : Type 0) (mix : ℕ → ℕ → ℕ → ℕ) (env : Env) (events : 
     ended_beside (past ∷ calls) each = (each.0.1, ended_beside calls each.1)
 
     -- so it holds of each of its calls that has ended
-    pub kept_beside : JobsKeepStanding M mix env First FirstEnded events → (c : ℕ) → KeepsBeside c
+    pub kept_beside : (c : ℕ) → JobsKeepOwn M mix env First FirstEnded events c → KeepsBeside c
         → IsAdmitted env.config.kind events
         → AllByRecursion (IsEndedSo M mix env Now Ended) ((traced_of {M = M} mix env events).traces c).past
-    kept_beside first c keeps admitted =
+    kept_beside c first keeps admitted =
         ended_beside ((traced_of {M = M} mix env events).traces c).past
         (jobs_keep_own M mix env Both BothEnded events c record {
           begins = λ call job is. (first.begins call job is, keeps.begins call job is);
           goes = λ job steps did performs own stands both.
               both_lead job (steps ++ did ∷ []) (job_after mix env job did.old)
-              (first.goes job steps did performs stands both.0)
+              (first.goes job steps did performs own stands both.0)
               (keeps.goes job steps did performs own stands both.0 both.1);
         } admitted).past

@@ -40,11 +40,11 @@ CameToEnter g job steps =
     → job ≡ binds port owner once (binding.Entering attempt table shape place grow) → CameTo g table steps
 
 -- since it has walked that one last
-pub saw-came : (env : Env) (words_at : ℕ → List ℕ) (mix : ℕ → ℕ → ℕ → ℕ) (job : Job) (steps : List Did)
-    → JobSaw env words_at mix job steps → CameToEnter env.geometry job steps
-saw-came env words_at mix job steps saw port owner once attempt table shape place grow is =
-    let here : JobSaw env words_at mix (binds port owner once (binding.Entering attempt table shape place grow)) steps =
-    subst (λ j. JobSaw env words_at mix j steps) is saw in
+pub saw-came : (env : Env) (c : ℕ) (words_at : ℕ → List ℕ) (mix : ℕ → ℕ → ℕ → ℕ) (job : Job) (steps : List Did)
+    → JobSaw env c words_at mix job steps → CameToEnter env.geometry job steps
+saw-came env c words_at mix job steps saw port owner once attempt table shape place grow is =
+    let here : JobSaw env c words_at mix (binds port owner once (binding.Entering attempt table shape place grow)) steps =
+    subst (λ j. JobSaw env c words_at mix j steps) is saw in
     walked-came env.geometry table shape steps here.0.walked
 
 module _ (env : Env) (mix : ℕ → ℕ → ℕ → ℕ) (c : ℕ) (M : Memory) (G : Ghost) (did : Did) (entry page : ℕ)

@@ -330,12 +330,12 @@ module _ (M : Type 0) (mix : ℕ → ℕ → ℕ → ℕ) (env : Env) (events : 
 pub let_go : (M : Type 0) (mix : ℕ → ℕ → ℕ → ℕ) → LetGo M mix
 let_go M mix env events c admitted =
     each M mix env events c ((traced_of {M = M} mix env events).traces c).past
-    (kept_beside M mix env events (JobSaw env (words_before M mix env events) mix) (Now M mix env events c)
-    (EndsSeen M mix env events) (Gone M mix env events c)
-    (record { begins = first_job-saw M mix env events; goes = job-leads M mix env events }) c
+    (kept_beside M mix env events (JobSaw env c (words_before M mix env events) mix) (Now M mix env events c)
+    (EndsSeen M mix env events c) (Gone M mix env events c) c
+    (record { begins = first_job-saw M mix env events c; goes = job-leads M mix env events c })
     (record {
       begins = λ call job is. (refusals.begins M mix env events c call job is, begins M mix env events c call job is);
       goes = λ job steps did performs own stands saw kept.
           goes_on M mix env events c job steps did performs own stands.now
-          (saw-came env (words_before M mix env events) mix job steps saw) kept;
+          (saw-came env c (words_before M mix env events) mix job steps saw) kept;
     }) admitted)

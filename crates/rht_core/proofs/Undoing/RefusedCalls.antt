@@ -421,13 +421,13 @@ module _ (M : Type 0) (mix : ℕ → ℕ → ℕ → ℕ) (env : Env) (events : 
 pub refused : (M : Type 0) (mix : ℕ → ℕ → ℕ → ℕ) → Refused M mix
 refused M mix env events c admitted =
     each M mix env events c admitted ((traced_of {M = M} mix env events).traces c).past
-    (kept_beside M mix env events (JobSaw env (words_before M mix env events) mix) (Going M mix env events c)
-    (EndsSeen M mix env events) (Undone M mix env events c)
-    (record { begins = first_job-saw M mix env events; goes = job-leads M mix env events }) c
+    (kept_beside M mix env events (JobSaw env c (words_before M mix env events) mix) (Going M mix env events c)
+    (EndsSeen M mix env events c) (Undone M mix env events c) c
+    (record { begins = first_job-saw M mix env events c; goes = job-leads M mix env events c })
     (record {
       begins = begins M mix env events c;
       goes = λ job steps did performs own stands saw kept.
           goes M mix env events c job steps did performs own stands.now
-          (saw-came env (words_before M mix env events) mix job steps saw) kept;
+          (saw-came env c (words_before M mix env events) mix job steps saw) kept;
     }) admitted)
     (at_events M mix env events admitted c).past
