@@ -17,10 +17,6 @@ abbrev pub others_in_call : {M : Type 0} → Core M → ℕ → ℕ
 others_in_call core c =
     count_by (λ other. not (other == c) && not (is_idle (local_of core other))) (range_with_len 0 core.env.geometry.callers)
 
--- the operation adds 1 to the section word of this caller
-abbrev pub TurnsSection : Geometry → ℕ → Did → Type 0
-TurnsSection g c did = did.op ≡ Add (place_of g (Section c)) 1
-
 -- the operation loads this word of the table
 pub record LoadsWord (g : Geometry) (address : Address) (did : Did) : Type 0 where
   pub there : IsAddress g address
@@ -34,9 +30,13 @@ LoadsCurrent g table did = LoadsWord g CurrentTable did × (table_of did.old ≡
 abbrev pub IsNoCurrentLoad : Geometry → Did → Type 0
 IsNoCurrentLoad g did = did.op ≢ Load (place_of g CurrentTable)
 
--- nor opens or closes a read section
+-- the operation adds 1 to the section word of this caller
+abbrev pub TurnsSection : Geometry → ℕ → Did → Type 0
+TurnsSection g c did = did.op ≡ Add (place_of g (Section c)) 1
+
+-- the operation neither loads which table is the current one nor opens or closes a read section
 abbrev pub StaysInSection : Geometry → Did → Type 0
-StaysInSection g did = IsNoCurrentLoad g did × ((caller : ℕ) → caller < 16 → did.op ≢ Add (place_of g (Section caller)) 1)
+StaysInSection g did = IsNoCurrentLoad g did × ((caller : ℕ) → caller < 16 → TurnsSection g caller did → ⊥)
 
 -- The operations came to the table of this slot from their last load of the current table on, in the section in which they made that. It
 -- found this one, or from it they came to another one, and then loaded this one as its future.
