@@ -567,9 +567,9 @@ LOOP churn(const struct table *t, struct ports ports) {
 
 /* ---- the rows, as in `src/rows.rt` and `src/measure.rt` of `rht_bench` */
 
-enum workload { HITS, APART, MISSES, MIXED, CHURN, BINDS, WORKLOADS };
+enum workload { HITS, APART, COMMON, MISSES, MIXED, CHURN, BINDS, WORKLOADS };
 
-static const char *const names[] = {"hits", "apart", "misses", "mixed", "churn", "binds"};
+static const char *const names[] = {"hits", "apart", "common", "misses", "mixed", "churn", "binds"};
 
 struct row {
   enum workload workload;
@@ -609,7 +609,8 @@ static u64 rounds(const struct job *job) {
   u64 right = 0;
   for (u32 i = 0; i < job->rounds; i++) {
     switch (job->workload) {
-    case HITS: right += hits(job->table, job->ports); break;
+    case HITS:
+    case COMMON: right += hits(job->table, job->ports); break;
     case APART: right += apart(job->table, job->ports); break;
     case MISSES: right += misses(job->table, job->ports); break;
     case MIXED: right += mixed(job->table, job->ports); break;
@@ -659,15 +660,22 @@ static struct measured all_of(const struct job *jobs, u32 threads) {
   return m;
 }
 
-/* Measures a row in one table. */
+/* The ports of a thread: its share of them. In `common` each thread has all of them. */
+static struct ports ports_of(struct row row, u32 thread) {
+  if (row.workload == COMMON) return (struct ports){0, row.ports, thread};
+  u32 count = row.ports / row.threads;
+  return (struct ports){thread * count, count, thread};
+}
+
+/* Measures a row in one table. In `common` the binds of the first thread bind all ports, and those of the
+ * others find them bound. */
 static struct measured measure(struct row row) {
   struct table t;
   struct job jobs[4];
   struct gate gate = {0, row.threads};
   open_table(&t, row.nodes, row.pages, row.threads, row.ports);
-  u32 count = row.ports / row.threads;
   for (u32 i = 0; i < row.threads; i++) {
-    struct ports own = {i * count, count, i};
+    struct ports own = ports_of(row, i);
     jobs[i] = (struct job){&t, &gate, row.workload, own, row.rounds, 0, 0, 0};
     if (row.workload == APART) low_binds(&t, own);
     else if (row.workload != BINDS) binds(&t, own);
@@ -713,8 +721,10 @@ static void print_row(struct row row) {
           (unsigned long long)hundredths / 100, (unsigned long long)hundredths % 100);
 }
 
-/* Whether the words of the program ask for the row: by its name, where it isn't empty, and its threads. */
+/* Whether the words of the program ask for the row: by its name, where it isn't empty, and its threads.
+ * `rht_bench` has no row `common` yet, so that one is measured where it is named alone. */
 static bool is_asked(struct row row, int count, char **words) {
+  if (row.workload == COMMON && (count < 3 || words[2][0] == '\0')) return false;
   char name[32];
   snprintf(name, sizeof name, "%s_of_%u", names[row.workload], row.ports);
   return (count < 3 || words[2][0] == '\0' || strcmp(words[2], name) == 0) &&
