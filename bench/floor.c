@@ -1,6 +1,8 @@
 /*
  * What `rht_bench` does, in C: the same operations on the same words in the same order, each of them
- * one atomic operation, sequentially consistent. Each of these can be chosen or not:
+ * one atomic operation, sequentially consistent. A look-up, a bind and a release each open their caller's
+ * read section before they load the current table, and close it behind their last operation there. Each
+ * of these can be chosen or not:
  *
  *   cc -O2 -pthread floor.c    with the clamps and the replies that the machines make
  *   -DBARE                     without them: no word is doubted, and a reply is a number
@@ -188,6 +190,16 @@ typedef int64_t reply;
 #define IS(r, what) ((r) == PLAIN_REPLY(what))
 #endif
 
+/* ---- the read section of a caller, whose word is odd while it is open */
+
+ALWAYS void enter(const struct table *t, u32 caller) {
+  (void)atomic_fetch_add(single(t, SECTIONS + (size_t)caller), 1);
+}
+
+ALWAYS void leave(const struct table *t, u32 caller) {
+  (void)atomic_fetch_add(single(t, SECTIONS + (size_t)caller), 1);
+}
+
 /* ---- the bucket of a port, its lock and its chain */
 
 struct probed {
@@ -290,9 +302,9 @@ ALWAYS reply looked_up(const struct table *t, bool low, u32 port) {
 
 /* Within the caller's read section. */
 ALWAYS reply find_by(const struct table *t, bool low, u32 caller, u32 port) {
-  (void)atomic_fetch_add(single(t, SECTIONS + (size_t)caller), 1);
+  enter(t, caller);
   reply r = looked_up(t, low, port);
-  (void)atomic_fetch_add(single(t, SECTIONS + (size_t)caller), 1);
+  leave(t, caller);
   return r;
 }
 
@@ -328,27 +340,32 @@ ALWAYS bool above_100(const struct table *t, u64 count, u32 size) {
   return count > size && (t->max == 0 || size < t->max);
 }
 
+/* The end of a bind that hasn't linked its node: closes the section, and gives the node back. */
+ALWAYS reply unbound(const struct table *t, u32 caller, u32 node, reply r) {
+  leave(t, caller);
+  give_node(t, node);
+  return r;
+}
+
 /* A bind in a table that has room. Where it has none, as where a chain of 16 nodes is full, the call
- * would attach a further table: here it is refused. */
-ALWAYS reply bind_by(const struct table *t, bool low, u32 port, u32 owner) {
+ * would attach a further table: here it is refused. Its node is taken and filled before the caller's
+ * read section; where none is free, none is opened. */
+ALWAYS reply bind_by(const struct table *t, bool low, u32 caller, u32 port, u32 owner) {
   u32 node = take_node(t);
   if (node == NONE) return PLAIN_REPLY(NO_NODE);
   store(node_word(t, node, KEY), port);
   store(node_word(t, node, OWNER_WORD), owner);
   store(node_word(t, node, LIST_LINK), 0);
+  enter(t, caller);
   u32 slot = table_of(load(single(t, CURRENT_TABLE)));
   for (;;) {
     struct probed p;
-    if (!probe(t, low, slot, port, &p)) {
-      give_node(t, node);
-      return PLAIN_REPLY(NO_TABLE);
-    }
+    if (!probe(t, low, slot, port, &p)) return unbound(t, caller, node, PLAIN_REPLY(NO_TABLE));
     if (p.found != NONE) {
       u32 first = (u32)load(node_word(t, p.found, OWNER_WORD));
       unlock(t, &p);
-      give_node(t, node);
       (void)first;
-      return EXISTS_REPLY(first);
+      return unbound(t, caller, node, EXISTS_REPLY(first));
     }
     u32 future = slot_of(load(slot_word(t, slot, FUTURE)));
     if (future != NONE) {
@@ -365,19 +382,19 @@ ALWAYS reply bind_by(const struct table *t, bool low, u32 port, u32 owner) {
     if (count > size_of(p.shape)) {
 #endif
       unlock(t, &p);
-      give_node(t, node);
-      return TOO_BIG_REPLY(count);
+      return unbound(t, caller, node, TOO_BIG_REPLY(count));
     }
     store(node_word(t, node, CHAIN_LINK), head_of(p.place, p.word));
     u64 old = atomic_fetch_add(single(t, PORT_COUNT), 1);
     bool kick = CLAMPS && above_75(t, (old < 65535 ? old : 65535) + 1, size_of(p.shape));
     (void)kick;
     relink(t, &p, NONE, link_of(node));
+    leave(t, caller);
     return BOUND_REPLY(kick);
   }
 }
 
-ALWAYS reply release_by(const struct table *t, bool low, u32 port, u32 owner) {
+ALWAYS reply taken_out(const struct table *t, bool low, u32 port, u32 owner) {
   u32 slot = table_of(load(single(t, CURRENT_TABLE)));
   for (;;) {
     struct probed p;
@@ -412,12 +429,26 @@ ALWAYS reply release_by(const struct table *t, bool low, u32 port, u32 owner) {
   }
 }
 
+/* Within the caller's read section. */
+ALWAYS reply release_by(const struct table *t, bool low, u32 caller, u32 port, u32 owner) {
+  enter(t, caller);
+  reply r = taken_out(t, low, port, owner);
+  leave(t, caller);
+  return r;
+}
+
 /* The same, each by the one hash or by the other. */
 CALL reply find(const struct table *t, u32 caller, u32 port) { return find_by(t, false, caller, port); }
 CALL reply low_find(const struct table *t, u32 caller, u32 port) { return find_by(t, true, caller, port); }
-CALL reply bind(const struct table *t, u32 port, u32 owner) { return bind_by(t, false, port, owner); }
-CALL reply low_bind(const struct table *t, u32 port, u32 owner) { return bind_by(t, true, port, owner); }
-CALL reply release(const struct table *t, u32 port, u32 owner) { return release_by(t, false, port, owner); }
+CALL reply bind(const struct table *t, u32 caller, u32 port, u32 owner) {
+  return bind_by(t, false, caller, port, owner);
+}
+CALL reply low_bind(const struct table *t, u32 caller, u32 port, u32 owner) {
+  return bind_by(t, true, caller, port, owner);
+}
+CALL reply release(const struct table *t, u32 caller, u32 port, u32 owner) {
+  return release_by(t, false, caller, port, owner);
+}
 
 /* ---- opening */
 
@@ -488,7 +519,7 @@ ALWAYS u32 binds_in(const struct table *t, bool low, struct ports ports) {
   u32 right = 0;
   for (u32 i = 0; i < ports.count; i++) {
     u32 port = ports.first + i;
-    right += is_done(low ? low_bind(t, port, OWNER) : bind(t, port, OWNER));
+    right += is_done(low ? low_bind(t, ports.caller, port, OWNER) : bind(t, ports.caller, port, OWNER));
   }
   return right;
 }
@@ -515,8 +546,8 @@ LOOP mixed(const struct table *t, struct ports ports) {
   u32 blocks = ports.count / 20;
   u32 right = 0;
   for (u32 i = 0; i < blocks; i++) {
-    right += is_done(bind(t, other, OWNER));
-    right += is_done(release(t, other, OWNER));
+    right += is_done(bind(t, ports.caller, other, OWNER));
+    right += is_done(release(t, ports.caller, other, OWNER));
     right += hits_in(t, false, (struct ports){ports.first + 20 * i + 2, 18, ports.caller});
   }
   return right + hits_in(t, false, (struct ports){ports.first + 20 * blocks, ports.count % 20, ports.caller});
@@ -526,8 +557,8 @@ LOOP churn(const struct table *t, struct ports ports) {
   u32 right = 0;
   for (u32 i = 0; i < ports.count; i++) {
     u32 other = (ports.first + i) | OTHER;
-    reply bound = bind(t, other, OWNER);
-    reply released = release(t, other, OWNER);
+    reply bound = bind(t, ports.caller, other, OWNER);
+    reply released = release(t, ports.caller, other, OWNER);
     right += is_done(bound);
     right += is_done(released);
   }
@@ -536,9 +567,9 @@ LOOP churn(const struct table *t, struct ports ports) {
 
 /* ---- the rows, as in `src/rows.rt` and `src/measure.rt` of `rht_bench` */
 
-enum workload { HITS, APART, MISSES, MIXED, CHURN, BINDS, WORKLOADS };
+enum workload { HITS, APART, COMMON, MISSES, MIXED, CHURN, BINDS, WORKLOADS };
 
-static const char *const names[] = {"hits", "apart", "misses", "mixed", "churn", "binds"};
+static const char *const names[] = {"hits", "apart", "common", "misses", "mixed", "churn", "binds"};
 
 struct row {
   enum workload workload;
@@ -578,7 +609,8 @@ static u64 rounds(const struct job *job) {
   u64 right = 0;
   for (u32 i = 0; i < job->rounds; i++) {
     switch (job->workload) {
-    case HITS: right += hits(job->table, job->ports); break;
+    case HITS:
+    case COMMON: right += hits(job->table, job->ports); break;
     case APART: right += apart(job->table, job->ports); break;
     case MISSES: right += misses(job->table, job->ports); break;
     case MIXED: right += mixed(job->table, job->ports); break;
@@ -628,15 +660,22 @@ static struct measured all_of(const struct job *jobs, u32 threads) {
   return m;
 }
 
-/* Measures a row in one table. */
+/* The ports of a thread: its share of them. In `common` each thread has all of them. */
+static struct ports ports_of(struct row row, u32 thread) {
+  if (row.workload == COMMON) return (struct ports){0, row.ports, thread};
+  u32 count = row.ports / row.threads;
+  return (struct ports){thread * count, count, thread};
+}
+
+/* Measures a row in one table. In `common` the binds of the first thread bind all ports, and those of the
+ * others find them bound. */
 static struct measured measure(struct row row) {
   struct table t;
   struct job jobs[4];
   struct gate gate = {0, row.threads};
   open_table(&t, row.nodes, row.pages, row.threads, row.ports);
-  u32 count = row.ports / row.threads;
   for (u32 i = 0; i < row.threads; i++) {
-    struct ports own = {i * count, count, i};
+    struct ports own = ports_of(row, i);
     jobs[i] = (struct job){&t, &gate, row.workload, own, row.rounds, 0, 0, 0};
     if (row.workload == APART) low_binds(&t, own);
     else if (row.workload != BINDS) binds(&t, own);
@@ -682,8 +721,10 @@ static void print_row(struct row row) {
           (unsigned long long)hundredths / 100, (unsigned long long)hundredths % 100);
 }
 
-/* Whether the words of the program ask for the row: by its name, where it isn't empty, and its threads. */
+/* Whether the words of the program ask for the row: by its name, where it isn't empty, and its threads.
+ * `rht_bench` has no row `common` yet, so that one is measured where it is named alone. */
 static bool is_asked(struct row row, int count, char **words) {
+  if (row.workload == COMMON && (count < 3 || words[2][0] == '\0')) return false;
   char name[32];
   snprintf(name, sizeof name, "%s_of_%u", names[row.workload], row.ports);
   return (count < 3 || words[2][0] == '\0' || strcmp(words[2], name) == 0) &&
