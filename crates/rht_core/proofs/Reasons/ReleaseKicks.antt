@@ -356,17 +356,17 @@ module _ (env : Env) where
   release-saw mix c port owner (at.Owner found node before) steps did within is saw =
       both (owner_compared found node before (owner_of did.old == owner)) (steps ++ did ∷ [])
       (compared-saw found node before (owner_of did.old == owner) (steps ++ did ∷ [])
-        (Walked-push env.geometry found.table found.shape steps did (node_loads env.geometry did env.geometry node OwnerWord is) saw.0))
+      (Walked-push env.geometry found.table found.shape steps did (node_loads env.geometry did env.geometry node OwnerWord is) saw.0))
       (AllByRecursion-push IsNoLowering steps did saw.1 (no_sub did _ is (λ place value same. cc)))
   release-saw mix c port owner (at.ListLink found node) steps did within is saw =
       both (list_followed found node (node_of env.geometry.nodes did.old)) (steps ++ did ∷ [])
       (followed-saw found node (node_of env.geometry.nodes did.old) (steps ++ did ∷ [])
-        (Walked-push env.geometry found.table found.shape steps did (node_loads env.geometry did env.geometry node ListLink is) saw.0))
+      (Walked-push env.geometry found.table found.shape steps did (node_loads env.geometry did env.geometry node ListLink is) saw.0))
       (AllByRecursion-push IsNoLowering steps did saw.1 (no_sub did _ is (λ place value same. cc)))
   release-saw mix c port owner (at.LinkBehind found node before) steps did within is saw =
       both (cut_or_chain env.geometry found node did.old before) (steps ++ did ∷ [])
       (behind-saw found node did.old before (steps ++ did ∷ [])
-        (Walked-push env.geometry found.table found.shape steps did (node_loads env.geometry did env.geometry node ListLink is) saw.0))
+      (Walked-push env.geometry found.table found.shape steps did (node_loads env.geometry did env.geometry node ListLink is) saw.0))
       (AllByRecursion-push IsNoLowering steps did saw.1 (no_sub did _ is (λ place value same. cc)))
   release-saw mix c port owner (at.CuttingOut found node before link) steps did within is saw = (
     record {
@@ -379,8 +379,8 @@ module _ (env : Env) where
   release-saw mix c port owner (at.ChainLink found second) steps did within is saw =
       both (unlink_or_promote env.geometry found did.old second) (steps ++ did ∷ [])
       (second-saw found did.old second (steps ++ did ∷ [])
-        (Walked-push env.geometry found.table found.shape steps did
-        (node_loads env.geometry did env.geometry found.node ChainLink is) saw.0))
+      (Walked-push env.geometry found.table found.shape steps did
+      (node_loads env.geometry did env.geometry found.node ChainLink is) saw.0))
       (AllByRecursion-push IsNoLowering steps did saw.1 (no_sub did _ is (λ place value same. cc)))
   release-saw mix c port owner (at.SecondLink found second link) steps did within is saw = (
     Walked-push env.geometry found.table found.shape steps did (stores did _ _ is) saw.0,
@@ -395,7 +395,7 @@ module _ (env : Env) where
   release-saw mix c port owner (at.Unlinking found relink) steps did within is saw =
       both (unlinked found (relink_after relink).0 (relink_after relink).1) (steps ++ did ∷ [])
       (unlinked-saw found (relink_after relink).0 (relink_after relink).1 (steps ++ did ∷ [])
-        (Walked-push env.geometry found.table found.shape steps did (relink_stores env.geometry did relink relink.at is) saw.0))
+      (Walked-push env.geometry found.table found.shape steps did (relink_stores env.geometry did relink relink.at is) saw.0))
       (AllByRecursion-push IsNoLowering steps did saw.1 (no_sub did _ is (relink-none relink relink.at)))
   release-saw mix c port owner (at.Lowering node shape) steps did within is saw = (
     record {

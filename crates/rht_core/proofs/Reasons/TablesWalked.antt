@@ -156,7 +156,7 @@ module _ (g : Geometry) where
   run_stays h pages (runs.MapWord first index) did is =
       let order = parts_in_order h in (
         (λ load. let same : place_of h (PageMap index) ≡ place_of g CurrentTable = (let both = sym is ∙ load in cc) in
-        absurd (omega (arith, same, order.page_map))),
+            absurd (omega (arith, same, order.page_map))),
         (λ caller few adds. let same = sym is ∙ adds in cc),
       )
   run_stays h pages (runs.Claim first index) did is =
