@@ -62,7 +62,7 @@ function draw_threads(    i, j) {
 
 # What stands side by side on one axis.
 function kind_of(name) {
-  if (name ~ /^(hits|apart|misses|mixed)_/) return "Look-ups, and mixed calls"
+  if (name ~ /^(hits|apart|common|misses|mixed)_/) return "Look-ups, and mixed calls"
   if (name ~ /^(churn|binds)_/) return "Binds, and binds with releases"
   sub(/_of_.*/, "", name)
   return name == "growth" ? "Binds in a table that grows" : name

@@ -721,10 +721,8 @@ static void print_row(struct row row) {
           (unsigned long long)hundredths / 100, (unsigned long long)hundredths % 100);
 }
 
-/* Whether the words of the program ask for the row: by its name, where it isn't empty, and its threads.
- * `rht_bench` has no row `common` yet, so that one is measured where it is named alone. */
+/* Whether the words of the program ask for the row: by its name, where it isn't empty, and its threads. */
 static bool is_asked(struct row row, int count, char **words) {
-  if (row.workload == COMMON && (count < 3 || words[2][0] == '\0')) return false;
   char name[32];
   snprintf(name, sizeof name, "%s_of_%u", names[row.workload], row.ports);
   return (count < 3 || words[2][0] == '\0' || strcmp(words[2], name) == 0) &&

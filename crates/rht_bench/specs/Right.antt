@@ -6,7 +6,7 @@ use Rattle.rht_model.specs.Replies.{IsFindReply}
 use Rattle.rht_bench.specs.declared.rows.Asked.{Asked}
 use Rattle.rht_bench.specs.declared.rows.Asked.TheVariants.{Own, Others}
 use Rattle.rht_bench.specs.declared.rows.Workload.{Workload}
-use Rattle.rht_bench.specs.declared.rows.Workload.TheVariants.{Hits, Apart, Misses, Mixed, Churn, Binds, Growth}
+use Rattle.rht_bench.specs.declared.rows.Workload.TheVariants.{Hits, Apart, Common, Misses, Mixed, Churn, Binds, Growth}
 
 -- the owner to which each port is bound
 abbrev pub owner_of_all : ℕ
@@ -44,6 +44,7 @@ IsOfLookups asked is_right = (reply : Reply) → IsFindReply reply → is_right 
 abbrev pub right_in : Workload → Reply → Bool
 right_in Hits = is_found
 right_in Apart = is_found
+right_in Common = is_found
 right_in Misses = is_missing
 right_in Mixed = is_done
 right_in Churn = is_done

@@ -24,7 +24,7 @@ const OTHER: Port = 1 << 20;
 /// A thread has no more ports than these, which is as many as a table can have nodes.
 pub const MOST: u32 = 65_536;
 
-/// The ports of a thread. No other thread binds or releases one of them, or their others.
+/// The ports of a thread. No other thread releases one of them, or binds or releases their others.
 #[derive(Clone, Copy)]
 pub struct Ports {
     /// The first one.
@@ -89,7 +89,9 @@ fn round<M: Mix, R: Wait>(
     ensures few { result ≤ 2 * ports.count }
 {
     match workload {
-        Workload::Hits | Workload::Apart => lookups(table, pass, ports, Asked::Own),
+        Workload::Hits | Workload::Apart | Workload::Common => {
+            lookups(table, pass, ports, Asked::Own)
+        }
         Workload::Misses => lookups(table, pass, ports, Asked::Others),
         Workload::Mixed => mixed(rt, table, pass, ports),
         Workload::Churn => churn(rt, table, pass, ports),

@@ -116,7 +116,8 @@ fn measure_once<M: Mix + Send + Sync, R: Threads + Wait + Sync + Clock>(
     }
 }
 
-/// Gives each pass ports of its own, and binds them where they are to be bound.
+/// Gives each pass its share of the ports, or all of them, and binds them where they are to be bound. What
+/// another pass has bound already stays so.
 fn share_out<M: Mix, R: Wait>(
     rt: &R,
     alloc: Global,
@@ -127,13 +128,16 @@ fn share_out<M: Mix, R: Wait>(
     requires { AreNew M.mix_of table.now 0 passes.items }
     ensures { IfOk result (λ jobs. All (IsReadyJob M.mix_of table.now) jobs.items) }
 {
-    let count = (row.ports / row.threads.max(1)).min(MOST);
+    let common = row.workload.has_common_ports();
+    let shares = if common { 1 } else { row.threads.max(1) };
+    let count = (row.ports / shares).min(MOST);
+    let step = if common { 0 } else { count };
     let mut first = 0u32;
     let mut jobs = Vec::new(alloc);
     while let Some(pass) = passes.pop() {
         let ports = Ports { first, count };
         jobs.push(prepared(rt, table, pass, ports, row.workload))?;
-        first = first.wrapping_add(count);
+        first = first.wrapping_add(step);
     }
     Ok(jobs)
 }

@@ -10,6 +10,8 @@ pub enum Workload {
     Hits,
     /// As `Hits`, where the ports of each thread lie in buckets of their own, side by side.
     Apart,
+    /// Each looks up all ports of the row, which are bound, as each other thread does.
+    Common,
     /// Each looks up ports that aren't bound.
     Misses,
     /// Of twenty calls, each makes eighteen look-ups of bound ports, a bind and a release.
@@ -32,9 +34,10 @@ pub enum Asked {
 }
 
 /// All workloads, in the order of the record.
-pub const WORKLOADS: [Workload; 7] = [
+pub const WORKLOADS: [Workload; 8] = [
     Workload::Hits,
     Workload::Apart,
+    Workload::Common,
     Workload::Misses,
     Workload::Mixed,
     Workload::Churn,
@@ -52,6 +55,7 @@ impl Workload {
         match self {
             Workload::Hits => "hits",
             Workload::Apart => "apart",
+            Workload::Common => "common",
             Workload::Misses => "misses",
             Workload::Mixed => "mixed",
             Workload::Churn => "churn",
@@ -63,6 +67,11 @@ impl Workload {
     /// Whether the ports are bound before the clock is started.
     pub fn begins_bound(self) -> bool {
         !matches!(self, Workload::Binds | Workload::Growth)
+    }
+
+    /// Whether each thread has all ports of the row, and not a share of them.
+    pub fn has_common_ports(self) -> bool {
+        matches!(self, Workload::Common)
     }
 }
 
@@ -128,7 +137,7 @@ impl Scale {
     pub fn row(self, workload: Workload, ports: u32, threads: u32) -> Row {
         let share = self.many / ports.max(1);
         let (rounds, tables) = match workload {
-            Workload::Hits | Workload::Misses => (self.often(share.saturating_mul(128)), 1),
+            Workload::Hits | Workload::Common | Workload::Misses => (self.often(share.saturating_mul(128)), 1),
             Workload::Apart => (self.often(share.saturating_mul(512)), 1),
             Workload::Mixed => (share.saturating_mul(4), self.often(16)),
             Workload::Churn => (share, self.often(8)),
