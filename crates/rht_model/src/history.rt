@@ -18,7 +18,7 @@ pub enum Call {
     /// Binds a port to an owner, as `rhashtable_lookup_insert_key` and `rhltable_insert_key` do.
     /// Where `once` is set, it is tried once alone and may answer `Again`.
     Bind { port: Port, owner: u32, once: bool },
-    /// Looks a port up, as `rhashtable_lookup` does.
+    /// Looks a port up, as `rhashtable_lookup_fast` does.
     Find { port: Port },
     /// Lists all owners of a port, as `rhltable_lookup` does.
     All { port: Port },

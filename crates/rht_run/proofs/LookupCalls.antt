@@ -1,12 +1,13 @@
 -- What a look-up that was driven has to show, and why it can't go on for ever.
 -- In the run that its pass is in, the traces remember its operations, and no look-up of a run has more of them than the bound. The
 -- bound is far below the rounds of the loops that drive it. So behind such a loop nothing stands.
-use Rattle.std.proofs.Common.{◌≡◌, ℕ, ◌+◌, ◌*◌, ◌<◌, ◌≤◌, List, [], ◌∷◌, refl, ap, ◌∙◌, subst, arith}
+use Rattle.std.proofs.Common.{◌≡◌, ℕ, ◌+◌, ◌*◌, ◌<◌, ◌≤◌, List, [], refl, ap, ◌∙◌, subst, arith}
 use Rattle.std.proofs.lemmas.Nat.{mul-le}
 use Rattle.std.specs.Prelude.{Some}
 use Rattle.std.specs.List.{AllByRecursion}
 use Rattle.atomic_table.specs.declared.shared.Seat.{Seat}
 use Rattle.rht_words.specs.declared.env.Env.{Env}
+use Rattle.rht_words.proofs.EachElement.{AllByRecursion-both}
 use Rattle.rht_model.specs.declared.history.Call.TheVariants.{Find}
 use Rattle.rht_model.specs.declared.history.Reply.{Reply}
 use Rattle.rht_model.specs.declared.finished.Finished.{Finished}
@@ -62,12 +63,6 @@ module _ {M : Type 0} (mix : ℕ → ℕ → ℕ → ℕ) where
 
 -- ---- what it has to show
 
--- what is so of each element by two facts that are
-both_all : {X : Type 0} (P Q R : X → Type 0) → ((x : X) → P x → Q x → R x) → (xs : List X) → AllByRecursion P xs
-    → AllByRecursion Q xs → AllByRecursion R xs
-both_all P Q R leads [] first second = tt
-both_all P Q R leads (x ∷ xs) first second = (leads x first.0 second.0, both_all P Q R leads xs first.1 second.1)
-
 module _ {M : Type 0} (mix : ℕ → ℕ → ℕ → ℕ) (t : Table M) where
   -- the call is a look-up that was as the laws say, or no look-up
   abbrev Looked : Env → List Event → ℕ → Past → Type 0
@@ -87,18 +82,18 @@ module _ {M : Type 0} (mix : ℕ → ℕ → ℕ → ℕ) (t : Table M) where
   all_looked : (c : ℕ) (events : List Event) → IsAdmitted t.env.config.kind events
       → AllByRecursion (Looked t.env events c) ((traced_of {M = M} mix t.env events).traces c).past
   all_looked c events admitted =
-      both_all (ReadsRightly t.env c) (TakesEffectRightly t.env events) (Looked t.env events c)
+      AllByRecursion-both (ReadsRightly t.env c) (TakesEffectRightly t.env events) (Looked t.env events c)
       (λ past reads effect port is. record {
         short = reads.0 port is;
         reads = reads.1 port is;
         moment = effect.0 port is;
         throughout = effect.1;
       }) _
-      (both_all (λ (past : Past). IsShort t.env past.done.call past.steps)
+      (AllByRecursion-both (λ (past : Past). IsShort t.env past.done.call past.steps)
       (λ past. (port : ℕ) → past.done.call ≡ Find port → HasRead t.env.geometry c past.steps) (ReadsRightly t.env c)
       (λ past short reads. (short, reads)) _
       (bounded M mix t.env events c admitted).past (reads_inside M mix t.env events c admitted).past)
-      (both_all (λ (past : Past). (port : ℕ) → past.done.call ≡ Find port → AnswersMoment M mix t.env events past port)
+      (AllByRecursion-both (λ (past : Past). (port : ℕ) → past.done.call ≡ Find port → AnswersMoment M mix t.env events past port)
       (IsFoundThroughout M mix t.env events) (TakesEffectRightly t.env events) (λ past moment stays. (moment, stays)) _
       (takes_effect M mix t.env events c admitted) (finds_what_stays M mix t.env events c admitted))
 

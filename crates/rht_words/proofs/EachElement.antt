@@ -77,6 +77,14 @@ pub AllByRecursion-weaker : {X : Type 0} (P Q : X → Type 0) → ((x : X) → P
 AllByRecursion-weaker P Q weaker xs all =
     recursion_from_All Q xs (All-weaker P Q weaker xs (All-from_recursion P xs all))
 
+-- what follows for each element from two facts that hold of it
+pub AllByRecursion-both : {X : Type 0} (P Q R : X → Type 0) → ((x : X) → P x → Q x → R x) → (xs : List X)
+    → AllByRecursion P xs → AllByRecursion Q xs
+    → AllByRecursion R xs
+AllByRecursion-both P Q R leads [] first second = tt
+AllByRecursion-both P Q R leads (x ∷ xs) first second =
+    (leads x first.0 second.0, AllByRecursion-both P Q R leads xs first.1 second.1)
+
 pub AllByRecursion-map : {X Y : Type 0} (P : Y → Type 0) (f : X → Y) → ((x : X) → P (f x)) → (xs : List X)
     → AllByRecursion P (map f xs)
 AllByRecursion-map P f each [] = tt

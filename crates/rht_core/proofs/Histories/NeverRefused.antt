@@ -21,7 +21,7 @@ use Rattle.rht_words.specs.Places.{Slot, ShapeWord, word_at}
 use Rattle.rht_words.specs.Links.{table_of}
 use Rattle.rht_words.specs.Shapes.{size_of, unpacked}
 use Rattle.rht_words.specs.Sizes.{first_size}
-use Rattle.rht_words.proofs.EachElement.{AllByRecursion-append, AllByRecursion-cut, AllByRecursion-weaker}
+use Rattle.rht_words.proofs.EachElement.{AllByRecursion-append, AllByRecursion-both, AllByRecursion-cut, AllByRecursion-weaker}
 use Rattle.rht_words.proofs.Members.{one_if}
 use Rattle.rht_words.proofs.OpeningLaws.{opens_flat}
 use Rattle.rht_model.specs.declared.bindings.Closed.{Closed}
@@ -65,12 +65,6 @@ use Rattle.rht_core.proofs.Histories.ToldHistories.{AreBound-Agree, IsServed, se
 use Rattle.rht_core.proofs.Histories.AnsweredInOrder.{IsRefusedForNode, IsRefusedForNode-reply, entries_told-replies, entries_told-caller, calls_in, bindings_left-first, after-told, answered_in_order, entries_of-all, not_refused, IsTakenBefore, answers-below}
 
 -- ---- calls that serve commands
-
--- what is so of each element by two facts that are
-both_all : {X : Type 0} (P Q R : X → Type 0) → ((x : X) → P x → Q x → R x) → (xs : List X) → AllByRecursion P xs → AllByRecursion Q xs
-    → AllByRecursion R xs
-both_all P Q R leads [] first second = tt
-both_all P Q R leads (x ∷ xs) first second = (leads x first.0 second.0, both_all P Q R leads xs first.1 second.1)
 
 -- what is so of `work` is so of all calls that a worker makes by itself
 behind-all : (P : Call → Type 0) → P Work → (asked : Bool) (behind : List Finished) → AreBehind asked behind
@@ -135,7 +129,7 @@ module _ (M : Type 0) (mix : ℕ → ℕ → ℕ → ℕ) (env : Env) where
       AllByRecursion (λ (d : Finished). IsBindTaken d.call d.reply) done
       → AllByRecursion (λ (d : Finished). IsRefusedForNode d.call d.reply) done
   for_node events c admitted binds =
-      both_all IsRightlyAnswered (λ (d : Finished). IsBindTaken d.call d.reply) (λ (d : Finished). IsRefusedForNode d.call d.reply)
+      AllByRecursion-both IsRightlyAnswered (λ (d : Finished). IsBindTaken d.call d.reply) (λ (d : Finished). IsRefusedForNode d.call d.reply)
       (λ d is bind. IsRefusedForNode-reply d.call d.reply is.reply bind) ((run_of {M = M} mix env events).books c).finished
       (replies M mix env events admitted c).finished binds
 
