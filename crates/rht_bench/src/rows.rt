@@ -137,7 +137,10 @@ impl Scale {
     pub fn row(self, workload: Workload, ports: u32, threads: u32) -> Row {
         let share = self.many / ports.max(1);
         let (rounds, tables) = match workload {
-            Workload::Hits | Workload::Common | Workload::Misses => (self.often(share.saturating_mul(128)), 1),
+            Workload::Hits | Workload::Common | Workload::Misses => (
+                self.often(share.saturating_mul(128)),
+                1,
+            ),
             Workload::Apart => (self.often(share.saturating_mul(512)), 1),
             Workload::Mixed => (share.saturating_mul(4), self.often(16)),
             Workload::Churn => (share, self.often(8)),
