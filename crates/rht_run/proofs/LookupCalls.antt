@@ -10,10 +10,8 @@ use Rattle.rht_words.specs.declared.env.Env.{Env}
 use Rattle.rht_model.specs.declared.history.Call.TheVariants.{Find}
 use Rattle.rht_model.specs.declared.history.Reply.{Reply}
 use Rattle.rht_model.specs.declared.finished.Finished.{Finished}
-use Rattle.rht_find.specs.Find.{FindModel}
 use Rattle.rht_find.specs.FindBound.{find_bound}
 use Rattle.rht_callers.specs.declared.local.Doing.{Doing}
-use Rattle.rht_callers.specs.declared.local.Doing.TheVariants.{Finding}
 use Rattle.rht_core.specs.declared.event.Event.{Event}
 use Rattle.rht_core.specs.Runs.{World, run_of, IsAdmitted}
 use Rattle.rht_core.specs.Traces.{Past, traced_of}

@@ -12,7 +12,7 @@ use Rattle.rht_nest.specs.declared.locate.LocatedBucket.TheVariants as buckets
 use Rattle.rht_chain.specs.Probe.{ProbeModel, probe_new}
 use Rattle.rht_chain.specs.declared.probe.Probed.{Probed}
 use Rattle.rht_arena.specs.NewNode.{NewNodeModel}
-use Rattle.rht_release.specs.Seek.{SeekModel, seek_new, seek_after, locating, bucket_or_early, located, port_at, found_or_future, probed}
+use Rattle.rht_release.specs.Seek.{SeekModel, seek_after, locating, bucket_or_early, located, port_at, found_or_future, probed}
 use Rattle.rht_release.specs.Release.{ReleaseModel, release_after, closing, sought as release_sought_at}
 use Rattle.rht_release.specs.declared.release.ReleaseAt.{ReleaseAt}
 use Rattle.rht_release.specs.declared.release.ReleaseAt.TheVariants as releases

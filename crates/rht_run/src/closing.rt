@@ -75,7 +75,12 @@ impl<M: Mix> Table<M> {
             local: _,
         } = first;
         self.absorb_all(&mut seat, passes);
-        let Table { words, env: _ } = self;
+        let Table {
+            words,
+            env: _,
+            nodes_start: _,
+            pages_start: _,
+        } = self;
         words.close_with(seat)
     }
 

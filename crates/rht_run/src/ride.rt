@@ -10,8 +10,10 @@ ghost use Rattle.rht_model.specs.declared.history.Reply.{Reply as ReplyOf};
 ghost use Rattle.rht_callers.specs.declared.local.Doing.TheVariants.{Idle};
 ghost use Rattle.rht_core.specs.Locals.{machine_of, doing_after};
 ghost use Rattle.rht_core.specs.Runs.{IsAdmittedCall, IsBuiltFor};
+ghost use Rattle.rht_run.specs.Layout.{physical_place};
 ghost use Rattle.rht_run.specs.Rides.{Riding, any_riding, IsBefore, IsRiding, HasEnded, Stepped, HasCounted, piece_next};
 
+use crate::layout::physical;
 use crate::pieces::{Frame, Piece};
 use crate::seats::SeatView;
 use crate::table::Table;
@@ -54,8 +56,29 @@ impl<M: Mix> Table<M> {
         ensures doing { Stepped M.mix_of self.now K.riding (doing_after M.mix_of (F.holding frame.now piece.now) result) seat.new }
         ensures piece { Stepped M.mix_of self.now K.riding (piece_next (λ p. F.holding frame.now p) (λ a. F.behind frame.now a) (P.after_of piece.now result)) seat.new }
     {
+        let at = physical(piece.planned().place());
+        self.begin_at::<K, A, P, F>(seat, frame, piece, at)
+    }
+
+    /// The same, where its physical place is known.
+    #[inline(always)]
+    pub(crate) fn begin_at<K: Ride, A, P: Piece<M, A>, F: Frame<M, P, A>>(
+        &self,
+        seat: &mut Seat<(), SeatView<M>>,
+        frame: &F,
+        piece: &P,
+        at: usize,
+    ) -> u64
+        requires before { IsBefore M.mix_of self.now K.riding seat.old }
+        requires begins { machine_of self.now.env K.riding.number K.riding.call ≡ Some (F.holding frame.now piece.now) }
+        requires admitted { IsAdmittedCall K.riding.call }
+        requires built { IsBuiltFor self.now.env.config.kind K.riding.call }
+        requires place { at ≡ physical_place (P.plan_of piece.now) }
+        ensures doing { Stepped M.mix_of self.now K.riding (doing_after M.mix_of (F.holding frame.now piece.now) result) seat.new }
+        ensures piece { Stepped M.mix_of self.now K.riding (piece_next (λ p. F.holding frame.now p) (λ a. F.behind frame.now a) (P.after_of piece.now result)) seat.new }
+    {
         let op = piece.planned();
-        self.perform::<Brand>(seat, op)
+        self.perform::<Brand>(seat, op, at)
     }
 
     /// The operation that this piece plans, in the machine that holds it.
@@ -71,8 +94,27 @@ impl<M: Mix> Table<M> {
         ensures piece { Stepped M.mix_of self.now K.riding (piece_next (λ p. F.holding frame.now p) (λ a. F.behind frame.now a) (P.after_of piece.now result)) seat.new }
         ensures counted { HasCounted seat.old (doing_after M.mix_of (F.holding frame.now piece.now) result).1 seat.new }
     {
+        let at = physical(piece.planned().place());
+        self.operate_at::<K, A, P, F>(seat, frame, piece, at)
+    }
+
+    /// The same, where its physical place is known: so it need not be worked out from the geometry.
+    #[inline(always)]
+    pub(crate) fn operate_at<K: Ride, A, P: Piece<M, A>, F: Frame<M, P, A>>(
+        &self,
+        seat: &mut Seat<(), SeatView<M>>,
+        frame: &F,
+        piece: &P,
+        at: usize,
+    ) -> u64
+        requires riding { IsRiding M.mix_of self.now K.riding (F.holding frame.now piece.now) seat.old }
+        requires place { at ≡ physical_place (P.plan_of piece.now) }
+        ensures doing { Stepped M.mix_of self.now K.riding (doing_after M.mix_of (F.holding frame.now piece.now) result) seat.new }
+        ensures piece { Stepped M.mix_of self.now K.riding (piece_next (λ p. F.holding frame.now p) (λ a. F.behind frame.now a) (P.after_of piece.now result)) seat.new }
+        ensures counted { HasCounted seat.old (doing_after M.mix_of (F.holding frame.now piece.now) result).1 seat.new }
+    {
         let op = piece.planned();
-        self.perform::<Brand>(seat, op)
+        self.perform::<Brand>(seat, op, at)
     }
 
     /// Runs a machine from where it stands to its reply, one operation after another. It is for the

@@ -1,9 +1,7 @@
 use Rattle.std.proofs.Common.{◌∙◌, sym, ap, subst, arith}
-use Rattle.rht_find.specs.declared.find.FindAt.TheVariants.{Locating}
 use Rattle.rht_model.specs.declared.history.Call.{Call}
 use Rattle.rht_model.specs.declared.history.Reply.{Reply}
 use Rattle.rht_core.specs.Replies.{IsReplyTo}
-use Rattle.rht_run.specs.Looking.{nested_reach}
 use Rattle.rht_run.specs.Rides.{HasEnded, looked_up}
 use Rattle.rht_run.proofs.CallSteps.{drive_answered, looked_up-owner_in}
 use Rattle.rht_run.proofs.Rides.{riding_few}
