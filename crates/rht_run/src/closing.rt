@@ -80,6 +80,7 @@ impl<M: Mix> Table<M> {
             env: _,
             nodes_start: _,
             pages_start: _,
+            last_word: _,
         } = self;
         words.close_with(seat)
     }

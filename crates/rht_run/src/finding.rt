@@ -57,7 +57,7 @@ impl<M: Mix> Table<M> {
         let env = self.env;
         let starts = self.starts();
         let find = Find::<M>::new(env, number, port);
-        self.begin_at::<K, Reply, Find<M>, Whole>(seat, &Whole, &find, section(number));
+        self.begin::<K, Reply, Find<M>, Whole>(seat, &Whole, &find, section(number));
         let current = self.finding::<K>(seat, env, number, port, FindAt::CurrentTable);
         let mut table = table_of(current);
         for rounds in 0..u64::MAX {
@@ -123,6 +123,7 @@ impl<M: Mix> Table<M> {
         table: u32,
         place: usize,
     ) -> Option<u32>
+        requires env { env ≡ self.now.env }
         requires starts { starts.geometry ≡ env.geometry }
         requires riding { IsRiding M.mix_of self.now K.riding (find_at env number port (bucket_begun env table place)) seat.old }
         ensures riding { IsRiding M.mix_of self.now K.riding (find_at env number port (bucket_walked table result)) seat.new }
@@ -135,7 +136,7 @@ impl<M: Mix> Table<M> {
                 Walked::Found(node) => return Some(node),
                 Walked::Ended(link) => link,
             };
-            if link == marker_of(place) || left == 0 {
+            if link == marker_of(place) || walks == u64::from(self.env.config.rewalks) {
                 return None;
             }
             left -= 1;

@@ -67,6 +67,7 @@ impl<M: Mix> Table<M> {
             env,
             nodes_start: starts.nodes,
             pages_start: starts.pages,
+            last_word: starts.last,
         };
         Ok((table, seat))
     }

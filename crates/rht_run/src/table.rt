@@ -18,8 +18,9 @@ pub struct Table<M: Mix> {
     pub(crate) env: Env,
     pub(crate) nodes_start: u32,
     pub(crate) pages_start: u32,
+    pub(crate) last_word: u32,
     ghost fit: { (words.shared.key ≡ env) × (words.shared.table_id.words ≡ words_in env.geometry + gaps) × (words.shared.table_id.slots ≡ 0) },
-    ghost starts: { AreStarts env.geometry nodes_start pages_start },
+    ghost starts: { AreStarts env.geometry nodes_start pages_start last_word },
 }
 
 impl<M: Mix> Table<M> {
@@ -32,6 +33,7 @@ impl<M: Mix> Table<M> {
             geometry: self.env.geometry,
             nodes: self.nodes_start,
             pages: self.pages_start,
+            last: self.last_word,
         }
     }
 }

@@ -8,5 +8,5 @@ pub physical-at-requires : goal.physical-at-requires
 physical-at-requires g c =
     let can = may_perform g.M.Mix.mix_of c.args.self.now g.K.Ride.riding c.args.seat.now
     (g.F.Frame.holding c.args.frame.now c.args.piece.now) _ c.requires (g.F.Frame.busy _ _)
-    (g.met.F.Frame.plans c.args.frame.now c.args.piece.now ∙ ap Some (sym c.planned.ensures)) in
+    (g.met.F.Frame.plans c.args.frame.now c.args.piece.now ∙ ap Some (sym c.planned-op.ensures)) in
     omega (arith, c.place.ensures, place_small g.row.M.Denot g.M.Mix.mix_of None c.args.self.now c.args.seat.now _ can)

@@ -1,5 +1,5 @@
 use Rattle.std.specs.Prelude.{Some}
-use Rattle.rht_run.proofs.table.Table.begin_at.Given as goal
+use Rattle.rht_run.proofs.table.Table.begin.Given as goal
 
 -- the call that begins with the operation
 abbrev pub ghosts-perform : goal.ghosts-perform

@@ -1,13 +1,13 @@
 use Rattle.std.proofs.Common.{◌∙◌, sym, ap}
 use Rattle.std.specs.Prelude.{Some}
 use Rattle.rht_run.proofs.Rides.{may_perform, has_stepped, has_counted, of_piece}
-use Rattle.rht_run.proofs.table.Table.operate_at.Goals as goal
+use Rattle.rht_run.proofs.table.Table.advance.Goals as goal
 
 pub perform-requires-clause-can : goal.perform-requires-clause-can
 perform-requires-clause-can g c =
     may_perform g.M.Mix.mix_of c.args.self.now g.K.Ride.riding c.args.seat.now
     (g.F.Frame.holding c.args.frame.now c.args.piece.now) _ c.requires.riding (g.F.Frame.busy _ _)
-    (g.met.F.Frame.plans c.args.frame.now c.args.piece.now ∙ ap Some (sym c.planned-op.ensures))
+    (g.met.F.Frame.plans c.args.frame.now c.args.piece.now ∙ ap Some (sym c.requires.planned))
 
 pub returns-clause-doing : goal.returns-clause-doing
 returns-clause-doing g c =
