@@ -111,7 +111,8 @@ impl<M: Mix> Table<M> {
     }
 
     /// Walks the bucket whose word is at this place, and behind a strange end anew, where that may be
-    /// still. It answers the node that has the port's key.
+    /// still. It answers the node that has the port's key. Whether it may is told by how many walks there
+    /// were, so a look-up that has found its port hasn't read how often a walk may be repeated.
     #[inline(always)]
     fn walk_bucket<K: Ride>(
         &self,

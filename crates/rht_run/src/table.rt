@@ -16,6 +16,7 @@ use std::alloc::Global;
 pub struct Table<M: Mix> {
     pub(crate) words: atomic_table::Table<(), SeatView<M>, Env, Runs<M>, Global>,
     pub(crate) env: Env,
+    // where nodes and pages begin, and the last word of all pages, as `Starts` has them
     pub(crate) nodes_start: u32,
     pub(crate) pages_start: u32,
     pub(crate) last_word: u32,
