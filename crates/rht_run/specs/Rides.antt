@@ -1,12 +1,12 @@
 -- A call that is driven from outside its pass: the seat's view has what the caller does, and no machine of the call is kept.
-use Rattle.std.specs.Prelude.{◌≡◌, ℕ, ◌+◌, true, Option, Some, None, List, [], ◌∷◌, ◌++◌}
+use Rattle.std.specs.Prelude.{◌≡◌, ℕ, ◌+◌, Bool, true, Option, Some, None, List, [], ◌∷◌, ◌++◌}
 use Rattle.atomic_table.specs.declared.shared.Seat.{Seat}
 use Rattle.rht_words.specs.declared.machine.Next.{Next}
 use Rattle.rht_words.specs.declared.machine.Next.TheVariants.{Go, Done}
 use Rattle.rht_model.specs.declared.history.Call.{Call}
 use Rattle.rht_model.specs.declared.history.Call.TheVariants.{Count}
 use Rattle.rht_model.specs.declared.history.Reply.{Reply}
-use Rattle.rht_model.specs.declared.history.Reply.TheVariants.{Found, Missing}
+use Rattle.rht_model.specs.declared.history.Reply.TheVariants.{Found, Missing, Released, Absent}
 use Rattle.rht_model.specs.declared.finished.Finished.{Finished}
 use Rattle.rht_model.specs.Rooms.{Kept, emptied, no_room}
 use Rattle.rht_callers.specs.declared.local.Local.{Local}
@@ -104,6 +104,16 @@ looked_up (Some owner) = Found owner
 abbrev pub owner_in : Reply → Option ℕ
 owner_in (Found owner) = Some owner
 owner_in _ = None
+
+-- the reply of a release that has taken a binding out, with a kick or without one, or has found none
+abbrev pub released : Option Bool → Reply
+released None = Absent
+released (Some kick) = Released kick
+
+-- and what it has come to, in its reply; any other reply counts as `Absent`
+abbrev pub kick_in : Reply → Option Bool
+kick_in (Released kick) = Some kick
+kick_in _ = None
 
 -- after an operation: what the caller does, with a reply where the call has ended
 abbrev pub Stepped : {M : Type 0} → (ℕ → ℕ → ℕ → ℕ) → Table M → Riding → Doing M × Option Reply

@@ -3,15 +3,17 @@
 
 ghost use Rattle.std.specs.Prelude.{◌≡◌};
 ghost use Rattle.rht_model.specs.declared.history.Call.TheVariants.{Bind as BindCall};
-ghost use Rattle.rht_bind.specs.Bind.{first_attempt, replacing};
+ghost use Rattle.rht_bind.specs.Bind.{plan_at, first_attempt, replacing};
 ghost use Rattle.rht_bind.specs.Endings.{answering};
 ghost use Rattle.rht_bind.specs.declared.bind.BindAt.TheVariants.{Locating, ListLink, Closing};
 ghost use Rattle.rht_bind.specs.declared.bind.ending.Ending.TheVariants.{Bound};
 ghost use Rattle.rht_run.specs.Pieces.{nested_locate};
 ghost use Rattle.rht_core.specs.Locals.{doing_after};
+ghost use Rattle.rht_run.specs.Layout.{physical_place};
 ghost use Rattle.rht_run.specs.Rides.{IsBefore, IsRiding, HasEnded, Stepped};
 ghost use Rattle.rht_run.specs.PieceFrames.{bind_at, full_at};
 
+use crate::layout::section;
 use crate::locating::{Way, nested_locate};
 use crate::pieces::{BindFilling, BindLocating, BindProbing, Whole};
 use crate::ride::{Ride, never};
@@ -57,8 +59,8 @@ impl<M: Mix> Table<M> {
             owner,
             once,
         };
-        let geometry = env.geometry;
-        let begun = self.begin_with_node::<K, BindFilling>(seat, &frame, geometry, port, owner);
+        let starts = self.starts();
+        let begun = self.begin_with_node::<K, BindFilling>(seat, &frame, starts, port, owner);
         let Some(taken) = begun else {
             never(rt);
             unreachable!()
@@ -71,7 +73,7 @@ impl<M: Mix> Table<M> {
             attached: false,
         };
         let at = BindAt::Opening { attempt };
-        self.binding::<K>(seat, env, number, port, owner, once, at);
+        self.binding_at::<K>(seat, env, number, port, owner, once, at, section(number));
         let at = BindAt::CurrentTable { attempt };
         let mut table = table_of(self.binding::<K>(seat, env, number, port, owner, once, at));
         for _ in 0..u64::MAX {
@@ -82,7 +84,7 @@ impl<M: Mix> Table<M> {
                 once,
                 attempt,
             };
-            let way = self.find_way::<K, BindLocating>(seat, &frame, geometry, port, table);
+            let way = self.find_way::<K, BindLocating>(seat, &frame, starts, port, table);
             let (shape, place) = match way {
                 Way::Flat { shape, place } => (shape, place),
                 Way::Nested { shape, bucket } => {
@@ -102,8 +104,7 @@ impl<M: Mix> Table<M> {
                 shape,
             };
             let key = word_of(port);
-            let Some(probed) = self.probe::<K, BindProbing>(seat, &frame, geometry, place, key)
-            else {
+            let Some(probed) = self.probe::<K, BindProbing>(seat, &frame, starts, place, key) else {
                 never(rt);
                 unreachable!()
             };
@@ -126,7 +127,10 @@ impl<M: Mix> Table<M> {
                 }
                 let found = first;
                 let at = BindAt::FoundOwner { claimed, found };
-                let other = owner_of(self.binding::<K>(seat, env, number, port, owner, once, at));
+                let place = starts.owner(found);
+                let other = owner_of(self.binding_at::<K>(
+                    seat, env, number, port, owner, once, at, place,
+                ));
                 let reply = Reply::Exists { owner: other };
                 let at = unlocking(claimed, Then::Answer(reply));
                 self.binding::<K>(seat, env, number, port, owner, once, at);
@@ -185,7 +189,8 @@ impl<M: Mix> Table<M> {
                 );
             }
             let at = BindAt::Link { claimed };
-            self.binding::<K>(seat, env, number, port, owner, once, at);
+            let place = starts.chain_link(node);
+            self.binding_at::<K>(seat, env, number, port, owner, once, at, place);
             let at = BindAt::Raise { claimed };
             let count = self.binding::<K>(seat, env, number, port, owner, once, at);
             let kick = kicks(env, claimed, count);
@@ -268,7 +273,7 @@ impl<M: Mix> Table<M> {
     {
         let ending = Ending::Bound { kick };
         let at = BindAt::Closing { ending };
-        self.binding::<K>(seat, env, number, port, owner, once, at);
+        self.binding_at::<K>(seat, env, number, port, owner, once, at, section(number));
         Reply::Bound { kick }
     }
 
@@ -289,7 +294,7 @@ impl<M: Mix> Table<M> {
         ensures { HasEnded M.mix_of self.now K.riding result seat.new }
     {
         let at = answering(node, reply);
-        self.binding::<K>(seat, env, number, port, owner, once, at);
+        self.binding_at::<K>(seat, env, number, port, owner, once, at, section(number));
         let at = giving(env, node, reply);
         self.binding::<K>(seat, env, number, port, owner, once, at);
         reply
@@ -396,5 +401,26 @@ impl<M: Mix> Table<M> {
     {
         let bind = Bind::<M>::new(env, number, port, owner, once).with(at);
         self.operate::<K, Reply, Bind<M>, Whole>(seat, &Whole, &bind)
+    }
+
+    /// The same, where its physical place is known.
+    #[inline(always)]
+    fn binding_at<K: Ride>(
+        &self,
+        seat: &mut Seat<(), SeatView<M>>,
+        env: Env,
+        number: u32,
+        port: Port,
+        owner: u32,
+        once: bool,
+        at: BindAt,
+        place: usize,
+    ) -> u64
+        requires riding { IsRiding M.mix_of self.now K.riding (bind_at env number port owner once at) seat.old }
+        requires place { place ≡ physical_place (plan_at env number at) }
+        ensures { Stepped M.mix_of self.now K.riding (doing_after M.mix_of (bind_at env number port owner once at) result) seat.new }
+    {
+        let bind = Bind::<M>::new(env, number, port, owner, once).with(at);
+        self.operate_at::<K, Reply, Bind<M>, Whole>(seat, &Whole, &bind, place)
     }
 }

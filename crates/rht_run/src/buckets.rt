@@ -2,19 +2,21 @@
 
 ghost use Rattle.std.specs.Prelude.{◌≡◌, ◌<◌, IfSome};
 ghost use Rattle.rht_chain.specs.Lock.{lock_new};
-ghost use Rattle.rht_chain.specs.Probe.{probe_new, probe_after};
+ghost use Rattle.rht_chain.specs.Probe.{probe_new, probe_plan_at, probe_after};
 ghost use Rattle.rht_chain.specs.declared.locked_walk.LockedWalkAt.TheVariants.{Key};
 ghost use Rattle.rht_chain.specs.declared.probe.ProbeAt.TheVariants as at;
+ghost use Rattle.rht_run.specs.Layout.{physical_place};
 ghost use Rattle.rht_run.specs.Rides.{IsRiding, Stepped, piece_next};
 
 use crate::pieces::{Frame, ProbeLocking};
 use crate::ride::Ride;
 use crate::seats::SeatView;
+use crate::starts::Starts;
 use crate::table::Table;
 use atomic_table::Seat;
 use rht_chain::{Lock, Locked, LockedWalk, Probe, ProbeAt, Probed};
 use rht_policy::Mix;
-use rht_words::{Geometry, Next, Start, head_of, is_locked, node_of};
+use rht_words::{Next, Start, head_of, is_locked, node_of};
 
 impl<M: Mix> Table<M> {
     /// Locks the bucket at this place, and walks its chain to the first node with the key. `None` comes
@@ -25,14 +27,14 @@ impl<M: Mix> Table<M> {
         &self,
         seat: &mut Seat<(), SeatView<M>>,
         frame: &F,
-        geometry: Geometry,
+        starts: Starts,
         place: usize,
         key: u64,
     ) -> Option<Probed>
-        requires { IsRiding M.mix_of self.now K.riding (F.holding frame.now (probe_new geometry place key)) seat.old }
+        requires { IsRiding M.mix_of self.now K.riding (F.holding frame.now (probe_new starts.geometry place key)) seat.old }
         ensures { IfSome result (λ end. Stepped M.mix_of self.now K.riding (F.behind frame.now end) seat.new) }
     {
-        let probe = Probe::new(geometry, place, key);
+        let probe = Probe::new(starts.geometry, place, key);
         let locking = ProbeLocking {
             frame,
             probe: &probe,
@@ -41,13 +43,12 @@ impl<M: Mix> Table<M> {
             return None;
         };
         let Locked { place, word } = bucket;
-        match LockedWalk::new(geometry, place, word, key) {
+        match LockedWalk::new(starts.geometry, place, word, key) {
             Start::Running(walk) => {
-                let nodes = geometry.nodes;
-                let Some(node) = node_of(nodes, head_of(place, word)) else {
+                let Some(node) = node_of(starts.geometry.nodes, head_of(place, word)) else {
                     unreachable!()
                 };
-                self.walk::<K, F>(seat, frame, &probe, bucket, walk, nodes, node)
+                self.walk::<K, F>(seat, frame, &probe, bucket, walk, starts, node)
             }
             Start::Done(seen) => Some(Probed { bucket, seen }),
         }
@@ -91,11 +92,11 @@ impl<M: Mix> Table<M> {
         probe: &Probe,
         bucket: Locked,
         walk: LockedWalk,
-        nodes: u32,
+        starts: Starts,
         node: u32,
     ) -> Option<Probed>
-        requires nodes { walk.geometry.nodes ≡ nodes }
-        requires node { node < nodes }
+        requires starts { walk.geometry ≡ starts.geometry }
+        requires node { node < starts.geometry.nodes }
         requires riding { IsRiding M.mix_of self.now K.riding (F.holding frame.now (record probe.now { at = at.Walking bucket (record walk { at = Key node }) })) seat.old }
         ensures { IfSome result (λ end. Stepped M.mix_of self.now K.riding (F.behind frame.now end) seat.new) }
     {
@@ -103,18 +104,20 @@ impl<M: Mix> Table<M> {
         let mut node = node;
         for _ in 0..u64::MAX {
             walk = walk.at_key(node);
-            let key = self.probing::<K, F>(seat, frame, probe, ProbeAt::Walking { bucket, walk });
+            let at = ProbeAt::Walking { bucket, walk };
+            let key = self.probing::<K, F>(seat, frame, probe, at, starts.key(node));
             let (next, answer) = walk.after(key);
             if let Next::Done(seen) = answer {
                 return Some(Probed { bucket, seen });
             }
             walk = next;
-            let link = self.probing::<K, F>(seat, frame, probe, ProbeAt::Walking { bucket, walk });
+            let at = ProbeAt::Walking { bucket, walk };
+            let link = self.probing::<K, F>(seat, frame, probe, at, starts.chain_link(node));
             let (next, answer) = walk.after(link);
             if let Next::Done(seen) = answer {
                 return Some(Probed { bucket, seen });
             }
-            let Some(behind) = node_of(nodes, link) else {
+            let Some(behind) = node_of(starts.geometry.nodes, link) else {
                 unreachable!()
             };
             walk = next;
@@ -123,7 +126,7 @@ impl<M: Mix> Table<M> {
         None
     }
 
-    /// The operation of a probe in this state.
+    /// The operation of a probe in this state, which is at this physical place.
     #[inline(always)]
     fn probing<K: Ride, F: Frame<M, Probe, Probed>>(
         &self,
@@ -131,10 +134,12 @@ impl<M: Mix> Table<M> {
         frame: &F,
         probe: &Probe,
         at: ProbeAt,
+        place: usize,
     ) -> u64
-        requires { IsRiding M.mix_of self.now K.riding (F.holding frame.now (record probe.now { at = at })) seat.old }
+        requires riding { IsRiding M.mix_of self.now K.riding (F.holding frame.now (record probe.now { at = at })) seat.old }
+        requires place { place ≡ physical_place (probe_plan_at at) }
         ensures { Stepped M.mix_of self.now K.riding (piece_next (λ p. F.holding frame.now p) (λ a. F.behind frame.now a) (probe_after (record probe.now { at = at }) result)) seat.new }
     {
-        self.operate::<K, Probed, Probe, F>(seat, frame, &probe.with(at))
+        self.operate_at::<K, Probed, Probe, F>(seat, frame, &probe.with(at), place)
     }
 }

@@ -14,6 +14,7 @@ ghost use Rattle.rht_run.specs.Caused.{IsCaused, HasLookedUp};
 
 use crate::finding::looked_up;
 use crate::pass::Pass;
+use crate::releasing::released;
 use crate::ride::clear_rooms;
 use crate::table::Table;
 use rht_model::{Call, Reply};
@@ -128,6 +129,7 @@ impl<M: Mix> Table<M> {
     /// `Released` comes with a kick exactly where this call, behind the last table that it walked, lowered
     /// the count of ports, shrinking is on, and by this that table has fewer ports than three tenths of
     /// its buckets, rounded down, and more buckets than the least size.
+    #[inline(always)]
     pub fn release<R: Wait>(&self, rt: &R, pass: &mut Pass<M>, port: Port, owner: u32) -> Reply
         requires pass { IsPassOf M.mix_of self.now pass.old }
         requires idle { is_idle pass.old.local ≡ true }
@@ -136,7 +138,7 @@ impl<M: Mix> Table<M> {
         ensures cause { IsCaused M.mix_of self.now (Release port owner) result pass.old pass.new }
     {
         clear_rooms(&mut pass.local);
-        self.drive_release::<R, Brand>(rt, &mut pass.seat, pass.number, port, owner)
+        released(self.drive_release::<R, Brand>(rt, &mut pass.seat, pass.number, port, owner))
     }
 
     /// Puts a new owner in the only one's place, in a table of one owner each: `Rebound`, `Absent`

@@ -75,7 +75,13 @@ impl<M: Mix> Table<M> {
             local: _,
         } = first;
         self.absorb_all(&mut seat, passes);
-        let Table { words, env: _ } = self;
+        let Table {
+            words,
+            env: _,
+            nodes_start: _,
+            pages_start: _,
+            last_word: _,
+        } = self;
         words.close_with(seat)
     }
 

@@ -7,21 +7,24 @@ ghost use Rattle.std.specs.Prelude.{◌≡◌, ◌<◌};
 ghost use Rattle.rht_model.specs.declared.history.Call.TheVariants.{Find as FindCall};
 ghost use Rattle.rht_callers.specs.declared.local.Doing.TheVariants.{Finding};
 ghost use Rattle.rht_core.specs.Locals.{doing_after};
-ghost use Rattle.rht_find.specs.Find.{locating};
+ghost use Rattle.rht_find.specs.Find.{plan_at, locating};
 ghost use Rattle.rht_find.specs.declared.find.FindAt.TheVariants.{Closing, Heading, Locating};
+ghost use Rattle.rht_run.specs.Layout.{physical_place};
 ghost use Rattle.rht_run.specs.Looking.{nested_reach, way_on, walked, bucket_begun, bucket_walked};
 ghost use Rattle.rht_run.specs.PieceFrames.{find_at};
 ghost use Rattle.rht_run.specs.Rides.{IsBefore, IsRiding, HasEnded, Stepped, HasCounted, steps_in, looked_up, owner_in};
 
+use crate::layout::section;
 use crate::locating::Way;
 use crate::pieces::{Piece, Whole};
 use crate::ride::Ride;
 use crate::seats::SeatView;
+use crate::starts::Starts;
 use crate::table::Table;
 use atomic_table::Seat;
 use rht_find::{Find, FindAt, Head};
 use rht_model::Reply;
-use rht_nest::{Place, Reach, ReachAt, flat_place, is_nested};
+use rht_nest::{Place, Reach, ReachAt, is_nested};
 use rht_policy::{Mix, bucket_of};
 use rht_words::{
     Env, Geometry, Next, Port, head_of, marker_of, node_of, owner_of, slot_of, table_of, word_of,
@@ -52,19 +55,22 @@ impl<M: Mix> Table<M> {
         ensures { HasEnded M.mix_of self.now K.riding (looked_up result) seat.new }
     {
         let env = self.env;
+        let starts = self.starts();
         let find = Find::<M>::new(env, number, port);
-        self.begin::<K, Reply, Find<M>, Whole>(seat, &Whole, &find);
+        self.begin::<K, Reply, Find<M>, Whole>(seat, &Whole, &find, section(number));
         let current = self.finding::<K>(seat, env, number, port, FindAt::CurrentTable);
         let mut table = table_of(current);
         for rounds in 0..u64::MAX {
-            let place = match self.reach_bucket::<K>(seat, env, number, port, table) {
+            let place = match self.reach_bucket::<K>(seat, env, starts, number, port, table) {
                 Way::Flat { place, .. } => place,
                 Way::Nested { shape, bucket } => {
                     return self.find_nested::<K>(seat, number, port, table, shape, bucket);
                 }
             };
-            if let Some(node) = self.walk_bucket::<K>(seat, env, number, port, table, place) {
-                let word = self.finding::<K>(seat, env, number, port, FindAt::Owner { node });
+            let found = self.walk_bucket::<K>(seat, env, starts, number, port, table, place);
+            if let Some(node) = found {
+                let at = FindAt::Owner { node };
+                let word = self.finding_at::<K>(seat, env, number, port, at, starts.owner(node));
                 return self.answering::<K>(seat, env, number, port, Some(owner_of(word)));
             }
             let future = self.finding::<K>(seat, env, number, port, FindAt::Future { table });
@@ -82,11 +88,13 @@ impl<M: Mix> Table<M> {
         &self,
         seat: &mut Seat<(), SeatView<M>>,
         env: Env,
+        starts: Starts,
         number: u32,
         port: Port,
         table: u32,
     ) -> Way
-        requires { IsRiding M.mix_of self.now K.riding (find_at env number port (locating env table)) seat.old }
+        requires starts { starts.geometry ≡ env.geometry }
+        requires riding { IsRiding M.mix_of self.now K.riding (find_at env number port (locating env table)) seat.old }
         ensures riding { IsRiding M.mix_of self.now K.riding (find_at env number port (way_on env table result)) seat.new }
         ensures more { steps_in seat.old < steps_in seat.new }
     {
@@ -98,34 +106,38 @@ impl<M: Mix> Table<M> {
         if is_nested(shape) {
             return Way::Nested { shape, bucket };
         }
-        let place = flat_place(env.geometry, shape, bucket);
+        let place = starts.bucket(shape, bucket);
         Way::Flat { shape, place }
     }
 
     /// Walks the bucket whose word is at this place, and behind a strange end anew, where that may be
-    /// still. It answers the node that has the port's key.
+    /// still. It answers the node that has the port's key. Whether it may is told by how many walks there
+    /// were, so a look-up that has found its port hasn't read how often a walk may be repeated.
     #[inline(always)]
     fn walk_bucket<K: Ride>(
         &self,
         seat: &mut Seat<(), SeatView<M>>,
         env: Env,
+        starts: Starts,
         number: u32,
         port: Port,
         table: u32,
         place: usize,
     ) -> Option<u32>
-        requires { IsRiding M.mix_of self.now K.riding (find_at env number port (bucket_begun env table place)) seat.old }
+        requires env { env ≡ self.now.env }
+        requires starts { starts.geometry ≡ env.geometry }
+        requires riding { IsRiding M.mix_of self.now K.riding (find_at env number port (bucket_begun env table place)) seat.old }
         ensures riding { IsRiding M.mix_of self.now K.riding (find_at env number port (bucket_walked table result)) seat.new }
         ensures more { steps_in seat.old < steps_in seat.new }
     {
         let mut left = env.config.rewalks;
         for walks in 0..u64::MAX {
             let head = Head { table, place, left };
-            let link = match self.walk_chain::<K>(seat, env, number, port, head) {
+            let link = match self.walk_chain::<K>(seat, env, starts, number, port, head) {
                 Walked::Found(node) => return Some(node),
                 Walked::Ended(link) => link,
             };
-            if link == marker_of(place) || left == 0 {
+            if link == marker_of(place) || walks == u64::from(self.env.config.rewalks) {
                 return None;
             }
             left -= 1;
@@ -139,11 +151,13 @@ impl<M: Mix> Table<M> {
         &self,
         seat: &mut Seat<(), SeatView<M>>,
         env: Env,
+        starts: Starts,
         number: u32,
         port: Port,
         head: Head,
     ) -> Walked
-        requires { IsRiding M.mix_of self.now K.riding (find_at env number port (Heading head)) seat.old }
+        requires starts { starts.geometry ≡ env.geometry }
+        requires riding { IsRiding M.mix_of self.now K.riding (find_at env number port (Heading head)) seat.old }
         ensures riding { IsRiding M.mix_of self.now K.riding (find_at env number port (walked head result)) seat.new }
         ensures more { steps_in seat.old < steps_in seat.new }
     {
@@ -159,7 +173,8 @@ impl<M: Mix> Table<M> {
                 node,
                 visited,
             };
-            if self.finding::<K>(seat, env, number, port, at) == word_of(port) {
+            let key = self.finding_at::<K>(seat, env, number, port, at, starts.key(node));
+            if key == word_of(port) {
                 return Walked::Found(node);
             }
             let at = FindAt::Link {
@@ -167,7 +182,7 @@ impl<M: Mix> Table<M> {
                 node,
                 visited: visited + 1,
             };
-            link = self.finding::<K>(seat, env, number, port, at);
+            link = self.finding_at::<K>(seat, env, number, port, at, starts.chain_link(node));
         }
         Walked::Ended(link)
     }
@@ -186,7 +201,8 @@ impl<M: Mix> Table<M> {
         ensures { HasEnded M.mix_of self.now K.riding (looked_up result) seat.new }
     {
         let reply = looked_up(owner);
-        self.finding::<K>(seat, env, number, port, FindAt::Closing { reply });
+        let at = FindAt::Closing { reply };
+        self.finding_at::<K>(seat, env, number, port, at, section(number));
         owner
     }
 
@@ -243,6 +259,26 @@ impl<M: Mix> Table<M> {
     {
         let find = Find::<M>::new(env, number, port).with(at);
         self.operate::<K, Reply, Find<M>, Whole>(seat, &Whole, &find)
+    }
+
+    /// The same, where its physical place is known.
+    #[inline(always)]
+    fn finding_at<K: Ride>(
+        &self,
+        seat: &mut Seat<(), SeatView<M>>,
+        env: Env,
+        number: u32,
+        port: Port,
+        at: FindAt,
+        place: usize,
+    ) -> u64
+        requires riding { IsRiding M.mix_of self.now K.riding (find_at env number port at) seat.old }
+        requires place { place ≡ physical_place (plan_at env number at) }
+        ensures doing { Stepped M.mix_of self.now K.riding (doing_after M.mix_of (find_at env number port at) result) seat.new }
+        ensures counted { HasCounted seat.old (doing_after {M = M} M.mix_of (find_at env number port at) result).1 seat.new }
+    {
+        let find = Find::<M>::new(env, number, port).with(at);
+        self.operate_at::<K, Reply, Find<M>, Whole>(seat, &Whole, &find, place)
     }
 }
 

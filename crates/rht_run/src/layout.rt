@@ -4,6 +4,7 @@ ghost use Rattle.std.specs.Prelude.{◌≡◌, ◌+◌, ◌^◌, ◌<◌, length
 ghost use Rattle.rht_words.specs.Opening.{opening_words};
 ghost use Rattle.rht_words.specs.Places.{words_in};
 ghost use Rattle.rht_run.specs.Layout.{gaps, physical, IsLaidOut};
+ghost use Rattle.rht_words.specs.Places.{section_place};
 
 use rht_words::{Env, opening_word};
 use std::alloc::{AllocError, Global};
@@ -19,6 +20,16 @@ pub(crate) fn physical(place: usize) -> usize
     ensures { result ≡ physical place }
 {
     if place < 24 { 8 * place } else { place + GAPS }
+}
+
+/// The physical place of the section word of a caller.
+#[inline(always)]
+#[tactic(auto, unfolding(crate::specs::Layout::physical))]
+pub(crate) fn section(caller: u32) -> usize
+    requires { caller < 16 }
+    ensures { result ≡ physical (section_place caller) }
+{
+    64 + 8 * caller as usize
 }
 
 /// All words at opening, where they lie. The one refusal is want of memory.

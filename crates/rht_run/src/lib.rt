@@ -28,6 +28,7 @@ mod seats;
 mod seeking;
 mod seeks;
 mod serving;
+mod starts;
 mod steps;
 mod table;
 mod work_pieces;

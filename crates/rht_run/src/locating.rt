@@ -8,9 +8,10 @@ ghost use Rattle.rht_run.specs.Pieces.{port_locate, port_locate_after, nested_lo
 use crate::pieces::{Frame, PortLocate, PortLocated};
 use crate::ride::Ride;
 use crate::seats::SeatView;
+use crate::starts::Starts;
 use crate::table::Table;
 use atomic_table::Seat;
-use rht_nest::{Locate, LocateAt, Place, flat_place, is_nested};
+use rht_nest::{Locate, LocateAt, Place, is_nested};
 use rht_policy::{Mix, bucket_of};
 use rht_words::{Geometry, Port};
 
@@ -30,14 +31,14 @@ impl<M: Mix> Table<M> {
         &self,
         seat: &mut Seat<(), SeatView<M>>,
         frame: &F,
-        geometry: Geometry,
+        starts: Starts,
         port: Port,
         table: u32,
     ) -> Way
-        requires { IsRiding M.mix_of self.now K.riding (F.holding frame.now (port_locate port (locate_new geometry table))) seat.old }
-        ensures { Stepped M.mix_of self.now K.riding (way_then (λ p. F.holding frame.now p) (λ there. F.behind frame.now there) geometry port table result) seat.new }
+        requires { IsRiding M.mix_of self.now K.riding (F.holding frame.now (port_locate port (locate_new starts.geometry table))) seat.old }
+        ensures { Stepped M.mix_of self.now K.riding (way_then (λ p. F.holding frame.now p) (λ there. F.behind frame.now there) starts.geometry port table result) seat.new }
     {
-        let locate = Locate::new(geometry, table);
+        let locate = Locate::new(starts.geometry, table);
         let shape = self.locating::<K, F>(seat, frame, port, locate);
         let locate = locate.with(LocateAt::Seed { shape });
         let seed = self.locating::<K, F>(seat, frame, port, locate);
@@ -45,7 +46,7 @@ impl<M: Mix> Table<M> {
         if is_nested(shape) {
             return Way::Nested { shape, bucket };
         }
-        let place = flat_place(geometry, shape, bucket);
+        let place = starts.bucket(shape, bucket);
         Way::Flat { shape, place }
     }
 

@@ -2,21 +2,24 @@
 
 ghost use Rattle.std.specs.Prelude.{◌≡◌, Some, IfSome};
 ghost use Rattle.rht_words.specs.Ports.{word_of};
-ghost use Rattle.rht_arena.specs.NewNode.{new_node_new, new_node_after, new_node_after_at, node_taken};
+ghost use Rattle.rht_arena.specs.NewNode.{new_node_new, new_node_plan, new_node_after, new_node_after_at, node_taken};
 ghost use Rattle.rht_arena.specs.declared.new_node.NewNodeAt.TheVariants.{Taking};
 ghost use Rattle.rht_core.specs.Locals.{machine_of};
 ghost use Rattle.rht_core.specs.Runs.{IsAdmittedCall, IsBuiltFor};
+ghost use Rattle.rht_run.specs.Layout.{physical_place};
 ghost use Rattle.rht_run.specs.Rides.{IsBefore, IsRiding, Stepped, piece_next};
 ghost use Rattle.rht_run.specs.Pieces.{new_node_told, node_then};
 
+use crate::layout::physical;
 use crate::pieces::Frame;
 use crate::ride::Ride;
 use crate::seats::SeatView;
+use crate::starts::Starts;
 use crate::table::Table;
 use atomic_table::Seat;
 use rht_arena::{NewNode, NewNodeAt, TakeNode};
 use rht_policy::Mix;
-use rht_words::{Geometry, Next, Port, word_of};
+use rht_words::{Next, Port, word_of};
 
 impl<M: Mix> Table<M> {
     /// Begins a call that takes a free node and fills it, and does so. It answers that node, or that none
@@ -26,19 +29,20 @@ impl<M: Mix> Table<M> {
         &self,
         seat: &mut Seat<(), SeatView<M>>,
         frame: &F,
-        geometry: Geometry,
+        starts: Starts,
         port: Port,
         owner: u32,
     ) -> Option<Option<u32>>
         requires before { IsBefore M.mix_of self.now K.riding seat.old }
-        requires begins { machine_of self.now.env K.riding.number K.riding.call ≡ Some (F.holding frame.now (new_node_new geometry (word_of port) owner)) }
+        requires begins { machine_of self.now.env K.riding.number K.riding.call ≡ Some (F.holding frame.now (new_node_new starts.geometry (word_of port) owner)) }
         requires admitted { IsAdmittedCall K.riding.call }
         requires built { IsBuiltFor self.now.env.config.kind K.riding.call }
         ensures { IfSome result (λ taken. Stepped M.mix_of self.now K.riding (F.behind frame.now taken) seat.new) }
     {
-        let new = NewNode::new(geometry, word_of(port), owner);
-        let word = self.begin::<K, Option<u32>, NewNode, F>(seat, frame, &new);
-        let take = TakeNode::new(geometry);
+        let new = NewNode::new(starts.geometry, word_of(port), owner);
+        let first = physical(starts.geometry.node_map(0));
+        let word = self.begin::<K, Option<u32>, NewNode, F>(seat, frame, &new, first);
+        let take = TakeNode::new(starts.geometry);
         let Some((take, answer)) = self.pass_over::<K, F>(seat, frame, &new, take, word) else {
             return None;
         };
@@ -48,9 +52,12 @@ impl<M: Mix> Table<M> {
         let Some(node) = taken else {
             return Some(None);
         };
-        self.filling::<K, F>(seat, frame, &new, NewNodeAt::Key { node });
-        self.filling::<K, F>(seat, frame, &new, NewNodeAt::Owner { node });
-        self.filling::<K, F>(seat, frame, &new, NewNodeAt::ListLink { node });
+        let at = NewNodeAt::Key { node };
+        self.filling_at::<K, F>(seat, frame, &new, at, starts.key(node));
+        let at = NewNodeAt::Owner { node };
+        self.filling_at::<K, F>(seat, frame, &new, at, starts.owner(node));
+        let at = NewNodeAt::ListLink { node };
+        self.filling_at::<K, F>(seat, frame, &new, at, starts.list_link(node));
         Some(Some(node))
     }
 
@@ -86,6 +93,8 @@ impl<M: Mix> Table<M> {
     }
 
     /// Takes a free node, once a word of the node map was looked at. It answers as `begin_with_node` does.
+    /// The first operation stands before the loop: there the compiler sees that it claims a node, mostly
+    /// the one that is taken.
     #[inline(always)]
     fn take_node<K: Ride, F: Frame<M, NewNode, Option<u32>>>(
         &self,
@@ -98,8 +107,11 @@ impl<M: Mix> Table<M> {
         requires { Stepped M.mix_of self.now K.riding (piece_next (λ p. F.holding frame.now p) (λ a. F.behind frame.now a) (new_node_told new.now (node_taken take answer))) seat.old }
         ensures { IfSome result (λ taken. Stepped M.mix_of self.now K.riding (node_then (λ p. F.holding frame.now p) (λ a. F.behind frame.now a) new.now taken) seat.new) }
     {
-        let mut take = take;
-        let mut answer = answer;
+        if let Next::Done(taken) = answer {
+            return Some(taken);
+        }
+        let word = self.filling::<K, F>(seat, frame, new, NewNodeAt::Taking { take });
+        let (mut take, mut answer) = take.after(word);
         for _ in 0..u64::MAX {
             if let Next::Done(taken) = answer {
                 return Some(taken);
@@ -123,5 +135,22 @@ impl<M: Mix> Table<M> {
         ensures { Stepped M.mix_of self.now K.riding (piece_next (λ p. F.holding frame.now p) (λ a. F.behind frame.now a) (new_node_after (record new.now { at = at }) result)) seat.new }
     {
         self.operate::<K, Option<u32>, NewNode, F>(seat, frame, &new.with(at))
+    }
+
+    /// The same, where its physical place is known.
+    #[inline(always)]
+    fn filling_at<K: Ride, F: Frame<M, NewNode, Option<u32>>>(
+        &self,
+        seat: &mut Seat<(), SeatView<M>>,
+        frame: &F,
+        new: &NewNode,
+        at: NewNodeAt,
+        place: usize,
+    ) -> u64
+        requires riding { IsRiding M.mix_of self.now K.riding (F.holding frame.now (record new.now { at = at })) seat.old }
+        requires place { place ≡ physical_place (new_node_plan (record new.now { at = at })) }
+        ensures { Stepped M.mix_of self.now K.riding (piece_next (λ p. F.holding frame.now p) (λ a. F.behind frame.now a) (new_node_after (record new.now { at = at }) result)) seat.new }
+    {
+        self.operate_at::<K, Option<u32>, NewNode, F>(seat, frame, &new.with(at), place)
     }
 }

@@ -10,6 +10,7 @@ use crate::layout::{opening_laid, physical};
 use crate::pass::Pass;
 use crate::plays::{Enrolls, Hands};
 use crate::seats::SeatView;
+use crate::starts::Starts;
 use crate::table::Table;
 use atomic_table::Seat;
 use rht_core::Local;
@@ -60,7 +61,15 @@ impl<M: Mix> Table<M> {
     {
         let laid = opening_laid(alloc, env)?;
         let (words, seat) = atomic_table::Table::of_words(alloc, laid.as_slice(), &env)?;
-        Ok((Table { words, env }, seat))
+        let starts = Starts::new(env.geometry);
+        let table = Table {
+            words,
+            env,
+            nodes_start: starts.nodes,
+            pages_start: starts.pages,
+            last_word: starts.last,
+        };
+        Ok((table, seat))
     }
 
     /// Enrolls all callers, each in one step.

@@ -4,12 +4,14 @@ ghost use Rattle.std.specs.Prelude.{◌≡◌};
 ghost use Rattle.rht_words.specs.declared.config.Kind.TheVariants.{Single};
 ghost use Rattle.rht_model.specs.declared.history.Call.TheVariants.{Rebind as RebindCall};
 ghost use Rattle.rht_core.specs.Locals.{doing_after};
-ghost use Rattle.rht_release.specs.Rebind.{absent, replacing};
+ghost use Rattle.rht_release.specs.Rebind.{plan_at, absent, replacing};
+ghost use Rattle.rht_run.specs.Layout.{physical_place};
 ghost use Rattle.rht_run.specs.Rides.{IsBefore, IsRiding, HasEnded, Stepped};
 ghost use Rattle.rht_run.specs.Seeks.{rebind_at, nested_seek};
 ghost use Rattle.rht_release.specs.declared.rebind.RebindAt.TheVariants.{Seeking, Closing};
 ghost use Rattle.rht_release.specs.declared.rebind.RebindEnd.TheVariants.{Rebound};
 
+use crate::layout::section;
 use crate::pieces::Whole;
 use crate::ride::{Ride, never};
 use crate::seats::SeatView;
@@ -51,7 +53,8 @@ impl<M: Mix> Table<M> {
             new,
         };
         let geometry = env.geometry;
-        let begun = self.begin_with_node::<K, RebindFilling>(seat, &frame, geometry, port, new);
+        let starts = self.starts();
+        let begun = self.begin_with_node::<K, RebindFilling>(seat, &frame, starts, port, new);
         let Some(taken) = begun else {
             never(rt);
             unreachable!()
@@ -60,7 +63,8 @@ impl<M: Mix> Table<M> {
             return Reply::NoNode;
         };
         let at = RebindAt::Opening { node };
-        self.rebinding::<K>(seat, env, number, port, owner, new, at);
+        let section = section(number);
+        self.rebinding_at::<K>(seat, env, number, port, owner, new, at, section);
         let frame = RebindSeeking {
             env,
             caller: number,
@@ -70,7 +74,7 @@ impl<M: Mix> Table<M> {
         };
         let at = SeekAt::CurrentTable;
         let table = table_of(self.seeking::<K, RebindSeeking>(seat, &frame, geometry, port, at));
-        let Some(sought) = self.seek::<K, RebindSeeking>(seat, &frame, geometry, port, table) else {
+        let Some(sought) = self.seek::<K, RebindSeeking>(seat, &frame, starts, port, table) else {
             never(rt);
             unreachable!()
         };
@@ -90,20 +94,25 @@ impl<M: Mix> Table<M> {
             }
         };
         let at = RebindAt::Owner { node, found };
-        let first = owner_of(self.rebinding::<K>(seat, env, number, port, owner, new, at));
+        let place = starts.owner(found.node);
+        let first = owner_of(self.rebinding_at::<K>(
+            seat, env, number, port, owner, new, at, place,
+        ));
         let at = owner_compared(node, found, first == owner);
         let RebindAt::ChainLink { .. } = at else {
             self.rebinding::<K>(seat, env, number, port, owner, new, at);
             return self.give_up_rebind::<K>(seat, env, number, port, owner, new, node);
         };
-        let link = self.rebinding::<K>(seat, env, number, port, owner, new, at);
+        let place = starts.chain_link(found.node);
+        let link = self.rebinding_at::<K>(seat, env, number, port, owner, new, at, place);
         let at = RebindAt::Link { node, found, link };
-        self.rebinding::<K>(seat, env, number, port, owner, new, at);
+        let place = starts.chain_link(node);
+        self.rebinding_at::<K>(seat, env, number, port, owner, new, at, place);
         self.replacing::<K>(seat, env, number, port, owner, new, node, found);
         let removed = found.node;
         let end = RebindEnd::Rebound { removed };
         let at = RebindAt::Closing { end };
-        self.rebinding::<K>(seat, env, number, port, owner, new, at);
+        self.rebinding_at::<K>(seat, env, number, port, owner, new, at, section);
         Reply::Rebound
     }
 
@@ -123,7 +132,7 @@ impl<M: Mix> Table<M> {
         ensures { HasEnded M.mix_of self.now K.riding result seat.new }
     {
         let at = absent(node);
-        self.rebinding::<K>(seat, env, number, port, owner, new, at);
+        self.rebinding_at::<K>(seat, env, number, port, owner, new, at, section(number));
         let at = giving(env.geometry, node);
         self.rebinding::<K>(seat, env, number, port, owner, new, at);
         Reply::Absent
@@ -206,5 +215,26 @@ impl<M: Mix> Table<M> {
     {
         let rebind = Rebind::<M>::new(env, number, port, owner, new).with(at);
         self.operate::<K, Reply, Rebind<M>, Whole>(seat, &Whole, &rebind)
+    }
+
+    /// The same, where its physical place is known.
+    #[inline(always)]
+    fn rebinding_at<K: Ride>(
+        &self,
+        seat: &mut Seat<(), SeatView<M>>,
+        env: Env,
+        number: u32,
+        port: Port,
+        owner: u32,
+        new: u32,
+        at: RebindAt,
+        place: usize,
+    ) -> u64
+        requires riding { IsRiding M.mix_of self.now K.riding (rebind_at env number port owner new at) seat.old }
+        requires place { place ≡ physical_place (plan_at env number at) }
+        ensures { Stepped M.mix_of self.now K.riding (doing_after M.mix_of (rebind_at env number port owner new at) result) seat.new }
+    {
+        let rebind = Rebind::<M>::new(env, number, port, owner, new).with(at);
+        self.operate_at::<K, Reply, Rebind<M>, Whole>(seat, &Whole, &rebind, place)
     }
 }

@@ -6,15 +6,18 @@ ghost use Rattle.rht_model.specs.declared.history.Reply.TheVariants.{Released};
 ghost use Rattle.rht_core.specs.Locals.{doing_after};
 ghost use Rattle.rht_release.specs.FoundPort.{relink_of};
 ghost use Rattle.rht_release.specs.declared.release.ReleaseAt.TheVariants.{Seeking, LinkBehind, Unlinking, Lowering, Closing};
-ghost use Rattle.rht_release.specs.Release.{promoting};
-ghost use Rattle.rht_run.specs.Rides.{IsBefore, IsRiding, HasEnded, Stepped};
+ghost use Rattle.rht_release.specs.Release.{plan_at, promoting};
+ghost use Rattle.rht_run.specs.Layout.{physical_place};
+ghost use Rattle.rht_run.specs.Rides.{IsBefore, IsRiding, HasEnded, Stepped, released, kick_in};
 ghost use Rattle.rht_run.specs.Seeks.{release_at, nested_seek};
 
+use crate::layout::section;
 use crate::pieces::Whole;
 use crate::ride::{Ride, never};
 use crate::seats::SeatView;
 use crate::seeking::{Sought, nested_seek};
 use crate::seeks::ReleaseSeeking;
+use crate::starts::Starts;
 use crate::table::Table;
 use atomic_table::Seat;
 use rht_model::Reply;
@@ -25,8 +28,10 @@ use rht_words::{Env, Port, link_of, node_of, owner_of, table_of};
 use std::sync::Wait;
 
 impl<M: Mix> Table<M> {
-    /// Takes the binding out, from the first operation to the reply.
-    #[inline(always)]
+    /// Takes the binding out, from the first operation to the reply. It answers whether `work` has something
+    /// to do, or that there is no such binding: that goes back in registers where a reply would go through
+    /// memory.
+    #[inline(never)]
     pub(crate) fn drive_release<R: Wait, K: Ride>(
         &self,
         rt: &R,
@@ -34,33 +39,32 @@ impl<M: Mix> Table<M> {
         number: u32,
         port: Port,
         owner: u32,
-    ) -> Reply
+    ) -> Option<bool>
         requires before { IsBefore M.mix_of self.now K.riding seat.old }
         requires number { K.riding.number ≡ number }
         requires call { K.riding.call ≡ ReleaseCall port owner }
-        ensures { HasEnded M.mix_of self.now K.riding result seat.new }
+        ensures { HasEnded M.mix_of self.now K.riding (released result) seat.new }
     {
         let env = self.env;
         let release = Release::<M>::new(env, number, port, owner);
-        self.begin::<K, Reply, Release<M>, Whole>(seat, &Whole, &release);
+        self.begin::<K, Reply, Release<M>, Whole>(seat, &Whole, &release, section(number));
         let frame = ReleaseSeeking {
             env,
             caller: number,
             owner,
         };
         let geometry = env.geometry;
+        let starts = self.starts();
         let at = SeekAt::CurrentTable;
         let table = table_of(self.seeking::<K, ReleaseSeeking>(seat, &frame, geometry, port, at));
-        let Some(sought) = self.seek::<K, ReleaseSeeking>(seat, &frame, geometry, port, table)
-        else {
+        let Some(sought) = self.seek::<K, ReleaseSeeking>(seat, &frame, starts, port, table) else {
             never(rt);
             unreachable!()
         };
         let found = match sought {
             Sought::Found { found } => found,
             Sought::Nowhere => {
-                let reply = Reply::Absent;
-                return self.close_release::<K>(seat, env, number, port, owner, reply, None);
+                return self.close_release::<K>(seat, env, number, port, owner, None, None);
             }
             Sought::Nested {
                 table,
@@ -80,17 +84,20 @@ impl<M: Mix> Table<M> {
                 node,
                 before,
             };
-            let other = owner_of(self.releasing::<K>(seat, env, number, port, owner, at));
+            let place = starts.owner(node);
+            let other = owner_of(self.releasing_at::<K>(seat, env, number, port, owner, at, place));
             if other == owner {
-                return self.take_out::<K>(seat, env, number, port, owner, found, node, before);
+                return self.take_out::<K>(
+                    seat, env, starts, number, port, owner, found, node, before,
+                );
             }
             let at = ReleaseAt::ListLink { found, node };
-            let link = self.releasing::<K>(seat, env, number, port, owner, at);
+            let place = starts.list_link(node);
+            let link = self.releasing_at::<K>(seat, env, number, port, owner, at, place);
             let Some(next) = node_of(env.geometry.nodes, link) else {
                 let at = unlocking(found, None);
                 self.releasing::<K>(seat, env, number, port, owner, at);
-                let reply = Reply::Absent;
-                return self.close_release::<K>(seat, env, number, port, owner, reply, None);
+                return self.close_release::<K>(seat, env, number, port, owner, None, None);
             };
             before = Some(node);
             node = next;
@@ -105,22 +112,25 @@ impl<M: Mix> Table<M> {
         &self,
         seat: &mut Seat<(), SeatView<M>>,
         env: Env,
+        starts: Starts,
         number: u32,
         port: Port,
         owner: u32,
         found: FoundPort,
         node: u32,
         before: Option<u32>,
-    ) -> Reply
-        requires { IsRiding M.mix_of self.now K.riding (release_at env number port owner (LinkBehind found node before)) seat.old }
-        ensures { HasEnded M.mix_of self.now K.riding result seat.new }
+    ) -> Option<bool>
+        requires starts { starts.geometry ≡ env.geometry }
+        requires riding { IsRiding M.mix_of self.now K.riding (release_at env number port owner (LinkBehind found node before)) seat.old }
+        ensures { HasEnded M.mix_of self.now K.riding (released result) seat.new }
     {
         let at = ReleaseAt::LinkBehind {
             found,
             node,
             before,
         };
-        let behind = self.releasing::<K>(seat, env, number, port, owner, at);
+        let place = starts.list_link(node);
+        let behind = self.releasing_at::<K>(seat, env, number, port, owner, at, place);
         if let Some(before) = before {
             let at = ReleaseAt::CuttingOut {
                 found,
@@ -131,12 +141,13 @@ impl<M: Mix> Table<M> {
             self.releasing::<K>(seat, env, number, port, owner, at);
             let at = unlocking(found, Some(node));
             self.releasing::<K>(seat, env, number, port, owner, at);
-            let reply = Reply::Released { kick: false };
-            return self.close_release::<K>(seat, env, number, port, owner, reply, Some(node));
+            let kick = Some(false);
+            return self.close_release::<K>(seat, env, number, port, owner, kick, Some(node));
         }
         let second = node_of(env.geometry.nodes, behind);
         let at = ReleaseAt::ChainLink { found, second };
-        let link = self.releasing::<K>(seat, env, number, port, owner, at);
+        let place = starts.chain_link(found.node);
+        let link = self.releasing_at::<K>(seat, env, number, port, owner, at, place);
         if let Some(second) = second {
             let at = ReleaseAt::SecondLink {
                 found,
@@ -145,18 +156,16 @@ impl<M: Mix> Table<M> {
             };
             self.releasing::<K>(seat, env, number, port, owner, at);
             self.promoting::<K>(seat, env, number, port, owner, found, second);
-            let reply = Reply::Released { kick: false };
-            return self.close_release::<K>(seat, env, number, port, owner, reply, Some(found.node));
+            let kick = Some(false);
+            return self.close_release::<K>(seat, env, number, port, owner, kick, Some(found.node));
         }
         self.unlinking::<K>(seat, env, number, port, owner, found, link);
         let shape = found.shape;
         let node = found.node;
         let at = ReleaseAt::Lowering { node, shape };
         let count = self.releasing::<K>(seat, env, number, port, owner, at);
-        let reply = Reply::Released {
-            kick: kicks(env, shape, count),
-        };
-        self.close_release::<K>(seat, env, number, port, owner, reply, Some(node))
+        let kick = Some(kicks(env, shape, count));
+        self.close_release::<K>(seat, env, number, port, owner, kick, Some(node))
     }
 
     /// Closes the read section, with which the release ends so: this node was taken out, or none.
@@ -168,15 +177,15 @@ impl<M: Mix> Table<M> {
         number: u32,
         port: Port,
         owner: u32,
-        reply: Reply,
+        kick: Option<bool>,
         removed: Option<u32>,
-    ) -> Reply
-        requires { IsRiding M.mix_of self.now K.riding (release_at env number port owner (Closing reply removed)) seat.old }
-        ensures { HasEnded M.mix_of self.now K.riding result seat.new }
+    ) -> Option<bool>
+        requires { IsRiding M.mix_of self.now K.riding (release_at env number port owner (Closing (released kick) removed)) seat.old }
+        ensures { HasEnded M.mix_of self.now K.riding (released result) seat.new }
     {
-        let at = closing(reply, removed);
-        self.releasing::<K>(seat, env, number, port, owner, at);
-        reply
+        let at = closing(released(kick), removed);
+        self.releasing_at::<K>(seat, env, number, port, owner, at, section(number));
+        kick
     }
 
     /// Puts the list's second node in the first one's place, and unlocks the bucket.
@@ -244,14 +253,15 @@ impl<M: Mix> Table<M> {
         table: u32,
         shape: u64,
         bucket: u32,
-    ) -> Reply
-        requires { IsRiding M.mix_of self.now K.riding (release_at self.now.env number port owner (Seeking (nested_seek self.now.env.geometry table shape bucket))) seat.old }
-        ensures { HasEnded M.mix_of self.now K.riding result seat.new }
+    ) -> Option<bool>
+        requires call { K.riding.call ≡ ReleaseCall port owner }
+        requires riding { IsRiding M.mix_of self.now K.riding (release_at self.now.env number port owner (Seeking (nested_seek self.now.env.geometry table shape bucket))) seat.old }
+        ensures { HasEnded M.mix_of self.now K.riding (released result) seat.new }
     {
         let seek = nested_seek(self.env.geometry, table, shape, bucket);
         let at = ReleaseAt::Seeking { seek };
         let release = Release::<M>::new(self.env, number, port, owner).with(at);
-        self.run_whole::<R, K, Release<M>, Whole>(rt, seat, &Whole, release)
+        kick_in(self.run_whole::<R, K, Release<M>, Whole>(rt, seat, &Whole, release))
     }
 
     /// The operation of the release in this state.
@@ -270,5 +280,46 @@ impl<M: Mix> Table<M> {
     {
         let release = Release::<M>::new(env, number, port, owner).with(at);
         self.operate::<K, Reply, Release<M>, Whole>(seat, &Whole, &release)
+    }
+
+    /// The same, where its physical place is known.
+    #[inline(always)]
+    fn releasing_at<K: Ride>(
+        &self,
+        seat: &mut Seat<(), SeatView<M>>,
+        env: Env,
+        number: u32,
+        port: Port,
+        owner: u32,
+        at: ReleaseAt,
+        place: usize,
+    ) -> u64
+        requires riding { IsRiding M.mix_of self.now K.riding (release_at env number port owner at) seat.old }
+        requires place { place ≡ physical_place (plan_at env number at) }
+        ensures { Stepped M.mix_of self.now K.riding (doing_after M.mix_of (release_at env number port owner at) result) seat.new }
+    {
+        let release = Release::<M>::new(env, number, port, owner).with(at);
+        self.operate_at::<K, Reply, Release<M>, Whole>(seat, &Whole, &release, place)
+    }
+}
+
+/// The reply of a release: the binding was taken out, with this kick, or there is none.
+#[inline(always)]
+pub(crate) fn released(kick: Option<bool>) -> Reply
+    ensures { result ≡ released kick }
+{
+    match kick {
+        Some(kick) => Reply::Released { kick },
+        None => Reply::Absent,
+    }
+}
+
+/// The kick in the reply of a release.
+fn kick_in(reply: Reply) -> Option<bool>
+    ensures { result ≡ kick_in reply }
+{
+    match reply {
+        Reply::Released { kick } => Some(kick),
+        _ => None,
     }
 }

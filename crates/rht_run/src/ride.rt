@@ -10,8 +10,10 @@ ghost use Rattle.rht_model.specs.declared.history.Reply.{Reply as ReplyOf};
 ghost use Rattle.rht_callers.specs.declared.local.Doing.TheVariants.{Idle};
 ghost use Rattle.rht_core.specs.Locals.{machine_of, doing_after};
 ghost use Rattle.rht_core.specs.Runs.{IsAdmittedCall, IsBuiltFor};
+ghost use Rattle.rht_run.specs.Layout.{physical_place};
 ghost use Rattle.rht_run.specs.Rides.{Riding, any_riding, IsBefore, IsRiding, HasEnded, Stepped, HasCounted, piece_next};
 
+use crate::layout::physical;
 use crate::pieces::{Frame, Piece};
 use crate::seats::SeatView;
 use crate::table::Table;
@@ -19,7 +21,7 @@ use atomic_table::Seat;
 use rht_core::Local;
 use rht_model::Reply;
 use rht_policy::Mix;
-use rht_words::Next;
+use rht_words::{Next, Op};
 use std::marker::Brand;
 use std::sync::Wait;
 
@@ -39,23 +41,25 @@ impl Ride for Brand {
 }
 
 impl<M: Mix> Table<M> {
-    /// The first operation of a call, which this piece plans.
+    /// The first operation of a call, which this piece plans. Its physical place is given with it.
     #[inline(always)]
     pub(crate) fn begin<K: Ride, A, P: Piece<M, A>, F: Frame<M, P, A>>(
         &self,
         seat: &mut Seat<(), SeatView<M>>,
         frame: &F,
         piece: &P,
+        at: usize,
     ) -> u64
         requires before { IsBefore M.mix_of self.now K.riding seat.old }
         requires begins { machine_of self.now.env K.riding.number K.riding.call ≡ Some (F.holding frame.now piece.now) }
         requires admitted { IsAdmittedCall K.riding.call }
         requires built { IsBuiltFor self.now.env.config.kind K.riding.call }
+        requires place { at ≡ physical_place (P.plan_of piece.now) }
         ensures doing { Stepped M.mix_of self.now K.riding (doing_after M.mix_of (F.holding frame.now piece.now) result) seat.new }
         ensures piece { Stepped M.mix_of self.now K.riding (piece_next (λ p. F.holding frame.now p) (λ a. F.behind frame.now a) (P.after_of piece.now result)) seat.new }
     {
         let op = piece.planned();
-        self.perform::<Brand>(seat, op)
+        self.perform::<Brand>(seat, op, at)
     }
 
     /// The operation that this piece plans, in the machine that holds it.
@@ -72,7 +76,48 @@ impl<M: Mix> Table<M> {
         ensures counted { HasCounted seat.old (doing_after M.mix_of (F.holding frame.now piece.now) result).1 seat.new }
     {
         let op = piece.planned();
-        self.perform::<Brand>(seat, op)
+        let at = physical(op.place());
+        self.advance::<K, A, P, F>(seat, frame, piece, op, at)
+    }
+
+    /// The same, where its physical place is known: so it need not be worked out from the geometry.
+    #[inline(always)]
+    pub(crate) fn operate_at<K: Ride, A, P: Piece<M, A>, F: Frame<M, P, A>>(
+        &self,
+        seat: &mut Seat<(), SeatView<M>>,
+        frame: &F,
+        piece: &P,
+        at: usize,
+    ) -> u64
+        requires riding { IsRiding M.mix_of self.now K.riding (F.holding frame.now piece.now) seat.old }
+        requires place { at ≡ physical_place (P.plan_of piece.now) }
+        ensures doing { Stepped M.mix_of self.now K.riding (doing_after M.mix_of (F.holding frame.now piece.now) result) seat.new }
+        ensures piece { Stepped M.mix_of self.now K.riding (piece_next (λ p. F.holding frame.now p) (λ a. F.behind frame.now a) (P.after_of piece.now result)) seat.new }
+        ensures counted { HasCounted seat.old (doing_after M.mix_of (F.holding frame.now piece.now) result).1 seat.new }
+    {
+        let op = piece.planned();
+        self.advance::<K, A, P, F>(seat, frame, piece, op, at)
+    }
+
+    /// Performs the operation that this piece plans, in the machine that holds it. It is planned once: an
+    /// operation that is planned twice makes a function too large to be put into its callers.
+    #[inline(always)]
+    fn advance<K: Ride, A, P: Piece<M, A>, F: Frame<M, P, A>>(
+        &self,
+        seat: &mut Seat<(), SeatView<M>>,
+        frame: &F,
+        piece: &P,
+        op: Op,
+        at: usize,
+    ) -> u64
+        requires riding { IsRiding M.mix_of self.now K.riding (F.holding frame.now piece.now) seat.old }
+        requires planned { op ≡ P.plan_of piece.now }
+        requires place { at ≡ physical_place op }
+        ensures doing { Stepped M.mix_of self.now K.riding (doing_after M.mix_of (F.holding frame.now piece.now) result) seat.new }
+        ensures piece { Stepped M.mix_of self.now K.riding (piece_next (λ p. F.holding frame.now p) (λ a. F.behind frame.now a) (P.after_of piece.now result)) seat.new }
+        ensures counted { HasCounted seat.old (doing_after M.mix_of (F.holding frame.now piece.now) result).1 seat.new }
+    {
+        self.perform::<Brand>(seat, op, at)
     }
 
     /// Runs a machine from where it stands to its reply, one operation after another. It is for the

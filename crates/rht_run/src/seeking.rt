@@ -10,6 +10,7 @@ use crate::pieces::Frame;
 use crate::ride::Ride;
 use crate::seats::SeatView;
 use crate::seeks::{PortSeek, SeekLocating, SeekProbing};
+use crate::starts::Starts;
 use crate::table::Table;
 use atomic_table::Seat;
 use rht_policy::Mix;
@@ -36,20 +37,21 @@ impl<M: Mix> Table<M> {
         &self,
         seat: &mut Seat<(), SeatView<M>>,
         frame: &F,
-        geometry: Geometry,
+        starts: Starts,
         port: Port,
         table: u32,
     ) -> Option<Sought>
-        requires { IsRiding M.mix_of self.now K.riding (F.holding frame.now (port_seek geometry port (locating geometry table))) seat.old }
-        ensures { IfSome result (λ sought. Stepped M.mix_of self.now K.riding (sought_then (λ p. F.holding frame.now p) (λ a. F.behind frame.now a) geometry port sought) seat.new) }
+        requires { IsRiding M.mix_of self.now K.riding (F.holding frame.now (port_seek starts.geometry port (locating starts.geometry table))) seat.old }
+        ensures { IfSome result (λ sought. Stepped M.mix_of self.now K.riding (sought_then (λ p. F.holding frame.now p) (λ a. F.behind frame.now a) starts.geometry port sought) seat.new) }
     {
+        let geometry = starts.geometry;
         let mut table = table;
         for _ in 0..u64::MAX {
             let locating = SeekLocating {
                 frame: *frame,
                 geometry,
             };
-            let way = self.find_way::<K, SeekLocating<F>>(seat, &locating, geometry, port, table);
+            let way = self.find_way::<K, SeekLocating<F>>(seat, &locating, starts, port, table);
             let (shape, place) = match way {
                 Way::Flat { shape, place } => (shape, place),
                 Way::Nested { shape, bucket } => {
@@ -68,7 +70,7 @@ impl<M: Mix> Table<M> {
                 shape,
             };
             let key = word_of(port);
-            let Some(end) = self.probe::<K, SeekProbing<F>>(seat, &probing, geometry, place, key)
+            let Some(end) = self.probe::<K, SeekProbing<F>>(seat, &probing, starts, place, key)
             else {
                 return None;
             };

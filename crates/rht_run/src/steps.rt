@@ -2,6 +2,7 @@
 
 ghost use Rattle.std.specs.Prelude.{◌≡◌, ◌<◌, Option, None, Some};
 ghost use Rattle.rht_run.specs.Rule.{CanGo, Went, HasRoom, local_then};
+ghost use Rattle.rht_run.specs.Layout.{physical_place};
 ghost use Rattle.rht_run.specs.Passes.{CanPerform, IsSameSeat, IsPassOf, IsSamePass, HasGone};
 
 use crate::layout::physical;
@@ -16,16 +17,21 @@ use rht_policy::Mix;
 use rht_words::{Env, Op};
 
 impl<M: Mix> Table<M> {
-    /// Performs the operation, and answers the word before it. Every operation is one atomic step;
-    /// a store is a swap, so that it too tells the old word.
+    /// Performs the operation, which is at this physical place, and answers the word before it. Every
+    /// operation is one atomic step; a store is a swap, so that it too tells the old word.
     #[inline(always)]
-    pub(crate) fn perform<K: Turn>(&self, seat: &mut Seat<(), SeatView<M>>, op: Op) -> u64
-        requires { CanPerform K.begins self.now seat.old op }
+    pub(crate) fn perform<K: Turn>(
+        &self,
+        seat: &mut Seat<(), SeatView<M>>,
+        op: Op,
+        at: usize,
+    ) -> u64
+        requires can { CanPerform K.begins self.now seat.old op }
+        requires place { at ≡ physical_place op }
         ensures seat { IsSameSeat seat.old seat.new }
         ensures went { Went M.mix_of K.begins seat.old.me.0 result seat.new.me.0 }
     {
         let words = &self.words.shared;
-        let at = physical(op.place());
         match op {
             Op::Load { .. } => words.load::<Goes<M, K>>(seat, at),
             Op::Store { value, .. } => words.swap::<Goes<M, K>>(seat, at, value),
@@ -53,7 +59,8 @@ impl<M: Mix> Table<M> {
         let Some(op) = pass.local.plan() else {
             unreachable!()
         };
-        let old = self.perform::<K>(&mut pass.seat, op);
+        let at = physical(op.place());
+        let old = self.perform::<K>(&mut pass.seat, op, at);
         pass.local.take(old)
     }
 }

@@ -10,6 +10,7 @@ ghost use Rattle.rht_nest.specs.Unmake.{unmake_new};
 ghost use Rattle.rht_run.specs.Rides.{IsBefore, IsRiding, HasEnded};
 ghost use Rattle.rht_run.specs.WorkPieces.{work_at, wanted_of, rehash_of, making};
 
+use crate::layout::physical;
 use crate::pieces::Whole;
 use crate::ride::{Ride, never};
 use crate::seats::SeatView;
@@ -25,7 +26,7 @@ use rht_move::work::{Due, Outcome, Wanted, WorkAt, reply_of};
 use rht_move::{Last, Rehash, Work};
 use rht_nest::{Make, Unmake, is_nested};
 use rht_policy::Mix;
-use rht_words::{Env, Next, slot_of, table_of};
+use rht_words::{Env, Next, places, slot_of, table_of};
 use std::sync::Wait;
 
 impl<M: Mix> Table<M> {
@@ -45,7 +46,8 @@ impl<M: Mix> Table<M> {
     {
         let env = self.env;
         let work = Work::<M>::new(env, caller);
-        let lock = self.begin::<K, Reply, Work<M>, Whole>(seat, &Whole, &work);
+        let at = physical(places::work_lock());
+        let lock = self.begin::<K, Reply, Work<M>, Whole>(seat, &Whole, &work, at);
         if lock == 0 {
             return self.resize::<R, K>(rt, seat, caller);
         }

@@ -9,6 +9,10 @@ pub new-find-requires : goal.new-find-requires
 new-find-requires g c =
     omega (arith, c.requires.number, before_few g.M.Mix.mix_of c.args.self.now g.K.Ride.riding c.args.seat.now c.requires.before)
 
+pub section-requires : goal.section-requires
+section-requires g c =
+    omega (arith, c.requires.number, before_few g.M.Mix.mix_of c.args.self.now g.K.Ride.riding c.args.seat.now c.requires.before)
+
 pub unreachable-requires : goal.unreachable-requires
 unreachable-requires g c =
     let is = c.loop-rounds.invariant in

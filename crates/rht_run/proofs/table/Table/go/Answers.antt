@@ -1,9 +1,9 @@
-use Rattle.std.proofs.Common.{◌∙◌, ap, subst, sym}
+use Rattle.std.proofs.Common.{◌∙◌, ap, subst, sym, arith}
 use Rattle.std.specs.Prelude.{Option}
 use Rattle.rht_model.specs.declared.history.Call.{Call}
 use Rattle.rht_core.specs.Locals.{plan_of}
 use Rattle.rht_run.specs.Passes.{CanPerform}
-use Rattle.rht_run.proofs.Performed.{number_few, room_for, ready}
+use Rattle.rht_run.proofs.Performed.{place_small, number_few, room_for, ready}
 use Rattle.rht_run.proofs.table.Table.go.Goals as goal
 
 pub begin_if-requires-clause-caller : goal.begin_if-requires-clause-caller
@@ -13,8 +13,14 @@ pub begin_if-requires-clause-room : goal.begin_if-requires-clause-room
 begin_if-requires-clause-room g c =
     room_for g.M.Mix.mix_of c.args.self.now c.args.pass.now c.requires.pass c.args.begins c.requires.can
 
-pub perform-old-requires : goal.perform-old-requires
-perform-old-requires g c =
+pub perform-old-requires-clause-can : goal.perform-old-requires-clause-can
+perform-old-requires-clause-can g c =
     subst (λ (b : Option Call). CanPerform b c.args.self.now c.args.pass.now.seat c.in-Some.op) c.requires.begins
     (ready g.M.Mix.mix_of c.args.self.now c.args.pass.now c.args.begins c.in-Some.op c.requires.pass c.requires.can
     (ap plan_of (sym c.begin_if.ensures) ∙ sym c.plan.ensures.plan ∙ c.in-Some.is))
+
+pub physical-at-requires : goal.physical-at-requires
+physical-at-requires g c =
+    let can = ready g.M.Mix.mix_of c.args.self.now c.args.pass.now c.args.begins c.in-Some.op c.requires.pass c.requires.can
+    (ap plan_of (sym c.begin_if.ensures) ∙ sym c.plan.ensures.plan ∙ c.in-Some.is) in
+    omega (arith, c.place.ensures, place_small g.row.M.Denot g.M.Mix.mix_of c.args.begins c.args.self.now c.args.pass.now.seat c.in-Some.op can)

@@ -1,32 +1,12 @@
-use Rattle.std.proofs.Common.{◌∙◌, sym, ap}
-use Rattle.std.specs.Prelude.{Some}
-use Rattle.rht_run.proofs.Rides.{may_perform, has_stepped, has_counted, of_piece}
+use Rattle.std.proofs.Common.{◌∙◌, sym, ap, arith}
+use Rattle.std.specs.Prelude.{Some, None}
+use Rattle.rht_run.proofs.Rides.{may_perform}
+use Rattle.rht_run.proofs.Performed.{place_small}
 use Rattle.rht_run.proofs.table.Table.operate.Goals as goal
 
-pub perform-requires : goal.perform-requires
-perform-requires g c =
-    may_perform g.M.Mix.mix_of c.args.self.now g.K.Ride.riding c.args.seat.now
+pub physical-at-requires : goal.physical-at-requires
+physical-at-requires g c =
+    let can = may_perform g.M.Mix.mix_of c.args.self.now g.K.Ride.riding c.args.seat.now
     (g.F.Frame.holding c.args.frame.now c.args.piece.now) _ c.requires (g.F.Frame.busy _ _)
-    (g.met.F.Frame.plans c.args.frame.now c.args.piece.now ∙ ap Some (sym c.planned-op.ensures))
-
-pub returns-clause-doing : goal.returns-clause-doing
-returns-clause-doing g c =
-    has_stepped g.M.Mix.mix_of c.args.self.now g.K.Ride.riding c.args.seat.now
-    (g.F.Frame.holding c.args.frame.now c.args.piece.now) c.perform.new.seat c.perform.result c.requires
-    (λ room. g.met.F.Frame.keeps c.args.frame.now c.args.piece.now room c.perform.result)
-    c.perform.ensures.seat c.perform.ensures.went
-
-pub returns-clause-piece : goal.returns-clause-piece
-returns-clause-piece g c =
-    of_piece g.M.Mix.mix_of c.args.self.now g.K.Ride.riding (λ p. g.F.Frame.holding c.args.frame.now p)
-    (λ a. g.F.Frame.behind c.args.frame.now a) _ _ c.perform.new.seat
-    (g.met.F.Frame.goes c.args.frame.now c.args.piece.now c.perform.result)
-    (has_stepped g.M.Mix.mix_of c.args.self.now g.K.Ride.riding c.args.seat.now
-    (g.F.Frame.holding c.args.frame.now c.args.piece.now) c.perform.new.seat c.perform.result c.requires
-    (λ room. g.met.F.Frame.keeps c.args.frame.now c.args.piece.now room c.perform.result)
-    c.perform.ensures.seat c.perform.ensures.went)
-
-pub returns-clause-counted : goal.returns-clause-counted
-returns-clause-counted g c =
-    has_counted g.M.Mix.mix_of c.args.self.now g.K.Ride.riding c.args.seat.now
-    (g.F.Frame.holding c.args.frame.now c.args.piece.now) c.perform.new.seat c.perform.result c.requires c.perform.ensures.went
+    (g.met.F.Frame.plans c.args.frame.now c.args.piece.now ∙ ap Some (sym c.planned-op.ensures)) in
+    omega (arith, c.place.ensures, place_small g.row.M.Denot g.M.Mix.mix_of None c.args.self.now c.args.seat.now _ can)

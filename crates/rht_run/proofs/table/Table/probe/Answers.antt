@@ -7,5 +7,5 @@ use Rattle.rht_run.proofs.table.Table.probe.Goals as goal
 pub new-probe-requires : goal.new-probe-requires
 new-probe-requires g c =
     let is = g.met.F.Frame.within c.args.self.now.env g.K.Ride.riding.number c.args.frame.now
-    (probe_new c.args.geometry c.args.place c.args.key) c.requires.in_range in
+    (probe_new c.args.starts.geometry c.args.place c.args.key) c.requires.in_range in
     subst (λ (geometry : Geometry). IsBucketPlace geometry c.args.place) (sym is.geometry_same) is.at_in.place_in

@@ -1,0 +1,32 @@
+use Rattle.std.proofs.Common.{◌∙◌, sym, ap}
+use Rattle.std.specs.Prelude.{Some}
+use Rattle.rht_run.proofs.Rides.{may_perform, has_stepped, has_counted, of_piece}
+use Rattle.rht_run.proofs.table.Table.advance.Goals as goal
+
+pub perform-requires-clause-can : goal.perform-requires-clause-can
+perform-requires-clause-can g c =
+    may_perform g.M.Mix.mix_of c.args.self.now g.K.Ride.riding c.args.seat.now
+    (g.F.Frame.holding c.args.frame.now c.args.piece.now) _ c.requires.riding (g.F.Frame.busy _ _)
+    (g.met.F.Frame.plans c.args.frame.now c.args.piece.now ∙ ap Some (sym c.requires.planned))
+
+pub returns-clause-doing : goal.returns-clause-doing
+returns-clause-doing g c =
+    has_stepped g.M.Mix.mix_of c.args.self.now g.K.Ride.riding c.args.seat.now
+    (g.F.Frame.holding c.args.frame.now c.args.piece.now) c.perform.new.seat c.perform.result c.requires.riding
+    (λ room. g.met.F.Frame.keeps c.args.frame.now c.args.piece.now room c.perform.result)
+    c.perform.ensures.seat c.perform.ensures.went
+
+pub returns-clause-piece : goal.returns-clause-piece
+returns-clause-piece g c =
+    of_piece g.M.Mix.mix_of c.args.self.now g.K.Ride.riding (λ p. g.F.Frame.holding c.args.frame.now p)
+    (λ a. g.F.Frame.behind c.args.frame.now a) _ _ c.perform.new.seat
+    (g.met.F.Frame.goes c.args.frame.now c.args.piece.now c.perform.result)
+    (has_stepped g.M.Mix.mix_of c.args.self.now g.K.Ride.riding c.args.seat.now
+    (g.F.Frame.holding c.args.frame.now c.args.piece.now) c.perform.new.seat c.perform.result c.requires.riding
+    (λ room. g.met.F.Frame.keeps c.args.frame.now c.args.piece.now room c.perform.result)
+    c.perform.ensures.seat c.perform.ensures.went)
+
+pub returns-clause-counted : goal.returns-clause-counted
+returns-clause-counted g c =
+    has_counted g.M.Mix.mix_of c.args.self.now g.K.Ride.riding c.args.seat.now
+    (g.F.Frame.holding c.args.frame.now c.args.piece.now) c.perform.new.seat c.perform.result c.requires.riding c.perform.ensures.went
