@@ -12,6 +12,7 @@ ghost use Rattle.rht_core.specs.Lookups.{Bounded, TakesEffect, FindsWhatStays, H
 ghost use Rattle.rht_core.specs.NeverRefused.{RoomyTakesAll, OneWorkerAsModel};
 ghost use Rattle.rht_core.specs.NodesUsed.{Nodes};
 ghost use Rattle.rht_core.specs.Placed.{Placed, OwnPages};
+ghost use Rattle.rht_core.specs.Reach.{Safe};
 ghost use Rattle.rht_core.specs.Refused.{Refused};
 ghost use Rattle.rht_core.specs.Tables.{Tables, NeverAgain};
 ghost use Rattle.rht_core.specs.RunHistories.{HasFittingHistory};
@@ -279,6 +280,16 @@ pub fn let_go<M: Mix>()
 pub fn sections<M: Mix>()
     ensures idle { Sections M M.mix_of }
     ensures own { OwnSections M M.mix_of }
+{}
+
+/// In every run nothing is given back that a caller in its read section could reach, whoever gives it back: no
+/// node, no page of a table, and no slot. It could reach the tables at which it stands, or the current one where it
+/// stands at none, and those to which futures lead from these; their pages; the nodes at which it stands, those to
+/// which chain links lead from these and from the buckets of these tables, and those to which list links lead from
+/// all of these. To give back is to set a map's bit that was clear, or to free a slot that wasn't free. It doesn't
+/// say where a caller stands, which `inside` ties to what it does; and nothing of callers out of their sections.
+pub fn safe<M: Mix>()
+    ensures { Safe M M.mix_of }
 {}
 
 /// In every run a look-up, ended or in progress, has at most `4 + 8 * (4 + (rewalks + 1) * (4 + 2 * nodes))`
