@@ -12,7 +12,7 @@ ghost use Rattle.rht_core.specs.Lookups.{Bounded, TakesEffect, FindsWhatStays, H
 ghost use Rattle.rht_core.specs.NeverRefused.{RoomyTakesAll, OneWorkerAsModel};
 ghost use Rattle.rht_core.specs.NodesUsed.{Nodes};
 ghost use Rattle.rht_core.specs.Placed.{Placed, OwnPages};
-ghost use Rattle.rht_core.specs.Reach.{Safe};
+ghost use Rattle.rht_core.specs.Reach.{Safe, Inside};
 ghost use Rattle.rht_core.specs.Refused.{Refused};
 ghost use Rattle.rht_core.specs.Tables.{Tables, NeverAgain};
 ghost use Rattle.rht_core.specs.RunHistories.{HasFittingHistory};
@@ -290,6 +290,18 @@ pub fn sections<M: Mix>()
 /// say where a caller stands, which `inside` ties to what it does; and nothing of callers out of their sections.
 pub fn safe<M: Mix>()
     ensures { Safe M M.mix_of }
+{}
+
+/// In every run each operation of a call that is on a word of a node or of a slot's table is on one that the call
+/// has taken and nobody in a section could reach, or it is made in the caller's read section, on one that this
+/// caller could reach. An operation on a word of a page is made in the section, on a bucket that the call has
+/// locked, or on a page of a table that the caller could reach. In the section alone it operates on which table is
+/// the current one. And behind each operation in its section a caller stands only where it could come to before it,
+/// by one of the ways of `safe`; out of its section, and where it has just opened it, it stands nowhere. So
+/// whatever a call operates on it has come to since it opened its section, from the table that was then the current
+/// one. It says nothing of the states of slots, of maps and of counts.
+pub fn inside<M: Mix>()
+    ensures { Inside M M.mix_of }
 {}
 
 /// In every run a look-up, ended or in progress, has at most `4 + 8 * (4 + (rewalks + 1) * (4 + 2 * nodes))`
