@@ -1,16 +1,15 @@
 -- Where a caller stands next it could reach before: what is so of each table and node at which it stands, and of the first node of a bucket.
-use Rattle.std.proofs.Common.{◌≡◌, ℕ, ◌<◌, List, [], ◌∷◌, Option, Some, None, slice_index, refl, sym, ◌∙◌, ap, subst, inl, inr}
+use Rattle.std.proofs.Common.{◌≡◌, ℕ, ◌<◌, List, Option, Some, None, slice_index, refl, sym, ◌∙◌, ap, subst}
 use Rattle.std.specs.List.{AllByRecursion}
 use Rattle.std.specs.Prelude.{option_map}
 use Rattle.rht_words.specs.declared.env.Env.{Env}
 use Rattle.rht_words.specs.declared.geometry.Geometry.{Geometry}
 use Rattle.rht_words.specs.Links.{node_of, slot_of, head_of}
-use Rattle.rht_words.specs.Members.{In}
-use Rattle.rht_words.specs.Places.{Slot, FutureWord, Node, ChainLink, ListLink, word_at}
+use Rattle.rht_words.specs.Places.{Slot, FutureWord, word_at}
 use Rattle.rht_words.specs.Shapes.{unpacked, size_of}
 use Rattle.rht_words.specs.Standing.{Standing, stands_nowhere, stands_in, stands_at, if_one}
 use Rattle.rht_words.proofs.Members.{In-AllByRecursion}
-use Rattle.rht_core.specs.Reach.{ReachesTable, at_table, at_current, by_future, ReachesNode, at_node, in_bucket, by_chain, ReachesListed, in_chain, at_listed, by_list, ComesTo}
+use Rattle.rht_core.specs.Reach.{ReachesTable, at_table, by_future, ReachesNode, at_node, in_bucket, ReachesListed, at_listed, ComesTo}
 use Rattle.rht_stands.specs.StandsFor.{shape_of, bucket_in}
 use Rattle.rht_ghost.proofs.Theory.Ghosts.{Ghost}
 use Rattle.rht_ghost.proofs.Theory.Wholes.{place_at, Whole}

@@ -1,6 +1,6 @@
 -- A bind stands next only where it could come to before.
-use Rattle.std.proofs.Common.{◌≡◌, ℕ, List, [], ◌∷◌, Option, Some, None, Bool, true, false, min, nat_le, nat_eq, refl, sym, ◌∙◌, ap, subst, inl, inr}
-use Rattle.std.specs.Prelude.{◌==◌, ◌*◌}
+use Rattle.std.proofs.Common.{◌≡◌, ℕ, List, [], ◌∷◌, Option, Some, None, Bool, min, nat_le, nat_eq, refl, sym, subst, inl}
+use Rattle.std.specs.Prelude.{◌==◌}
 use Rattle.std.proofs.lemmas.Bool.{cond_both}
 use Rattle.rht_words.specs.declared.env.Env.{Env}
 use Rattle.rht_words.specs.declared.config.Kind.{Kind}
@@ -9,15 +9,15 @@ use Rattle.rht_words.specs.declared.machine.Next.{Next}
 use Rattle.rht_words.specs.declared.machine.Next.TheVariants.{Go, Done}
 use Rattle.rht_words.specs.declared.machine.Start.{Start}
 use Rattle.rht_words.specs.declared.machine.Start.TheVariants as starts
-use Rattle.rht_words.specs.Links.{slot_of, link_of}
+use Rattle.rht_words.specs.Links.{link_of}
 use Rattle.rht_words.specs.Operations.{old_of}
 use Rattle.rht_words.specs.Shapes.{size_of, unpacked}
 use Rattle.rht_words.specs.Standing.{Standing, stands_nowhere, if_one}
 use Rattle.rht_arena.specs.NewNode.{NewNodeModel, new_node_plan, new_node_after}
 use Rattle.rht_policy.specs.Thresholds.{is_above_75, is_above_100, is_above_max}
 use Rattle.rht_chain.specs.ChainNodes.{nodes_of_relink}
-use Rattle.rht_chain.specs.Probe.{ProbeModel, probe_plan, probe_after}
-use Rattle.rht_chain.specs.Relink.{RelinkModel, relink_at, relink_after, relink_after_at}
+use Rattle.rht_chain.specs.Probe.{ProbeModel}
+use Rattle.rht_chain.specs.Relink.{RelinkModel, relink_at, relink_after_at}
 use Rattle.rht_chain.specs.declared.locked.Then.{Then}
 use Rattle.rht_chain.specs.declared.locked.Then.TheVariants.{Table, Answer}
 use Rattle.rht_chain.specs.declared.probe.Probed.{Probed}
@@ -26,7 +26,7 @@ use Rattle.rht_chain.specs.declared.relink.RelinkAt.{RelinkAt}
 use Rattle.rht_chain.specs.declared.relink.RelinkAt.TheVariants as relinks
 use Rattle.rht_model.specs.declared.history.Reply.{Reply}
 use Rattle.rht_nest.specs.Grow.{GrowModel, grow_plan, grow_after}
-use Rattle.rht_nest.specs.Locate.{LocateModel, locate_plan, locate_after}
+use Rattle.rht_nest.specs.Locate.{LocateModel}
 use Rattle.rht_nest.specs.Make.{MakeModel, make_plan, make_after}
 use Rattle.rht_nest.specs.Place.{PlaceModel, entered}
 use Rattle.rht_nest.specs.Unmake.{UnmakeModel, unmake_plan, unmake_after}
@@ -47,13 +47,13 @@ use Rattle.rht_bind.specs.declared.bind.growth.Refusal.{Refusal}
 use Rattle.rht_bind.specs.declared.bind.BindAt.{BindAt}
 use Rattle.rht_bind.specs.declared.bind.BindAt.TheVariants as at
 use Rattle.rht_bind.proofs.BindKnowledge.{known_of_bind}
-use Rattle.rht_core.specs.Reach.{ReachesTable, at_table, at_current, by_future, at_node}
+use Rattle.rht_core.specs.Reach.{ReachesTable, at_table, at_current}
 use Rattle.rht_ghost.proofs.Theory.Ghosts.{Ghost}
 use Rattle.rht_ghost.proofs.Theory.Knowledge.{TableMeans}
 use Rattle.rht_ghost.proofs.Theory.Steps.{mem}
 use Rattle.rht_ghost.proofs.Theory.Wholes.{Whole}
-use Rattle.rht_core.proofs.Returning.Coming.{Comes, Tables, Nodes, all_tables, all_nodes, stays, to_nowhere, to_tables, to_nodes, to_next, if_one-all}
-use Rattle.rht_core.proofs.Returning.ComingWays.{tables_missing, tables_located, locate_comes, home_there, SeesReached, ProbeReached, probe_comes}
+use Rattle.rht_core.proofs.Returning.Coming.{Comes, Tables, Nodes, all_tables, all_nodes, stays, to_nowhere, to_tables, to_nodes, to_next}
+use Rattle.rht_core.proofs.Returning.ComingWays.{tables_missing, tables_located, locate_comes, home_there, ProbeReached, probe_comes}
 
 -- ---- where it stands nowhere
 

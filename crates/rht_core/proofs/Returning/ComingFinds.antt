@@ -1,30 +1,27 @@
 -- Where a look-up stands next it could reach before.
-use Rattle.std.proofs.Common.{◌≡◌, ℕ, ◌<◌, List, [], ◌∷◌, Option, Some, None, Bool, true, false, nat_lt, refl, sym, ◌∙◌, ap, subst, inl, inr}
+use Rattle.std.proofs.Common.{◌≡◌, ℕ, List, Option, Some, None, nat_lt, refl, sym, subst, inl}
 use Rattle.std.specs.Prelude.{◌==◌}
 use Rattle.std.proofs.lemmas.Bool.{cond_both}
 use Rattle.rht_words.specs.declared.env.Env.{Env}
 use Rattle.rht_words.specs.declared.machine.Next.{Next}
 use Rattle.rht_words.specs.declared.machine.Next.TheVariants.{Go, Done}
-use Rattle.rht_words.specs.Links.{node_of, head_of, marker_of, table_of, slot_of}
-use Rattle.rht_words.specs.Members.{In}
+use Rattle.rht_words.specs.Links.{node_of, head_of, marker_of, slot_of}
 use Rattle.rht_words.specs.Operations.{old_of}
-use Rattle.rht_words.specs.Places.{IsBucketPlace}
 use Rattle.rht_words.specs.Ports.{word_of}
 use Rattle.rht_words.specs.Standing.{Standing}
 use Rattle.rht_model.specs.declared.history.Reply.{Reply}
-use Rattle.rht_model.specs.declared.history.Reply.TheVariants.{Missing}
 use Rattle.rht_nest.specs.Reach.{ReachModel, reach_after, reach_plan}
 use Rattle.rht_nest.specs.declared.place.Bucket.{Bucket}
 use Rattle.rht_nest.specs.declared.place.Bucket.TheVariants as buckets
 use Rattle.rht_nest.proofs.Reaches.{reach_after-table}
-use Rattle.rht_find.specs.Find.{plan_at, goes, reached, walked_anew, chain_ended, led_to, led_on, next_table, IsFindAtIn}
+use Rattle.rht_find.specs.Find.{plan_at, goes, reached, chain_ended, led_to, next_table, IsFindAtIn}
 use Rattle.rht_find.specs.FindStanding.{standing_of_find}
 use Rattle.rht_find.specs.declared.find.Head.{Head}
 use Rattle.rht_find.specs.declared.find.FindAt.{FindAt}
 use Rattle.rht_find.specs.declared.find.FindAt.TheVariants as at
 use Rattle.rht_core.specs.Reach.{at_table, at_current, by_future, at_node, by_chain, ReachesTable, ReachesNode}
 use Rattle.rht_ghost.proofs.Theory.Ghosts.{Ghost}
-use Rattle.rht_ghost.proofs.Theory.Wholes.{Whole, hash_in, place_at, word_index, place_at-index}
+use Rattle.rht_ghost.proofs.Theory.Wholes.{Whole, hash_in, word_index, place_at-index}
 use Rattle.rht_ghost.proofs.Theory.Passed.{hash-below}
 use Rattle.rht_ghost.proofs.Theory.Ghosts.{index_at}
 use Rattle.rht_ghost.proofs.Theory.Steps.{mem}

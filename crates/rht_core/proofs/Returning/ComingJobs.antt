@@ -1,5 +1,5 @@
 -- A caller stands next only where it could come to before; and out of its section it stands nowhere. It is said of jobs, each machine apart.
-use Rattle.std.proofs.Common.{◌≡◌, ℕ, Bool, true, false, List, Option, Some, None, refl, sym, ◌∙◌, ap, subst}
+use Rattle.std.proofs.Common.{◌≡◌, ℕ, Bool, true, false, List, Some, None, refl, sym, ◌∙◌, subst}
 use Rattle.std.specs.Prelude.{IfSome, if◌then◌else◌}
 use Rattle.rht_words.specs.declared.env.Env.{Env}
 use Rattle.rht_words.specs.Held.{Held}
@@ -9,7 +9,7 @@ use Rattle.rht_words.specs.Operations.{old_of}
 use Rattle.rht_words.specs.Standing.{Standing, stands_nowhere}
 use Rattle.rht_arena.specs.NewNode.{new_node_after}
 use Rattle.rht_model.specs.declared.history.Call.{Call}
-use Rattle.rht_model.specs.declared.history.Call.TheVariants.{Bind, Find, All, Release, Rebind, Walk, Work, Tidy, Count}
+use Rattle.rht_model.specs.declared.history.Call.TheVariants.{Rebind, Walk, Tidy}
 use Rattle.rht_model.specs.declared.history.Reply.{Reply}
 use Rattle.rht_model.specs.Answers.{Answer}
 use Rattle.rht_model.specs.Endings.{Ending, plain_ending}
@@ -60,7 +60,6 @@ use Rattle.rht_core.proofs.Returning.ComingFinds.{find_comes}
 use Rattle.rht_core.proofs.Returning.ComingBinds.{bind_comes, bind_filled}
 use Rattle.rht_core.proofs.Returning.ComingReleases.{all_comes, release_comes, rebind_comes, rebind_filled}
 use Rattle.rht_core.proofs.Returning.ComingWorks.{work_comes, locked-nowhere}
-
 
 -- what is so of where a machine stands next, and of nowhere, is so of what is left of its job
 told-stands : {S A : Type 0} (job : S → Job) (ending : A → Ending) (P : Standing → Type 0) (r : S × Next A)
@@ -152,8 +151,11 @@ job_outside mix env (binds port owner once state) out =
     record { before = is.0; behind = λ old. told-stands (binds port owner once) plain_ending IsNowhere _ (is.1 old) refl }
 job_outside mix env (lists port room state) out =
     let is = all_outside mix env port room state out in
-    record { before = is.0; behind = λ old. 
-        let after = all.room_after state room old in told-stands (lists port after) (listing_ending after) IsNowhere _ (is.1 old) refl }
+    record {
+      before = is.0;
+      behind = λ old.
+          let after = all.room_after state room old in told-stands (lists port after) (listing_ending after) IsNowhere _ (is.1 old) refl;
+    }
 job_outside mix env (releases port owner state) out =
     let is = release_outside mix env port owner state out in
     record { before = is.0; behind = λ old. told-stands (releases port owner) node_ending IsNowhere _ (is.1 old) refl }

@@ -1,5 +1,5 @@
 -- A listing, a release and a rebind stand next only where they could come to before.
-use Rattle.std.proofs.Common.{◌≡◌, ℕ, List, [], ◌∷◌, Option, Some, None, Bool, true, false, refl, sym, ◌∙◌, ap, subst, inl, inr}
+use Rattle.std.proofs.Common.{◌≡◌, ℕ, List, [], ◌∷◌, Option, Some, None, refl, sym, subst, inl}
 use Rattle.std.specs.Prelude.{◌==◌}
 use Rattle.std.proofs.lemmas.Bool.{cond_both}
 use Rattle.rht_words.specs.declared.env.Env.{Env}
@@ -11,7 +11,7 @@ use Rattle.rht_words.specs.Ports.{owner_of}
 use Rattle.rht_words.specs.Standing.{Standing, stands_nowhere, if_one}
 use Rattle.rht_arena.specs.NewNode.{NewNodeModel, new_node_plan, new_node_after}
 use Rattle.rht_chain.specs.ChainNodes.{nodes_of_relink}
-use Rattle.rht_chain.specs.Relink.{RelinkModel, relink_at, relink_after, relink_after_at}
+use Rattle.rht_chain.specs.Relink.{RelinkModel, relink_at, relink_after_at}
 use Rattle.rht_chain.specs.declared.relink.RelinkAt.{RelinkAt}
 use Rattle.rht_chain.specs.declared.relink.RelinkAt.TheVariants as relinks
 use Rattle.rht_release.specs.All as all
@@ -31,15 +31,14 @@ use Rattle.rht_release.specs.declared.rebind.RebindEnd.{RebindEnd}
 use Rattle.rht_release.specs.declared.rebind.RebindEnd.TheVariants as ends
 use Rattle.rht_release.specs.declared.release.ReleaseAt.{ReleaseAt}
 use Rattle.rht_release.specs.declared.release.ReleaseAt.TheVariants as releases
-use Rattle.rht_release.specs.declared.seek.SeekAt.{SeekAt}
 use Rattle.rht_release.proofs.Seeks.{known_of_seek}
-use Rattle.rht_core.specs.Reach.{ReachesTable, at_table, ReachesNode, at_node, ReachesListed, in_chain, at_listed, by_list, ComesTo}
+use Rattle.rht_core.specs.Reach.{at_table, ReachesListed, in_chain, at_listed, by_list}
 use Rattle.rht_ghost.proofs.Theory.Ghosts.{Ghost}
 use Rattle.rht_ghost.proofs.Theory.Knowledge.{TableMeans}
 use Rattle.rht_ghost.proofs.Theory.Knowns.{KnownNode}
 use Rattle.rht_ghost.proofs.Theory.Steps.{mem}
 use Rattle.rht_ghost.proofs.Theory.Wholes.{Whole}
-use Rattle.rht_core.proofs.Returning.Coming.{Comes, Tables, Nodes, Listed, all_tables, all_nodes, all_listed, stays, to_nowhere, to_tables, to_nodes, if_one-all}
+use Rattle.rht_core.proofs.Returning.Coming.{Comes, Nodes, Listed, all_tables, all_nodes, stays, to_nowhere, to_tables, if_one-all}
 use Rattle.rht_core.proofs.Returning.ComingSeeks.{seek_stands, seek_comes}
 
 module _ (env : Env) (words : List ℕ) (from : Standing) where

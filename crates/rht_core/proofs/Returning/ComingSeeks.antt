@@ -1,17 +1,15 @@
 -- On its way to a port a call stands next only where it could come to before.
-use Rattle.std.proofs.Common.{◌≡◌, ℕ, List, [], ◌∷◌, Option, Some, None, refl, sym, ◌∙◌, ap, subst, inl, inr}
+use Rattle.std.proofs.Common.{ℕ, List, [], ◌∷◌, Option, Some, None, refl, sym, subst, inl}
 use Rattle.rht_words.specs.declared.env.Env.{Env}
 use Rattle.rht_words.specs.declared.machine.Next.{Next}
 use Rattle.rht_words.specs.declared.machine.Next.TheVariants.{Go, Done}
-use Rattle.rht_words.specs.Links.{slot_of}
 use Rattle.rht_words.specs.Operations.{old_of}
 use Rattle.rht_words.specs.Standing.{Standing, stands_nowhere, if_one}
-use Rattle.rht_nest.specs.Locate.{LocateModel, locate_plan, locate_after}
+use Rattle.rht_nest.specs.Locate.{LocateModel}
 use Rattle.rht_nest.specs.declared.locate.Located.{Located}
 use Rattle.rht_nest.specs.declared.locate.LocatedBucket.{LocatedBucket}
 use Rattle.rht_nest.specs.declared.locate.LocatedBucket.TheVariants as buckets
-use Rattle.rht_chain.specs.ChainNodes.{nodes_of_probe}
-use Rattle.rht_chain.specs.Probe.{ProbeModel, probe_plan, probe_after}
+use Rattle.rht_chain.specs.Probe.{ProbeModel}
 use Rattle.rht_chain.specs.declared.probe.Probed.{Probed}
 use Rattle.rht_chain.specs.declared.probe.ProbeAt.{ProbeAt}
 use Rattle.rht_chain.specs.declared.unlock.Unlock.{Unlock}
@@ -21,13 +19,13 @@ use Rattle.rht_release.specs.declared.found_port.FoundPort.{FoundPort}
 use Rattle.rht_release.specs.declared.seek.SeekAt.{SeekAt}
 use Rattle.rht_release.specs.declared.seek.SeekAt.TheVariants as at
 use Rattle.rht_release.proofs.Seeks.{known_of_seek}
-use Rattle.rht_core.specs.Reach.{ReachesTable, at_table, at_current, by_future}
+use Rattle.rht_core.specs.Reach.{ReachesTable, at_table, at_current}
 use Rattle.rht_ghost.proofs.Theory.Ghosts.{Ghost}
 use Rattle.rht_ghost.proofs.Theory.Knowledge.{TableMeans}
 use Rattle.rht_ghost.proofs.Theory.Knowns.{KnownNode}
 use Rattle.rht_ghost.proofs.Theory.Steps.{mem}
 use Rattle.rht_ghost.proofs.Theory.Wholes.{Whole}
-use Rattle.rht_core.proofs.Returning.Coming.{Comes, Tables, all_tables, all_nodes, to_nowhere, to_tables, to_nodes, to_next, if_one-all}
+use Rattle.rht_core.proofs.Returning.Coming.{Comes, Tables, all_tables, all_nodes, to_nowhere, to_tables, to_nodes, to_next}
 use Rattle.rht_core.proofs.Returning.ComingWays.{tables_missing, tables_located, locate_comes, home_there, SeesReached, ProbeReached, probe_comes}
 
 -- where it stands next; where the way has ended, at the port that was found

@@ -1,20 +1,17 @@
 -- On the way to a port's bucket, and in that bucket, a caller stands next only where it could come to before.
-use Rattle.std.proofs.Common.{◌≡◌, ℕ, ◌%◌, ◌+◌, List, [], ◌∷◌, Option, Some, None, Bool, true, false, slice_index, refl, sym, ◌∙◌, ap, subst, inl, inr}
+use Rattle.std.proofs.Common.{◌≡◌, ℕ, ◌%◌, List, [], ◌∷◌, Option, Some, None, slice_index, refl, sym, subst}
 use Rattle.std.specs.Prelude.{◌==◌}
-use Rattle.std.specs.List.{AllByRecursion}
 use Rattle.std.proofs.lemmas.Bool.{cond_both, eqb-true}
 use Rattle.rht_words.specs.declared.env.Env.{Env}
 use Rattle.rht_words.specs.declared.geometry.Geometry.{Geometry}
 use Rattle.rht_words.specs.declared.machine.Next.{Next}
 use Rattle.rht_words.specs.declared.machine.Next.TheVariants.{Go, Done}
-use Rattle.rht_words.specs.Links.{node_of, head_of, slot_of}
-use Rattle.rht_words.specs.Members.{In}
+use Rattle.rht_words.specs.Links.{node_of, head_of}
 use Rattle.rht_words.specs.Operations.{old_of}
 use Rattle.rht_words.specs.Places.{IsBucketPlace}
 use Rattle.rht_words.specs.Standing.{Standing, if_one}
 use Rattle.rht_nest.specs.Locate.{LocateModel, locate_plan, locate_after, locate_after_at, hashed, entry_followed}
 use Rattle.rht_nest.specs.LocateTables.{tables_of_locate, tables_behind}
-use Rattle.rht_nest.specs.Place.{place_after}
 use Rattle.rht_nest.specs.Tables.{is_nested}
 use Rattle.rht_nest.specs.declared.locate.LocateAt.{LocateAt}
 use Rattle.rht_nest.specs.declared.locate.LocateAt.TheVariants as locates
@@ -24,11 +21,10 @@ use Rattle.rht_nest.specs.declared.locate.LocatedBucket.TheVariants as buckets
 use Rattle.rht_nest.specs.declared.place.Bucket.{Bucket}
 use Rattle.rht_nest.specs.declared.place.Bucket.TheVariants.{At, Absent}
 use Rattle.rht_nest.specs.Place.{PlaceModel}
-use Rattle.rht_policy.specs.Mix.{bucket_of}
 use Rattle.rht_chain.specs.ChainNodes.{nodes_of_walk, nodes_of_probe}
-use Rattle.rht_chain.specs.Lock.{LockModel, lock_plan, lock_after, lock_after_at}
+use Rattle.rht_chain.specs.Lock.{LockModel, lock_plan}
 use Rattle.rht_chain.specs.LockedWalk.{LockedWalkModel, locked_walk_plan, locked_walk_after, walk_from, compared, counted, followed}
-use Rattle.rht_chain.specs.Probe.{ProbeModel, probe_plan, probe_after, probe_after_at, lock_taken, walk_began, walk_or_seen, walk_taken, IsProbeIn, IsProbeAtIn}
+use Rattle.rht_chain.specs.Probe.{ProbeModel, probe_plan, probe_after, probe_after_at, lock_taken, walk_or_seen, walk_taken, IsProbeIn, IsProbeAtIn}
 use Rattle.rht_chain.specs.declared.lock.LockAt.{LockAt}
 use Rattle.rht_chain.specs.declared.lock.LockAt.TheVariants as locks
 use Rattle.rht_chain.specs.declared.locked.Locked.{Locked}
@@ -38,14 +34,14 @@ use Rattle.rht_chain.specs.declared.locked_walk.Seen.{Seen}
 use Rattle.rht_chain.specs.declared.probe.Probed.{Probed}
 use Rattle.rht_chain.specs.declared.probe.ProbeAt.{ProbeAt}
 use Rattle.rht_chain.specs.declared.probe.ProbeAt.TheVariants as probes
-use Rattle.rht_core.specs.Reach.{ReachesTable, at_table, ReachesNode, at_node, by_chain}
+use Rattle.rht_core.specs.Reach.{ReachesTable, ReachesNode, by_chain}
 use Rattle.rht_ghost.proofs.Theory.Ghosts.{Ghost, index_at}
 use Rattle.rht_ghost.proofs.Theory.Knowledge.{IsAtHome}
 use Rattle.rht_ghost.proofs.Theory.Passed.{hash-below}
 use Rattle.rht_ghost.proofs.Theory.Steps.{mem}
-use Rattle.rht_ghost.proofs.Theory.Wholes.{Whole, hash_in, place_at, word_index, place_at-index}
+use Rattle.rht_ghost.proofs.Theory.Wholes.{Whole, hash_in, word_index, place_at-index}
 use Rattle.rht_ghost.proofs.Pieces.Probes.{place_of_probe}
-use Rattle.rht_core.proofs.Returning.Coming.{Tables, Nodes, all_tables, all_nodes, to_next, if_one-all, IsBucketThere, first_reached}
+use Rattle.rht_core.proofs.Returning.Coming.{Tables, Nodes, to_next, IsBucketThere, first_reached}
 
 -- ---- to the bucket
 

@@ -1,5 +1,5 @@
 -- A worker stands next only where it could come to before.
-use Rattle.std.proofs.Common.{◌≡◌, ℕ, ◌+◌, ◌-◌, ◌%◌, List, [], ◌∷◌, Option, Some, None, Bool, true, false, nat_lt, slice_index, refl, sym, ◌∙◌, ap, subst, inl, inr, arith}
+use Rattle.std.proofs.Common.{◌≡◌, ℕ, ◌+◌, List, [], ◌∷◌, Option, Some, None, Bool, nat_lt, refl, sym, ◌∙◌, ap, subst, inl, inr, arith}
 use Rattle.std.specs.Prelude.{◌==◌, ◌||◌, if◌then◌else◌}
 use Rattle.std.proofs.lemmas.Bool.{cond_both}
 use Rattle.rht_words.specs.declared.env.Env.{Env}
@@ -20,7 +20,7 @@ use Rattle.rht_nest.specs.declared.place.Bucket.TheVariants.{At, Absent}
 use Rattle.rht_move.specs.Choice.{choice_of}
 use Rattle.rht_move.specs.LastEntry.{LastEntryModel, last_entry_plan, last_entry_after, followed}
 use Rattle.rht_move.specs.LastTable.{LastTableModel, last_table_plan, last_table_plan_at, last_table_after, last_table_after_at, next_or_shape}
-use Rattle.rht_move.specs.Work.{plan_at, after_at, lock_seen, begun, not_made, made, attached, unmade, future_or_idle, bucket_of_root, next_bucket, entry_passed, locked, entry_table_seen, entry_or_empty, first_entry, walked, second_locked, cut_off, unlocked_bucket, closed, retiring, with_word, last_seen, IsWorkAtIn}
+use Rattle.rht_move.specs.Work.{plan_at, after_at, lock_seen, begun, made, attached, unmade, future_or_idle, bucket_of_root, next_bucket, entry_passed, locked, entry_table_seen, entry_or_empty, walked, second_locked, cut_off, unlocked_bucket, closed, retiring, with_word, last_seen, IsWorkAtIn}
 use Rattle.rht_move.specs.WorkStanding.{standing_of_work, table_of_seek, tables_of, nodes_of}
 use Rattle.rht_move.specs.declared.work.choice.Choice.{Choice}
 use Rattle.rht_move.specs.declared.work.choice.Choice.TheVariants.{Attach, Later, Nothing}
@@ -37,8 +37,8 @@ use Rattle.rht_move.specs.declared.work.ending.Ending.{Ending}
 use Rattle.rht_move.specs.declared.work.ending.Ending.TheVariants as endings
 use Rattle.rht_move.specs.declared.work.WorkAt.{WorkAt}
 use Rattle.rht_move.specs.declared.work.WorkAt.TheVariants as at
-use Rattle.rht_move.proofs.WorkKnowledge.{known_at_work, known_rehash, known_place, target_aim}
-use Rattle.rht_core.specs.Reach.{ReachesTable, at_table, at_current, by_future, ReachesNode, at_node, by_chain}
+use Rattle.rht_move.proofs.WorkKnowledge.{known_at_work, known_rehash, known_place}
+use Rattle.rht_core.specs.Reach.{ReachesTable, at_table, at_current, by_future, ReachesNode, by_chain}
 use Rattle.rht_ghost.proofs.Theory.Ghosts.{Ghost}
 use Rattle.rht_ghost.proofs.Theory.Knowledge.{WorkMeans, IsNext}
 use Rattle.rht_ghost.proofs.Theory.Steps.{mem}

@@ -1,5 +1,5 @@
 -- In every run an operation of a call is on what is its own, or on what its caller could reach in its section, and leads nowhere else.
-use Rattle.std.proofs.Common.{◌≡◌, ℕ, ◌+◌, ◌*◌, ◌/◌, ◌<◌, ◌≤◌, ◌⊎◌, Bool, true, List, take, drop, length, Option, Some, refl, sym, ◌∙◌, ap, subst, inl, inr, arith}
+use Rattle.std.proofs.Common.{◌≡◌, ℕ, ◌+◌, ◌/◌, ◌<◌, ◌⊎◌, true, List, take, drop, length, Some, refl, sym, ◌∙◌, ap, subst, inl, inr, arith}
 use Rattle.std.proofs.lemmas.List.{take-append-drop}
 use Rattle.rht_words.specs.declared.op.Op.{Op}
 use Rattle.rht_words.specs.declared.env.Env.{Env}
@@ -10,7 +10,6 @@ use Rattle.rht_words.specs.Places.{Address, CurrentTable, PortCount, Slot, SlotW
 use Rattle.rht_words.specs.TableWords.{IsTableWord}
 use Rattle.rht_words.proofs.EachElement.{AllByRecursion-cut}
 use Rattle.rht_words.proofs.PlacesApart.{place_of-apart}
-use Rattle.rht_model.specs.declared.history.Reply.{Reply}
 use Rattle.rht_find.specs.Find as find
 use Rattle.rht_find.specs.Find.{IsFindAtIn}
 use Rattle.rht_find.specs.FindHeld.{held_of_find}
@@ -18,10 +17,10 @@ use Rattle.rht_find.specs.FindStanding.{standing_of_find}
 use Rattle.rht_find.specs.declared.find.FindAt.{FindAt}
 use Rattle.rht_core.specs.declared.event.Event.{Event}
 use Rattle.rht_core.specs.Jobs.{Job, finds, binds, lists, releases, rebinds, works, counts, job_of, job_plan, held_of}
-use Rattle.rht_core.specs.Reach.{Thing, TableIn, PageAt, NodeAt, CouldReach, ReachesPage, at_table, at_node, at_listed, in_chain, IsReading, NobodyReaches, IsOnNode, IsOnTable, IsOnPage, IsOwnNode, IsOwnSlot, IsOwnLock, IsWithin, IsInside, Inside}
-use Rattle.rht_core.specs.Runs.{Core, World, local_of, planned_in, run_of, IsAdmitted, IsAdmittedEvent}
+use Rattle.rht_core.specs.Reach.{Thing, TableIn, PageAt, NodeAt, CouldReach, ReachesPage, at_table, at_node, at_listed, in_chain, IsReading, IsOwnNode, IsOwnSlot, IsOwnLock, IsWithin, Inside}
+use Rattle.rht_core.specs.Runs.{Core, World, local_of, run_of, IsAdmitted, IsAdmittedEvent}
 use Rattle.rht_core.specs.Standings.{standing, standing_of, standing_with}
-use Rattle.rht_core.specs.Traces.{Did, Traced, traced_of}
+use Rattle.rht_core.specs.Traces.{Traced, traced_of}
 use Rattle.rht_stands.specs.StandsFor.{shape_of}
 use Rattle.rht_core.specs.TablePages.{IsPageOfTable}
 use Rattle.rht_core.proofs.Counting.TablePages.{pages_in_words}
@@ -29,10 +28,10 @@ use Rattle.rht_core.proofs.Events.Invariants.{step_of}
 use Rattle.rht_core.proofs.Finding.LookupsInRuns.{JobLooks, Looks, SaysOf, has_looks}
 use Rattle.rht_core.proofs.Machines.JobSteps.{JobIn, JobKnows}
 use Rattle.rht_core.proofs.Tracing.TracedRuns.{world-traced_of}
-use Rattle.rht_ghost.proofs.Theory.Ghosts.{Ghost}
+use Rattle.rht_ghost.proofs.Theory.Ghosts.{Ghost, Free, NodeHeld, SlotHeld, state_word}
 use Rattle.rht_ghost.proofs.Theory.Steps.{mem}
 use Rattle.rht_ghost.proofs.Theory.Wholes.{Whole}
-use Rattle.rht_core.proofs.Returning.MetInRuns.{Met, has_met, stands_next, comes_next, open_now, outside_now, outside_next}
+use Rattle.rht_core.proofs.Returning.MetInRuns.{Met, has_met, comes_next, open_now, outside_now, outside_next}
 use Rattle.rht_core.proofs.Returning.Operating.{PageThere, Lies, May}
 use Rattle.rht_core.proofs.Returning.OperatingBinds.{bind_lies}
 use Rattle.rht_core.proofs.Returning.OperatingFinds.{find_lies}
@@ -89,22 +88,22 @@ module _ (env : Env) (mix : ℕ → ℕ → ℕ → ℕ) (L : Type 0) where
     -- so it is where the call's own is what the ghost says
     module _ (job : Job) (does : job_of (local_of core c).doing ≡ Some job) (reads : (held_of job).section ≡ true → IsReading g core.words c)
         (G : Ghost) (whole : Whole env mix (mem env mix core.words) G) (Own : Thing → Type 0)
-        (own_node : (node : ℕ) → Own (NodeAt node) → IsOwnNode g core c node)
-        (own_slot : (slot : ℕ) → Own (TableIn slot) → IsOwnSlot g core c slot) where
+        (own_node : (node : ℕ) → node < env.geometry.nodes → Own (NodeAt node) → IsOwnNode g core c node)
+        (own_slot : (slot : ℕ) → slot < 8 → Own (TableIn slot) → IsOwnSlot g core c slot) where
       stands : standing core c ≡ standing_of job
       stands = ap standing_with does
 
       could : (thing : Thing) → CouldReach g core.words (standing_of job) thing → CouldReach g core.words (standing core c) thing
       could thing = subst (λ at. CouldReach g core.words at thing) (sym stands)
 
-      asked_of : (a : Address) → May env mix core.words G (held_of job) (standing_of job) Own a → Asked a
-      asked_of CurrentTable may = reads may
-      asked_of (Slot slot word) may = λ is. elim (may is) [
-        | inl own ↦ inl (own_slot slot own)
+      asked_of : (a : Address) → IsAddress g a → May env mix core.words G (held_of job) (standing_of job) Own a → Asked a
+      asked_of CurrentTable there may = reads may
+      asked_of (Slot slot word) there may = λ is. elim (may is) [
+        | inl own ↦ inl (own_slot slot there.0 own)
         | inr within ↦ inr (record { reads = reads within.0; reaches = could (TableIn slot) (at_table slot within.1) })
       ]
-      asked_of (Node node word) may = elim may [
-        | inl own ↦ inl (own_node node own)
+      asked_of (Node node word) there may = elim may [
+        | inl own ↦ inl (own_node node there own)
         | inr within ↦ inr (record {
           reads = reads within.0;
           reaches = could (NodeAt node) (elim within.1 [
@@ -113,17 +112,17 @@ module _ (env : Env) (mix : ℕ → ℕ → ℕ → ℕ) (L : Type 0) where
           ]);
         })
       ]
-      asked_of (PageWord index) may = (
+      asked_of (PageWord index) there may = (
         reads may.0,
         elim may.1 [
           | inl locked ↦ inl (record { job = job; does = does; has = locked })
-          | inr there ↦ inr (could (PageAt (index / 64)) (page_reached env mix core.words G whole (standing_of job) (index / 64) there))
+          | inr page ↦ inr (could (PageAt (index / 64)) (page_reached env mix core.words G whole (standing_of job) (index / 64) page))
         ],
       )
-      asked_of _ may = tt
+      asked_of _ there may = tt
 
       is_asked : (op : Op) → Lies env mix core.words G (held_of job) (standing_of job) Own op → IsAsked op
-      is_asked op lies = record { address = lies.address; there = lies.there; on = lies.on; asked = asked_of lies.address lies.may }
+      is_asked op lies = record { address = lies.address; there = lies.there; on = lies.on; asked = asked_of lies.address lies.there lies.may }
 
   -- ---- look-ups, by what they know
 
@@ -177,15 +176,30 @@ module _ (env : Env) (mix : ℕ → ℕ → ℕ → ℕ) (L : Type 0) where
         with_own : (op : Op) → Lies env mix core.words G (held_of job) (standing_of job) (OwnOf (held_of job) G c) op → IsAsked core c op
         with_own =
             is_asked core c job does reads G whole (OwnOf (held_of job) G c)
-            (λ node own. record { job = job; does = does; has = own.0; apart = nobody env mix L events core met c (NodeAt node) own.1 })
-            (λ slot own. record { job = job; does = does; has = own.0; apart = nobody env mix L events core met c (TableIn slot) own.1 })
+            (λ node l own. record {
+              job = job;
+              does = does;
+              has = own.0;
+              taken = λ free.
+                  let none : G.node node ≡ Free = (whole.arena.bits node l).0 free in
+                  let both : NodeHeld c ≡ Free = sym own.1 ∙ none in cc;
+              apart = nobody env mix L events core met c (NodeAt node) own.1;
+            })
+            (λ slot l own. record {
+              job = job;
+              does = does;
+              has = own.0;
+              taken = λ free.
+                  let one : state_word (SlotHeld c) ≡ 0 = sym (ap state_word own.1) ∙ sym (whole.slots.states slot l) ∙ free in omega (arith, one);
+              apart = nobody env mix L events core met c (TableIn slot) own.1;
+            })
 
       job_asked : (job : Job) → job_of (local_of core c).doing ≡ Some job → JobIn env mix c job
           → JobKnows env mix c job (mem env mix core.words) G → IsAsked core c (job_plan env c job)
       job_asked (finds port state) does within knows =
           let is = find_so c low port state does within in
           is_asked core c (finds port state) does (reads (finds port state) does) is.ghost is.whole (λ thing. ⊥)
-          (λ node own. absurd own) (λ slot own. absurd own) (find.plan_at env c state) is.lies
+          (λ node l own. absurd own) (λ slot l own. absurd own) (find.plan_at env c state) is.lies
       job_asked (binds port owner once state) does within knows =
           with_own (binds port owner once state) does _ (bind_lies env mix port owner once core.words G whole c low state within.at_in
           (record { knowing = knows.knowing; fits = knows.fits }))

@@ -2,7 +2,7 @@
 --
 -- It is one induction over the events. What was met stays met while the section is open; an operation of the caller's own leads on to
 -- nothing else; and a section that has just been opened stands nowhere.
-use Rattle.std.proofs.Common.{◌≡◌, ◌≢◌, ◌⊎◌, ℕ, suc, ◌+◌, ◌%◌, ◌<◌, ◌≤◌, Bool, true, false, List, [], ◌∷◌, ◌++◌, length, Option, Some, None, refl, sym, ◌∙◌, ap, subst, inl, inr, arith}
+use Rattle.std.proofs.Common.{◌≡◌, ◌≢◌, ◌⊎◌, ℕ, suc, ◌+◌, ◌%◌, ◌<◌, Bool, true, false, List, [], ◌∷◌, ◌++◌, length, Option, Some, None, refl, sym, ◌∙◌, ap, subst, inl, inr, arith}
 use Rattle.std.specs.Prelude.{◌&&◌}
 use Rattle.std.proofs.lemmas.Bool.{cases_eq, or_left}
 use Rattle.std.proofs.lemmas.List.{get_or-set_same, get_or-set_other}
@@ -14,7 +14,6 @@ use Rattle.rht_words.specs.Standing.{Standing, stands_nowhere}
 use Rattle.rht_words.proofs.OpeningLaws.{stand_in_place}
 use Rattle.rht_words.proofs.EachElement.{AllByRecursion-cut, AllByRecursion-weaker}
 use Rattle.rht_model.specs.declared.history.Call.{Call}
-use Rattle.rht_model.specs.declared.history.Reply.{Reply}
 use Rattle.rht_callers.specs.declared.local.Local.{Local}
 use Rattle.rht_callers.specs.declared.local.Doing.{Doing}
 use Rattle.rht_callers.specs.Locals.{fresh, begin_with, local_after}
@@ -24,16 +23,14 @@ use Rattle.rht_core.specs.Jobs.{Job, finds, job_of, job_after, job_plan, told, h
 use Rattle.rht_core.specs.Reach.{IsReading, ComesTo}
 use Rattle.rht_core.specs.Runs.{Core, World, opening_core, core_step, with_step, with_machine, world_step, run_of, local_of, beginning_in, planned_in, IsAdmitted, IsAdmittedEvent}
 use Rattle.rht_core.specs.Sections.{IsInNoSection}
-use Rattle.rht_core.specs.Standings.{standing, standing_of, standing_with}
+use Rattle.rht_core.specs.Standings.{standing, standing_with}
 use Rattle.rht_core.specs.Traces.{Traced, traced_of}
-use Rattle.rht_core.proofs.Events.InvariantRuns.{idle_at_opening}
 use Rattle.rht_core.proofs.Events.Invariants.{Inv, StepOf, step_of}
 use Rattle.rht_core.proofs.Events.RangesInRuns.{AllIn}
 use Rattle.rht_core.proofs.Events.JobsOfCallers.{left-job, first_job-machine}
 use Rattle.rht_core.proofs.Events.SectionsInRuns.{section_parity, odd_by, in_section}
 use Rattle.rht_core.proofs.Events.SoundRuns.{has_place, made_in}
 use Rattle.rht_core.proofs.Events.Worlds.{induct_by_last, run_of-push, beginning-some, planned-some}
-use Rattle.rht_core.proofs.Finding.Lookups.{LookMeans}
 use Rattle.rht_core.proofs.Finding.LookupsInRuns.{AreLooking, JobLooks, SaysOf, has_looks}
 use Rattle.rht_core.proofs.Finding.PlacesInRuns.{Placed, EventMakes, event_makes, next, placed_opening}
 use Rattle.rht_core.proofs.Tracing.TracedRuns.{world-traced_of}

@@ -1,13 +1,13 @@
 -- On what an operation is made, by the pieces of machines: on what its call has taken, on what the caller could reach where it stands, or on a
 -- word of which nothing is asked.
-use Rattle.std.proofs.Common.{◌≡◌, ◌⊎◌, ℕ, ◌+◌, ◌*◌, ◌/◌, ◌<◌, ◌≤◌, true, List, Option, Some, None, refl, sym, ◌∙◌, ap, subst, inl, inr, arith}
+use Rattle.std.proofs.Common.{◌≡◌, ◌⊎◌, ℕ, ◌/◌, true, List, Option, Some, refl, sym, ◌∙◌, ap, subst, inl, inr, arith}
 use Rattle.rht_words.specs.declared.op.Op.{Op}
 use Rattle.rht_words.specs.declared.env.Env.{Env}
 use Rattle.rht_words.specs.declared.geometry.Geometry.{Geometry}
 use Rattle.rht_words.specs.Held.{Held}
 use Rattle.rht_words.specs.Members.{In}
 use Rattle.rht_words.specs.Operations.{op_place}
-use Rattle.rht_words.specs.Places.{Address, CurrentTable, NextSerial, Slot, ShapeWord, SeedWord, FutureWord, SerialWord, StateWord, NodeMap, PageMap, Node, ChainLink, KeyWord, OwnerWord, ListLink, PageWord, IsAddress, IsBucketPlace, map_words, place_of}
+use Rattle.rht_words.specs.Places.{Address, CurrentTable, NextSerial, Slot, ShapeWord, SeedWord, FutureWord, SerialWord, StateWord, NodeMap, PageMap, Node, ChainLink, KeyWord, OwnerWord, ListLink, PageWord, IsAddress, IsBucketPlace, place_of}
 use Rattle.rht_words.specs.Standing.{Standing}
 use Rattle.rht_words.specs.TableWords.{IsTableWord}
 use Rattle.rht_arena.specs.GiveNode.{GiveNodeModel, give_node_plan, IsGiveIn}

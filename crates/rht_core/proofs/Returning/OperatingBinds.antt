@@ -1,13 +1,10 @@
 -- On what a bind's operations are made.
-use Rattle.std.proofs.Common.{◌≡◌, ℕ, ◌/◌, ◌<◌, Bool, true, false, List, Some, None, refl, sym, ◌∙◌, ap, subst, inl, inr}
-use Rattle.std.specs.Prelude.{if◌then◌else◌}
+use Rattle.std.proofs.Common.{◌≡◌, ℕ, ◌/◌, ◌<◌, Bool, true, false, List, Some, refl, sym, ◌∙◌, ap, subst, inl, inr}
 use Rattle.rht_words.specs.declared.env.Env.{Env}
-use Rattle.rht_words.specs.Held.{Held}
 use Rattle.rht_words.specs.Places.{CurrentTable, PortCount, Section, Slot, FutureWord, Node, ChainLink, OwnerWord, ListLink, PageWord, place_of}
 use Rattle.rht_chain.specs.Relink.{RelinkModel, has_relinked}
-use Rattle.rht_model.specs.Answers.{Answer}
 use Rattle.rht_nest.specs.Grow.{GrowModel}
-use Rattle.rht_nest.specs.Place.{PlaceModel, IsPlaceIn, entry_place}
+use Rattle.rht_nest.specs.Place.{PlaceModel, IsPlaceIn}
 use Rattle.rht_nest.specs.declared.grow.GrowAt.{GrowAt}
 use Rattle.rht_nest.specs.declared.grow.GrowAt.TheVariants as grows
 use Rattle.rht_bind.specs.Bind.{plan_at, IsBindAtIn}
@@ -15,10 +12,9 @@ use Rattle.rht_bind.specs.BindHeld.{held_of_bind, holds_replacing}
 use Rattle.rht_bind.specs.BindStanding.{standing_of_bind}
 use Rattle.rht_bind.specs.declared.bind.Attempt.{Attempt}
 use Rattle.rht_bind.specs.declared.bind.Claimed.{Claimed}
-use Rattle.rht_bind.specs.declared.bind.FoundList.{FoundList}
 use Rattle.rht_bind.specs.declared.bind.BindAt.{BindAt}
 use Rattle.rht_bind.specs.declared.bind.BindAt.TheVariants as at
-use Rattle.rht_bind.proofs.BindKnowledge.{known_of_bind, fits_bind, BindKnows}
+use Rattle.rht_bind.proofs.BindKnowledge.{BindKnows}
 use Rattle.rht_core.specs.Reach.{Thing, at_table}
 use Rattle.rht_ghost.proofs.Pieces.OpenEntries.{known_growing}
 use Rattle.rht_ghost.proofs.Theory.Entries.{entry_in}

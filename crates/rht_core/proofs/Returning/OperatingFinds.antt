@@ -1,5 +1,5 @@
 -- On what a look-up's operations are made.
-use Rattle.std.proofs.Common.{◌≡◌, ℕ, ◌<◌, List, refl, inl, inr, subst}
+use Rattle.std.proofs.Common.{ℕ, ◌<◌, List, refl, inl, inr, subst}
 use Rattle.rht_words.specs.declared.env.Env.{Env}
 use Rattle.rht_words.specs.Places.{CurrentTable, Section, Slot, FutureWord, Node, KeyWord, ChainLink, OwnerWord}
 use Rattle.rht_model.specs.declared.history.Reply.{Reply}

@@ -1,5 +1,5 @@
 -- On what operations are made on the way to a port: the buckets, the entries and the tables that the caller could reach, by what it knows.
-use Rattle.std.proofs.Common.{◌≡◌, ℕ, zero, suc, ◌+◌, ◌-◌, ◌/◌, ◌<◌, ◌≤◌, true, List, Option, Some, None, refl, sym, ◌∙◌, ap, subst, inl, inr, arith}
+use Rattle.std.proofs.Common.{◌≡◌, ℕ, zero, suc, ◌+◌, ◌-◌, ◌/◌, ◌<◌, true, List, Option, Some, refl, sym, subst, inl, inr, arith}
 use Rattle.std.specs.Prelude.{IfSome}
 use Rattle.rht_words.specs.declared.env.Env.{Env}
 use Rattle.rht_words.specs.Held.{Held}
@@ -12,10 +12,8 @@ use Rattle.rht_arena.specs.declared.new_node.NewNodeAt.{NewNodeAt}
 use Rattle.rht_arena.specs.declared.new_node.NewNodeAt.TheVariants as news
 use Rattle.rht_model.specs.Answers.{Answer}
 use Rattle.rht_nest.specs.Locate.{LocateModel, locate_plan, IsLocateIn}
-use Rattle.rht_nest.specs.LocateTables.{tables_of_locate}
 use Rattle.rht_nest.specs.Make.{slot_of_make}
 use Rattle.rht_nest.specs.Place.{PlaceModel}
-use Rattle.rht_nest.specs.declared.locate.LocateAt.TheVariants as locates
 use Rattle.rht_nest.specs.declared.make.MakeAt.{MakeAt}
 use Rattle.rht_nest.specs.declared.make.MakeAt.TheVariants as makes
 use Rattle.rht_release.specs.Seek.{SeekModel, seek_plan, seek_plan_at, lock_of_seek, IsSeekIn, IsSeekAtIn}
@@ -27,14 +25,13 @@ use Rattle.rht_core.specs.Reach.{Thing, TableIn, PageAt, NodeAt, ReachesTable, a
 use Rattle.rht_ghost.proofs.Pieces.Locates.{known_locate}
 use Rattle.rht_ghost.proofs.Pieces.Makes.{known_of_make}
 use Rattle.rht_ghost.proofs.Pieces.NewNodes.{known_at}
-use Rattle.rht_ghost.proofs.Pieces.OpenEntries.{IsOpenIn, way_open}
-use Rattle.rht_ghost.proofs.Pieces.Probes.{place_of_probe}
+use Rattle.rht_ghost.proofs.Pieces.OpenEntries.{way_open}
 use Rattle.rht_ghost.proofs.Theory.Ghosts.{Ghost, NodeHeld, SlotHeld, has_table, index_at, some-same}
-use Rattle.rht_ghost.proofs.Theory.Knowledge.{NodeMeans, MakingMeans, IsAtHome, IsWayIn, IsWayTo, TableMeans}
-use Rattle.rht_ghost.proofs.Theory.Knowns.{KnownNode, OnWay}
+use Rattle.rht_ghost.proofs.Theory.Knowledge.{NodeMeans, MakingMeans, IsWayIn, TableMeans}
+use Rattle.rht_ghost.proofs.Theory.Knowns.{KnownNode}
 use Rattle.rht_ghost.proofs.Theory.Passed.{home-word}
 use Rattle.rht_ghost.proofs.Theory.Steps.{mem}
-use Rattle.rht_ghost.proofs.Theory.Wholes.{Whole, hash_in, home, word_index}
+use Rattle.rht_ghost.proofs.Theory.Wholes.{Whole, home}
 use Rattle.rht_core.proofs.Meaning.TablesInForce.{future-leads}
 use Rattle.rht_core.proofs.Returning.Operating.{PageThere, EntryThere, Lies, locate_lies, probe_lies, unlock_lies}
 

@@ -1,5 +1,5 @@
 -- On what a worker's operations are made.
-use Rattle.std.proofs.Common.{◌≡◌, ℕ, ◌+◌, ◌-◌, ◌/◌, ◌<◌, Bool, true, false, List, ◌∷◌, Option, Some, None, refl, sym, ◌∙◌, ap, subst, inl, inr, arith}
+use Rattle.std.proofs.Common.{◌≡◌, ℕ, ◌-◌, ◌<◌, true, List, ◌∷◌, Option, Some, None, refl, sym, ap, subst, inl, inr, arith}
 use Rattle.rht_words.specs.declared.env.Env.{Env}
 use Rattle.rht_words.specs.declared.op.Op.TheVariants.{Store}
 use Rattle.rht_words.specs.Held.{Held}
@@ -16,15 +16,15 @@ use Rattle.rht_move.specs.declared.last_table.LastTableAt.{LastTableAt}
 use Rattle.rht_move.specs.declared.last_table.LastTableAt.TheVariants as seeks
 use Rattle.rht_move.specs.declared.work.WorkAt.{WorkAt}
 use Rattle.rht_move.specs.declared.work.WorkAt.TheVariants as at
-use Rattle.rht_move.proofs.WorkKnowledge.{known_of_work, WorkKnows}
+use Rattle.rht_move.proofs.WorkKnowledge.{WorkKnows}
 use Rattle.rht_core.specs.Reach.{Thing, ReachesTable, at_table}
 use Rattle.rht_chain.specs.LockedWalk.{IsNodeOrNone}
-use Rattle.rht_ghost.proofs.Theory.Ghosts.{Ghost, index_at}
+use Rattle.rht_ghost.proofs.Theory.Ghosts.{Ghost}
 use Rattle.rht_ghost.proofs.Theory.Passed.{home-word, place-word}
 use Rattle.rht_ghost.proofs.Theory.Steps.{mem}
-use Rattle.rht_ghost.proofs.Theory.Wholes.{Whole, key_of, word_index}
+use Rattle.rht_ghost.proofs.Theory.Wholes.{Whole, key_of}
 use Rattle.rht_ghost.proofs.Pieces.OpenEntries.{way_open}
-use Rattle.rht_core.proofs.Returning.Operating.{PageThere, Lies, entry_lies, lock_lies, unlock_lies, word_lies, make_lies, unmake_lies}
+use Rattle.rht_core.proofs.Returning.Operating.{Lies, entry_lies, lock_lies, unlock_lies, word_lies, make_lies, unmake_lies}
 use Rattle.rht_core.proofs.Returning.OperatingWays.{OwnOf, make_mine, further}
 
 module _ (env : Env) (mix : ℕ → ℕ → ℕ → ℕ) (words : List ℕ) (G : Ghost) (whole : Whole env mix (mem env mix words) G) (c : ℕ) (low : c < 16) where

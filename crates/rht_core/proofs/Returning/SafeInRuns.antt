@@ -1,6 +1,6 @@
 -- In every run nobody in a section could reach what an operation gives back: it is a caller's own until then, and what could be reached is
 -- some table's or was a port's.
-use Rattle.std.proofs.Common.{◌≡◌, ◌≢◌, ℕ, suc, ◌+◌, ◌/◌, ◌%◌, ◌<◌, ◌≤◌, List, length, true, false, take, drop, slice_index, refl, sym, ◌∙◌, ap, subst, inl, inr, arith}
+use Rattle.std.proofs.Common.{◌≡◌, ◌≢◌, ℕ, suc, ◌/◌, ◌%◌, List, length, true, false, take, drop, slice_index, refl, sym, ◌∙◌, ap, subst, arith}
 use Rattle.std.specs.Int.{bit_at}
 use Rattle.std.proofs.lemmas.List.{take-append-drop}
 use Rattle.rht_words.specs.declared.op.Op.{Op}
@@ -8,20 +8,19 @@ use Rattle.rht_words.specs.declared.env.Env.{Env}
 use Rattle.rht_words.specs.Operations.{op_place, old_of, word_after, applied}
 use Rattle.rht_words.specs.Places.{Address, Slot, StateWord, NodeMap, PageMap, IsAddress, place_of, words_in}
 use Rattle.rht_words.proofs.EachElement.{AllByRecursion-cut}
-use Rattle.rht_words.proofs.Memory.{Memory, is_write}
+use Rattle.rht_words.proofs.Memory.{is_write}
 use Rattle.rht_core.specs.declared.event.Event.{Event}
-use Rattle.rht_core.specs.Laws.{IsRecorded}
 use Rattle.rht_core.specs.Reach.{Thing, TableIn, PageAt, NodeAt, GivesBack, NobodyReaches, Safe}
 use Rattle.rht_core.specs.Runs.{Core, run_of, IsAdmitted, IsAdmittedEvent}
 use Rattle.rht_core.specs.Standings.{standing}
 use Rattle.rht_core.specs.Traces.{Did}
-use Rattle.rht_core.proofs.Events.Invariants.{StepOf, step_of}
+use Rattle.rht_core.proofs.Events.Invariants.{step_of}
 use Rattle.rht_ghost.proofs.Theory.Frames.{Made}
 use Rattle.rht_ghost.proofs.Theory.Ghosts.{Ghost, Owner, Free, NodeHeld, First, Leaving, Behind, Taken, PageOwner, PageFree, PageHeld, PageOf, SlotOwner, SlotFree, SlotHeld, Live, Retired, IsUsed, is_used, has_table, state_word}
 use Rattle.rht_ghost.proofs.Theory.Passed.{TablesGrow}
 use Rattle.rht_ghost.proofs.Theory.Steps.{mem, ghost_after}
 use Rattle.rht_ghost.proofs.Theory.Wholes.{Whole}
-use Rattle.rht_core.proofs.Returning.MetInRuns.{Met, MeetsRight, has_met}
+use Rattle.rht_core.proofs.Returning.MetInRuns.{Met, has_met}
 use Rattle.rht_core.proofs.Returning.Reached.{safe-taken, IsTakenBy}
 
 module _ (env : Env) (mix : ℕ → ℕ → ℕ → ℕ) (c : ℕ) (words : List ℕ) (G G' : Ghost) (op : Op)
