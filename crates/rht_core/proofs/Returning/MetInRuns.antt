@@ -19,12 +19,13 @@ use Rattle.rht_callers.specs.declared.local.Doing.{Doing}
 use Rattle.rht_callers.specs.Locals.{fresh, begin_with, local_after}
 use Rattle.rht_core.specs.declared.event.Event.{Event}
 use Rattle.rht_core.specs.declared.event.Event.TheVariants.{Enroll, Begin, Step}
-use Rattle.rht_core.specs.Jobs.{Job, finds, job_of, job_after, job_plan, told, held_of}
+use Rattle.rht_core.specs.Jobs.{Job, finds, job_of, job_after, job_plan, told, held_of, first_job}
 use Rattle.rht_core.specs.Reach.{IsReading, ComesTo}
 use Rattle.rht_core.specs.Runs.{Core, World, opening_core, core_step, with_step, with_machine, world_step, run_of, local_of, beginning_in, planned_in, IsAdmitted, IsAdmittedEvent}
 use Rattle.rht_core.specs.Sections.{IsInNoSection}
 use Rattle.rht_core.specs.Standings.{standing, standing_with}
 use Rattle.rht_core.specs.Traces.{Traced, traced_of}
+use Rattle.rht_core.proofs.Events.InvariantRuns.{idle_at_opening}
 use Rattle.rht_core.proofs.Events.Invariants.{Inv, StepOf, step_of}
 use Rattle.rht_core.proofs.Events.RangesInRuns.{AllIn}
 use Rattle.rht_core.proofs.Events.JobsOfCallers.{left-job, first_job-machine}
@@ -40,6 +41,7 @@ use Rattle.rht_ghost.proofs.Theory.Steps.{mem, ghost_after}
 use Rattle.rht_core.proofs.Returning.ComingJobs.{KnowsLook, job_comes, job_outside, first_stands}
 use Rattle.rht_core.proofs.Returning.Reached.{MeetsTable, StandsRight, comes-right}
 use Rattle.rht_core.proofs.Returning.Readers.{Reader, is_open, IsOpen, meets_too, opens, reads_nothing, ReaderRight, reader-opens, reader-leaves}
+use Rattle.rht_core.proofs.Returning.TiedJobs.{tied_with, first_ties, ties_stay, job_ties}
 use Rattle.rht_core.proofs.Returning.StaleLinks.{made-keeps}
 
 -- who stands nowhere stands rightly
@@ -69,51 +71,70 @@ module _ (env : Env) (mix : ℕ → ℕ → ℕ → ℕ) (L : Type 0) where
 
   -- ---- where callers stand behind an event
 
-  -- where a caller stands as before, nowhere, or where it could come to; and nowhere where it isn't in its section
-  pub record Leads (core core' : Core L) (c : ℕ) : Type 0 where
+  -- the job of what a caller does
+  abbrev job_at : Core L → ℕ → Option Job
+  job_at core c = job_of (local_of core c).doing
+
+  -- a caller does what it did, or begins a call
+  pub record Begins (core' : Core L) (c : ℕ) : Type 0 where
+    pub call : Call
+    pub job : Job
+    pub first : first_job env call ≡ Some job
+    pub is : job_of (local_of core' c).doing ≡ Some job
+
+  abbrev pub StaysOrBegins : Core L → Core L → ℕ → Type 0
+  StaysOrBegins core core' c = (job_of (local_of core' c).doing ≡ job_of (local_of core c).doing) ⊎ Begins core' c
+
+  -- Where a caller stands as before, nowhere, or where it could come to; and nowhere where it isn't in its section. And the bucket that its
+  -- call has locked is still one of the table at which it stands.
+  pub record Leads (core core' : Core L) (G : Ghost) (c : ℕ) : Type 0 where
+    pub ties : tied_with env mix G (job_of (local_of core c).doing) → tied_with env mix G (job_of (local_of core' c).doing)
     pub inside : IsReading env.geometry core.words c
         → (standing core' c ≡ standing core c) ⊎ (standing core' c ≡ stands_nowhere)
         ⊎ ComesTo env.geometry core.words (standing core c) (standing core' c)
     pub outside : IsInNoSection env.geometry core.words c → standing core' c ≡ stands_nowhere
 
   module _ (core : Core L) (G : Ghost) (all : AllIn L mix env core) (inv : Inv env mix L core G) where
-    -- where a caller stands behind its operation, what is left of its job says
+    -- what a caller does behind its operation is what is left of its job
     module _ (c : ℕ) (op : Op) (plan : planned_in core c ≡ Some op) where
       abbrev pub of : StepOf env mix L core G c op
       of = step_of env mix L core G c op all inv plan
 
-      pub next-is : stands_next core c ≡ standing_with (told (job_after mix env of.job (old_of core.words op))).0
-      next-is =
+      next_job : job_at (core_step mix core (Step c)).0 c ≡ (told (job_after mix env of.job (old_of core.words op))).0
+      next_job =
           let can = planned-some core.env core.enrolled core.locals c op plan in
           let place = has_place L mix env core c all.stays can.below in
           let old = old_of core.words op in
           let local = (local_after mix (local_of core c) old).0 in
           let left = left-job mix env (local_of core c).doing of.job old (all.stays.locals_of c).doing of.is in
-          ap (λ o. standing (with_step mix core c o).0 c) plan
-          ∙ ap (λ (l : Local L). standing_with (job_of l.doing)) (get_or-set_same core.locals c local (fresh core.env) place)
-          ∙ ap standing_with left
+          ap (λ o. job_at (with_step mix core c o).0 c) plan
+          ∙ ap (λ (l : Local L). job_of l.doing) (get_or-set_same core.locals c local (fresh core.env) place)
+          ∙ left
 
-    -- another caller stands where it did
-    other_stands : (c d : ℕ) → c ≢ d → (plan : Option Op) → standing (with_step mix core d plan).0 c ≡ standing core c
-    other_stands c d ne None = refl
-    other_stands c d ne (Some op) =
+    -- another caller does what it did
+    other_job : (c d : ℕ) → c ≢ d → (plan : Option Op) → job_at (with_step mix core d plan).0 c ≡ job_at core c
+    other_job c d ne None = refl
+    other_job c d ne (Some op) =
         let local = (local_after mix (local_of core d) (old_of core.words op)).0 in
-        ap (λ (l : Local L). standing_with (job_of l.doing)) (get_or-set_other core.locals d c local (fresh core.env) ne)
+        ap (λ (l : Local L). job_of l.doing) (get_or-set_other core.locals d c local (fresh core.env) ne)
 
-    -- and one that begins a call stands nowhere
-    begun_stands : (c d : ℕ) (call : Call) (machine : Option (Doing L)) → beginning_in core d call ≡ machine
-        → let core' = record core { locals = with_machine core.env core.locals d machine } in
-        (standing core' c ≡ standing core c) ⊎ (standing core' c ≡ stands_nowhere)
-    begun_stands c d call None is = inl refl
-    begun_stands c d call (Some machine) is =
+    -- and one that begins a call does its first job
+    begun_job : (c d : ℕ) (call : Call) (machine : Option (Doing L)) → beginning_in core d call ≡ machine
+        → StaysOrBegins core (record core { locals = with_machine core.env core.locals d machine }) c
+    begun_job c d call None is = inl refl
+    begun_job c d call (Some machine) is =
         let can = beginning-some core.env core.enrolled core.locals d call machine is in
         let place = has_place L mix env core d all.stays can.below in
         let first = first_job-machine env d call machine (made_in L mix env core d call machine all.stays can) in
         let local = begin_with (local_of core d) machine in
         elim (cases_eq c d) [
-          | inl e ↦ inr (rw e (ap (λ (l : Local L). standing_with (job_of l.doing)) (get_or-set_same core.locals d local (fresh core.env) place)
-              ∙ ap standing_with first.does ∙ first_stands env call first.job first.first))
-          | inr ne ↦ inl (ap (λ (l : Local L). standing_with (job_of l.doing)) (get_or-set_other core.locals d c local (fresh core.env) ne))
+          | inl e ↦ inr (record {
+            call = call;
+            job = first.job;
+            first = first.first;
+            is = rw e (ap (λ (l : Local L). job_of l.doing) (get_or-set_same core.locals d local (fresh core.env) place) ∙ first.does);
+          })
+          | inr ne ↦ inl (ap (λ (l : Local L). job_of l.doing) (get_or-set_other core.locals d c local (fresh core.env) ne))
         ]
 
   -- ---- out of sections
@@ -146,7 +167,7 @@ module _ (env : Env) (mix : ℕ → ℕ → ℕ → ℕ) (L : Type 0) where
         → IsInNoSection env.geometry core.words c → stands_next core c ≡ stands_nowhere
     outside_next G all inv c op plan out =
         let of = step_of env mix L core G c op all inv plan in
-        next-is core G all inv c op plan
+        ap standing_with (next_job core G all inv c op plan)
         ∙ (job_outside mix env of.job (sym (ap in_section of.is) ∙ closed_now c of.few out)).behind (old_of core.words op)
 
   -- ---- what is known of each section
@@ -155,6 +176,7 @@ module _ (env : Env) (mix : ℕ → ℕ → ℕ → ℕ) (L : Type 0) where
     pub reader : Reader
     pub right : ReaderRight env mix (mem env mix core.words) G c reader
     pub stands : IsOpen reader → StandsRight G reader (standing core c)
+    pub tied : tied_with env mix G (job_of (local_of core c).doing)
 
   pub record Met (events : List Event) (core : Core L) : Type 0 where
     pub placed : Placed env mix L events core
@@ -162,7 +184,8 @@ module _ (env : Env) (mix : ℕ → ℕ → ℕ → ℕ) (L : Type 0) where
 
   -- it is known behind an event
   module _ (events : List Event) (event : Event) (core core' : Core L) (placed : Placed env mix L events core)
-      (makes : EventMakes env mix L events core core' placed) (c : ℕ) (meets : MeetsRight core placed.ghost c) (leads : Leads core core' c) where
+      (makes : EventMakes env mix L events core core' placed) (c : ℕ) (meets : MeetsRight core placed.ghost c)
+      (leads : Leads core core' placed.ghost c) where
     abbrev G : Ghost
     G = placed.ghost
 
@@ -184,6 +207,9 @@ module _ (env : Env) (mix : ℕ → ℕ → ℕ → ℕ) (L : Type 0) where
           (standing core' c) comes
     ]
 
+    tied_then : tied_with env mix G' (job_of (local_of core' c).doing)
+    tied_then = ties_stay env mix G G' grow (job_of (local_of core' c).doing) (leads.ties meets.tied)
+
     pub meets_then : MeetsRight core' G' c
     meets_then = elim (cases_eq (word_at env.geometry core'.words (Section c) % 2) 1) [
       | inl odd ↦ elim (cases_eq (word_at env.geometry core.words (Section c) % 2) 1) [
@@ -191,17 +217,20 @@ module _ (env : Env) (mix : ℕ → ℕ → ℕ → ℕ) (L : Type 0) where
           reader = meets_too G' r;
           right = made-keeps env mix makes.caller c (mem env mix core.words) (mem env mix core'.words) G G' r makes.made (odd ∙ sym was) meets.right;
           stands = λ open_then. stays_met env mix G G' r grow (standing core' c) (stands_then was open_then);
+          tied = tied_then;
         }
         | inr even ↦ record {
           reader = opens G';
           right = reader-opens env mix (mem env mix core'.words) G' c makes.made.whole odd;
           stands = λ open_then. nowhere_right G' (opens G') (standing core' c) (leads.outside (omega (arith, even)));
+          tied = tied_then;
         }
       ]
       | inr even ↦ record {
         reader = reads_nothing;
         right = reader-leaves env mix (mem env mix core'.words) G' c (omega (arith, even));
         stands = λ open_then. absurd (cc);
+        tied = tied_then;
       }
     ]
 
@@ -238,7 +267,7 @@ module _ (env : Env) (mix : ℕ → ℕ → ℕ → ℕ) (L : Type 0) where
         (look_known c trace.begin made of.job looks) in
         let same : old_of core.words op ≡ old_of core.words (job_plan env c of.job) = ap (old_of core.words) of.plan in
         subst (ComesTo env.geometry core.words (standing core c))
-        (sym (next-is core placed.ghost placed.all placed.inv c op plan
+        (sym (ap standing_with (next_job core placed.ghost placed.all placed.inv c op plan)
         ∙ ap (λ old. standing_with (told (job_after mix env of.job old)).0) same))
         (subst (λ at. ComesTo env.geometry core.words at
         (standing_with (told (job_after mix env of.job (old_of core.words (job_plan env c of.job)))).0)) (sym (ap standing_with of.is)) comes)
@@ -259,32 +288,50 @@ module _ (env : Env) (mix : ℕ → ℕ → ℕ → ℕ) (L : Type 0) where
     few : (c : ℕ) → c < env.geometry.callers → c < 16
     few c low = let callers = env.geometry.within.callers_within in omega (arith, low, callers.1)
 
-    -- a caller that stands as before, or nowhere
-    no_further : (core' : Core L) (c : ℕ) → c < env.geometry.callers
-        → (standing core' c ≡ standing now c) ⊎ (standing core' c ≡ stands_nowhere) → Leads now core' c
+    abbrev G-now : Ghost
+    G-now = placed.ghost
+
+    -- a caller that does what it did, or begins a call
+    no_further : (core' : Core L) (c : ℕ) → c < env.geometry.callers → StaysOrBegins now core' c → Leads now core' G-now c
     no_further core' c low (inl same) = record {
-      inside = λ reads. inl same;
-      outside = λ out. same ∙ outside_now events admitted c (few c low) out;
+      ties = subst (tied_with env mix G-now) (sym same);
+      inside = λ reads. inl (ap standing_with same);
+      outside = λ out. ap standing_with same ∙ outside_now events admitted c (few c low) out;
     }
-    no_further core' c low (inr none) = record { inside = λ reads. inr (inl none); outside = λ out. none }
+    no_further core' c low (inr begins) =
+        let none = ap standing_with begins.is ∙ first_stands env begins.call begins.job begins.first in
+        record {
+          ties = λ tied. subst (tied_with env mix G-now) (sym begins.is) (first_ties env mix G-now begins.call begins.job begins.first);
+          inside = λ reads. inr (inl none);
+          outside = λ out. none;
+        }
+
+    -- a caller that makes an operation
+    own_leads : (c : ℕ) (op : Op) → planned_in now c ≡ Some op → Leads now (core_step mix now (Step c)).0 G-now c
+    own_leads c op plan =
+        let of = step_of env mix L now G-now c op placed.all placed.inv plan in
+        record {
+          ties = λ tied.
+              subst (tied_with env mix G-now) (sym (next_job now G-now placed.all placed.inv c op plan))
+              (job_ties env mix now.words G-now placed.inv.whole c of.job of.within of.knows (old_of now.words op)
+              (subst (tied_with env mix G-now) of.is tied));
+          inside = λ reads. inr (inr (comes_next events admitted c op plan));
+          outside = outside_next events admitted G-now placed.all placed.inv c op plan;
+        }
 
     step_leads : (c d : ℕ) → c < env.geometry.callers → (plan : Option Op) → planned_in now d ≡ plan
-        → Leads now (core_step mix now (Step d)).0 c
+        → Leads now (core_step mix now (Step d)).0 G-now c
     step_leads c d low None plan =
-        no_further _ c low (inl (ap (λ o. standing (with_step mix now d o).0 c) plan))
+        no_further _ c low (inl (ap (λ o. job_of (local_of (with_step mix now d o).0 c).doing) plan))
     step_leads c d low (Some op) plan = elim (cases_eq c d) [
-      | inl e ↦ record {
-        inside = λ reads. inr (inr (rw e (comes_next events admitted d op plan)));
-        outside = λ out. rw e (outside_next events admitted placed.ghost placed.all placed.inv d op plan
-            (subst (IsInNoSection env.geometry now.words) e out));
-      }
-      | inr ne ↦ no_further _ c low (inl (other_stands now placed.ghost placed.all placed.inv c d ne (planned_in now d)))
+      | inl e ↦ rw e (own_leads d op plan)
+      | inr ne ↦ no_further _ c low (inl (other_job now G-now placed.all placed.inv c d ne (planned_in now d)))
     ]
 
-    event_leads : (event : Event) (c : ℕ) → c < env.geometry.callers → Leads now (world_step mix (W events) event).core c
+    event_leads : (event : Event) (c : ℕ) → c < env.geometry.callers → Leads now (world_step mix (W events) event).core G-now c
     event_leads Enroll c low = no_further _ c low (inl refl)
     event_leads (Begin d call) c low =
-        no_further _ c low (begun_stands now placed.ghost placed.all placed.inv c d call (beginning_in now d call) refl)
+        no_further _ c low (begun_job now G-now placed.all placed.inv c d call (beginning_in now d call) refl)
     event_leads (Step d) c low = step_leads c d low (planned_in now d) refl
 
     met_event : (event : Event) → IsAdmittedEvent env.config.kind event
@@ -306,6 +353,7 @@ module _ (env : Env) (mix : ℕ → ℕ → ℕ → ℕ) (L : Type 0) where
       right = reader-leaves env mix _ _ c
           (ap (λ w. w % 2) ((stand_in_place env).each (Section c) (let callers = env.geometry.within.callers_within in omega (arith, low, callers.1))));
       stands = λ open_then. absurd (cc);
+      tied = subst (λ (local : Local L). tied_with env mix (placed_opening env mix L).ghost (job_of local.doing)) (sym (idle_at_opening env mix L c)) tt;
     };
   }
 
