@@ -292,14 +292,15 @@ pub fn safe<M: Mix>()
     ensures { Safe M M.mix_of }
 {}
 
-/// In every run each operation of a call that is on a word of a node or of a slot's table is on one that the call
-/// has taken and nobody in a section could reach, or it is made in the caller's read section, on one that this
-/// caller could reach. An operation on a word of a page is made in the section, on a bucket that the call has
-/// locked, or on a page of a table that the caller could reach. In the section alone it operates on which table is
-/// the current one. And behind each operation in its section a caller stands only where it could come to before it,
-/// by one of the ways of `safe`; out of its section, and where it has just opened it, it stands nowhere. So
-/// whatever a call operates on it has come to since it opened its section, from the table that was then the current
-/// one. It says nothing of the states of slots, of maps and of counts.
+/// In every run each operation of a call that is on a word of a node, or on what a slot's words say of its table, is
+/// on one that the call has taken, which isn't free and which nobody in a section could reach. Or it is made in the
+/// caller's read section, on one that this caller could reach, as `safe` has it. So is each operation on a word of a
+/// page, on a page of a table that the caller could reach. In the section alone it operates on which table is the
+/// current one. Behind each operation in its section the caller stands only where it could come to before it. Out of
+/// its section, and where it has just opened it, it stands nowhere. So whatever a call operates on, it has taken
+/// itself, or has come to since it opened its section, from the table that was the current one. It says nothing of
+/// the states of slots, of the maps, the count, the work lock and the next serial; nor that a call has what it says
+/// that it has, but for what is said here of nodes and slots.
 pub fn inside<M: Mix>()
     ensures { Inside M M.mix_of }
 {}

@@ -17,7 +17,7 @@ use Rattle.rht_find.specs.FindStanding.{standing_of_find}
 use Rattle.rht_find.specs.declared.find.FindAt.{FindAt}
 use Rattle.rht_core.specs.declared.event.Event.{Event}
 use Rattle.rht_core.specs.Jobs.{Job, finds, binds, lists, releases, rebinds, works, counts, job_of, job_plan, held_of}
-use Rattle.rht_core.specs.Reach.{Thing, TableIn, PageAt, NodeAt, CouldReach, ReachesPage, at_table, at_node, at_listed, in_chain, IsReading, IsOwnNode, IsOwnSlot, IsOwnLock, IsWithin, Inside}
+use Rattle.rht_core.specs.Reach.{Thing, TableIn, PageAt, NodeAt, CouldReach, ReachesPage, at_table, at_node, at_listed, in_chain, IsReading, IsOwnNode, IsOwnSlot, IsWithin, Inside}
 use Rattle.rht_core.specs.Runs.{Core, World, local_of, run_of, IsAdmitted, IsAdmittedEvent}
 use Rattle.rht_core.specs.Standings.{standing, standing_of, standing_with}
 use Rattle.rht_core.specs.Traces.{Traced, traced_of}
@@ -38,6 +38,7 @@ use Rattle.rht_core.proofs.Returning.OperatingFinds.{find_lies}
 use Rattle.rht_core.proofs.Returning.OperatingReleases.{all_lies, release_lies, rebind_lies}
 use Rattle.rht_core.proofs.Returning.OperatingWays.{OwnOf}
 use Rattle.rht_core.proofs.Returning.OperatingWorks.{work_lies}
+use Rattle.rht_core.proofs.Returning.TiedJobs.{tied_of, tied_with}
 use Rattle.rht_core.proofs.Returning.SafeInRuns.{nobody}
 
 -- ---- a page of a table that the caller could reach
@@ -74,9 +75,7 @@ module _ (env : Env) (mix : ℕ → ℕ → ℕ → ℕ) (L : Type 0) where
     Asked CurrentTable = IsReading g core.words c
     Asked (Slot slot word) = IsTableWord word → IsOwnSlot g core c slot ⊎ IsWithin g core c (TableIn slot)
     Asked (Node node word) = IsOwnNode g core c node ⊎ IsWithin g core c (NodeAt node)
-    Asked (PageWord index) =
-        IsReading g core.words c
-        × (IsOwnLock core c (place_of g (PageWord index)) ⊎ ReachesPage g core.words (standing core c) (index / 64))
+    Asked (PageWord index) = IsWithin g core c (PageAt (index / 64))
     Asked _ = Unit {0}
 
     record IsAsked (op : Op) : Type 0 where
@@ -112,13 +111,10 @@ module _ (env : Env) (mix : ℕ → ℕ → ℕ → ℕ) (L : Type 0) where
           ]);
         })
       ]
-      asked_of (PageWord index) there may = (
-        reads may.0,
-        elim may.1 [
-          | inl locked ↦ inl (record { job = job; does = does; has = locked })
-          | inr page ↦ inr (could (PageAt (index / 64)) (page_reached env mix core.words G whole (standing_of job) (index / 64) page))
-        ],
-      )
+      asked_of (PageWord index) there may = record {
+        reads = reads may.0;
+        reaches = could (PageAt (index / 64)) (page_reached env mix core.words G whole (standing_of job) (index / 64) may.1);
+      }
       asked_of _ there may = tt
 
       is_asked : (op : Op) → Lies env mix core.words G (held_of job) (standing_of job) Own op → IsAsked op
@@ -195,26 +191,26 @@ module _ (env : Env) (mix : ℕ → ℕ → ℕ → ℕ) (L : Type 0) where
             })
 
       job_asked : (job : Job) → job_of (local_of core c).doing ≡ Some job → JobIn env mix c job
-          → JobKnows env mix c job (mem env mix core.words) G → IsAsked core c (job_plan env c job)
-      job_asked (finds port state) does within knows =
+          → JobKnows env mix c job (mem env mix core.words) G → tied_of env mix G job → IsAsked core c (job_plan env c job)
+      job_asked (finds port state) does within knows tied =
           let is = find_so c low port state does within in
           is_asked core c (finds port state) does (reads (finds port state) does) is.ghost is.whole (λ thing. ⊥)
           (λ node l own. absurd own) (λ slot l own. absurd own) (find.plan_at env c state) is.lies
-      job_asked (binds port owner once state) does within knows =
+      job_asked (binds port owner once state) does within knows tied =
           with_own (binds port owner once state) does _ (bind_lies env mix port owner once core.words G whole c low state within.at_in
-          (record { knowing = knows.knowing; fits = knows.fits }))
-      job_asked (lists port room state) does within knows =
+          (record { knowing = knows.knowing; fits = knows.fits }) tied)
+      job_asked (lists port room state) does within knows tied =
           with_own (lists port room state) does _ (all_lies env mix port 0 core.words G whole c low room state within.at_in
-          (record { knowing = knows.knowing; fits = knows.fits }))
-      job_asked (releases port owner state) does within knows =
+          (record { knowing = knows.knowing; fits = knows.fits }) tied)
+      job_asked (releases port owner state) does within knows tied =
           with_own (releases port owner state) does _ (release_lies env mix port owner core.words G whole c low state within
-          (record { knowing = knows.knowing; fits = knows.fits }))
-      job_asked (rebinds port owner new state) does within knows =
+          (record { knowing = knows.knowing; fits = knows.fits }) tied)
+      job_asked (rebinds port owner new state) does within knows tied =
           with_own (rebinds port owner new state) does _ (rebind_lies env mix port owner core.words G whole c low new state within.at_in
-          (record { knowing = knows.knowing; fits = knows.fits }))
-      job_asked (works state) does within knows =
+          (record { knowing = knows.knowing; fits = knows.fits }) tied)
+      job_asked (works state) does within knows tied =
           with_own (works state) does _ (work_lies env mix core.words G whole c low state within knows.knowing)
-      job_asked counts does within knows = record { address = PortCount; there = tt; on = refl; asked = tt }
+      job_asked counts does within knows tied = record { address = PortCount; there = tt; on = refl; asked = tt }
 
 pub inside : (L : Type 0) (mix : ℕ → ℕ → ℕ → ℕ) → Inside L mix
 inside L mix env events c did admitted recorded =
@@ -225,7 +221,7 @@ inside L mix env events c did admitted recorded =
     let met = has_met env mix L before first in
     let placed = met.placed in
     let of = step_of env mix L core placed.ghost c did.op placed.all placed.inv recorded.plan in
-    let is = job_asked env mix L before first met c of.few of.job of.is of.within of.knows in
+    let is = job_asked env mix L before first met c of.few of.job of.is of.within of.knows (subst (tied_with env mix placed.ghost) of.is (met.each c of.low).tied) in
     let on : op_place did.op ≡ place_of env.geometry is.address = ap op_place of.plan ∙ is.on in
     let here : (a : Address) → IsAddress env.geometry a → op_place did.op ≡ place_of env.geometry a → Asked env mix L core c a =
     λ a there same. subst (Asked env mix L core c) (place_of-apart env.geometry is.address a is.there there (sym on ∙ same)) is.asked in

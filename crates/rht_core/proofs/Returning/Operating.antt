@@ -82,14 +82,11 @@ module _ (env : Env) (mix : ℕ → ℕ → ℕ → ℕ) (words : List ℕ) (G :
   abbrev pub IsOpen : Type 0
   IsOpen = h.section ≡ true
 
-  abbrev pub IsLocked : ℕ → Type 0
-  IsLocked place = (h.lock ≡ Some place) ⊎ (h.second ≡ Some place)
-
   abbrev pub May : Address → Type 0
   May CurrentTable = IsOpen
   May (Slot slot word) = IsTableWord word → Own (TableIn slot) ⊎ (IsOpen × In slot at.tables)
   May (Node node word) = Own (NodeAt node) ⊎ (IsOpen × (In node at.nodes ⊎ In node at.listed))
-  May (PageWord index) = IsOpen × (IsLocked (place_of g (PageWord index)) ⊎ PageThere g words G at (index / 64))
+  May (PageWord index) = IsOpen × PageThere g words G at (index / 64)
   May _ = Unit {0}
 
   pub record Lies (op : Op) : Type 0 where
@@ -100,21 +97,13 @@ module _ (env : Env) (mix : ℕ → ℕ → ℕ → ℕ) (words : List ℕ) (G :
 
   -- ---- words of the pages
 
-  on_page : (op : Op) (place : ℕ) → IsBucketPlace g place → op_place op ≡ place → IsOpen
-      → IsLocked place ⊎ PageThere g words G at (word_index env mix place / 64) → Lies op
-  on_page op place is on inside (inl locked) =
-      let same = place_at-index env mix place is in
-      record {
-        address = PageWord (word_index env mix place);
-        there = index-within env mix place is;
-        on = on ∙ sym same;
-        may = (inside, inl (subst IsLocked (sym same) locked));
-      }
-  on_page op place is on inside (inr there) = record {
+  pub page_lies : (op : Op) (place : ℕ) → IsBucketPlace g place → op_place op ≡ place → IsOpen
+      → PageThere g words G at (word_index env mix place / 64) → Lies op
+  page_lies op place is on inside there = record {
     address = PageWord (word_index env mix place);
     there = index-within env mix place is;
     on = on ∙ sym (place_at-index env mix place is);
-    may = (inside, inr there);
+    may = (inside, there);
   }
 
   pub entry_lies : (place : PlaceModel) → IsPlaceIn g place → IsOpen → EntryThere env words G at place.entry → Lies (place_plan place)
@@ -124,26 +113,20 @@ module _ (env : Env) (mix : ℕ → ℕ → ℕ → ℕ) (words : List ℕ) (G :
         address = PageWord place.entry;
         there = within.entry_in;
         on = ap (λ (g : Geometry). place_of g (PageWord place.entry)) within.geometry_same;
-        may = (inside, inr (record { table = is.table; of = entry.of ∙ ap PageOf is.open_in.table; there = is.there }));
+        may = (inside, record { table = is.table; of = entry.of ∙ ap PageOf is.open_in.table; there = is.there });
       }
 
   pub lock_lies : (lock : LockModel) → IsBucketPlace g lock.place → IsOpen → PageThere g words G at (word_index env mix lock.place / 64)
       → Lies (lock_plan lock)
-  lock_lies lock is inside there = on_page (lock_plan lock) lock.place is (go lock.at) inside (inr there)
+  lock_lies lock is inside there = page_lies (lock_plan lock) lock.place is (go lock.at) inside there
     where
       go : (state : LockAt) → op_place (lock_plan_at lock.place state) ≡ lock.place
       go locks.Word = refl
       go (locks.Exchange word) = refl
 
-  pub unlock_lies : (unlock : Unlock) → IsUnlockIn g unlock → IsOpen → IsLocked unlock.place → Lies (unlock_plan unlock)
-  unlock_lies unlock within inside locked = on_page (unlock_plan unlock) unlock.place within.place_in refl inside (inl locked)
-
-  pub word_lies : (op : Op) (place : ℕ) → IsBucketPlace g place → op_place op ≡ place → IsOpen → IsLocked place → Lies op
-  word_lies op place is on inside locked = on_page op place is on inside (inl locked)
-
-  pub head_lies : (op : Op) (place : ℕ) → IsBucketPlace g place → op_place op ≡ place → IsOpen
-      → PageThere g words G at (word_index env mix place / 64) → Lies op
-  head_lies op place is on inside there = on_page op place is on inside (inr there)
+  pub unlock_lies : (unlock : Unlock) → IsUnlockIn g unlock → IsOpen → PageThere g words G at (word_index env mix unlock.place / 64)
+      → Lies (unlock_plan unlock)
+  unlock_lies unlock within inside there = page_lies (unlock_plan unlock) unlock.place within.place_in refl inside there
 
   -- ---- the ways to a bucket
 
@@ -196,8 +179,8 @@ module _ (env : Env) (mix : ℕ → ℕ → ℕ → ℕ) (words : List ℕ) (G :
       go (probes.Walking bucket walk) is there page = walk_lies walk is.walk_in inside there
 
   pub relink_lies : (m : RelinkModel) → IsRelinkIn g m → IsOpen → ((n : ℕ) → In n (nodes_of_relink m.at) → In n at.nodes)
-      → IsLocked m.place → Lies (relink_plan m)
-  relink_lies m within inside there locked = go m.at within.at_in there
+      → PageThere g words G at (word_index env mix m.place / 64) → Lies (relink_plan m)
+  relink_lies m within inside there page = go m.at within.at_in there
     where
       go : (state : RelinkAt) → IsRelinkAtIn g state → ((n : ℕ) → In n (nodes_of_relink state) → In n at.nodes)
           → Lies (relink_plan_at m state)
@@ -207,7 +190,7 @@ module _ (env : Env) (mix : ℕ → ℕ → ℕ → ℕ) (words : List ℕ) (G :
         on = ap (λ (g : Geometry). place_of g (Node before ChainLink)) within.geometry_same;
         may = inr (inside, inl (there before (inl refl)));
       }
-      go (relinks.Word word) is there = on_page _ m.place within.place_in refl inside (inl locked)
+      go (relinks.Word word) is there = page_lies _ m.place within.place_in refl inside page
 
   -- ---- nodes and tables of the call's own
 
@@ -305,5 +288,5 @@ module _ (env : Env) (mix : ℕ → ℕ → ℕ → ℕ) (words : List ℕ) (G :
           → ((page : ℕ) → state ≡ grows.Entering page → PageThere g words G at (word_index env mix m.entry / 64))
           → Lies (grow_plan_at m.entry state)
       go (grows.Taking take) is there = take_run_lies take is.take_in
-      go (grows.Entering page) is there = on_page _ m.entry within.entry_in refl inside (inr (there page refl))
+      go (grows.Entering page) is there = page_lies _ m.entry within.entry_in refl inside (there page refl)
       go (grows.Giving found give) is there = give_run_lies give is.give_in

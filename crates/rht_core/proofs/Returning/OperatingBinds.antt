@@ -22,14 +22,11 @@ use Rattle.rht_ghost.proofs.Theory.Ghosts.{Ghost, PageOf}
 use Rattle.rht_ghost.proofs.Theory.Knowledge.{TableMeans}
 use Rattle.rht_ghost.proofs.Theory.Steps.{mem}
 use Rattle.rht_ghost.proofs.Theory.Wholes.{Whole, word_index, index-place_at}
+use Rattle.rht_core.proofs.Returning.TiedBuckets.{tied_of_bind}
 use Rattle.rht_core.proofs.Returning.Operating.{PageThere, Lies, probe_lies, relink_lies, unlock_lies, new_node_lies, give_node_lies, make_lies, unmake_lies, grow_lies}
-use Rattle.rht_core.proofs.Returning.OperatingWays.{OwnOf, new_mine, make_mine, home_page, way_entry, locate_way}
+use Rattle.rht_core.proofs.Returning.OperatingWays.{OwnOf, tied_page, new_mine, make_mine, home_page, way_entry, locate_way}
 
--- before the store of the link and behind it the bucket is locked, in the section
-replacing-locked : (claimed : Claimed) (stored : Bool) → (holds_replacing claimed stored).lock ≡ Some claimed.bucket.place
-replacing-locked claimed true = refl
-replacing-locked claimed false = refl
-
+-- before the store of the link and behind it the call is in its section
 replacing-inside : (claimed : Claimed) (stored : Bool) → (holds_replacing claimed stored).section ≡ true
 replacing-inside claimed true = refl
 replacing-inside claimed false = refl
@@ -60,79 +57,89 @@ module _ (env : Env) (mix : ℕ → ℕ → ℕ → ℕ) (port owner : ℕ) (onc
       subst (λ j. PageThere env.geometry words G from (j / 64)) (sym same)
       (record { table = entry.table; of = there.of ∙ ap PageOf entry.open_in.table; there = entry.there })
 
-  pub bind_lies : (state : BindAt) → IsBindAtIn env state → Knows state → Is state
-  bind_lies (at.Filling new) within knows =
+  pub bind_lies : (state : BindAt) → IsBindAtIn env state → Knows state → tied_of_bind env mix G state → Is state
+  bind_lies (at.Filling new) within knows tied =
       new_node_lies env mix words G _ _ (Own (at.Filling new)) new within
       (λ n is. (is, new_mine env mix words G whole c port owner new.at n is knows.knowing.means.node))
-  bind_lies (at.Opening attempt) within knows = record { address = Section c; there = low; on = refl; may = tt }
-  bind_lies (at.CurrentTable attempt) within knows = record { address = CurrentTable; there = tt; on = refl; may = refl }
-  bind_lies (at.Locating attempt locate) within knows =
+  bind_lies (at.Opening attempt) within knows tied = record { address = Section c; there = low; on = refl; may = tt }
+  bind_lies (at.CurrentTable attempt) within knows tied = record { address = CurrentTable; there = tt; on = refl; may = refl }
+  bind_lies (at.Locating attempt locate) within knows tied =
       let from = standing_of_bind (at.Locating attempt locate) in
       locate_way env mix words G whole _ (Own (at.Locating attempt locate)) port from locate within.locate_in refl (inl refl)
       knows.knowing.means.table
-  bind_lies (at.Entering attempt table shape place grow) within knows =
+  bind_lies (at.Entering attempt table shape place grow) within knows tied =
       grow_lies env mix words G _ _ (Own (at.Entering attempt table shape place grow)) grow within.grow_in refl
       (entry_page attempt table shape place grow within.place_in knows)
-  bind_lies (at.Probing attempt table shape probe) within knows =
+  bind_lies (at.Probing attempt table shape probe) within knows tied =
       let from = standing_of_bind (at.Probing attempt table shape probe) in
       let known = knows.knowing.means.table in
       probe_lies env mix words G _ from (Own (at.Probing attempt table shape probe)) probe within.probe_in refl (λ n i. i)
       (home_page env mix words G whole from port table _ known.passing.table (at_table table (inl refl)) known.here)
-  bind_lies (at.FoundOwner claimed found) within knows =
+  bind_lies (at.FoundOwner claimed found) within knows tied =
       record { address = Node found OwnerWord; there = within.found_in; on = refl; may = inr (refl, inl (inl refl)) }
-  bind_lies (at.ListLink list) within knows = record {
+  bind_lies (at.ListLink list) within knows tied = record {
     address = Node list.claimed.attempt.node ListLink;
     there = within.claimed_in.node_in;
     on = refl;
     may = inl (refl, knows.knowing.means.node.has.mine);
   }
-  bind_lies (at.ChainLink list) within knows =
+  bind_lies (at.ChainLink list) within knows tied =
       record { address = Node list.first ChainLink; there = within.first_in; on = refl; may = inr (refl, inl (inl refl)) }
-  bind_lies (at.LinkBehind list link) within knows = record {
+  bind_lies (at.LinkBehind list link) within knows tied = record {
     address = Node list.claimed.attempt.node ChainLink;
     there = within.list_in.claimed_in.node_in;
     on = refl;
     may = inl (refl, knows.knowing.means.node.has.mine);
   }
-  bind_lies (at.Replacing list relink) within knows =
+  bind_lies (at.Replacing list relink) within knows tied =
       let stored = has_relinked list.before relink.at in
       let place = ap (λ (m : RelinkModel). m.place) knows.fits.relink_is in
-      relink_lies env mix words G _ _ (Own (at.Replacing list relink)) relink within.relink_in (replacing-inside list.claimed stored)
-      (λ n i. i) (inl (replacing-locked list.claimed stored ∙ ap Some (sym place)))
-  bind_lies (at.Future claimed length) within knows =
+      let from = standing_of_bind (at.Replacing list relink) in
+      relink_lies env mix words G _ from (Own (at.Replacing list relink)) relink within.relink_in (replacing-inside list.claimed stored)
+      (λ n i. i)
+      (subst (λ p. PageThere env.geometry words G from (word_index env mix p / 64)) (sym place)
+      (tied_page env mix words G whole from list.claimed.table list.claimed.bucket.place (at_table list.claimed.table (inl refl)) tied))
+  bind_lies (at.Future claimed length) within knows tied =
       record { address = Slot claimed.table FutureWord; there = (within.table_in, tt); on = refl; may = λ w. inr (refl, inl refl) }
-  bind_lies (at.Count claimed) within knows = record { address = PortCount; there = tt; on = refl; may = tt }
-  bind_lies (at.Link claimed) within knows = record {
+  bind_lies (at.Count claimed) within knows tied = record { address = PortCount; there = tt; on = refl; may = tt }
+  bind_lies (at.Link claimed) within knows tied = record {
     address = Node claimed.attempt.node ChainLink;
     there = within.node_in;
     on = refl;
     may = inl (refl, knows.knowing.means.node.has.mine);
   }
-  bind_lies (at.Raise claimed) within knows = record { address = PortCount; there = tt; on = refl; may = tt }
-  bind_lies (at.Publish node table relink kick) within knows =
-      relink_lies env mix words G _ _ (Own (at.Publish node table relink kick)) relink within.relink_in refl (λ n i. i) (inl refl)
-  bind_lies (at.Unlocking attempt table unlock next) within knows =
-      unlock_lies env mix words G _ _ (Own (at.Unlocking attempt table unlock next)) unlock within.unlock_in refl (inl refl)
-  bind_lies (at.UnlockingFull growing unlock) within knows =
-      unlock_lies env mix words G _ _ (Own (at.UnlockingFull growing unlock)) unlock within.unlock_in refl (inl refl)
-  bind_lies (at.Root growing) within knows = record { address = CurrentTable; there = tt; on = refl; may = refl }
-  bind_lies (at.GrowthCount growing root) within knows = record { address = PortCount; there = tt; on = refl; may = tt }
-  bind_lies (at.Making growing size make) within knows =
+  bind_lies (at.Raise claimed) within knows tied = record { address = PortCount; there = tt; on = refl; may = tt }
+  bind_lies (at.Publish node table relink kick) within knows tied =
+      let from = standing_of_bind (at.Publish node table relink kick) in
+      let known = knows.knowing.means.table in
+      relink_lies env mix words G _ from (Own (at.Publish node table relink kick)) relink within.relink_in refl (λ n i. i)
+      (home_page env mix words G whole from port table _ known.passing.table (at_table table (inl refl)) known.here)
+  bind_lies (at.Unlocking attempt table unlock next) within knows tied =
+      let from = standing_of_bind (at.Unlocking attempt table unlock next) in
+      unlock_lies env mix words G _ from (Own (at.Unlocking attempt table unlock next)) unlock within.unlock_in refl
+      (tied_page env mix words G whole from table unlock.place (at_table table (inl refl)) tied)
+  bind_lies (at.UnlockingFull growing unlock) within knows tied =
+      let from = standing_of_bind (at.UnlockingFull growing unlock) in
+      unlock_lies env mix words G _ from (Own (at.UnlockingFull growing unlock)) unlock within.unlock_in refl
+      (tied_page env mix words G whole from growing.table unlock.place (at_table growing.table (inl refl)) tied)
+  bind_lies (at.Root growing) within knows tied = record { address = CurrentTable; there = tt; on = refl; may = refl }
+  bind_lies (at.GrowthCount growing root) within knows tied = record { address = PortCount; there = tt; on = refl; may = tt }
+  bind_lies (at.Making growing size make) within knows tied =
       make_lies env mix words G _ _ (Own (at.Making growing size make)) make within.make_in
       (λ s is. (is, make_mine env mix words G whole c make.exponent make.seed make.at s is knows.knowing.means.making))
-  bind_lies (at.FutureAgain growing refusal) within knows = record {
+  bind_lies (at.FutureAgain growing refusal) within knows tied = record {
     address = Slot growing.table FutureWord;
     there = (within.growing_in.table_in, tt);
     on = refl;
     may = λ w. inr (refl, inl refl);
   }
-  bind_lies (at.Attaching growing slot shape) within knows = record {
+  bind_lies (at.Attaching growing slot shape) within knows tied = record {
     address = Slot growing.table FutureWord;
     there = (within.growing_in.table_in, tt);
     on = refl;
     may = λ w. inr (refl, inl refl);
   }
-  bind_lies (at.Unmaking attempt unmake answer) within knows =
+  bind_lies (at.Unmaking attempt unmake answer) within knows tied =
       unmake_lies env mix words G _ _ (Own (at.Unmaking attempt unmake answer)) unmake within.unmake_in
-  bind_lies (at.Closing ending) within knows = record { address = Section c; there = low; on = refl; may = tt }
-  bind_lies (at.Giving give reply) within knows = give_node_lies env mix words G _ _ (Own (at.Giving give reply)) give within
+  bind_lies (at.Closing ending) within knows tied = record { address = Section c; there = low; on = refl; may = tt }
+  bind_lies (at.Giving give reply) within knows tied = give_node_lies env mix words G _ _ (Own (at.Giving give reply)) give within

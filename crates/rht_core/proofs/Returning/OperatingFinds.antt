@@ -16,7 +16,7 @@ use Rattle.rht_ghost.proofs.Theory.Steps.{mem}
 use Rattle.rht_ghost.proofs.Theory.Wholes.{Whole}
 use Rattle.rht_core.proofs.Finding.Lookups.{LookMeans}
 use Rattle.rht_core.proofs.Finding.Places.{Places}
-use Rattle.rht_core.proofs.Returning.Operating.{Lies, reach_lies, head_lies}
+use Rattle.rht_core.proofs.Returning.Operating.{Lies, reach_lies, page_lies}
 use Rattle.rht_core.proofs.Returning.OperatingWays.{home_page, way_entry}
 
 module _ (env : Env) (mix : ℕ → ℕ → ℕ → ℕ) (port since : ℕ) (Says : Reply → Type 0) (words : List ℕ) (G : Ghost) (P : Places)
@@ -36,7 +36,7 @@ module _ (env : Env) (mix : ℕ → ℕ → ℕ → ℕ) (port since : ℕ) (Say
       way_entry env mix words G whole from _ reach.table place known.0.0.table (at_table reach.table (inl refl)) way)
   find_lies c low (at.Heading head) within known =
       let from = standing_of_find (at.Heading head) in
-      head_lies env mix words G _ from _ (plan_at env c (at.Heading head)) head.place within.place_in refl refl
+      page_lies env mix words G _ from _ (plan_at env c (at.Heading head)) head.place within.place_in refl refl
       (home_page env mix words G whole from port head.table _ known.0.of.table (at_table head.table (inl refl)) known.0.here)
   find_lies c low (at.Key head node visited) within known =
       record { address = Node node KeyWord; there = within.node_in; on = refl; may = inr (refl, inl (inl refl)) }

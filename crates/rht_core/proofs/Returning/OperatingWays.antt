@@ -31,8 +31,9 @@ use Rattle.rht_ghost.proofs.Theory.Knowledge.{NodeMeans, MakingMeans, IsWayIn, T
 use Rattle.rht_ghost.proofs.Theory.Knowns.{KnownNode}
 use Rattle.rht_ghost.proofs.Theory.Passed.{home-word}
 use Rattle.rht_ghost.proofs.Theory.Steps.{mem}
-use Rattle.rht_ghost.proofs.Theory.Wholes.{Whole, home}
+use Rattle.rht_ghost.proofs.Theory.Wholes.{Whole, home, word_index}
 use Rattle.rht_core.proofs.Meaning.TablesInForce.{future-leads}
+use Rattle.rht_core.proofs.Returning.TiedBuckets.{IsTied, tied_of_seek}
 use Rattle.rht_core.proofs.Returning.Operating.{PageThere, EntryThere, Lies, locate_lies, probe_lies, unlock_lies}
 
 -- what the call has taken for itself
@@ -88,6 +89,11 @@ module _ (env : Env) (mix : ℕ → ℕ → ℕ → ℕ) (words : List ℕ) (G :
       there = table_of_slot slot has there;
     }
 
+    pub tied_page : (slot place : ℕ) → ReachesTable env.geometry words at slot → IsTied env mix G slot place
+        → Page (word_index env mix place / 64)
+    tied_page slot place there tied =
+        record { table = index_at G slot; of = tied.of; there = table_of_slot slot tied.table there }
+
     -- and the tables behind one
     pub further : (τ count : ℕ) → τ + count < G.attached → ReachesTable env.geometry words at (G.table τ).slot
         → ReachesTable env.geometry words at (G.table (τ + count)).slot
@@ -108,28 +114,29 @@ module _ (env : Env) (mix : ℕ → ℕ → ℕ → ℕ) (words : List ℕ) (G :
         let on = subst (λ state. TableMeans env mix G (known_locate port m.table state)) is known in
         way_entry at _ m.table place on.shaped.passing.table (at_table m.table there) on.to)
 
-    seek_lies_at : (own : Option KnownNode) (state : SeekAt) → IsSeekAtIn env.geometry state → h.section ≡ true → h.lock ≡ lock_of_seek state
+    seek_lies_at : (own : Option KnownNode) (state : SeekAt) → IsSeekAtIn env.geometry state → h.section ≡ true → tied_of_seek env mix G state
         → TableMeans env mix G (known_of_seek port own state).table
         → Lies env mix words G h (standing_of_seek state) Own (seek_plan_at env.geometry state)
-    seek_lies_at own seeks.CurrentTable within inside locked known = record { address = CurrentTable; there = tt; on = refl; may = inside }
-    seek_lies_at own (seeks.Locating locate) within inside locked known =
+    seek_lies_at own seeks.CurrentTable within inside tied known = record { address = CurrentTable; there = tt; on = refl; may = inside }
+    seek_lies_at own (seeks.Locating locate) within inside tied known =
         locate_way (standing_of_seek (seeks.Locating locate)) locate within inside (inl refl) known
-    seek_lies_at own (seeks.Probing table shape probe) within inside locked known =
+    seek_lies_at own (seeks.Probing table shape probe) within inside tied known =
         let at = standing_of_seek (seeks.Probing table shape probe) in
         probe_lies env mix words G h at Own probe within.probe_in inside (λ n i. i)
         (home_page at port table _ known.passing.table (at_table table (inl refl)) known.here)
-    seek_lies_at own (seeks.Future table bucket) within inside locked known = record {
+    seek_lies_at own (seeks.Future table bucket) within inside tied known = record {
       address = Slot table FutureWord;
       there = (within.table_in, tt);
       on = refl;
       may = λ w. inr (inside, inl refl);
     }
-    seek_lies_at own (seeks.Leaving table unlock future) within inside locked known =
-        unlock_lies env mix words G h (standing_of_seek (seeks.Leaving table unlock future)) Own unlock within.unlock_in inside (inl locked)
+    seek_lies_at own (seeks.Leaving table unlock future) within inside tied known =
+        let at = standing_of_seek (seeks.Leaving table unlock future) in
+        unlock_lies env mix words G h at Own unlock within.unlock_in inside (tied_page at table unlock.place (at_table table (inl refl)) tied)
 
-    pub seek_lies : (own : Option KnownNode) (m : SeekModel) → IsSeekIn env.geometry m → h.section ≡ true → h.lock ≡ lock_of_seek m.at
+    pub seek_lies : (own : Option KnownNode) (m : SeekModel) → IsSeekIn env.geometry m → h.section ≡ true → tied_of_seek env mix G m.at
         → TableMeans env mix G (known_of_seek port own m.at).table
         → Lies env mix words G h (standing_of_seek m.at) Own (seek_plan m)
-    seek_lies own m within inside locked known =
+    seek_lies own m within inside tied known =
         subst (λ g. Lies env mix words G h (standing_of_seek m.at) Own (seek_plan_at g m.at)) (sym within.geometry_same)
-        (seek_lies_at own m.at within.at_in inside locked known)
+        (seek_lies_at own m.at within.at_in inside tied known)

@@ -1,5 +1,5 @@
 -- On what a worker's operations are made.
-use Rattle.std.proofs.Common.{◌≡◌, ℕ, ◌-◌, ◌<◌, true, List, ◌∷◌, Option, Some, None, refl, sym, ap, subst, inl, inr, arith}
+use Rattle.std.proofs.Common.{◌≡◌, ℕ, ◌-◌, ◌/◌, ◌<◌, true, List, ◌∷◌, Option, Some, None, refl, sym, ap, subst, inl, inr, arith, Bool, false}
 use Rattle.rht_words.specs.declared.env.Env.{Env}
 use Rattle.rht_words.specs.declared.op.Op.TheVariants.{Store}
 use Rattle.rht_words.specs.Held.{Held}
@@ -14,17 +14,20 @@ use Rattle.rht_move.specs.WorkHeld.{held_of_work}
 use Rattle.rht_move.specs.WorkStanding.{standing_of_work, table_of_seek}
 use Rattle.rht_move.specs.declared.last_table.LastTableAt.{LastTableAt}
 use Rattle.rht_move.specs.declared.last_table.LastTableAt.TheVariants as seeks
+use Rattle.rht_move.specs.declared.rehash.Rehash.{Rehash}
+use Rattle.rht_ghost.proofs.Theory.Knowledge.{WorkMeans, IsNext, IsAim}
+use Rattle.rht_ghost.proofs.Theory.Knowns.{KnownRehash, KnownPlace}
 use Rattle.rht_move.specs.declared.work.WorkAt.{WorkAt}
 use Rattle.rht_move.specs.declared.work.WorkAt.TheVariants as at
-use Rattle.rht_move.proofs.WorkKnowledge.{WorkKnows}
+use Rattle.rht_move.proofs.WorkKnowledge.{WorkKnows, known_unlocking, known_rehash}
 use Rattle.rht_core.specs.Reach.{Thing, ReachesTable, at_table}
 use Rattle.rht_chain.specs.LockedWalk.{IsNodeOrNone}
 use Rattle.rht_ghost.proofs.Theory.Ghosts.{Ghost}
 use Rattle.rht_ghost.proofs.Theory.Passed.{home-word, place-word}
 use Rattle.rht_ghost.proofs.Theory.Steps.{mem}
-use Rattle.rht_ghost.proofs.Theory.Wholes.{Whole, key_of}
+use Rattle.rht_ghost.proofs.Theory.Wholes.{Whole, key_of, word_index}
 use Rattle.rht_ghost.proofs.Pieces.OpenEntries.{way_open}
-use Rattle.rht_core.proofs.Returning.Operating.{Lies, entry_lies, lock_lies, unlock_lies, word_lies, make_lies, unmake_lies}
+use Rattle.rht_core.proofs.Returning.Operating.{Lies, entry_lies, lock_lies, unlock_lies, page_lies, make_lies, unmake_lies, PageThere}
 use Rattle.rht_core.proofs.Returning.OperatingWays.{OwnOf, make_mine, further}
 
 module _ (env : Env) (mix : ℕ → ℕ → ℕ → ℕ) (words : List ℕ) (G : Ghost) (whole : Whole env mix (mem env mix words) G) (c : ℕ) (low : c < 16) where
@@ -54,13 +57,13 @@ module _ (env : Env) (mix : ℕ → ℕ → ℕ → ℕ) (words : List ℕ) (G :
     may = inr (inside, inl there);
   }
 
-  -- a bucket is cut off in its word, which is locked, or in the node before its last entry
+  -- a bucket is cut off in its word, or in the node before its last entry
   cut_lies : (h : Held Answer) (from : Standing) (Mine : Thing → Type 0) (place : ℕ) (before : Option ℕ) → IsBucketPlace env.geometry place
-      → h.section ≡ true → h.lock ≡ Some place → IsNodeOrNone env.geometry before → ((n : ℕ) → before ≡ Some n → In n from.nodes)
+      → h.section ≡ true → PageThere env.geometry words G from (word_index env mix place / 64) → IsNodeOrNone env.geometry before → ((n : ℕ) → before ≡ Some n → In n from.nodes)
       → Lies env mix words G h from Mine (cut_plan env.geometry place before)
-  cut_lies h from Mine place None is inside locked within there =
-      word_lies env mix words G h from Mine (Store place 1) place is refl inside (inl locked)
-  cut_lies h from Mine place (Some n) is inside locked within there =
+  cut_lies h from Mine place None is inside page within there =
+      page_lies env mix words G h from Mine (Store place 1) place is refl inside page
+  cut_lies h from Mine place (Some n) is inside page within there =
       record { address = Node n ChainLink; there = within; on = refl; may = inr (inside, inl (there n refl)) }
 
   -- the current table's buckets and entries, and those behind it
@@ -72,6 +75,23 @@ module _ (env : Env) (mix : ℕ → ℕ → ℕ → ℕ) (words : List ℕ) (G :
     later_there τ later few =
         subst (λ σ. ReachesTable env.geometry words from (G.table σ).slot) (omega (arith, later))
         (further env mix words G whole from G.current (τ - G.current) (omega (arith, later, few)) current_there)
+
+    -- and the bucket that is emptied
+    emptied_page : (rehash : KnownRehash) (at : KnownPlace) → IsNext env mix c G rehash at
+        → PageThere env.geometry words G from (word_index env mix at.place / 64)
+    emptied_page rehash at next = record {
+      table = G.current;
+      of = (place-word env mix (mem env mix words) G whole G.current at.number _ whole.tables.current_in next.below next.here).of;
+      there = current_there;
+    }
+
+    aimed_page : (entry place : ℕ) → IsAim env mix (mem env mix words) G entry place
+        → PageThere env.geometry words G from (word_index env mix place / 64)
+    aimed_page entry place aim = record {
+      table = aim.table;
+      of = (home-word env mix (mem env mix words) G whole (key_of (mem env mix words) entry) aim.table _ aim.attached aim.here).of;
+      there = later_there aim.table aim.later aim.attached;
+    }
 
   -- ---- each operation
 
@@ -120,8 +140,11 @@ module _ (env : Env) (mix : ℕ → ℕ → ℕ → ℕ) (words : List ℕ) (G :
     may = λ w. inr (refl, inr (inr (inl refl)));
   }
   work_lies (at.BucketWord emptying target) within knows =
-      word_lies env mix words G _ _ (Own (at.BucketWord emptying target)) (plan_at env c (at.BucketWord emptying target)) emptying.bucket.place
-      within.emptying_in.locked_in.place_in refl refl (inl refl)
+      let from = standing_of_work (at.BucketWord emptying target) in
+      let next = knows.means.work.more.next in
+      page_lies env mix words G _ from (Own (at.BucketWord emptying target)) (plan_at env c (at.BucketWord emptying target)) emptying.bucket.place
+      within.emptying_in.locked_in.place_in refl refl
+      (emptied_page from emptying.rehash.root next.empties.followed.root_is (at_table emptying.rehash.root (inl refl)) _ _ next)
   work_lies (at.Walking emptying target walk) within knows =
       walk_lies _ _ (Own (at.Walking emptying target walk)) walk within.walk_in refl (inl refl)
   work_lies (at.Key emptying target entry) within knows =
@@ -129,28 +152,38 @@ module _ (env : Env) (mix : ℕ → ℕ → ℕ → ℕ) (words : List ℕ) (G :
   work_lies (at.LockingSecond emptying entry table lock) within knows =
       let from = standing_of_work (at.LockingSecond emptying entry table lock) in
       let aiming = knows.means.work.more in
-      let aim = aiming.aim in
       let root_is = aiming.tail.stands.bucket.next.empties.followed.root_is in
       lock_lies env mix words G _ from (Own (at.LockingSecond emptying entry table lock)) lock within.lock_in.place_in refl
-      (record {
-        table = aim.table;
-        of = (home-word env mix (mem env mix words) G whole (key_of (mem env mix words) entry.node) aim.table _ aim.attached aim.here).of;
-        there = later_there from emptying.rehash.root root_is (at_table emptying.rehash.root (inl refl)) aim.table aim.later aim.attached;
-      })
+      (aimed_page from emptying.rehash.root root_is (at_table emptying.rehash.root (inl refl)) entry.node lock.place aiming.aim)
   work_lies (at.EntryLink emptying entry second) within knows =
       record { address = Node entry.node ChainLink; there = within.entry_in.node_in; on = refl; may = inr (refl, inl (inl refl)) }
   work_lies (at.Linking emptying entry second) within knows =
-      word_lies env mix words G _ _ (Own (at.Linking emptying entry second)) (plan_at env c (at.Linking emptying entry second)) second.bucket.place
-      within.second_in.bucket_in.place_in refl refl (inr refl)
+      let from = standing_of_work (at.Linking emptying entry second) in
+      let out = knows.means.work.more in
+      page_lies env mix words G _ from (Own (at.Linking emptying entry second)) (plan_at env c (at.Linking emptying entry second)) second.bucket.place
+      within.second_in.bucket_in.place_in refl refl
+      (aimed_page from emptying.rehash.root out.out.next.empties.followed.root_is (at_table emptying.rehash.root (inl refl)) entry.node
+      second.bucket.place out.target.aim)
   work_lies (at.CuttingOff emptying entry) within knows =
-      cut_lies _ (standing_of_work (at.CuttingOff emptying entry)) (Own (at.CuttingOff emptying entry)) emptying.bucket.place entry.before
-      within.emptying_in.locked_in.place_in refl refl within.entry_in.before_in (before_there entry.before)
+      let from = standing_of_work (at.CuttingOff emptying entry) in
+      let next = knows.means.work.more.out.next in
+      cut_lies _ from (Own (at.CuttingOff emptying entry)) emptying.bucket.place entry.before within.emptying_in.locked_in.place_in refl
+      (emptied_page from emptying.rehash.root next.empties.followed.root_is (at_table emptying.rehash.root (inl refl)) _ _ next)
+      within.entry_in.before_in (before_there entry.before)
     where
       before_there : (before : Option ℕ) → (n : ℕ) → before ≡ Some n → In n (entry.node ∷ if_one before)
       before_there None n is = absurd (cc)
       before_there (Some m) n is = let same : m ≡ n = cc in inr (inl (sym same))
   work_lies (at.Unlocking rehash number unlock stop) within knows =
-      unlock_lies env mix words G _ _ (Own (at.Unlocking rehash number unlock stop)) unlock within.unlock_in refl (inl refl)
+      let from = standing_of_work (at.Unlocking rehash number unlock stop) in
+      let next = unlocked_next rehash _ stop knows.means.work in
+      unlock_lies env mix words G _ from (Own (at.Unlocking rehash number unlock stop)) unlock within.unlock_in refl
+      (emptied_page from rehash.root next.empties.followed.root_is (at_table rehash.root (inl refl)) _ _ next)
+    where
+      unlocked_next : (rehash : Rehash) (at : KnownPlace) (stop : Bool)
+          → WorkMeans env mix c (mem env mix words) G (known_unlocking rehash at stop) → IsNext env mix c G (known_rehash rehash) at
+      unlocked_next rehash at true means = means.more.next
+      unlocked_next rehash at false means = means.more.bucket.next
   work_lies (at.Publishing rehash) within knows = record { address = CurrentTable; there = tt; on = refl; may = refl }
   work_lies (at.NewFuture rehash) within knows = record {
     address = Slot rehash.future FutureWord;

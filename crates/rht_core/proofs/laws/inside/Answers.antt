@@ -1,5 +1,4 @@
 use Rattle.rht_core.proofs.Returning.InsideInRuns.{inside}
-use Rattle.rht_core.proofs.Returning.TiedJobs.{job_ties}
 use Rattle.rht_core.proofs.laws.inside.Goals as goal
 
 pub returns : goal.returns
