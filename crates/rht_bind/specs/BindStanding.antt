@@ -1,5 +1,5 @@
--- Where a bind stands in each of its states: at the table that it looks through and at the one behind it, once it has come to that; and at
--- nodes of the chain that it has locked. A node or a table of its own isn't among them.
+-- Where a bind stands in each of its states: at the table that it looks through, and at the one behind it, once it has come to that. And at
+-- nodes of the chain that it has locked. A node or a table of its own isn't among these.
 use Rattle.std.specs.Prelude.{ℕ, List, [], ◌∷◌}
 use Rattle.rht_words.specs.Standing.{Standing, stands_nowhere, stands_in, stands_at, if_one}
 use Rattle.rht_nest.specs.LocateTables.{tables_of_locate}

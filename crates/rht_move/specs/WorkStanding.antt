@@ -1,5 +1,5 @@
 -- Where a worker stands in each of its states: at the current table, at the one behind it, and at the table to which it brings an entry, once
--- it has come to these; and at the entry and the one before it. A table that it makes isn't among these.
+-- it has come to these. And at the entry, and the one before it. A table that it makes isn't among these.
 use Rattle.std.specs.Prelude.{ℕ, List, [], ◌∷◌}
 use Rattle.rht_words.specs.Standing.{Standing, stands_nowhere, stands_in, stands_at, if_one}
 use Rattle.rht_move.specs.declared.last_table.LastTableAt.{LastTableAt}

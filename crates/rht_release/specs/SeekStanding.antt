@@ -1,5 +1,5 @@
--- Where a call stands on its way to a port, and once it has found it: at the table that it looks through and at the one behind it, once it
--- has come to that; and at nodes of the chain that it has locked.
+-- Where a call stands on its way to a port, and once it has found it. It stands at the table that it looks through, and at the one behind it,
+-- once it has come to that; and at nodes of the chain that it has locked.
 use Rattle.std.specs.Prelude.{ℕ, List, [], ◌∷◌}
 use Rattle.rht_words.specs.Standing.{Standing, stands_nowhere, stands_in, stands_at, if_one}
 use Rattle.rht_nest.specs.LocateTables.{tables_of_locate}

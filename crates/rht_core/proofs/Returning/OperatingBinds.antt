@@ -1,5 +1,5 @@
 -- On what a bind's operations are made.
-use Rattle.std.proofs.Common.{◌≡◌, ℕ, ◌/◌, ◌<◌, Bool, true, false, List, Some, refl, sym, ◌∙◌, ap, subst, inl, inr}
+use Rattle.std.proofs.Common.{◌≡◌, ℕ, ◌/◌, ◌<◌, Bool, true, false, List, refl, sym, ◌∙◌, ap, subst, inl, inr}
 use Rattle.rht_words.specs.declared.env.Env.{Env}
 use Rattle.rht_words.specs.Places.{CurrentTable, PortCount, Section, Slot, FutureWord, Node, ChainLink, OwnerWord, ListLink, PageWord, place_of}
 use Rattle.rht_chain.specs.Relink.{RelinkModel, has_relinked}

@@ -16,7 +16,7 @@ use Rattle.rht_nest.specs.Make.{slot_of_make}
 use Rattle.rht_nest.specs.Place.{PlaceModel}
 use Rattle.rht_nest.specs.declared.make.MakeAt.{MakeAt}
 use Rattle.rht_nest.specs.declared.make.MakeAt.TheVariants as makes
-use Rattle.rht_release.specs.Seek.{SeekModel, seek_plan, seek_plan_at, lock_of_seek, IsSeekIn, IsSeekAtIn}
+use Rattle.rht_release.specs.Seek.{SeekModel, seek_plan, seek_plan_at, IsSeekIn, IsSeekAtIn}
 use Rattle.rht_release.specs.SeekStanding.{standing_of_seek}
 use Rattle.rht_release.specs.declared.seek.SeekAt.{SeekAt}
 use Rattle.rht_release.specs.declared.seek.SeekAt.TheVariants as seeks

@@ -1,6 +1,6 @@
 -- The bucket that a call has locked is one of the table at which its state stands. Where what is known of the state doesn't say so, it is kept
 -- from the state in which the bucket was come to.
-use Rattle.std.proofs.Common.{◌≡◌, ℕ, ◌+◌, ◌*◌, ◌/◌, ◌<◌, Bool, true, false, min, nat_le, nat_eq, List, Option, Some, None, refl, sym, ◌∙◌, ap, subst}
+use Rattle.std.proofs.Common.{◌≡◌, ℕ, ◌/◌, Bool, true, min, nat_le, nat_eq, List, Option, Some, None, refl, sym, subst}
 use Rattle.std.specs.Prelude.{◌==◌, ◌%◌}
 use Rattle.std.proofs.lemmas.Bool.{cond_both}
 use Rattle.rht_words.specs.declared.env.Env.{Env}
@@ -16,7 +16,7 @@ use Rattle.rht_words.specs.Ports.{owner_of}
 use Rattle.rht_words.specs.Shapes.{size_of, unpacked}
 use Rattle.rht_arena.specs.NewNode.{NewNodeModel, new_node_after}
 use Rattle.rht_policy.specs.Thresholds.{is_above_75, is_above_100, is_above_max}
-use Rattle.rht_chain.specs.Lock.{LockModel, lock_after, lock_after_at}
+use Rattle.rht_chain.specs.Lock.{LockModel, lock_after_at}
 use Rattle.rht_chain.specs.LockedWalk.{LockedWalkModel, locked_walk_after, walk_from}
 use Rattle.rht_chain.specs.Probe.{ProbeModel, probe_after, probe_after_at, lock_taken, walk_or_seen, walk_taken}
 use Rattle.rht_chain.specs.Relink.{RelinkModel, relink_after_at}
@@ -78,10 +78,9 @@ use Rattle.rht_ghost.proofs.Pieces.Probes.{place_of_probe}
 use Rattle.rht_ghost.proofs.Theory.Ghosts.{Ghost, PageOf, has_table, index_at}
 use Rattle.rht_ghost.proofs.Theory.Knowledge.{IsAtHome, TableMeans}
 use Rattle.rht_ghost.proofs.Theory.Knowns.{KnownNode}
-use Rattle.rht_ghost.proofs.Theory.Passed.{TablesGrow, home-word}
+use Rattle.rht_ghost.proofs.Theory.Passed.{home-word}
 use Rattle.rht_ghost.proofs.Theory.Steps.{mem}
 use Rattle.rht_ghost.proofs.Theory.Wholes.{Whole, word_index}
-use Rattle.rht_words.proofs.Memory.{Memory}
 
 module _ (env : Env) (mix : ℕ → ℕ → ℕ → ℕ) (G : Ghost) where
   -- the bucket with this word is in a page of the table in this slot
@@ -336,16 +335,13 @@ module _ (env : Env) (mix : ℕ → ℕ → ℕ → ℕ) (G : Ghost) where
     published-tied node table kick relink (relinks.ChainLink before) = tt
     published-tied node table kick relink (relinks.Word word) = tt
 
-    abbrev Claims : Claimed → Type 0
-    Claims claimed = IsTied claimed.table claimed.bucket.place
-
-    future-tied : (claimed : Claimed) (length : ℕ) (future : Option ℕ) → Claims claimed
+    future-tied : (claimed : Claimed) (length : ℕ) (future : Option ℕ) → IsTied claimed.table claimed.bucket.place
         → tied_of_bind (bind.future_or_count claimed length future)
     future-tied claimed length None tied =
         cond_both (nat_le 16 length) _ _ tied_of_bind (λ t. record { table = tied.table; of = tied.of }) (λ f. tt)
     future-tied claimed length (Some next) tied = record { table = tied.table; of = tied.of }
 
-    count-tied : (claimed : Claimed) (count : ℕ) → Claims claimed → tied_of_bind (bind.checked_count env' claimed count)
+    count-tied : (claimed : Claimed) (count : ℕ) → IsTied claimed.table claimed.bucket.place → tied_of_bind (bind.checked_count env' claimed count)
     count-tied claimed count tied =
         cond_both (is_above_max (min count 65536) env'.config.max) _ _ tied_of_bind (λ t. record { table = tied.table; of = tied.of })
         (λ f. cond_both (is_above_100 (min count 65536) (size_of (unpacked claimed.shape)) env'.config.max) _ _ tied_of_bind

@@ -1,11 +1,11 @@
 -- The bucket that a call has locked is one of the table at which it stands: said of jobs. It outlives what others do.
-use Rattle.std.proofs.Common.{◌≡◌, ℕ, ◌/◌, List, Option, Some, None, sym, ◌∙◌, ap, subst}
+use Rattle.std.proofs.Common.{◌≡◌, ℕ, ◌/◌, List, Option, Some, None, sym, ◌∙◌, ap}
 use Rattle.std.specs.Prelude.{IfSome}
 use Rattle.rht_words.specs.declared.env.Env.{Env}
 use Rattle.rht_words.specs.declared.machine.Next.{Next}
 use Rattle.rht_words.specs.declared.machine.Next.TheVariants.{Go, Done}
 use Rattle.rht_model.specs.declared.history.Call.{Call}
-use Rattle.rht_model.specs.declared.history.Call.TheVariants.{Find, Bind, Release, Rebind, All, Walk, Work, Tidy, Count}
+use Rattle.rht_model.specs.declared.history.Call.TheVariants.{Rebind, Walk, Tidy}
 use Rattle.rht_model.specs.Endings.{Ending, plain_ending}
 use Rattle.rht_bind.specs.declared.bind.BindAt.{BindAt}
 use Rattle.rht_bind.specs.declared.bind.BindAt.TheVariants as binding
