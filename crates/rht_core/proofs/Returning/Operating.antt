@@ -1,5 +1,5 @@
--- On what an operation is made, by the pieces of machines: on what its call has taken, on what the caller could reach where it stands, or on a
--- word of which nothing is asked.
+-- On what an operation is made, by the pieces of machines. It is on what its call has taken, or on what the caller could reach where it stands.
+-- Or it is on a word of which nothing is asked.
 use Rattle.std.proofs.Common.{◌≡◌, ◌⊎◌, ℕ, ◌/◌, true, List, Option, Some, refl, sym, ◌∙◌, ap, subst, inl, inr, arith}
 use Rattle.rht_words.specs.declared.op.Op.{Op}
 use Rattle.rht_words.specs.declared.env.Env.{Env}
