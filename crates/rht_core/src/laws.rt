@@ -12,7 +12,7 @@ ghost use Rattle.rht_core.specs.Lookups.{Bounded, TakesEffect, FindsWhatStays, H
 ghost use Rattle.rht_core.specs.NeverRefused.{RoomyTakesAll, OneWorkerAsModel};
 ghost use Rattle.rht_core.specs.NodesUsed.{Nodes};
 ghost use Rattle.rht_core.specs.Placed.{Placed, OwnPages};
-ghost use Rattle.rht_core.specs.Reach.{Safe, Inside};
+ghost use Rattle.rht_core.specs.Reach.{Safe, NeverFree, Inside};
 ghost use Rattle.rht_core.specs.Refused.{Refused};
 ghost use Rattle.rht_core.specs.Tables.{Tables, NeverAgain};
 ghost use Rattle.rht_core.specs.RunHistories.{HasFittingHistory};
@@ -283,14 +283,15 @@ pub fn sections<M: Mix>()
 {}
 
 /// In every run nothing is given back that a caller in its read section could reach, whoever gives it back: no
-/// node, no page, and no slot. A caller could reach the tables at which it stands, or the current one where it
+/// node, no page, and no slot. And nothing is free that it could reach. A caller could reach the tables at which it stands, or the current one where it
 /// stands at none, and those to which futures lead from there. So it could reach their pages. And it could reach the
 /// nodes at which it stands, and those to which chain links lead from these and from the buckets of such tables. List
 /// links lead on from all of these nodes. To give back is to set a map's bit that was clear, or to free a slot that
 /// wasn't free. It doesn't say where a caller stands, which `inside` ties to what it does. Nor does it speak of
 /// callers out of their sections.
 pub fn safe<M: Mix>()
-    ensures { Safe M M.mix_of }
+    ensures given { Safe M M.mix_of }
+    ensures taken { NeverFree M M.mix_of }
 {}
 
 /// In every run an operation of a call that is on a word of a node is on one that the call has, or on one that its

@@ -1,6 +1,6 @@
 -- In every run nobody in a section could reach what an operation gives back: it is a caller's own until then, and what could be reached is
 -- some table's or was a port's.
-use Rattle.std.proofs.Common.{◌≡◌, ◌≢◌, ℕ, suc, ◌/◌, ◌%◌, List, length, true, false, take, drop, slice_index, refl, sym, ◌∙◌, ap, subst, arith}
+use Rattle.std.proofs.Common.{◌≡◌, ◌≢◌, ℕ, suc, ◌/◌, ◌%◌, ◌<◌, List, length, true, false, take, drop, slice_index, refl, sym, ◌∙◌, ap, subst, arith}
 use Rattle.std.specs.Int.{bit_at}
 use Rattle.std.proofs.lemmas.List.{take-append-drop}
 use Rattle.rht_words.specs.declared.op.Op.{Op}
@@ -10,7 +10,7 @@ use Rattle.rht_words.specs.Places.{Address, Slot, StateWord, NodeMap, PageMap, I
 use Rattle.rht_words.proofs.EachElement.{AllByRecursion-cut}
 use Rattle.rht_words.proofs.Memory.{is_write}
 use Rattle.rht_core.specs.declared.event.Event.{Event}
-use Rattle.rht_core.specs.Reach.{Thing, TableIn, PageAt, NodeAt, GivesBack, NobodyReaches, Safe}
+use Rattle.rht_core.specs.Reach.{Thing, TableIn, PageAt, NodeAt, CouldReach, IsFreeThing, GivesBack, NobodyReaches, Safe, NeverFree}
 use Rattle.rht_core.specs.Runs.{Core, run_of, IsAdmitted, IsAdmittedEvent}
 use Rattle.rht_core.specs.Standings.{standing}
 use Rattle.rht_core.specs.Traces.{Did}
@@ -21,7 +21,17 @@ use Rattle.rht_ghost.proofs.Theory.Passed.{TablesGrow}
 use Rattle.rht_ghost.proofs.Theory.Steps.{mem, ghost_after}
 use Rattle.rht_ghost.proofs.Theory.Wholes.{Whole}
 use Rattle.rht_core.proofs.Returning.MetInRuns.{Met, has_met}
-use Rattle.rht_core.proofs.Returning.Reached.{safe-taken, IsTakenBy}
+use Rattle.rht_words.specs.Standing.{Standing}
+use Rattle.rht_ghost.proofs.Theory.Entries.{page_within}
+use Rattle.rht_core.proofs.Returning.Readers.{Reader, IsOpen, ReaderRight}
+use Rattle.rht_core.proofs.Returning.Reached.{safe-taken, IsTakenBy, StandsRight, reaches-listed, reaches-page, reaches-table, reaches-slot}
+
+-- a slot whose state is 0 is nobody's
+free_state : (o : SlotOwner) → state_word o ≡ 0 → o ≡ SlotFree
+free_state SlotFree is = refl
+free_state (SlotHeld d) is = absurd (omega (arith, is))
+free_state (Live τ) is = absurd (omega (arith, is))
+free_state (Retired τ) is = absurd (omega (arith, is))
 
 module _ (env : Env) (mix : ℕ → ℕ → ℕ → ℕ) (c : ℕ) (words : List ℕ) (G G' : Ghost) (op : Op)
     (whole : Whole env mix (mem env mix words) G) (made : Made env mix c (mem env mix words) G (mem env mix (applied words op)) G') where
@@ -68,12 +78,6 @@ module _ (env : Env) (mix : ℕ → ℕ → ℕ → ℕ) (c : ℕ) (words : List
 
   -- ---- what an operation gives back a caller has
 
-  free_state : (o : SlotOwner) → state_word o ≡ 0 → o ≡ SlotFree
-  free_state SlotFree is = refl
-  free_state (SlotHeld d) is = absurd (omega (arith, is))
-  free_state (Live τ) is = absurd (omega (arith, is))
-  free_state (Retired τ) is = absurd (omega (arith, is))
-
   module _ (all : length words ≡ words_in env.geometry) (did : Did) (same : did.op ≡ op) (found : old_of words op ≡ did.old) where
     -- the word that the operation finds, and the one that it leaves
     word_found : (a : Address) → op_place did.op ≡ place_of env.geometry a → mem env mix words a ≡ did.old
@@ -105,6 +109,28 @@ module _ (env : Env) (mix : ℕ → ℕ → ℕ → ℕ) (c : ℕ) (words : List
         freed_slot slot (λ free. gives.taken (sym (word_found a gives.on) ∙ whole.slots.states slot l ∙ ap state_word free))
         (free_state (G'.slot slot) (sym (made.whole.slots.states slot l) ∙ word_left a (l, tt) gives.on ∙ gives.frees))
 
+-- ---- what could be reached isn't free
+
+module _ (env : Env) (mix : ℕ → ℕ → ℕ → ℕ) (words : List ℕ) (G : Ghost) (whole : Whole env mix (mem env mix words) G) (c : ℕ) (r : Reader)
+    (right : ReaderRight env mix (mem env mix words) G c r) (reads : IsOpen r) (at : Standing) (stands : StandsRight G r at) where
+  not_free : (thing : Thing) → IsFreeThing env.geometry words thing → CouldReach env.geometry words at thing → ⊥
+  not_free (NodeAt node) free reached =
+      let met = reaches-listed env mix words G whole c r right reads at stands node reached in
+      let none : G.node node ≡ Free = (whole.arena.bits node (right.among node met)).0 free in
+      let both : true ≡ false = sym (right.used node met) ∙ ap is_used none in cc
+  not_free (PageAt page) free reached =
+      let is = reaches-page env mix words G whole c r right reads at stands page reached in
+      let few = whole.pages.page_of page is.0 is.1 in
+      let within = page_within env mix (G.table is.0) G.page is.0 (whole.tables.each is.0 few).placed page is.1 in
+      let none : G.page page ≡ PageFree = (whole.pages.bits page within).0 free in
+      let both : PageOf is.0 ≡ PageFree = sym is.1 ∙ none in cc
+  not_free (TableIn slot) free reached =
+      let meets = reaches-table env mix words G whole c r right reads at stands slot reached in
+      let has = reaches-slot env mix words G whole c r right reads at stands slot reached in
+      let low = (whole.tables.each meets.table meets.attached).slot_in in
+      let none = free_state (G.slot slot) (sym (whole.slots.states slot (subst (λ s. s < 8) (sym meets.slot_is) low)) ∙ free) in
+      let both : true ≡ false = sym has ∙ ap has_table none in cc
+
 -- ---- runs
 
 module _ (env : Env) (mix : ℕ → ℕ → ℕ → ℕ) (L : Type 0) where
@@ -129,3 +155,12 @@ safe L mix env events c did thing admitted recorded gives =
     let taken = given_taken env mix c core.words G (ghost_after env mix c of.step.move G) did.op met.placed.inv.whole of.step.made
     of.all did refl recorded.found thing gives in
     nobody env mix L before core met taken.0 thing taken.1
+
+pub never_free : (L : Type 0) (mix : ℕ → ℕ → ℕ → ℕ) → NeverFree L mix
+never_free L mix env events thing admitted free c low reads reached =
+    let core : Core L = (run_of mix env events).core in
+    let met = has_met env mix L events admitted in
+    let meets = met.each c low in
+    let open_now = meets.right.odd.0 reads in
+    not_free env mix core.words met.placed.ghost met.placed.inv.whole c meets.reader meets.right open_now (standing core c)
+    (meets.stands open_now) thing free reached
