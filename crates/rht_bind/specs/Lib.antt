@@ -6,3 +6,5 @@ pub mod Endings
 pub mod Growing
 -- what a bind holds
 pub mod BindHeld
+-- where a bind stands
+pub mod BindStanding

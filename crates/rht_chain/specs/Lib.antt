@@ -12,3 +12,5 @@ pub mod Relink
 pub mod Unlock
 -- what the other machines rely on
 pub mod Laws
+-- at which nodes these stand
+pub mod ChainNodes

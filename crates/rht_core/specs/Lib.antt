@@ -29,7 +29,8 @@ pub mod RoomCauses
 pub mod Alone
 -- the pages of a table, as the words have them
 pub mod TablePages
--- what a caller in a read section could reach
+-- where callers stand in their read sections, and what they could reach there
+pub mod Standings
 pub mod Reach
 -- what a call that tidies gives back
 pub mod Tidied

@@ -12,6 +12,7 @@ ghost use Rattle.rht_core.specs.Lookups.{Bounded, TakesEffect, FindsWhatStays, H
 ghost use Rattle.rht_core.specs.NeverRefused.{RoomyTakesAll, OneWorkerAsModel};
 ghost use Rattle.rht_core.specs.NodesUsed.{Nodes};
 ghost use Rattle.rht_core.specs.Placed.{Placed, OwnPages};
+ghost use Rattle.rht_core.specs.Reach.{Safe, NeverFree, Inside};
 ghost use Rattle.rht_core.specs.Refused.{Refused};
 ghost use Rattle.rht_core.specs.Tables.{Tables, NeverAgain};
 ghost use Rattle.rht_core.specs.RunHistories.{HasFittingHistory};
@@ -280,6 +281,33 @@ pub fn let_go<M: Mix>()
 pub fn sections<M: Mix>()
     ensures idle { Sections M M.mix_of }
     ensures own { OwnSections M M.mix_of }
+{}
+
+/// In every run nothing is given back that a caller in its read section could reach, whoever gives it back: no
+/// node, no page, and no slot. And nothing is free that it could reach. A caller could reach the tables at which it stands, or the current one where it
+/// stands at none, and those to which futures lead from there. So it could reach their pages. And it could reach the
+/// nodes at which it stands, and those to which chain links lead from these and from the buckets of such tables. List
+/// links lead on from all of these nodes. To give back is to set a map's bit that was clear, or to free a slot that
+/// wasn't free. It doesn't say where a caller stands, which `inside` ties to what it does. Nor does it speak of
+/// callers out of their sections.
+pub fn safe<M: Mix>()
+    ensures given { Safe M M.mix_of }
+    ensures taken { NeverFree M M.mix_of }
+{}
+
+/// In every run an operation of a call that is on a word of a node is on one that the call has, or on one that its
+/// caller could reach, as `safe` has it. A node that a call has isn't free, and nobody in a section could reach it.
+/// One that the caller could reach it operates on in its read section alone. So it is of what the words of a slot
+/// say of its table. An operation on a word of a page is made in the section, on a page of a table that the caller
+/// could reach. And in the section alone it operates on which table is the current one.
+///
+/// Behind each operation in its section the caller stands only where it could come to before it. Out of its
+/// section, and where it has just opened it, it stands nowhere. So whatever a call operates on it has itself, or it
+/// has come to it since it opened its section, from the table that was then the current one. It says nothing of the
+/// states of slots, of the maps, the count, the work lock and the next serial. Nor does it say that a call has taken
+/// what it has.
+pub fn inside<M: Mix>()
+    ensures { Inside M M.mix_of }
 {}
 
 /// In every run a look-up, ended or in progress, has at most `4 + 8 * (4 + (rewalks + 1) * (4 + 2 * nodes))`

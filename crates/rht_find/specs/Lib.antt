@@ -4,3 +4,5 @@ pub mod Find
 pub mod FindHeld
 -- how many operations it takes in a table
 pub mod FindBound
+-- where a look-up stands
+pub mod FindStanding

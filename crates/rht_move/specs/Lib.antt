@@ -8,5 +8,7 @@ pub mod Choice
 pub mod Work
 -- what a worker holds
 pub mod WorkHeld
+-- where a worker stands
+pub mod WorkStanding
 -- what the other crates rely on
 pub mod Laws

@@ -22,3 +22,5 @@ pub mod PlaceLaws
 pub mod GrowLaws
 -- and what those rely on that make one
 pub mod MakeLaws
+-- to which tables a way has come
+pub mod LocateTables

@@ -14,3 +14,8 @@ pub mod RebindHeld
 pub mod All
 -- what a listing holds
 pub mod AllHeld
+-- where these stand
+pub mod SeekStanding
+pub mod ReleaseStanding
+pub mod RebindStanding
+pub mod AllStanding

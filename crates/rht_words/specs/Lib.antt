@@ -28,6 +28,8 @@ pub mod Opening
 pub mod Machines
 -- what a call holds between two of its operations
 pub mod Held
+-- where a caller stands in its read section
+pub mod Standing
 -- members of lists of numbers, and lists without repeats
 pub mod Members
 -- the nodes to which a row of links leads

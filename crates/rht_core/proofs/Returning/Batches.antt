@@ -8,7 +8,7 @@ use Rattle.rht_words.specs.Members.{In}
 use Rattle.rht_words.specs.Places.{Section}
 use Rattle.rht_words.proofs.Memory.{Memory}
 use Rattle.rht_ghost.proofs.Theory.Ghosts.{Taken, Ghost, is_listed}
-use Rattle.rht_core.proofs.Returning.Readers.{Reader, is_open, meets_too, opens, reads_nothing, ReaderRight, LeavesStale}
+use Rattle.rht_core.proofs.Returning.Readers.{Reader, is_open, meets_too, opens, reads_nothing, ReaderRight}
 use Rattle.rht_core.proofs.Returning.GracePeriods as grace
 
 -- what a section may meet of nodes in lists
@@ -31,13 +31,13 @@ module _ (env : Env) (mix : ℕ → ℕ → ℕ → ℕ) (c : ℕ) (nodes : List
   abbrev pub OverFor : Reader → Type 0
   OverFor r = grace.Over ℕ Of (section_of r)
 
-  -- an operation that leaves section words leaves what is kept
-  pub kept-left : (d : ℕ) (M : Memory) (G : Ghost) (M' : Memory) (G' : Ghost) (r : Reader) (kept : ℕ)
-      → LeavesStale env mix M G M' G' c r → AreOut d G' nodes → KeptFor M r kept
+  -- an operation that leaves the section's word leaves what is kept
+  pub kept-left : (d : ℕ) (M M' : Memory) (G' : Ghost) (r : Reader) (kept : ℕ)
+      → M' (Section c) ≡ M (Section c) → AreOut d G' nodes → KeptFor M r kept
       → KeptFor M' (meets_too G' r) kept
-  kept-left d M G M' G' r kept leaves out keeps =
+  kept-left d M M' G' r kept same out keeps =
       grace.kept-stays ℕ Of (M (Section c)) (M' (Section c)) (section_of r) (section_of (meets_too G' r)) kept
-      (inl (leaves.section, was_met)) keeps
+      (inl (same, was_met)) keeps
     where
       -- nodes that were taken out are in no list, so none comes to be met
       was_met : (n : ℕ) → In n nodes → (meets_too G' r).lists n ≡ true → r.lists n ≡ true

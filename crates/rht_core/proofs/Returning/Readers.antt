@@ -73,12 +73,12 @@ module _ (env : Env) (mix : ℕ → ℕ → ℕ → ℕ) where
     pub chain_leads : (n m : ℕ) → r.chains n ≡ true → next_of env (chain_of M n) ≡ Some m → r.chains m ≡ true
     pub list_leads : (n m : ℕ) → r.lists n ≡ true → next_of env (list_of M n) ≡ Some m → r.lists m ≡ true
 
-  -- What any operation leaves that a section may meet, but those that open and leave sections: its word;
-  -- nodes that it may meet are or were ports'; and their links, where they are in no chain and in no list,
-  -- but that one may be led to a node in a chain.
+  -- What any operation leaves that a section may meet, but those that open and leave sections: whether its
+  -- word is odd; nodes that it may meet are or were ports'; and their links, where they are in no chain and
+  -- in no list, but that one may be led to a node in a chain.
   pub record LeavesStale (M : Memory) (G : Ghost) (M' : Memory) (G' : Ghost) (c : ℕ)
       (r : Reader) : Type 0 where
-    pub section : M' (Section c) ≡ M (Section c)
+    pub section : M' (Section c) % 2 ≡ M (Section c) % 2
     pub current : G.current ≤ G'.current
     pub used : (n : ℕ) → r.lists n ≡ true → IsUsed (G.node n) → IsUsed (G'.node n)
     pub chains : LinksStay env mix M G M' G'
@@ -216,8 +216,8 @@ module _ (env : Env) (mix : ℕ → ℕ → ℕ → ℕ) where
     pub reader-stays : ReaderRight M' G' c (meets_too G' r)
     reader-stays = record {
       odd = (
-        (λ is. right.odd.0 (ap (λ w. w % 2) (sym leaves.section) ∙ is)),
-        (λ is. ap (λ w. w % 2) leaves.section ∙ right.odd.1 is),
+        (λ is. right.odd.0 (sym leaves.section ∙ is)),
+        (λ is. leaves.section ∙ right.odd.1 is),
       );
       low = λ τ is. let before = right.low τ is in omega (arith, before, leaves.current);
       reading = lists-open;

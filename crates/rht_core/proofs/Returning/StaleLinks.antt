@@ -1,6 +1,6 @@
--- Which operations leave what a section may meet. All that callers make do, but those on the section's own
--- word, and so does the one that gives back a node which the section may not meet.
-use Rattle.std.proofs.Common.{◌≡◌, ℕ, suc, ◌<◌, false, ◌∙◌, ap, inl, arith}
+-- Which operations leave what a section may meet. All that callers make do, but those that open or close the
+-- section, and so does the one that gives back a node which the section may not meet.
+use Rattle.std.proofs.Common.{◌≡◌, ℕ, suc, ◌%◌, ◌<◌, false, ◌∙◌, ap, inl, arith}
 use Rattle.std.proofs.lemmas.Bool.{both_ways}
 use Rattle.rht_words.specs.declared.env.Env.{Env}
 use Rattle.rht_words.specs.Places.{Section, Node, NodeMap, ChainLink, ListLink}
@@ -10,9 +10,9 @@ use Rattle.rht_ghost.proofs.Theory.Frames.{Made}
 use Rattle.rht_core.proofs.Returning.Readers.{Reader, ReaderRight, LeavesStale, meets_too, reader-stays}
 
 module _ (env : Env) (mix : ℕ → ℕ → ℕ → ℕ) where
-  -- what any operation makes leaves what a section may meet, if it isn't on the section's word
+  -- what any operation makes leaves what a section may meet, if it neither opens the section nor closes it
   made-leaves : (d c : ℕ) (M M' : Memory) (G G' : Ghost) (r : Reader) → Made env mix d M G M' G'
-      → M' (Section c) ≡ M (Section c) → LeavesStale env mix M G M' G' c r
+      → M' (Section c) % 2 ≡ M (Section c) % 2 → LeavesStale env mix M G M' G' c r
   made-leaves d c M M' G G' r made section = record {
     section = section;
     current = (made.others (suc d) (λ e. absurd (omega arith))).tables.grow.current;
@@ -23,7 +23,7 @@ module _ (env : Env) (mix : ℕ → ℕ → ℕ → ℕ) where
 
   -- so what is true of what it may meet is true then
   pub made-keeps : (d c : ℕ) (M M' : Memory) (G G' : Ghost) (r : Reader) → Made env mix d M G M' G'
-      → M' (Section c) ≡ M (Section c) → ReaderRight env mix M G c r
+      → M' (Section c) % 2 ≡ M (Section c) % 2 → ReaderRight env mix M G c r
       → ReaderRight env mix M' G' c (meets_too G' r)
   made-keeps d c M M' G G' r made section right =
       reader-stays env mix M G M' G' c r right made.whole (made-leaves d c M M' G G' r made section)
@@ -33,7 +33,7 @@ module _ (env : Env) (mix : ℕ → ℕ → ℕ → ℕ) where
       → IsWrite env.geometry M M' (NodeMap i) v → r.lists n ≡ false
       → LeavesStale env mix M G M' (with_owner G n Free) c r
   returned-leaves c n M M' G r i v low write none = record {
-    section = write.others (Section c) low (λ e. cc);
+    section = ap (λ w. w % 2) (write.others (Section c) low (λ e. cc));
     current = omega arith;
     used = λ m met used.
         ap is_used (put-other G.node n Free m (λ e. both_ways (r.lists m) (ap r.lists e ∙ none) met)) ∙ used;

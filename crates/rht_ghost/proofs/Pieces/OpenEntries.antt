@@ -96,7 +96,7 @@ module _ (env : Env) (mix : ℕ → ℕ → ℕ → ℕ) (M : Memory) (G : Ghost
         let same : next ≡ place = cc in
         ap (λ (m : PlaceModel). m.entry) same
 
-    way_open : (place : PlaceModel) → IsWay env mix G number τ (G.table τ).shape place → IsOpenIn env G τ place.entry
+    pub way_open : (place : PlaceModel) → IsWay env mix G number τ (G.table τ).shape place → IsOpenIn env G τ place.entry
     way_open place way = elim way [
       | inl first ↦ subst (λ (m : PlaceModel). IsOpenIn env G τ m.entry) (sym first) first_open
       | inr second ↦

@@ -1,0 +1,238 @@
+-- In every run an operation of a call is on what is its own, or on what its caller could reach in its section, and leads nowhere else.
+use Rattle.std.proofs.Common.{◌≡◌, ℕ, ◌+◌, ◌/◌, ◌<◌, ◌⊎◌, true, List, take, drop, length, Some, refl, sym, ◌∙◌, ap, subst, inl, inr, arith}
+use Rattle.std.proofs.lemmas.List.{take-append-drop}
+use Rattle.rht_words.specs.declared.op.Op.{Op}
+use Rattle.rht_words.specs.declared.env.Env.{Env}
+use Rattle.rht_words.specs.declared.geometry.Geometry.{Geometry}
+use Rattle.rht_words.specs.Standing.{Standing}
+use Rattle.rht_words.specs.Operations.{op_place}
+use Rattle.rht_words.specs.Places.{Address, CurrentTable, PortCount, Slot, SlotWord, ShapeWord, SeedWord, FutureWord, SerialWord, StateWord, LoadedSection, IsSlotWord, Node, PageWord, IsAddress, place_of}
+use Rattle.rht_words.specs.TableWords.{IsTableWord}
+use Rattle.rht_words.proofs.EachElement.{AllByRecursion-cut}
+use Rattle.rht_words.proofs.PlacesApart.{place_of-apart}
+use Rattle.rht_find.specs.Find as find
+use Rattle.rht_find.specs.Find.{IsFindAtIn}
+use Rattle.rht_find.specs.FindHeld.{held_of_find}
+use Rattle.rht_find.specs.FindStanding.{standing_of_find}
+use Rattle.rht_find.specs.declared.find.FindAt.{FindAt}
+use Rattle.rht_core.specs.declared.event.Event.{Event}
+use Rattle.rht_core.specs.Jobs.{Job, finds, binds, lists, releases, rebinds, works, counts, job_of, job_plan, held_of}
+use Rattle.rht_core.specs.Reach.{Thing, TableIn, PageAt, NodeAt, CouldReach, ReachesPage, at_table, at_node, at_listed, in_chain, IsReading, IsOwnNode, IsOwnSlot, IsWithin, Inside}
+use Rattle.rht_core.specs.Runs.{Core, World, local_of, run_of, IsAdmitted, IsAdmittedEvent}
+use Rattle.rht_core.specs.Standings.{standing, standing_of, standing_with}
+use Rattle.rht_core.specs.Traces.{Traced, traced_of}
+use Rattle.rht_stands.specs.StandsFor.{shape_of}
+use Rattle.rht_core.specs.TablePages.{IsPageOfTable}
+use Rattle.rht_core.proofs.Counting.TablePages.{pages_in_words}
+use Rattle.rht_core.proofs.Events.Invariants.{step_of}
+use Rattle.rht_core.proofs.Finding.LookupsInRuns.{JobLooks, Looks, SaysOf, has_looks}
+use Rattle.rht_core.proofs.Machines.JobSteps.{JobIn, JobKnows}
+use Rattle.rht_core.proofs.Tracing.TracedRuns.{world-traced_of}
+use Rattle.rht_ghost.proofs.Theory.Ghosts.{Ghost, Free, NodeHeld, SlotHeld, state_word}
+use Rattle.rht_ghost.proofs.Theory.Steps.{mem}
+use Rattle.rht_ghost.proofs.Theory.Wholes.{Whole}
+use Rattle.rht_core.proofs.Returning.MetInRuns.{Met, has_met, comes_next, open_now, outside_now, outside_next}
+use Rattle.rht_core.proofs.Returning.Operating.{PageThere, Lies, May}
+use Rattle.rht_core.proofs.Returning.OperatingBinds.{bind_lies}
+use Rattle.rht_core.proofs.Returning.OperatingFinds.{find_lies}
+use Rattle.rht_core.proofs.Returning.OperatingReleases.{all_lies, release_lies, rebind_lies}
+use Rattle.rht_core.proofs.Returning.OperatingWays.{OwnOf}
+use Rattle.rht_core.proofs.Returning.OperatingWorks.{work_lies}
+use Rattle.rht_core.proofs.Returning.TiedJobs.{tied_of, tied_with}
+use Rattle.rht_core.proofs.Returning.SafeInRuns.{nobody}
+
+-- ---- a page of a table that the caller could reach
+
+module _ (env : Env) (mix : ℕ → ℕ → ℕ → ℕ) (words : List ℕ) (G : Ghost) (whole : Whole env mix (mem env mix words) G) where
+  page_reached : (at : Standing) (page : ℕ) → PageThere env.geometry words G at page → ReachesPage env.geometry words at page
+  page_reached at page is =
+      let τ = is.table in
+      let few = whole.pages.page_of page τ is.of in
+      let shape : shape_of env.geometry words (G.table τ).slot ≡ (G.table τ).shape = (whole.tables.each τ few).shape_is in
+      record {
+        slot = (G.table τ).slot;
+        table = is.there;
+        of = subst (λ s. IsPageOfTable env.geometry words s page) (sym shape) ((pages_in_words env mix words G whole τ few page).1 is.of);
+      }
+
+-- a word that says something of a slot's table is one of the slot's
+table_word : (word : SlotWord) → IsTableWord word → IsSlotWord word
+table_word ShapeWord is = tt
+table_word SeedWord is = tt
+table_word FutureWord is = tt
+table_word SerialWord is = tt
+table_word StateWord is = tt
+table_word (LoadedSection caller) is = absurd is
+
+module _ (env : Env) (mix : ℕ → ℕ → ℕ → ℕ) (L : Type 0) where
+  abbrev g : Geometry
+  g = env.geometry
+
+  -- ---- what is asked, said without a ghost
+
+  module _ (core : Core L) (c : ℕ) where
+    abbrev Asked : Address → Type 0
+    Asked CurrentTable = IsReading g core.words c
+    Asked (Slot slot word) = IsTableWord word → IsOwnSlot g core c slot ⊎ IsWithin g core c (TableIn slot)
+    Asked (Node node word) = IsOwnNode g core c node ⊎ IsWithin g core c (NodeAt node)
+    Asked (PageWord index) = IsWithin g core c (PageAt (index / 64))
+    Asked _ = Unit {0}
+
+    record IsAsked (op : Op) : Type 0 where
+      address : Address
+      there : IsAddress g address
+      on : op_place op ≡ place_of g address
+      asked : Asked address
+
+    -- so it is where the call's own is what the ghost says
+    module _ (job : Job) (does : job_of (local_of core c).doing ≡ Some job) (reads : (held_of job).section ≡ true → IsReading g core.words c)
+        (G : Ghost) (whole : Whole env mix (mem env mix core.words) G) (Own : Thing → Type 0)
+        (own_node : (node : ℕ) → node < env.geometry.nodes → Own (NodeAt node) → IsOwnNode g core c node)
+        (own_slot : (slot : ℕ) → slot < 8 → Own (TableIn slot) → IsOwnSlot g core c slot) where
+      stands : standing core c ≡ standing_of job
+      stands = ap standing_with does
+
+      could : (thing : Thing) → CouldReach g core.words (standing_of job) thing → CouldReach g core.words (standing core c) thing
+      could thing = subst (λ at. CouldReach g core.words at thing) (sym stands)
+
+      asked_of : (a : Address) → IsAddress g a → May env mix core.words G (held_of job) (standing_of job) Own a → Asked a
+      asked_of CurrentTable there may = reads may
+      asked_of (Slot slot word) there may = λ is. elim (may is) [
+        | inl own ↦ inl (own_slot slot there.0 own)
+        | inr within ↦ inr (record { reads = reads within.0; reaches = could (TableIn slot) (at_table slot within.1) })
+      ]
+      asked_of (Node node word) there may = elim may [
+        | inl own ↦ inl (own_node node there own)
+        | inr within ↦ inr (record {
+          reads = reads within.0;
+          reaches = could (NodeAt node) (elim within.1 [
+            | inl chained ↦ in_chain node (at_node node chained)
+            | inr listed ↦ at_listed node listed
+          ]);
+        })
+      ]
+      asked_of (PageWord index) there may = record {
+        reads = reads may.0;
+        reaches = could (PageAt (index / 64)) (page_reached env mix core.words G whole (standing_of job) (index / 64) may.1);
+      }
+      asked_of _ there may = tt
+
+      is_asked : (op : Op) → Lies env mix core.words G (held_of job) (standing_of job) Own op → IsAsked op
+      is_asked op lies = record { address = lies.address; there = lies.there; on = lies.on; asked = asked_of lies.address lies.there lies.may }
+
+  -- ---- look-ups, by what they know
+
+  record FindLies (w : World L) (c port : ℕ) (state : FindAt) : Type 0 where
+    ghost : Ghost
+    whole : Whole env mix (mem env mix w.core.words) ghost
+    lies : Lies env mix w.core.words ghost (held_of_find state) (standing_of_find state) (λ thing. ⊥) (find.plan_at env c state)
+
+  module _ (events : List Event) (admitted : IsAdmitted env.config.kind events) where
+    abbrev R : Traced L
+    R = traced_of mix env events
+
+    abbrev FindsSo : ℕ → World L → Type 0
+    FindsSo c w =
+        (port : ℕ) (state : FindAt) → job_of (local_of w.core c).doing ≡ Some (finds port state) → IsFindAtIn env state
+        → FindLies w c port state
+
+    finds_traced : (c : ℕ) → c < 16 → FindsSo c R.world
+    finds_traced c low port state does within =
+        let looking = has_looks L mix env events admitted in
+        let placed = looking.placed in
+        let trace = R.traces c in
+        let looks : Looks L mix env events R.world.core placed c port trace.begin (length trace.steps) state =
+        subst (JobLooks L mix env events R.world.core placed c trace.begin (length trace.steps)) does (looking.looks c).now in
+        record {
+          ghost = placed.ghost;
+          whole = placed.inv.whole;
+          lies = find_lies env mix port (trace.begin + 1) (SaysOf L mix env events c port trace.begin) R.world.core.words placed.ghost placed.places placed.inv.whole c low state within looks.means;
+        }
+
+    find_so : (c : ℕ) → c < 16 → FindsSo c (run_of mix env events)
+    find_so c low = subst (FindsSo c) (world-traced_of L mix env events) (finds_traced c low)
+
+    -- ---- each job
+
+    module _ (met : Met env mix L events (run_of {M = L} mix env events).core) (c : ℕ) (low : c < 16) where
+      abbrev core : Core L
+      core = (run_of mix env events).core
+
+      abbrev G : Ghost
+      G = met.placed.ghost
+
+      abbrev whole : Whole env mix (mem env mix core.words) G
+      whole = met.placed.inv.whole
+
+      module _ (job : Job) (does : job_of (local_of core c).doing ≡ Some job) where
+        reads : (held_of job).section ≡ true → IsReading g core.words c
+        reads = open_now env mix L events admitted c low job does
+
+        -- by what its call has taken
+        with_own : (op : Op) → Lies env mix core.words G (held_of job) (standing_of job) (OwnOf (held_of job) G c) op → IsAsked core c op
+        with_own =
+            is_asked core c job does reads G whole (OwnOf (held_of job) G c)
+            (λ node l own. record {
+              job = job;
+              does = does;
+              has = own.0;
+              taken = λ free.
+                  let none : G.node node ≡ Free = (whole.arena.bits node l).0 free in
+                  let both : NodeHeld c ≡ Free = sym own.1 ∙ none in cc;
+              apart = nobody env mix L events core met c (NodeAt node) own.1;
+            })
+            (λ slot l own. record {
+              job = job;
+              does = does;
+              has = own.0;
+              taken = λ free.
+                  let one : state_word (SlotHeld c) ≡ 0 = sym (ap state_word own.1) ∙ sym (whole.slots.states slot l) ∙ free in omega (arith, one);
+              apart = nobody env mix L events core met c (TableIn slot) own.1;
+            })
+
+      job_asked : (job : Job) → job_of (local_of core c).doing ≡ Some job → JobIn env mix c job
+          → JobKnows env mix c job (mem env mix core.words) G → tied_of env mix G job → IsAsked core c (job_plan env c job)
+      job_asked (finds port state) does within knows tied =
+          let is = find_so c low port state does within in
+          is_asked core c (finds port state) does (reads (finds port state) does) is.ghost is.whole (λ thing. ⊥)
+          (λ node l own. absurd own) (λ slot l own. absurd own) (find.plan_at env c state) is.lies
+      job_asked (binds port owner once state) does within knows tied =
+          with_own (binds port owner once state) does _ (bind_lies env mix port owner once core.words G whole c low state within.at_in
+          (record { knowing = knows.knowing; fits = knows.fits }) tied)
+      job_asked (lists port room state) does within knows tied =
+          with_own (lists port room state) does _ (all_lies env mix port 0 core.words G whole c low room state within.at_in
+          (record { knowing = knows.knowing; fits = knows.fits }) tied)
+      job_asked (releases port owner state) does within knows tied =
+          with_own (releases port owner state) does _ (release_lies env mix port owner core.words G whole c low state within
+          (record { knowing = knows.knowing; fits = knows.fits }) tied)
+      job_asked (rebinds port owner new state) does within knows tied =
+          with_own (rebinds port owner new state) does _ (rebind_lies env mix port owner core.words G whole c low new state within.at_in
+          (record { knowing = knows.knowing; fits = knows.fits }) tied)
+      job_asked (works state) does within knows tied =
+          with_own (works state) does _ (work_lies env mix core.words G whole c low state within knows.knowing)
+      job_asked counts does within knows tied = record { address = PortCount; there = tt; on = refl; asked = tt }
+
+pub inside : (L : Type 0) (mix : ℕ → ℕ → ℕ → ℕ) → Inside L mix
+inside L mix env events c did admitted recorded =
+    let before = take did.index events in
+    let first = (AllByRecursion-cut (IsAdmittedEvent env.config.kind) before (drop did.index events)
+    (subst (IsAdmitted env.config.kind) (sym (take-append-drop did.index events)) admitted)).0 in
+    let core : Core L = (run_of mix env before).core in
+    let met = has_met env mix L before first in
+    let placed = met.placed in
+    let of = step_of env mix L core placed.ghost c did.op placed.all placed.inv recorded.plan in
+    let is = job_asked env mix L before first met c of.few of.job of.is of.within of.knows (subst (tied_with env mix placed.ghost) of.is (met.each c of.low).tied) in
+    let on : op_place did.op ≡ place_of env.geometry is.address = ap op_place of.plan ∙ is.on in
+    let here : (a : Address) → IsAddress env.geometry a → op_place did.op ≡ place_of env.geometry a → Asked env mix L core c a =
+    λ a there same. subst (Asked env mix L core c) (place_of-apart env.geometry is.address a is.there there (sym on ∙ same)) is.asked in
+    record {
+      nodes = λ node l (word, same). here (Node node word) l same;
+      tables = λ slot l (word, of_table, same). here (Slot slot word) (l, table_word word of_table) same of_table;
+      pages = λ index l same. here (PageWord index) l same;
+      current = λ same. here CurrentTable tt same;
+      comes = λ reads. comes_next env mix L before first c did.op recorded.plan;
+      outside = λ out. (
+        outside_now env mix L before first c of.few out,
+        outside_next env mix L before first placed.ghost placed.all placed.inv c did.op recorded.plan out,
+      );
+    }

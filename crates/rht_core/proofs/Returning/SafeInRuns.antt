@@ -1,0 +1,166 @@
+-- In every run nobody in a section could reach what an operation gives back: it is a caller's own until then, and what could be reached is
+-- some table's or was a port's.
+use Rattle.std.proofs.Common.{◌≡◌, ◌≢◌, ℕ, suc, ◌/◌, ◌%◌, ◌<◌, List, length, true, false, take, drop, slice_index, refl, sym, ◌∙◌, ap, subst, arith}
+use Rattle.std.specs.Int.{bit_at}
+use Rattle.std.proofs.lemmas.List.{take-append-drop}
+use Rattle.rht_words.specs.declared.op.Op.{Op}
+use Rattle.rht_words.specs.declared.env.Env.{Env}
+use Rattle.rht_words.specs.Operations.{op_place, old_of, word_after, applied}
+use Rattle.rht_words.specs.Places.{Address, Slot, StateWord, NodeMap, PageMap, IsAddress, place_of, words_in}
+use Rattle.rht_words.proofs.EachElement.{AllByRecursion-cut}
+use Rattle.rht_words.proofs.Memory.{is_write}
+use Rattle.rht_core.specs.declared.event.Event.{Event}
+use Rattle.rht_core.specs.Reach.{Thing, TableIn, PageAt, NodeAt, CouldReach, IsFreeThing, GivesBack, NobodyReaches, Safe, NeverFree}
+use Rattle.rht_core.specs.Runs.{Core, run_of, IsAdmitted, IsAdmittedEvent}
+use Rattle.rht_core.specs.Standings.{standing}
+use Rattle.rht_core.specs.Traces.{Did}
+use Rattle.rht_core.proofs.Events.Invariants.{step_of}
+use Rattle.rht_ghost.proofs.Theory.Frames.{Made}
+use Rattle.rht_ghost.proofs.Theory.Ghosts.{Ghost, Owner, Free, NodeHeld, First, Leaving, Behind, Taken, PageOwner, PageFree, PageHeld, PageOf, SlotOwner, SlotFree, SlotHeld, Live, Retired, IsUsed, is_used, has_table, state_word}
+use Rattle.rht_ghost.proofs.Theory.Passed.{TablesGrow}
+use Rattle.rht_ghost.proofs.Theory.Steps.{mem, ghost_after}
+use Rattle.rht_ghost.proofs.Theory.Wholes.{Whole}
+use Rattle.rht_core.proofs.Returning.MetInRuns.{Met, has_met}
+use Rattle.rht_words.specs.Standing.{Standing}
+use Rattle.rht_ghost.proofs.Theory.Entries.{page_within}
+use Rattle.rht_core.proofs.Returning.Readers.{Reader, IsOpen, ReaderRight}
+use Rattle.rht_core.proofs.Returning.Reached.{safe-taken, IsTakenBy, StandsRight, reaches-listed, reaches-page, reaches-table, reaches-slot}
+
+-- a slot whose state is 0 is nobody's
+free_state : (o : SlotOwner) → state_word o ≡ 0 → o ≡ SlotFree
+free_state SlotFree is = refl
+free_state (SlotHeld d) is = absurd (omega (arith, is))
+free_state (Live τ) is = absurd (omega (arith, is))
+free_state (Retired τ) is = absurd (omega (arith, is))
+
+module _ (env : Env) (mix : ℕ → ℕ → ℕ → ℕ) (c : ℕ) (words : List ℕ) (G G' : Ghost) (op : Op)
+    (whole : Whole env mix (mem env mix words) G) (made : Made env mix c (mem env mix words) G (mem env mix (applied words op)) G') where
+  grow : TablesGrow env mix G G'
+  grow = (made.others (suc c) (λ e. absurd (omega arith))).tables.grow
+
+  -- ---- a caller has what becomes free
+
+  -- a node that is or was a port's stays so
+  freed_node : (n : ℕ) → G.node n ≢ Free → G'.node n ≡ Free → (d : ℕ) × (G.node n ≡ NodeHeld d)
+  freed_node n taken frees = go (G.node n) refl
+    where
+      still : IsUsed (G.node n) → ⊥
+      still used = let both : true ≡ false = sym (made.stale.owners.used n used) ∙ ap is_used frees in cc
+
+      go : (o : Owner) → G.node n ≡ o → (d : ℕ) × (G.node n ≡ NodeHeld d)
+      go Free is = absurd (taken is)
+      go (NodeHeld d) is = (d, is)
+      go (First j) is = absurd (still (ap is_used is))
+      go (Leaving j) is = absurd (still (ap is_used is))
+      go (Behind k) is = absurd (still (ap is_used is))
+      go (Taken d) is = absurd (still (ap is_used is))
+
+  -- a slot that has a table keeps it, and so does a page that is a table's
+  freed_slot : (s : ℕ) → G.slot s ≢ SlotFree → G'.slot s ≡ SlotFree → (d : ℕ) × (G.slot s ≡ SlotHeld d)
+  freed_slot s taken frees = go (G.slot s) refl
+    where
+      still : has_table (G.slot s) ≡ true → ⊥
+      still has = let both : true ≡ false = sym (grow.slots s has) ∙ ap has_table frees in cc
+
+      go : (o : SlotOwner) → G.slot s ≡ o → (d : ℕ) × (G.slot s ≡ SlotHeld d)
+      go SlotFree is = absurd (taken is)
+      go (SlotHeld d) is = (d, is)
+      go (Live τ) is = absurd (still (ap has_table is))
+      go (Retired τ) is = absurd (still (ap has_table is))
+
+  freed_page : (p : ℕ) → G.page p ≢ PageFree → G'.page p ≡ PageFree → (d : ℕ) × (G.page p ≡ PageHeld d)
+  freed_page p taken frees = go (G.page p) refl
+    where
+      go : (o : PageOwner) → G.page p ≡ o → (d : ℕ) × (G.page p ≡ PageHeld d)
+      go PageFree is = absurd (taken is)
+      go (PageHeld d) is = (d, is)
+      go (PageOf τ) is = absurd (let both : PageOf τ ≡ PageFree = sym (grow.pages p τ is) ∙ frees in cc)
+
+  -- ---- what an operation gives back a caller has
+
+  module _ (all : length words ≡ words_in env.geometry) (did : Did) (same : did.op ≡ op) (found : old_of words op ≡ did.old) where
+    -- the word that the operation finds, and the one that it leaves
+    word_found : (a : Address) → op_place did.op ≡ place_of env.geometry a → mem env mix words a ≡ did.old
+    word_found a on = sym (ap (slice_index words) (ap op_place (sym same) ∙ on)) ∙ found
+
+    word_left : (a : Address) → IsAddress env.geometry a → op_place did.op ≡ place_of env.geometry a
+        → mem env mix (applied words op) a ≡ word_after did.old did.op
+    word_left a there on =
+        (is_write env.geometry words a op all there (ap op_place (sym same) ∙ on)).same
+        ∙ ap (λ w. word_after w op) (word_found a on) ∙ ap (word_after did.old) (sym same)
+
+    pub given_taken : (thing : Thing) → GivesBack env.geometry did thing → (d : ℕ) × IsTakenBy G d thing
+    given_taken (NodeAt node) (l, gives) =
+        let a = NodeMap (node / 64) in
+        let was : bit_at (mem env mix words a) (node % 64) ≡ 0 = ap (λ w. bit_at w (node % 64)) (word_found a gives.on) ∙ gives.clear in
+        let is : bit_at (mem env mix (applied words op) a) (node % 64) ≡ 1 =
+        ap (λ w. bit_at w (node % 64)) (word_left a (omega (arith, l)) gives.on) ∙ gives.set in
+        freed_node node (λ free. let one = (whole.arena.bits node l).1 free in absurd (omega (arith, was, one)))
+        ((made.whole.arena.bits node l).0 is)
+    given_taken (PageAt page) (l, gives) =
+        let a = PageMap (page / 64) in
+        let was : bit_at (mem env mix words a) (page % 64) ≡ 0 = ap (λ w. bit_at w (page % 64)) (word_found a gives.on) ∙ gives.clear in
+        let is : bit_at (mem env mix (applied words op) a) (page % 64) ≡ 1 =
+        ap (λ w. bit_at w (page % 64)) (word_left a (omega (arith, l)) gives.on) ∙ gives.set in
+        freed_page page (λ free. let one = (whole.pages.bits page l).1 free in absurd (omega (arith, was, one)))
+        ((made.whole.pages.bits page l).0 is)
+    given_taken (TableIn slot) (l, gives) =
+        let a = Slot slot StateWord in
+        freed_slot slot (λ free. gives.taken (sym (word_found a gives.on) ∙ whole.slots.states slot l ∙ ap state_word free))
+        (free_state (G'.slot slot) (sym (made.whole.slots.states slot l) ∙ word_left a (l, tt) gives.on ∙ gives.frees))
+
+-- ---- what could be reached isn't free
+
+module _ (env : Env) (mix : ℕ → ℕ → ℕ → ℕ) (words : List ℕ) (G : Ghost) (whole : Whole env mix (mem env mix words) G) (c : ℕ) (r : Reader)
+    (right : ReaderRight env mix (mem env mix words) G c r) (reads : IsOpen r) (at : Standing) (stands : StandsRight G r at) where
+  not_free : (thing : Thing) → IsFreeThing env.geometry words thing → CouldReach env.geometry words at thing → ⊥
+  not_free (NodeAt node) free reached =
+      let met = reaches-listed env mix words G whole c r right reads at stands node reached in
+      let none : G.node node ≡ Free = (whole.arena.bits node (right.among node met)).0 free in
+      let both : true ≡ false = sym (right.used node met) ∙ ap is_used none in cc
+  not_free (PageAt page) free reached =
+      let is = reaches-page env mix words G whole c r right reads at stands page reached in
+      let few = whole.pages.page_of page is.0 is.1 in
+      let within = page_within env mix (G.table is.0) G.page is.0 (whole.tables.each is.0 few).placed page is.1 in
+      let none : G.page page ≡ PageFree = (whole.pages.bits page within).0 free in
+      let both : PageOf is.0 ≡ PageFree = sym is.1 ∙ none in cc
+  not_free (TableIn slot) free reached =
+      let meets = reaches-table env mix words G whole c r right reads at stands slot reached in
+      let has = reaches-slot env mix words G whole c r right reads at stands slot reached in
+      let low = (whole.tables.each meets.table meets.attached).slot_in in
+      let none = free_state (G.slot slot) (sym (whole.slots.states slot (subst (λ s. s < 8) (sym meets.slot_is) low)) ∙ free) in
+      let both : true ≡ false = sym has ∙ ap has_table none in cc
+
+-- ---- runs
+
+module _ (env : Env) (mix : ℕ → ℕ → ℕ → ℕ) (L : Type 0) where
+  -- nobody in a section could reach what a caller has taken for itself
+  pub nobody : (events : List Event) (core : Core L) (met : Met env mix L events core) (d : ℕ) (thing : Thing)
+      → IsTakenBy met.placed.ghost d thing → NobodyReaches env.geometry core thing
+  nobody events core met d thing taken c low reads reached =
+      let meets = met.each c low in
+      let open_now = meets.right.odd.0 reads in
+      safe-taken env mix core.words met.placed.ghost met.placed.inv.whole c meets.reader meets.right open_now (standing core c)
+      (meets.stands open_now) d thing taken reached
+
+pub safe : (L : Type 0) (mix : ℕ → ℕ → ℕ → ℕ) → Safe L mix
+safe L mix env events c did thing admitted recorded gives =
+    let before = take did.index events in
+    let first = (AllByRecursion-cut (IsAdmittedEvent env.config.kind) before (drop did.index events)
+    (subst (IsAdmitted env.config.kind) (sym (take-append-drop did.index events)) admitted)).0 in
+    let core : Core L = (run_of mix env before).core in
+    let met = has_met env mix L before first in
+    let G = met.placed.ghost in
+    let of = step_of env mix L core G c did.op met.placed.all met.placed.inv recorded.plan in
+    let taken = given_taken env mix c core.words G (ghost_after env mix c of.step.move G) did.op met.placed.inv.whole of.step.made
+    of.all did refl recorded.found thing gives in
+    nobody env mix L before core met taken.0 thing taken.1
+
+pub never_free : (L : Type 0) (mix : ℕ → ℕ → ℕ → ℕ) → NeverFree L mix
+never_free L mix env events thing admitted free c low reads reached =
+    let core : Core L = (run_of mix env events).core in
+    let met = has_met env mix L events admitted in
+    let meets = met.each c low in
+    let open_now = meets.right.odd.0 reads in
+    not_free env mix core.words met.placed.ghost met.placed.inv.whole c meets.reader meets.right open_now (standing core c)
+    (meets.stands open_now) thing free reached

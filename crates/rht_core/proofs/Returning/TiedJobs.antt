@@ -1,0 +1,134 @@
+-- The bucket that a call has locked is one of the table at which it stands: said of jobs. It outlives what others do.
+use Rattle.std.proofs.Common.{◌≡◌, ℕ, ◌/◌, List, Option, Some, None, sym, ◌∙◌, ap}
+use Rattle.std.specs.Prelude.{IfSome}
+use Rattle.rht_words.specs.declared.env.Env.{Env}
+use Rattle.rht_words.specs.declared.machine.Next.{Next}
+use Rattle.rht_words.specs.declared.machine.Next.TheVariants.{Go, Done}
+use Rattle.rht_model.specs.declared.history.Call.{Call}
+use Rattle.rht_model.specs.declared.history.Call.TheVariants.{Rebind, Walk, Tidy}
+use Rattle.rht_model.specs.Endings.{Ending, plain_ending}
+use Rattle.rht_bind.specs.declared.bind.BindAt.{BindAt}
+use Rattle.rht_bind.specs.declared.bind.BindAt.TheVariants as binding
+use Rattle.rht_release.specs.All as all
+use Rattle.rht_release.specs.declared.all.AllAt.{AllAt}
+use Rattle.rht_release.specs.declared.all.AllAt.TheVariants as listing
+use Rattle.rht_release.specs.declared.rebind.RebindAt.{RebindAt}
+use Rattle.rht_release.specs.declared.rebind.RebindAt.TheVariants as rebinding
+use Rattle.rht_release.specs.declared.release.ReleaseAt.{ReleaseAt}
+use Rattle.rht_release.specs.declared.release.ReleaseAt.TheVariants as releasing
+use Rattle.rht_release.specs.declared.seek.SeekAt.{SeekAt}
+use Rattle.rht_release.specs.declared.seek.SeekAt.TheVariants as seeks
+use Rattle.rht_core.specs.Jobs.{Job, finds, binds, lists, releases, rebinds, works, counts, first_job, listing_ending, node_ending, job_next, job_after, told}
+use Rattle.rht_core.proofs.Events.JobsOfCallers.{first-so, first_rebind-so}
+use Rattle.rht_core.proofs.Machines.JobSteps.{JobIn, JobKnows}
+use Rattle.rht_core.proofs.Returning.TiedBuckets.{IsTied, tied_of_seek, tied_of_all, tied_of_release, tied_of_rebind, tied_of_bind, all_ties, release_ties, rebind_ties, bind_ties}
+use Rattle.rht_ghost.proofs.Theory.Ghosts.{Ghost, PageOf}
+use Rattle.rht_ghost.proofs.Theory.Passed.{TablesGrow}
+use Rattle.rht_ghost.proofs.Theory.Steps.{mem}
+use Rattle.rht_ghost.proofs.Theory.Wholes.{Whole, word_index}
+
+module _ (env : Env) (mix : ℕ → ℕ → ℕ → ℕ) where
+  abbrev pub tied_of : Ghost → Job → Type 0
+  tied_of G (finds port state) = Unit {0}
+  tied_of G (binds port owner once state) = tied_of_bind env mix G state
+  tied_of G (lists port room state) = tied_of_all env mix G state
+  tied_of G (releases port owner state) = tied_of_release env mix G state
+  tied_of G (rebinds port owner new state) = tied_of_rebind env mix G state
+  tied_of G (works state) = Unit {0}
+  tied_of G counts = Unit {0}
+
+  abbrev pub tied_with : Ghost → Option Job → Type 0
+  tied_with G None = Unit {0}
+  tied_with G (Some job) = tied_of G job
+
+  -- it is so of a job with which a call begins
+  first-tied : (G : Ghost) (call : Call) → IfSome (first_job env call) (tied_of G)
+  first-tied G (Rebind port owner new) = first_rebind-so (tied_of G) env port owner new tt
+  first-tied G (Walk from limit) = tt
+  first-tied G Tidy = tt
+  first-tied G _ = tt
+
+  pub first_ties : (G : Ghost) (call : Call) (job : Job) → first_job env call ≡ Some job → tied_of G job
+  first_ties G call job is = first-so (tied_of G) (first_job env call) job (first-tied G call) is
+
+  -- ---- it outlives whatever leaves tables what they are
+
+  module _ (G G' : Ghost) (grow : TablesGrow env mix G G') where
+    tied-stays : (slot place : ℕ) → IsTied env mix G slot place → IsTied env mix G' slot place
+    tied-stays slot place tied = record {
+      table = grow.slots slot tied.table;
+      of = grow.pages (word_index env mix place / 64) _ tied.of ∙ ap PageOf (sym (grow.indices slot tied.table));
+    }
+
+    seek-stays : (state : SeekAt) → tied_of_seek env mix G state → tied_of_seek env mix G' state
+    seek-stays (seeks.Leaving table unlock future) tied = tied-stays table unlock.place tied
+    seek-stays _ tied = tt
+
+    all-stays : (state : AllAt) → tied_of_all env mix G state → tied_of_all env mix G' state
+    all-stays listing.Opening tied = tt
+    all-stays (listing.Seeking seek) tied = seek-stays seek.at tied
+    all-stays (listing.Unlocking table unlock) tied = tied-stays table unlock.place tied
+    all-stays listing.Closing tied = tt
+    all-stays _ tied = tied-stays _ _ tied
+
+    release-stays : (state : ReleaseAt) → tied_of_release env mix G state → tied_of_release env mix G' state
+    release-stays releasing.Opening tied = tt
+    release-stays (releasing.Seeking seek) tied = seek-stays seek.at tied
+    release-stays (releasing.Lowering node shape) tied = tt
+    release-stays (releasing.Closing reply removed) tied = tt
+    release-stays _ tied = tied-stays _ _ tied
+
+    rebind-stays : (state : RebindAt) → tied_of_rebind env mix G state → tied_of_rebind env mix G' state
+    rebind-stays (rebinding.Filling new) tied = tt
+    rebind-stays (rebinding.Opening node) tied = tt
+    rebind-stays (rebinding.Seeking node seek) tied = seek-stays seek.at tied
+    rebind-stays (rebinding.Closing end) tied = tt
+    rebind-stays (rebinding.Giving give) tied = tt
+    rebind-stays _ tied = tied-stays _ _ tied
+
+    bind-stays : (state : BindAt) → tied_of_bind env mix G state → tied_of_bind env mix G' state
+    bind-stays (binding.Replacing list relink) tied = tied-stays _ _ tied
+    bind-stays (binding.Unlocking attempt table unlock next) tied = tied-stays _ _ tied
+    bind-stays (binding.UnlockingFull growing unlock) tied = tied-stays _ _ tied
+    bind-stays _ tied = tt
+
+    job-stays : (job : Job) → tied_of G job → tied_of G' job
+    job-stays (finds port state) tied = tt
+    job-stays (binds port owner once state) tied = bind-stays state tied
+    job-stays (lists port room state) tied = all-stays state tied
+    job-stays (releases port owner state) tied = release-stays state tied
+    job-stays (rebinds port owner new state) tied = rebind-stays state tied
+    job-stays (works state) tied = tt
+    job-stays counts tied = tt
+
+    pub ties_stay : (job : Option Job) → tied_with G job → tied_with G' job
+    ties_stay None tied = tt
+    ties_stay (Some job) tied = job-stays job tied
+
+  -- ---- an operation
+
+  told-tied : {S A : Type 0} (G : Ghost) (job : S → Job) (ending : A → Ending) (r : S × Next A) → tied_of G (job r.0)
+      → tied_with G (told (job_next job ending r)).0
+  told-tied G job ending (state, Go) tied = tied
+  told-tied G job ending (state, Done end) tied = tt
+
+  none-tied : {S A : Type 0} (G : Ghost) (job : S → Job) (ending : A → Ending) → ((state : S) → tied_of G (job state)) → (r : S × Next A)
+      → tied_with G (told (job_next job ending r)).0
+  none-tied G job ending each r = told-tied G job ending r (each r.0)
+
+  pub job_ties : (words : List ℕ) (G : Ghost) → Whole env mix (mem env mix words) G → (c : ℕ) (job : Job) → JobIn env mix c job
+      → JobKnows env mix c job (mem env mix words) G → (old : ℕ) → tied_of G job → tied_with G (told (job_after mix env job old)).0
+  job_ties words G whole c (finds port state) within knows old tied = none-tied G (finds port) plain_ending (λ state. tt) _
+  job_ties words G whole c (binds port owner once state) within knows old tied =
+      told-tied G (binds port owner once) plain_ending _ (bind_ties env mix words G whole port owner once state old knows.knowing.means.table tied)
+  job_ties words G whole c (lists port room state) within knows old tied =
+      let after = all.room_after state room old in
+      told-tied G (lists port after) (listing_ending after) _
+      (all_ties env mix words G whole port 0 room.items state old within.at_in knows.knowing.means.table tied)
+  job_ties words G whole c (releases port owner state) within knows old tied =
+      told-tied G (releases port owner) node_ending _ (release_ties env mix words G whole port owner state old within knows.knowing.means.table tied)
+  job_ties words G whole c (rebinds port owner new state) within knows old tied =
+      told-tied G (rebinds port owner new) node_ending _
+      (rebind_ties env mix words G whole port owner new state old within.at_in knows.knowing.means.table tied)
+  job_ties words G whole c (works state) within knows old tied = none-tied G works plain_ending (λ state. tt) _
+  job_ties words G whole c counts within knows old tied = tt
