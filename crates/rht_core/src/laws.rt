@@ -284,12 +284,13 @@ pub fn sections<M: Mix>()
 {}
 
 /// In every run nothing is given back that a caller in its read section could reach, whoever gives it back: no
-/// node, no page, and no slot. And nothing is free that it could reach. A caller could reach the tables at which it stands, or the current one where it
-/// stands at none, and those to which futures lead from there. So it could reach their pages. And it could reach the
-/// nodes at which it stands, and those to which chain links lead from these and from the buckets of such tables. List
-/// links lead on from all of these nodes. To give back is to set a map's bit that was clear, or to free a slot that
-/// wasn't free. It doesn't say where a caller stands, which `inside` ties to what it does. Nor does it speak of
-/// callers out of their sections.
+/// node, no page, and no slot. And nothing is free that it could reach. A caller could reach the tables at which it
+/// stands, or the current one where it stands at none, and those to which futures lead from there; and so their
+/// pages. It could reach the nodes of chains at which it stands, and those to which chain links lead from these and
+/// from the buckets of such tables. And it could reach those to which list links lead from these, and from the nodes
+/// of lists at which it stands. To give back is to set a map's bit that was clear, or to free a slot that wasn't
+/// free. It doesn't say where a caller stands, which `inside` ties to what it does. Nor does it speak of callers out
+/// of their sections.
 pub fn safe<M: Mix>()
     ensures given { Safe M M.mix_of }
     ensures taken { NeverFree M M.mix_of }
@@ -302,10 +303,10 @@ pub fn safe<M: Mix>()
 /// could reach. And in the section alone it operates on which table is the current one.
 ///
 /// Behind each operation in its section the caller stands only where it could come to before it. Out of its
-/// section, and where it has just opened it, it stands nowhere. So whatever a call operates on it has itself, or it
-/// has come to it since it opened its section, from the table that was then the current one. It says nothing of the
-/// states of slots, of the maps, the count, the work lock and the next serial. Nor does it say that a call has taken
-/// what it has.
+/// section, and where it has just opened it, it stands nowhere. So of these things a call operates on those that it
+/// has itself, and on those to which it has come in this section, from a table that was the current one at some
+/// moment of it. It says nothing of the states of slots, of the maps, the count, the work lock, the next serial and
+/// section words. Nor does it say that a call has taken what it has.
 pub fn inside<M: Mix>()
     ensures { Inside M M.mix_of }
 {}

@@ -1,4 +1,5 @@
--- Where a look-up stands in each of its states: at the table that it looks through, and at a node.
+-- Where a look-up stands in each of its states: at the table that it looks through, and at a node. Once it has found the port's node it looks
+-- through no table.
 use Rattle.std.specs.Prelude.{[], ◌∷◌}
 use Rattle.rht_words.specs.Standing.{Standing, stands_nowhere, stands_in, stands_at}
 use Rattle.rht_find.specs.declared.find.FindAt.{FindAt}
