@@ -20,7 +20,8 @@ pub enum TidyAt {
     /// Loads the section word of a caller again, of whom an odd one is kept. Where it is another one
     /// the caller has left its section.
     Asking { caller: u32 },
-    /// Gives back the waiting node at this place. No open section can reach it.
+    /// Gives back the waiting node at this place. Each section that was open when it began to wait has
+    /// been left.
     Giving { index: u32 },
 }
 
