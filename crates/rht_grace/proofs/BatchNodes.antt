@@ -1,10 +1,10 @@
 -- The nodes of a batch are the table's, and none of them stands there twice. So it has room for each node that it lacks, and it
 -- stays so whatever is done to it.
-use Rattle.std.proofs.Common.{◌≡◌, ◌≢◌, ℕ, ◌+◌, ◌<◌, ◌≤◌, List, [], ◌∷◌, ◌++◌, length, length-append, append-nil, append_assoc, get_or, length-set, Bool, true, false, cond, ◌==◌, refl, sym, ◌∙◌, ap, subst, arith}
+use Rattle.std.proofs.Common.{◌≡◌, ℕ, ◌<◌, ◌≤◌, List, [], ◌∷◌, ◌++◌, length, length-append, append-nil, append_assoc, get_or, length-set, Bool, true, false, ◌==◌, refl, sym, ◌∙◌, subst, arith}
 use Rattle.std.specs.Prelude.{◌||◌, ◌↔◌, not}
 use Rattle.std.specs.List.{AllByRecursion, list_any}
-use Rattle.std.proofs.lemmas.Bool.{eqb-false, eq-eqb, ne_eqb}
-use Rattle.rht_words.specs.Members.{In, NotIn, IsDistinct}
+use Rattle.std.proofs.lemmas.Bool.{eqb-false, ne_eqb}
+use Rattle.rht_words.specs.Members.{NotIn, IsDistinct}
 use Rattle.rht_words.proofs.Members.{IsDistinct-left, IsDistinct-with, length-count_below, count_below-most}
 use Rattle.rht_words.proofs.EachElement.{AllByRecursion-append, AllByRecursion-cut, AllByRecursion-get_or}
 use Rattle.rht_grace.specs.Batch.{BatchModel, IsBatch, with_fresh, turned, with_word, cleared}

@@ -4,10 +4,10 @@
 -- words that are found; the asking, behind which comes the giving back or the end; and the loads that are kept, behind which comes the
 -- asking. Where a caller was asked and has another word, the word that is kept of it becomes 0. So what is shown of the callers behind it
 -- is of other kept words, which are the same for these callers.
-use Rattle.std.proofs.Common.{◌≡◌, ◌≢◌, ℕ, zero, suc, ◌+◌, ◌-◌, ◌%◌, ◌<◌, ◌≤◌, ◌⊎◌, List, [], ◌∷◌, ◌++◌, length, map, take, drop, get_or, set, append_assoc, append-nil, get_or-set_same, get_or-set_other, take_all, Bool, true, false, ◌==◌, Option, Some, None, refl, sym, ◌∙◌, ap, subst, inl, inr, arith}
+use Rattle.std.proofs.Common.{◌≡◌, ◌≢◌, ℕ, zero, suc, ◌+◌, ◌%◌, ◌<◌, ◌≤◌, ◌⊎◌, List, [], ◌∷◌, ◌++◌, length, map, take, drop, get_or, set, append_assoc, append-nil, get_or-set_other, take_all, Bool, true, false, ◌==◌, Option, Some, None, refl, sym, ◌∙◌, ap, subst, inl, inr, arith}
 use Rattle.std.specs.Prelude.{nat_lt, if◌then◌else◌}
-use Rattle.std.specs.List.{AllByRecursion, Any, range_with_len}
-use Rattle.std.proofs.lemmas.Bool.{ltb-true, ltb-false, eqb-true, eqb-false, ne_eqb, cases_eq}
+use Rattle.std.specs.List.{Any, range_with_len}
+use Rattle.std.proofs.lemmas.Bool.{ltb-true, ltb-false, eqb-true, eqb-false, cases_eq}
 use Rattle.std.proofs.lemmas.List.{drop_more, drop_all, take_more_set}
 use Rattle.rht_words.specs.declared.geometry.Geometry.{Geometry}
 use Rattle.rht_words.specs.declared.machine.Next.TheVariants.{Go, Done}
@@ -15,8 +15,8 @@ use Rattle.rht_words.specs.Machines.{Performed, Ran}
 use Rattle.rht_model.specs.declared.history.Reply.{Reply}
 use Rattle.rht_model.specs.declared.history.Reply.TheVariants.{Clear, Pending}
 use Rattle.rht_grace.specs.Batch.{BatchModel, IsBatch, turned, with_word, cleared, first_odd}
-use Rattle.rht_grace.specs.Tidy.{load_of, give_of, giving, ask, asking, keeping, asked, after_at, asked_at, begun, tidy_new}
-use Rattle.rht_grace.specs.TidyLaws.{Tidied, tidying_ran, due_of, left_of, ops_of, olds_of, AreKept, LoadsSection, AreLoads, IsOver, Clears, Waits, AnswersRightly, EndsRightly, TidiesRightly}
+use Rattle.rht_grace.specs.Tidy.{load_of, give_of, giving, ask, asking, asked_at}
+use Rattle.rht_grace.specs.TidyLaws.{Tidied, tidying_ran, ops_of, olds_of, LoadsSection, AreLoads, IsOver, Waits, AnswersRightly, EndsRightly, TidiesRightly}
 use Rattle.rht_grace.specs.declared.tidy.TidyAt.{TidyAt}
 use Rattle.rht_grace.specs.declared.tidy.TidyAt.TheVariants as at
 use Rattle.rht_grace.proofs.BatchNodes.{IsBatch-cleared, IsBatch-with_word, IsBatch-turned}

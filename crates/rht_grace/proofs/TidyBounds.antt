@@ -1,8 +1,8 @@
 -- How many operations a tidying makes at most. Of each state it is shown how many are left: one for each node that is still to be given
 -- back, one for each caller that may still be asked, and before that one for each caller whose word is still to be kept.
-use Rattle.std.proofs.Common.{◌≡◌, ◌≢◌, ℕ, zero, suc, ◌+◌, ◌-◌, ◌*◌, ◌<◌, ◌≤◌, List, [], ◌∷◌, length, get_or, Bool, true, false, ◌==◌, Option, Some, None, refl, sym, ◌∙◌, ap, subst, arith}
+use Rattle.std.proofs.Common.{◌≡◌, ℕ, zero, suc, ◌+◌, ◌-◌, ◌*◌, ◌<◌, ◌≤◌, List, [], ◌∷◌, length, get_or, Bool, true, false, ◌==◌, Option, Some, None, refl, sym, ap, subst, arith}
 use Rattle.std.specs.Prelude.{nat_lt, if◌then◌else◌}
-use Rattle.std.proofs.lemmas.Bool.{ltb-true, ltb-false}
+use Rattle.std.proofs.lemmas.Bool.{ltb-true}
 use Rattle.std.proofs.lemmas.List.{nil_from_length}
 use Rattle.rht_words.specs.declared.op.Op.{Op}
 use Rattle.rht_words.specs.declared.geometry.Geometry.{Geometry}
@@ -11,8 +11,8 @@ use Rattle.rht_words.specs.declared.machine.Next.TheVariants.{Go, Done}
 use Rattle.rht_words.specs.Machines.{Performed, Ran, ran, went_on}
 use Rattle.rht_model.specs.declared.history.Reply.TheVariants.{Clear, Pending}
 use Rattle.rht_grace.specs.Batch.{BatchModel, IsBatch, turned, with_word, cleared, first_odd}
-use Rattle.rht_grace.specs.Tidy.{giving, ask, asking, keeping, asked_at, begun, tidy_new, tidy_plan, tidy_after}
-use Rattle.rht_grace.specs.TidyLaws.{Tidied, with_batch, tidying_ran, tidy_bound, EndsWithinBound, TidiesSoon}
+use Rattle.rht_grace.specs.Tidy.{giving, ask, asking, asked_at, begun, tidy_new, tidy_plan, tidy_after}
+use Rattle.rht_grace.specs.TidyLaws.{Tidied, with_batch, TidiesSoon}
 use Rattle.rht_grace.specs.declared.tidy.TidyAt.{TidyAt}
 use Rattle.rht_grace.specs.declared.tidy.TidyAt.TheVariants as at
 use Rattle.rht_grace.proofs.BatchNodes.{IsBatch-with_word, IsBatch-turned, waiting-most}

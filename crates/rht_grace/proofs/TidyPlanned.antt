@@ -1,6 +1,6 @@
 -- On which words a tidying works: section words, and the words of the map of nodes. Whatever words it finds, its batch stays sound and
 -- its state names callers and nodes that are there.
-use Rattle.std.proofs.Common.{◌≡◌, ℕ, zero, suc, ◌+◌, ◌<◌, ◌≤◌, List, [], ◌∷◌, length, get_or, Bool, true, false, ◌==◌, Option, Some, None, refl, sym, ap, subst, inl, inr, arith}
+use Rattle.std.proofs.Common.{◌≡◌, ℕ, zero, suc, ◌+◌, ◌<◌, List, [], ◌∷◌, length, get_or, Bool, true, false, ◌==◌, Option, Some, None, refl, sym, ap, subst, inl, inr, arith}
 use Rattle.std.specs.Prelude.{nat_lt, if◌then◌else◌}
 use Rattle.std.specs.List.{AllByRecursion}
 use Rattle.std.proofs.lemmas.Bool.{ltb-true}
@@ -13,8 +13,8 @@ use Rattle.rht_words.proofs.PlannedWords.{planned_load}
 use Rattle.rht_model.specs.declared.history.Reply.TheVariants.{Clear, Pending}
 use Rattle.rht_arena.proofs.NodesPlanned.{planned_give}
 use Rattle.rht_grace.specs.Batch.{BatchModel, IsBatch, turned, with_word, cleared, first_odd}
-use Rattle.rht_grace.specs.Tidy.{load_of, give_of, plan_at, after_at, giving, ask, asking, keeping, asked_at, begun, IsTidyAtIn}
-use Rattle.rht_grace.specs.TidyLaws.{LoadsSection, IsTidyStep, TidiesWithin}
+use Rattle.rht_grace.specs.Tidy.{load_of, plan_at, after_at, giving, ask, asking, keeping, asked_at, begun, IsTidyAtIn}
+use Rattle.rht_grace.specs.TidyLaws.{IsTidyStep, TidiesWithin}
 use Rattle.rht_grace.specs.declared.tidy.TidyAt.{TidyAt}
 use Rattle.rht_grace.specs.declared.tidy.TidyAt.TheVariants as at
 use Rattle.rht_grace.proofs.BatchNodes.{IsBatch-cleared, IsBatch-with_word, IsBatch-turned, waiting-node, waiting-most}

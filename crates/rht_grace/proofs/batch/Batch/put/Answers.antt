@@ -1,4 +1,4 @@
-use Rattle.std.proofs.Common.{◌≡◌, ◌<◌, ◌++◌, length, refl, sym, ap, subst, arith}
+use Rattle.std.proofs.Common.{◌++◌, sym, ap, subst, arith}
 use Rattle.rht_words.specs.Members.{NotIn}
 use Rattle.rht_grace.proofs.BatchNodes.{fresh_room, IsBatch-with_fresh}
 use Rattle.rht_grace.proofs.batch.Batch.put.Goals as goal

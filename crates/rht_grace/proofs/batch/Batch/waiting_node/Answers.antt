@@ -1,4 +1,4 @@
-use Rattle.std.proofs.Common.{◌<◌, get_or, ap, subst, arith}
+use Rattle.std.proofs.Common.{ap, arith}
 use Rattle.rht_grace.proofs.BatchNodes.{waiting-node}
 use Rattle.rht_grace.proofs.batch.Batch.waiting_node.Goals as goal
 
