@@ -2,3 +2,15 @@
 pub mod SectionsPlanned
 -- each turns the lowest bit of that word
 mod SectionsTurned
+-- the nodes of a batch stay the table's, and none of them stands there twice
+pub mod BatchNodes
+-- which caller is asked first
+pub mod OddWords
+-- what comes of a tidying, operation by operation
+pub mod TidyRuns
+-- it gives back what it says
+mod TidyAnswers
+-- it ends soon
+mod TidyBounds
+-- each of its operations is one of two, on one of the table's words
+pub mod TidyPlanned

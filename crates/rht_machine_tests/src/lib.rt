@@ -23,3 +23,5 @@ mod nest;
 mod release;
 #[cfg(test)]
 mod resize;
+#[cfg(test)]
+mod tidy;
