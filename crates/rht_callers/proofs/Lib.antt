@@ -1,3 +1,5 @@
+-- a caller's batch lies with it or in a tidying, and is one of the table
+pub mod BatchesOfCallers
 -- how a call begins, and that who is in no call plans no operation
 pub mod CallBeginnings
 -- what is so of a machine that goes on is so of what its caller does next

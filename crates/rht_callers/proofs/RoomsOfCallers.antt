@@ -21,8 +21,9 @@ use Rattle.rht_release.specs.declared.all.AllAt.{AllAt}
 use Rattle.rht_release.specs.declared.all.AllAt.TheVariants as alls
 use Rattle.rht_callers.specs.declared.local.Local.{Local}
 use Rattle.rht_callers.specs.declared.local.Doing.{Doing}
-use Rattle.rht_callers.specs.declared.local.Doing.TheVariants.{Idle, Finding, Binding, Listing, Releasing, Rebinding, Working, Counting}
+use Rattle.rht_callers.specs.declared.local.Doing.TheVariants.{Idle, Finding, Binding, Listing, Releasing, Rebinding, Working, Counting, Tidying}
 use Rattle.rht_callers.specs.Locals.{does_nothing, is_idle, machine_of, doing_after, doing_next, without_node, owners_room, owners_beside, owners_after, room_given}
+use Rattle.rht_grace.specs.Tidy.{tidy_after}
 use Rattle.rht_callers.proofs.CallBeginnings.{begins_so}
 
 -- an operation of a listing leaves its room's limit
@@ -94,6 +95,7 @@ module _ (M : Type 0) where
       let next = rebind_after mix m old in beside-limit Rebinding room (λ n. refl) (next.0, without_node next.1)
   owners_after-limit mix (Working m) room old = beside-limit Working room (λ n. refl) (work_after mix m old)
   owners_after-limit mix (Counting m) room old = refl
+  owners_after-limit mix (Tidying m) room old = beside-limit Tidying room (λ n. refl) (tidy_after m old)
 
   listed_next-stays : (m : AllModel) (after room : Kept ℕ) (next : AllAt × Next (Unit {0}))
       → let r = moved m after next in (doing_next {M = M} Listing r).1 ≡ None → room_given r room ≡ room

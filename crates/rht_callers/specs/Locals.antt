@@ -17,10 +17,13 @@ use Rattle.rht_words.specs.declared.config.Kind.TheVariants.{Single, Listed}
 use Rattle.rht_release.specs.Release.{release_new, release_plan, release_after}
 use Rattle.rht_release.specs.Rebind.{rebind_new, rebind_plan, rebind_after}
 use Rattle.rht_move.specs.Work.{work_new, work_plan, work_after}
+use Rattle.rht_grace.specs.Batch.{batch_new}
+use Rattle.rht_grace.specs.Tidy.{tidy_plan, tidy_after}
+use Rattle.rht_callers.specs.Batches.{IsBatchIn, batch_room, batch_beside, batch_after}
 use Rattle.rht_callers.specs.PortCounts.{count_plan, count_after}
 use Rattle.rht_callers.specs.declared.local.Local.{Local}
 use Rattle.rht_callers.specs.declared.local.Doing.{Doing}
-use Rattle.rht_callers.specs.declared.local.Doing.TheVariants.{Idle, Finding, Binding, Listing, Releasing, Rebinding, Working, Counting}
+use Rattle.rht_callers.specs.declared.local.Doing.TheVariants.{Idle, Finding, Binding, Listing, Releasing, Rebinding, Working, Counting, Tidying}
 
 -- an empty room for one item a node
 abbrev pub room_for_nodes : {A : Type 0} → Env → Kept A
@@ -49,13 +52,14 @@ module _ {M : Type 0} where
   does_nothing (Rebinding m) = false
   does_nothing (Working m) = false
   does_nothing (Counting m) = false
+  does_nothing (Tidying m) = false
 
   -- a rebind is built for tables of one owner each alone
   abbrev pub rebinding_of : Env → ℕ → ℕ → ℕ → ℕ → Kind → Option (Doing M)
   rebinding_of env caller port owner new Single = Some (Rebinding (rebind_new env caller port owner new))
   rebinding_of env caller port owner new Listed = None
 
-  -- what a caller does that is given a call; none where there is no such machine yet
+  -- what a caller does that is given a call; none where it can't be given one yet: a tidying isn't begun
   abbrev pub machine_of : Env → ℕ → Call → Option (Doing M)
   machine_of env caller (Find port) = Some (Finding (find_new env caller port))
   machine_of env caller (Bind port owner once) = Some (Binding (bind_new env caller port owner once))
@@ -76,6 +80,7 @@ module _ {M : Type 0} where
   doing_plan (Rebinding m) = Some (rebind_plan m)
   doing_plan (Working m) = Some (work_plan m)
   doing_plan (Counting m) = Some (count_plan m)
+  doing_plan (Tidying m) = Some (tidy_plan m)
 
   -- while its machine goes on a caller does what that is, and is idle once its call has a reply
   abbrev pub doing_next : {A : Type 0} → (A → Doing M) → A × Next Reply → Doing M × Option Reply
@@ -94,6 +99,7 @@ module _ {M : Type 0} where
       let next = rebind_after mix m old in doing_next Rebinding (next.0, without_node next.1)
   doing_after mix (Working m) old = doing_next Working (work_after mix m old)
   doing_after mix (Counting m) old = doing_next Counting (count_after m old)
+  doing_after mix (Tidying m) old = doing_next Tidying (tidy_after m old)
 
   -- it does this in the table of this environment
   abbrev pub IsDoingOf : Env → Doing M → Type 0
@@ -105,6 +111,7 @@ module _ {M : Type 0} where
   IsDoingOf env (Rebinding m) = m.env ≡ env
   IsDoingOf env (Working m) = m.env ≡ env
   IsDoingOf env (Counting m) = m.env ≡ env
+  IsDoingOf env (Tidying m) = m.geometry ≡ env.geometry
 
   -- ---- the room of owners, which a listing has while it runs
 
@@ -118,6 +125,7 @@ module _ {M : Type 0} where
   owners_room (Rebinding m) room = room
   owners_room (Working m) room = room
   owners_room (Counting m) room = room
+  owners_room (Tidying m) room = room
 
   -- the room of its caller once it has begun
   abbrev pub owners_beside : Doing M → Kept ℕ → Kept ℕ
@@ -129,6 +137,7 @@ module _ {M : Type 0} where
   owners_beside (Rebinding m) room = emptied room
   owners_beside (Working m) room = emptied room
   owners_beside (Counting m) room = emptied room
+  owners_beside (Tidying m) room = emptied room
 
   -- the room of its caller after its operation found this value
   abbrev pub owners_after : (ℕ → ℕ → ℕ → ℕ) → Doing M → Kept ℕ → ℕ → Kept ℕ
@@ -140,22 +149,32 @@ module _ {M : Type 0} where
   owners_after mix (Rebinding m) room old = room
   owners_after mix (Working m) room old = room
   owners_after mix (Counting m) room old = room
+  owners_after mix (Tidying m) room old = room
 
 -- ---- a caller with its rooms
 
 module _ {M : Type 0} where
-  -- it has made no call, and has rooms for all nodes
+  -- it has made no call, and has rooms for all nodes, and a batch without nodes
   abbrev pub fresh : Env → Local M
-  fresh env = record { doing = Idle; owners = room_for_nodes env; pairs = room_for_nodes env }
+  fresh env = record {
+    doing = Idle;
+    owners = room_for_nodes env;
+    pairs = room_for_nodes env;
+    batch = Some (batch_new env.geometry);
+  }
 
   -- it is in no call
   abbrev pub is_idle : Local M → Bool
   is_idle local = does_nothing local.doing
 
-  -- it begins with this: both rooms are emptied, and a listing has the room of owners
+  -- it begins with this: both rooms are emptied, a listing has the room of owners, and a tidying the batch
   abbrev pub begin_with : Local M → Doing M → Local M
-  begin_with local doing =
-      record { doing = doing; owners = owners_beside doing local.owners; pairs = emptied local.pairs }
+  begin_with local doing = record {
+    doing = doing;
+    owners = owners_beside doing local.owners;
+    pairs = emptied local.pairs;
+    batch = batch_beside doing local.batch;
+  }
 
   -- it begins with this, where there is a machine for its call
   abbrev pub begun_with : Local M → Option (Doing M) → Local M
@@ -169,8 +188,14 @@ module _ {M : Type 0} where
   -- what becomes of it after its operation found this value, and the reply where the call has ended
   abbrev pub local_after : (ℕ → ℕ → ℕ → ℕ) → Local M → ℕ → Local M × Option Reply
   local_after mix local old =
-      let next = doing_after mix local.doing old in
-      (record local { doing = next.0; owners = owners_after mix local.doing local.owners old }, next.1)
+      let next = doing_after mix local.doing old in (
+        record local {
+          doing = next.0;
+          owners = owners_after mix local.doing local.owners old;
+          batch = batch_after mix local.doing local.batch old;
+        },
+        next.1,
+      )
 
   -- how its call has ended, where there is a reply: the lists that came with it are those in its rooms
   abbrev pub ending_of : Local M → Option Reply → Option Ending
@@ -178,7 +203,9 @@ module _ {M : Type 0} where
   ending_of local (Some reply) =
       Some (record { answer = record { reply = reply; owners = local.owners.items }; pairs = local.pairs.items })
 
-  -- it does what it does in the table of this environment, and its room of owners may have one item a node
+  -- it does what it does in the table of this environment, its room of owners may have one item a node, and
+  -- its batch is one of the table
   pub record IsLocalOf (env : Env) (local : Local M) : Type 0 where
     pub doing : IsDoingOf env local.doing
     pub owners : (owners_room local.doing local.owners).limit ≡ env.geometry.nodes
+    pub batch : IsBatchIn env (batch_room local.doing local.batch)

@@ -1,14 +1,16 @@
 //! One caller: what it is doing, and its rooms.
 
-ghost use Rattle.std.specs.Prelude.{◌≡◌, ◌<◌, IfSome, IfOk};
+ghost use Rattle.std.specs.Prelude.{◌≡◌, ◌<◌, IfSome, IfOk, Some};
 ghost use Rattle.rht_words.specs.Operations.{op_place};
 ghost use Rattle.rht_words.specs.Places.{words_in};
 ghost use Rattle.rht_words.specs.declared.env.Env.{Env};
 ghost use Rattle.rht_callers.specs.Locals.{does_nothing, is_idle, machine_of, doing_plan, plan_of, doing_after, without_node, owners_after, local_after, begun_with, fresh, IsDoingOf, IsLocalOf};
+ghost use Rattle.rht_callers.specs.Batches.{with_out, node_out, out_of, batch_after, CanPut};
 
 use crate::count::PortCount;
 use rht_bind::Bind;
 use rht_find::Find;
+use rht_grace::{Batch, Tidy};
 use rht_model::{Call, Reply, Room};
 use rht_move::Work;
 use rht_policy::Mix;
@@ -35,6 +37,8 @@ pub enum Doing<M: Mix> {
     Working(Work<M>),
     /// It reads how many ports are bound.
     Counting(PortCount),
+    /// It gives back the nodes that it took out. Until it ends it has its caller's batch.
+    Tidying(Tidy),
 }
 
 impl<M: Mix> Doing<M> {
@@ -50,7 +54,8 @@ impl<M: Mix> Doing<M> {
             | Doing::Releasing(_)
             | Doing::Rebinding(_)
             | Doing::Working(_)
-            | Doing::Counting(_) => false,
+            | Doing::Counting(_)
+            | Doing::Tidying(_) => false,
         }
     }
 
@@ -68,14 +73,23 @@ impl<M: Mix> Doing<M> {
             Doing::Rebinding(rebind) => Some(rebind.plan()),
             Doing::Working(work) => Some(work.plan()),
             Doing::Counting(count) => Some(count.plan()),
+            Doing::Tidying(tidy) => Some(tidy.plan()),
         }
     }
 
-    /// Takes in the old value of the word that the operation was on. A reply ends the call, and a
-    /// listing that ends gives the room back to `owners`.
-    pub fn take(&mut self, owners: &mut Room<u32>, old: u64) -> Option<Reply>
+    /// Takes in the old value of the word that the operation was on. A reply ends the call. A
+    /// listing that ends gives the room back to `owners`, and a tidying the batch to `batch`. A node
+    /// that a release or a rebind has taken out goes into the batch.
+    pub fn take(
+        &mut self,
+        owners: &mut Room<u32>,
+        batch: &mut Option<Batch>,
+        old: u64,
+    ) -> Option<Reply>
+        requires put { CanPut batch.old (out_of M.mix_of self.old old) }
         ensures taken { (self.new, result) ≡ doing_after M.mix_of self.old old }
         ensures owners { owners.new ≡ owners_after M.mix_of self.old owners.old old }
+        ensures batch { batch.new ≡ batch_after M.mix_of self.old batch.old old }
         ensures env { (env : Env) → IsDoingOf env self.old → IsDoingOf env self.new }
     {
         let next = match self {
@@ -83,17 +97,19 @@ impl<M: Mix> Doing<M> {
             Doing::Finding(find) => find.take(old),
             Doing::Binding(bind) => bind.take(old),
             Doing::Listing(all) => all.take(old),
-            Doing::Releasing(release) => without_node(release.take(old)),
-            Doing::Rebinding(rebind) => without_node(rebind.take(old)),
+            Doing::Releasing(release) => without_node(release.take(old), batch),
+            Doing::Rebinding(rebind) => without_node(rebind.take(old), batch),
             Doing::Working(work) => work.take(old),
             Doing::Counting(count) => count.take(old),
+            Doing::Tidying(tidy) => tidy.take(old),
         };
         match next {
             Next::Go => None,
             Next::Done(reply) => {
-                let ended = std::mem::replace(self, Doing::Idle);
-                if let Doing::Listing(all) = ended {
-                    *owners = all.into_parts();
+                match std::mem::replace(self, Doing::Idle) {
+                    Doing::Listing(all) => *owners = all.into_parts(),
+                    Doing::Tidying(tidy) => *batch = Some(tidy.into_parts()),
+                    _ => {}
                 }
                 Some(reply)
             }
@@ -101,13 +117,30 @@ impl<M: Mix> Doing<M> {
     }
 }
 
-/// The reply, without the node that was taken out: it goes to no list, and its bit stays clear.
-fn without_node(next: Next<(Reply, Option<u32>)>) -> Next<Reply>
-    ensures { result ≡ without_node next }
+/// The reply. A node that was taken out goes into the batch.
+fn without_node(next: Next<(Reply, Option<u32>)>, batch: &mut Option<Batch>) -> Next<Reply>
+    requires { CanPut batch.old (node_out next) }
+    ensures reply { result ≡ without_node next }
+    ensures batch { batch.new ≡ with_out batch.old (node_out next) }
 {
     match next {
         Next::Go => Next::Go,
-        Next::Done((reply, _)) => Next::Done(reply),
+        Next::Done((reply, removed)) => {
+            if let Some(node) = removed {
+                put(batch, node);
+            }
+            Next::Done(reply)
+        }
+    }
+}
+
+/// Puts a node into the batch.
+fn put(batch: &mut Option<Batch>, node: u32)
+    requires { CanPut batch.old (Some node) }
+    ensures { batch.new ≡ with_out batch.old (Some node) }
+{
+    if let Some(batch) = batch {
+        batch.put(node);
     }
 }
 
@@ -121,6 +154,9 @@ pub struct Local<M: Mix> {
     pub owners: Room<u32>,
     /// The pairs that came with `Walked`, once the call has ended.
     pub pairs: Room<(Port, u32)>,
+    /// The nodes that its calls took out and that aren't given back. `None` while the caller tidies:
+    /// then the tidying has them.
+    pub batch: Option<Batch>,
 }
 
 impl<M: Mix> Local<M> {
@@ -132,6 +168,7 @@ impl<M: Mix> Local<M> {
             doing: Doing::Idle,
             owners: Room::with_limit(alloc, env.geometry.nodes)?,
             pairs: Room::with_limit(alloc, env.geometry.nodes)?,
+            batch: Some(Batch::new(alloc, env.geometry)?),
         })
     }
 
@@ -159,7 +196,7 @@ impl<M: Mix> Local<M> {
     }
 
     /// Begins a call, and empties both rooms; no memory is taken or given back. It does nothing for a
-    /// call of which there is no machine yet: `walk` and `tidy`, and `rebind` in a table of lists.
+    /// call which isn't begun yet: `walk` and `tidy`, and `rebind` in a table of lists.
     pub fn begin(&mut self, env: Env, caller: u32, call: Call)
         requires owners { self.old.owners.limit ≡ env.geometry.nodes }
         requires caller { caller < 16 }
@@ -194,11 +231,13 @@ impl<M: Mix> Local<M> {
         self.doing.plan()
     }
 
-    /// Takes in the old value of the word that the operation was on. A reply ends the call.
+    /// Takes in the old value of the word that the operation was on. A reply ends the call. A node that
+    /// the call has taken out goes into the batch, so it has to be none of those that are in it.
     pub fn take(&mut self, old: u64) -> Option<Reply>
+        requires put { CanPut self.old.batch (out_of M.mix_of self.old.doing old) }
         ensures taken { (self.new, result) ≡ local_after M.mix_of self.old old }
         ensures env { (env : Env) → IsLocalOf env self.old → IsLocalOf env self.new }
     {
-        self.doing.take(&mut self.owners, old)
+        self.doing.take(&mut self.owners, &mut self.batch, old)
     }
 }

@@ -30,9 +30,12 @@ use Rattle.rht_move.specs.WorkHeld.{held_of_work}
 use Rattle.rht_move.specs.declared.work.WorkAt.{WorkAt}
 use Rattle.rht_move.specs.declared.work.WorkAt.TheVariants as works_at
 use Rattle.rht_callers.specs.Locals.{room_for_nodes}
+use Rattle.rht_grace.specs.Batch.{BatchModel}
+use Rattle.rht_grace.specs.Tidy as tidy
+use Rattle.rht_grace.specs.declared.tidy.TidyAt.{TidyAt}
 use Rattle.rht_callers.specs.PortCounts.{count_plan_in}
 use Rattle.rht_callers.specs.declared.local.Doing.{Doing}
-use Rattle.rht_callers.specs.declared.local.Doing.TheVariants.{Idle, Finding, Binding, Releasing, Rebinding, Listing, Working, Counting}
+use Rattle.rht_callers.specs.declared.local.Doing.TheVariants.{Idle, Finding, Binding, Releasing, Rebinding, Listing, Working, Counting, Tidying}
 use Rattle.rht_words.specs.declared.config.Kind.{Kind}
 use Rattle.rht_words.specs.declared.config.Kind.TheVariants.{Single, Listed}
 use Rattle.rht_release.specs.Release as release
@@ -43,8 +46,9 @@ use Rattle.rht_release.specs.Rebind as rebind
 use Rattle.rht_release.specs.RebindHeld.{held_of_rebind}
 use Rattle.rht_release.specs.declared.rebind.RebindAt.{RebindAt}
 
--- a look-up of a port, a bind of a port to an owner, a listing of a port's owners with its room, a release, a rebind and a
--- resizing of the table, each with the state in which it is; and a reading of how many ports are bound
+-- a look-up of a port, a bind of a port to an owner, a listing of a port's owners with its room, a release, a rebind, a
+-- resizing of the table, and a tidying of its caller's batch, each with the state in which it is; and a reading of how many
+-- ports are bound
 pub data Job : Type 0 where
   finds : (port : ℕ) (state : FindAt) → Job
   binds : (port owner : ℕ) (once : Bool) (state : BindAt) → Job
@@ -52,6 +56,7 @@ pub data Job : Type 0 where
   releases : (port owner : ℕ) (state : ReleaseAt) → Job
   rebinds : (port owner new : ℕ) (state : RebindAt) → Job
   works : (state : WorkAt) → Job
+  tidies : (batch : BatchModel) (state : TidyAt) → Job
   counts : Job
 
 -- the call that it does
@@ -62,6 +67,7 @@ call_of (lists port room state) = All port
 call_of (releases port owner state) = Release port owner
 call_of (rebinds port owner new state) = Rebind port owner new
 call_of (works state) = Work
+call_of (tidies batch state) = Tidy
 call_of counts = Count
 
 -- the job with which a call begins; none for a call of which there is no machine yet
@@ -69,16 +75,21 @@ abbrev pub first_rebind : Env → ℕ → ℕ → ℕ → Kind → Option Job
 first_rebind env port owner new Single = Some (rebinds port owner new (rebind.first_state env port new))
 first_rebind env port owner new Listed = None
 
-abbrev pub first_job : Env → Call → Option Job
-first_job env (Find port) = Some (finds port Opening)
-first_job env (Bind port owner once) = Some (binds port owner once (bind.first_state env port owner))
-first_job env (All port) = Some (lists port (room_for_nodes env) alls.Opening)
-first_job env (Release port owner) = Some (releases port owner releasing.Opening)
-first_job env (Rebind port owner new) = first_rebind env port owner new env.config.kind
-first_job env (Walk from limit) = None
-first_job env Work = Some (works works_at.WorkLock)
-first_job env Tidy = None
-first_job env Count = Some counts
+abbrev pub first_tidy : Option BatchModel → Option Job
+first_tidy None = None
+first_tidy (Some batch) = Some (tidies (tidy.begun batch).0 (tidy.begun batch).1)
+
+-- it is that of a caller who has this batch
+abbrev pub first_job : Env → Option BatchModel → Call → Option Job
+first_job env batch (Find port) = Some (finds port Opening)
+first_job env batch (Bind port owner once) = Some (binds port owner once (bind.first_state env port owner))
+first_job env batch (All port) = Some (lists port (room_for_nodes env) alls.Opening)
+first_job env batch (Release port owner) = Some (releases port owner releasing.Opening)
+first_job env batch (Rebind port owner new) = first_rebind env port owner new env.config.kind
+first_job env batch (Walk from limit) = None
+first_job env batch Work = Some (works works_at.WorkLock)
+first_job env batch Tidy = first_tidy batch
+first_job env batch Count = Some counts
 
 -- the operation that this caller performs next for it
 abbrev pub job_plan : Env → ℕ → Job → Op
@@ -88,6 +99,7 @@ job_plan env caller (lists port room state) = all.plan_at env caller state
 job_plan env caller (releases port owner state) = release.plan_at env caller state
 job_plan env caller (rebinds port owner new state) = rebind.plan_at env caller state
 job_plan env caller (works state) = work.plan_at env caller state
+job_plan env caller (tidies batch state) = tidy.plan_at env.geometry batch state
 job_plan env caller counts = count_plan_in env
 
 -- the job goes on in its machine's next state, or its call has ended so
@@ -103,6 +115,13 @@ listing_ending room done = record { answer = listing_of room.items; pairs = [] }
 abbrev pub node_ending : Reply × Option ℕ → Ending
 node_ending end = plain_ending end.0
 
+-- a tidying's state is that of its batch and its machine
+abbrev pub tidying : BatchModel × TidyAt → Job
+tidying (batch, state) = tidies batch state
+
+abbrev pub tidied : BatchModel × TidyAt × Next Reply → (BatchModel × TidyAt) × Next Reply
+tidied (batch, state, next) = ((batch, state), next)
+
 -- what becomes of it after its operation found this value
 abbrev pub job_after : (ℕ → ℕ → ℕ → ℕ) → Env → Job → ℕ → Job × Next Ending
 job_after mix env (finds port state) old =
@@ -117,6 +136,8 @@ job_after mix env (releases port owner state) old =
 job_after mix env (rebinds port owner new state) old =
     job_next (rebinds port owner new) node_ending (rebind.after_at mix env port owner state old)
 job_after mix env (works state) old = job_next works plain_ending (work.after_at mix env state old)
+job_after mix env (tidies batch state) old =
+    job_next tidying plain_ending (tidied (tidy.after_at env.geometry batch state old))
 job_after mix env counts old = (counts, Done (plain_ending (Counted old)))
 
 -- the job of what a caller does
@@ -129,6 +150,7 @@ job_of (Releasing m) = Some (releases m.port m.owner m.at)
 job_of (Rebinding m) = Some (rebinds m.port m.owner m.new_owner m.at)
 job_of (Working m) = Some (works m.at)
 job_of (Counting m) = Some counts
+job_of (Tidying m) = Some (tidies m.batch m.at)
 
 -- what is left of a job after an operation, and how its call has ended where it has
 abbrev pub told : Job × Next Ending → Option Job × Option Ending
@@ -146,6 +168,7 @@ held_of (lists port room state) = held_of_all room.items state
 held_of (releases port owner state) = held_of_release state
 held_of (rebinds port owner new state) = held_of_rebind state
 held_of (works state) = held_of_work state
+held_of (tidies batch state) = held.holds_nothing
 held_of counts = held.holds_nothing
 
 -- and after an operation; once the call has ended it holds nothing, and its answer is known

@@ -15,6 +15,8 @@ use Rattle.rht_release.specs.All.{IsAllIn}
 use Rattle.rht_release.specs.Release.{IsReleaseIn}
 use Rattle.rht_release.specs.Rebind.{IsRebindIn}
 use Rattle.rht_move.specs.Work.{IsWorkIn}
+use Rattle.rht_grace.specs.Tidy.{TidyModel, IsTidyAtIn}
+use Rattle.rht_callers.specs.Batches.{IsBatchIn, IsSoundBatch, batch_room}
 use Rattle.rht_model.specs.declared.history.Call.{Call}
 use Rattle.rht_model.specs.declared.history.Call.TheVariants.{Bind, Find, All, Release, Rebind, Walk, Work, Tidy, Count}
 use Rattle.rht_model.specs.declared.history.Reply.{Reply}
@@ -24,7 +26,7 @@ use Rattle.rht_core.specs.declared.event.Event.{Event}
 use Rattle.rht_core.specs.declared.event.Event.TheVariants.{Enroll, Begin, Step}
 use Rattle.rht_callers.specs.declared.local.Local.{Local}
 use Rattle.rht_callers.specs.declared.local.Doing.{Doing}
-use Rattle.rht_callers.specs.declared.local.Doing.TheVariants.{Idle, Finding, Binding, Releasing, Rebinding, Listing, Working, Counting}
+use Rattle.rht_callers.specs.declared.local.Doing.TheVariants.{Idle, Finding, Binding, Releasing, Rebinding, Listing, Working, Counting, Tidying}
 use Rattle.rht_callers.specs.Locals.{fresh, owners_room, begin_with, plan_of, local_after, ending_of}
 use Rattle.rht_core.specs.Runs.{Core, World, View, core_step, world_step, run_of, local_of, planned_in, view_of, new_book, book_begun, book_after, IsSound, IsAdmitted, IsAdmittedEvent}
 use Rattle.rht_core.specs.Replies.{AnswersIn}
@@ -45,6 +47,12 @@ module _ {M : Type 0} where
 
 -- ---- what a caller's state names
 
+-- a tidying is of a batch of this table, and names callers and nodes that are there
+pub record IsTidyingIn (env : Env) (m : TidyModel) : Type 0 where
+  pub same_geometry : m.geometry ≡ env.geometry
+  pub same_batch : m.batch.geometry ≡ m.geometry
+  pub at_in : IsTidyAtIn m.batch m.at
+
 module _ {M : Type 0} where
   -- what this caller does is in range
   abbrev pub IsDoingIn : Env → ℕ → Doing M → Type 0
@@ -56,12 +64,15 @@ module _ {M : Type 0} where
   IsDoingIn env c (Rebinding m) = IsRebindIn env c m
   IsDoingIn env c (Working m) = IsWorkIn env c m
   IsDoingIn env c (Counting m) = m.env ≡ env
+  IsDoingIn env c (Tidying m) = IsTidyingIn env m
 
-  -- and its rooms may have one item a node
+  -- its rooms may have one item a node; and the nodes of its batch are the table's, and differ
   pub record IsLocalIn (env : Env) (c : ℕ) (local : Local M) : Type 0 where
     pub doing : IsDoingIn env c local.doing
     pub owners : (owners_room local.doing local.owners).limit ≡ env.geometry.nodes
     pub pairs : local.pairs.limit ≡ env.geometry.nodes
+    pub batch : IsBatchIn env (batch_room local.doing local.batch)
+    pub sound : IsSoundBatch (batch_room local.doing local.batch)
 
 -- all words and callers are there, what each caller does is in range, and so is the operation that it plans
 pub record IsInRange {M : Type 0} (env : Env) (core : Core M) : Type 0 where

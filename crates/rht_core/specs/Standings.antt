@@ -7,7 +7,7 @@ use Rattle.rht_release.specs.AllStanding.{standing_of_all}
 use Rattle.rht_release.specs.ReleaseStanding.{standing_of_release}
 use Rattle.rht_release.specs.RebindStanding.{standing_of_rebind}
 use Rattle.rht_move.specs.WorkStanding.{standing_of_work}
-use Rattle.rht_core.specs.Jobs.{Job, finds, binds, lists, releases, rebinds, works, counts, job_of}
+use Rattle.rht_core.specs.Jobs.{Job, finds, binds, lists, releases, rebinds, works, tidies, counts, job_of}
 use Rattle.rht_core.specs.Runs.{Core, local_of}
 
 abbrev pub standing_of : Job → Standing
@@ -17,6 +17,7 @@ standing_of (lists port room state) = standing_of_all state
 standing_of (releases port owner state) = standing_of_release state
 standing_of (rebinds port owner new state) = standing_of_rebind state
 standing_of (works state) = standing_of_work state
+standing_of (tidies batch state) = stands_nowhere
 standing_of counts = stands_nowhere
 
 -- a caller in no call stands nowhere

@@ -1,9 +1,12 @@
-use Rattle.std.proofs.Common.{ℕ, ap, ◌∙◌}
+use Rattle.std.proofs.Common.{ℕ, ap, ◌∙◌, sym, subst}
 use Rattle.std.specs.Prelude.{Option}
+use Rattle.rht_grace.specs.Batch.{BatchModel}
 use Rattle.rht_model.specs.declared.history.Reply.{Reply}
 use Rattle.rht_model.specs.Rooms.{Kept}
 use Rattle.rht_callers.specs.declared.local.Doing.{Doing}
 use Rattle.rht_callers.specs.Locals.{doing_after, owners_room}
+use Rattle.rht_callers.specs.Batches.{IsBatchIn, batch_room}
+use Rattle.rht_callers.proofs.BatchesOfCallers.{batch_after-in}
 use Rattle.rht_callers.proofs.RoomsOfCallers.{owners_after-limit}
 use Rattle.rht_callers.proofs.local.Local.take.Goals as goal
 
@@ -22,4 +25,10 @@ returns-clause-env g c env of =
           c.take.ensures.owners
           ∙ owners_after-limit g.row.M.Denot mix local.doing local.owners old
           ∙ of.owners;
+      batch =
+          subst (λ (next : Doing g.row.M.Denot × Option Reply). IsBatchIn env (batch_room next.0 c.take.new.batch))
+          (sym c.take.ensures.taken)
+          (subst (λ (batch : Option BatchModel). IsBatchIn env (batch_room (doing_after mix local.doing old).0 batch))
+          (sym c.take.ensures.batch)
+          (batch_after-in g.row.M.Denot mix env local.doing local.batch old of.batch));
     }
