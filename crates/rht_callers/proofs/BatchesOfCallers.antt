@@ -1,8 +1,9 @@
 -- A caller's batch is one of the table, wherever it lies: with its caller, or in a tidying, which takes it as it begins and gives it
 -- back as it ends. Only a tidying, and a call that hands out a node, changes it.
-use Rattle.std.proofs.Common.{◌≡◌, ℕ, true, refl, sym, ◌∙◌, subst, ◌+◌, Bool, false}
+use Rattle.std.proofs.Common.{◌≡◌, ℕ, true, refl, sym, ◌∙◌, subst, ◌+◌, ◌<◌, ◌∷◌, ◌++◌, [], Bool, false}
 use Rattle.std.specs.Prelude.{Option, Some, None, length, nat_lt, if◌then◌else◌}
 use Rattle.rht_words.specs.declared.env.Env.{Env}
+use Rattle.rht_words.proofs.EachElement.{AllByRecursion-append, AllByRecursion-cut}
 use Rattle.rht_words.specs.declared.geometry.Geometry.{Geometry}
 use Rattle.rht_words.specs.declared.machine.Next.{Next}
 use Rattle.rht_words.specs.declared.machine.Next.TheVariants.{Go, Done}
@@ -17,7 +18,7 @@ use Rattle.rht_grace.proofs.TidyPlanned.{tidy_stays}
 use Rattle.rht_callers.specs.declared.local.Local.{Local}
 use Rattle.rht_callers.specs.declared.local.Doing.{Doing}
 use Rattle.rht_callers.specs.declared.local.Doing.TheVariants.{Idle, Finding, Binding, Listing, Releasing, Rebinding, Working, Counting, Tidying}
-use Rattle.rht_callers.specs.Batches.{IsBatchIn, IsSoundBatch, CanPut, with_out, node_out, out_of, batch_given, batch_room, batch_beside, batch_after}
+use Rattle.rht_callers.specs.Batches.{IsBatchIn, AreNodesIn, IsSoundBatch, CanPut, with_out, node_out, out_of, batch_given, batch_room, batch_beside, batch_after}
 use Rattle.rht_callers.specs.Locals.{does_nothing, is_idle, machine_of, doing_after, doing_next, without_node}
 use Rattle.rht_find.specs.Find.{find_after}
 use Rattle.rht_bind.specs.Bind.{bind_after}
@@ -63,6 +64,17 @@ IsBatchIn-out : (env : Env) (batch : Option BatchModel) (removed : Option ℕ) �
 IsBatchIn-out env None removed is = is
 IsBatchIn-out env (Some batch) None is = is
 IsBatchIn-out env (Some batch) (Some node) is = is
+
+-- its nodes stay below a number, where one that is put in is
+pub AreNodesIn-out : (nodes : ℕ) (batch : Option BatchModel) (removed : Option ℕ)
+    → ((node : ℕ) → removed ≡ Some node → node < nodes) → AreNodesIn nodes batch → AreNodesIn nodes (with_out batch removed)
+AreNodesIn-out nodes None removed low is = is
+AreNodesIn-out nodes (Some batch) None low is = is
+AreNodesIn-out nodes (Some batch) (Some node) low is =
+    let Below : ℕ → Type 0 = λ n. n < nodes in
+    let parts = AllByRecursion-cut Below batch.fresh batch.waiting is in
+    AllByRecursion-append Below (batch.fresh ++ node ∷ []) batch.waiting
+    (AllByRecursion-append Below batch.fresh (node ∷ []) parts.0 (low node refl, tt)) parts.1
 
 pub IsSoundBatch-out : (batch : Option BatchModel) (removed : Option ℕ) → CanPut batch removed → IsSoundBatch batch
     → IsSoundBatch (with_out batch removed)

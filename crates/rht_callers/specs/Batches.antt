@@ -1,5 +1,6 @@
 -- The nodes that a caller's calls took out: they go into its batch, which a tidying has while it runs.
 use Rattle.std.specs.Prelude.{◌≡◌, ℕ, ◌<◌, ◌++◌, Option, Some, None}
+use Rattle.std.specs.List.{AllByRecursion}
 use Rattle.rht_words.specs.declared.env.Env.{Env}
 use Rattle.rht_words.specs.declared.machine.Next.{Next}
 use Rattle.rht_words.specs.declared.machine.Next.TheVariants.{Go, Done}
@@ -17,7 +18,12 @@ abbrev pub IsBatchIn : Env → Option BatchModel → Type 0
 IsBatchIn env None = ⊥
 IsBatchIn env (Some batch) = batch.geometry ≡ env.geometry
 
--- and its nodes are the table's, and differ
+-- its nodes are below this number
+abbrev pub AreNodesIn : ℕ → Option BatchModel → Type 0
+AreNodesIn nodes None = ⊥
+AreNodesIn nodes (Some batch) = AllByRecursion (λ node. node < nodes) (batch.fresh ++ batch.waiting)
+
+-- its nodes are the table's, and differ
 abbrev pub IsSoundBatch : Option BatchModel → Type 0
 IsSoundBatch None = ⊥
 IsSoundBatch (Some batch) = IsBatch batch

@@ -2,6 +2,8 @@
 pub mod Worlds
 -- in every run all words and callers are there, and each caller works in the run's table
 pub mod SoundRuns
+-- the node that a call hands out is one of the table's
+pub mod HandedOut
 -- in every run all that callers name is in range, and each word is one
 pub mod RangesInRuns
 -- in every run a caller that isn't enrolled has done nothing
@@ -28,5 +30,9 @@ pub mod TablesThere
 pub mod KeptAtEvents
 -- in every run each caller works at the call of its book, and its calls took out as many nodes as that says
 pub mod BooksInRuns
+-- the node that a call has taken out of a port's list, by its state
+pub mod TakenOut
+-- in every run the nodes of a caller's batch were taken out by it, and none stands there twice
+pub mod BatchesInRuns
 -- in every run a section word is odd just where its caller's call is in its section, and no other call changes it
 pub mod SectionsInRuns

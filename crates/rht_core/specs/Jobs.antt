@@ -75,21 +75,16 @@ abbrev pub first_rebind : Env → ℕ → ℕ → ℕ → Kind → Option Job
 first_rebind env port owner new Single = Some (rebinds port owner new (rebind.first_state env port new))
 first_rebind env port owner new Listed = None
 
-abbrev pub first_tidy : Option BatchModel → Option Job
-first_tidy None = None
-first_tidy (Some batch) = Some (tidies (tidy.begun batch).0 (tidy.begun batch).1)
-
--- it is that of a caller who has this batch
-abbrev pub first_job : Env → Option BatchModel → Call → Option Job
-first_job env batch (Find port) = Some (finds port Opening)
-first_job env batch (Bind port owner once) = Some (binds port owner once (bind.first_state env port owner))
-first_job env batch (All port) = Some (lists port (room_for_nodes env) alls.Opening)
-first_job env batch (Release port owner) = Some (releases port owner releasing.Opening)
-first_job env batch (Rebind port owner new) = first_rebind env port owner new env.config.kind
-first_job env batch (Walk from limit) = None
-first_job env batch Work = Some (works works_at.WorkLock)
-first_job env batch Tidy = first_tidy batch
-first_job env batch Count = Some counts
+abbrev pub first_job : Env → Call → Option Job
+first_job env (Find port) = Some (finds port Opening)
+first_job env (Bind port owner once) = Some (binds port owner once (bind.first_state env port owner))
+first_job env (All port) = Some (lists port (room_for_nodes env) alls.Opening)
+first_job env (Release port owner) = Some (releases port owner releasing.Opening)
+first_job env (Rebind port owner new) = first_rebind env port owner new env.config.kind
+first_job env (Walk from limit) = None
+first_job env Work = Some (works works_at.WorkLock)
+first_job env Tidy = None
+first_job env Count = Some counts
 
 -- the operation that this caller performs next for it
 abbrev pub job_plan : Env → ℕ → Job → Op
@@ -117,10 +112,10 @@ node_ending end = plain_ending end.0
 
 -- a tidying's state is that of its batch and its machine
 abbrev pub tidying : BatchModel × TidyAt → Job
-tidying (batch, state) = tidies batch state
+tidying at = tidies at.0 at.1
 
 abbrev pub tidied : BatchModel × TidyAt × Next Reply → (BatchModel × TidyAt) × Next Reply
-tidied (batch, state, next) = ((batch, state), next)
+tidied came = ((came.0, came.1), came.2)
 
 -- what becomes of it after its operation found this value
 abbrev pub job_after : (ℕ → ℕ → ℕ → ℕ) → Env → Job → ℕ → Job × Next Ending

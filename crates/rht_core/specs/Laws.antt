@@ -15,8 +15,7 @@ use Rattle.rht_release.specs.All.{IsAllIn}
 use Rattle.rht_release.specs.Release.{IsReleaseIn}
 use Rattle.rht_release.specs.Rebind.{IsRebindIn}
 use Rattle.rht_move.specs.Work.{IsWorkIn}
-use Rattle.rht_grace.specs.Tidy.{TidyModel, IsTidyAtIn}
-use Rattle.rht_callers.specs.Batches.{IsBatchIn, IsSoundBatch, batch_room}
+use Rattle.rht_callers.specs.Batches.{IsBatchIn, AreNodesIn, IsSoundBatch, batch_room}
 use Rattle.rht_model.specs.declared.history.Call.{Call}
 use Rattle.rht_model.specs.declared.history.Call.TheVariants.{Bind, Find, All, Release, Rebind, Walk, Work, Tidy, Count}
 use Rattle.rht_model.specs.declared.history.Reply.{Reply}
@@ -47,14 +46,8 @@ module _ {M : Type 0} where
 
 -- ---- what a caller's state names
 
--- a tidying is of a batch of this table, and names callers and nodes that are there
-pub record IsTidyingIn (env : Env) (m : TidyModel) : Type 0 where
-  pub same_geometry : m.geometry ≡ env.geometry
-  pub same_batch : m.batch.geometry ≡ m.geometry
-  pub at_in : IsTidyAtIn m.batch m.at
-
 module _ {M : Type 0} where
-  -- what this caller does is in range
+  -- what this caller does is in range; no call is a tidying yet
   abbrev pub IsDoingIn : Env → ℕ → Doing M → Type 0
   IsDoingIn env c Idle = Unit {0}
   IsDoingIn env c (Finding m) = IsFindIn env c m
@@ -64,21 +57,23 @@ module _ {M : Type 0} where
   IsDoingIn env c (Rebinding m) = IsRebindIn env c m
   IsDoingIn env c (Working m) = IsWorkIn env c m
   IsDoingIn env c (Counting m) = m.env ≡ env
-  IsDoingIn env c (Tidying m) = IsTidyingIn env m
+  IsDoingIn env c (Tidying m) = ⊥
 
-  -- its rooms may have one item a node; and the nodes of its batch are the table's, and differ
+  -- and its rooms may have one item a node, and its batch is of the table's nodes
   pub record IsLocalIn (env : Env) (c : ℕ) (local : Local M) : Type 0 where
     pub doing : IsDoingIn env c local.doing
     pub owners : (owners_room local.doing local.owners).limit ≡ env.geometry.nodes
     pub pairs : local.pairs.limit ≡ env.geometry.nodes
     pub batch : IsBatchIn env (batch_room local.doing local.batch)
-    pub sound : IsSoundBatch (batch_room local.doing local.batch)
+    pub among : AreNodesIn env.geometry.nodes (batch_room local.doing local.batch)
 
--- all words and callers are there, what each caller does is in range, and so is the operation that it plans
+-- all words and callers are there, what each caller does is in range, and so is the operation that it plans; and no node stands in a
+-- caller's batch twice
 pub record IsInRange {M : Type 0} (env : Env) (core : Core M) : Type 0 where
   pub same_env : core.env ≡ env
   pub sound : IsSound core
   pub locals : (c : ℕ) → IsLocalIn env c (local_of core c)
+  pub batches : (c : ℕ) → IsSoundBatch (batch_room (local_of core c).doing (local_of core c).batch)
   pub plans : (c : ℕ) (op : Op) → plan_of (local_of core c) ≡ Some op → IsPlannedIn env.geometry op
 
 -- ---- traces

@@ -21,6 +21,7 @@ use Rattle.rht_core.specs.declared.event.Stepped.{Stepped}
 use Rattle.rht_core.specs.declared.book.Book.{Book}
 use Rattle.rht_callers.specs.declared.local.Local.{Local}
 use Rattle.rht_callers.specs.declared.local.Doing.{Doing}
+use Rattle.rht_callers.specs.Batches.{CanPut, out_of}
 use Rattle.rht_callers.specs.Locals.{fresh, is_idle, machine_of, begin_with, plan_of, local_after, ending_of, IsLocalOf}
 
 -- what the program keeps of a run: the words, how many callers have enrolled, and what each is doing
@@ -102,6 +103,12 @@ module _ {M : Type 0} where
     core_step core (Begin c call) =
         (record core { locals = begun core.env core.enrolled core.locals c call }, nothing_done)
     core_step core (Step c) = with_step core c (planned_in core c)
+
+  -- the node that a caller's call hands out at its next operation may be put into its batch
+  abbrev pub MayPut : (ℕ → ℕ → ℕ → ℕ) → Core M → Type 0
+  MayPut mix core =
+      (c : ℕ) (op : Op) → planned_in core c ≡ Some op
+      → CanPut (local_of core c).batch (out_of mix (local_of core c).doing (old_of core.words op))
 
   -- what always holds of it
   pub record IsSound (core : Core M) : Type 0 where

@@ -6,7 +6,7 @@ ghost use Rattle.rht_words.specs.Operations.{old_of, applied};
 ghost use Rattle.rht_words.specs.Opening.{opening_words};
 ghost use Rattle.rht_words.specs.Places.{words_in};
 ghost use Rattle.rht_words.specs.Settled.{IsSettled};
-ghost use Rattle.rht_core.specs.Runs.{core_of, core_step, local_of, begun, planned, with_step, enrolling, enrolled_after, has_done, IsSound, IsBuiltEvent, IsOpened};
+ghost use Rattle.rht_core.specs.Runs.{core_of, core_step, local_of, begun, planned, with_step, enrolling, enrolled_after, has_done, IsSound, MayPut, IsBuiltEvent, IsOpened};
 ghost use Rattle.rht_callers.specs.Locals.{fresh, is_idle, IsLocalOf};
 ghost use Rattle.rht_stands.specs.Closing.{current_size, IsClosedOf};
 
@@ -144,7 +144,8 @@ fn perform<M: Mix>(
     locals: &mut Vec<Local<M>>,
     event: Event,
 ) -> Stepped
-    requires { IsSound (core_of env words.old.items enrolled.old locals.old.items) }
+    requires sound { IsSound (core_of env words.old.items enrolled.old locals.old.items) }
+    requires put { MayPut M.mix_of (core_of env words.old.items enrolled.old locals.old.items) }
     ensures { (core_of env words.new.items enrolled.new locals.new.items, result) ≡ core_step M.mix_of (core_of env words.old.items enrolled.old locals.old.items) event }
 {
     match event {
@@ -198,7 +199,8 @@ fn step<M: Mix>(
     locals: &mut Vec<Local<M>>,
     caller: u32,
 ) -> Stepped
-    requires { IsSound (core_of env words.old.items enrolled locals.old.items) }
+    requires sound { IsSound (core_of env words.old.items enrolled locals.old.items) }
+    requires put { MayPut M.mix_of (core_of env words.old.items enrolled locals.old.items) }
     ensures { (core_of env words.new.items enrolled locals.new.items, result) ≡ with_step M.mix_of (core_of env words.old.items enrolled locals.old.items) caller (planned env enrolled locals.old.items caller) }
 {
     if caller >= enrolled {

@@ -9,7 +9,7 @@ use Rattle.rht_model.specs.declared.history.Call.{Call}
 use Rattle.rht_model.specs.declared.history.Call.TheVariants.{Rebind}
 use Rattle.rht_model.specs.Endings.{Ending}
 use Rattle.rht_nest.specs.Make.{MakeModel}
-use Rattle.rht_core.specs.Jobs.{Job, finds, binds, lists, releases, rebinds, works, counts, call_of, first_job, job_next, job_after, told}
+use Rattle.rht_core.specs.Jobs.{Job, finds, binds, lists, releases, rebinds, works, tidies, counts, call_of, first_job, job_next, job_after, told}
 use Rattle.rht_core.proofs.Machines.NeverHeld.{may_make}
 use Rattle.rht_core.proofs.Events.JobsOfCallers.{first-so, first_rebind-so, same_call}
 use Rattle.rht_core.proofs.Counting.MakingWorks.{WorkMakes}
@@ -24,6 +24,7 @@ module _ (Full : ℕ → Type 0) (Makes : MakeModel → Type 0) (Has : ℕ → �
   JobMakes (releases port owner state) = Unit {0}
   JobMakes (rebinds port owner new state) = Unit {0}
   JobMakes (works state) = WorkMakes Full Makes Has state
+  JobMakes (tidies batch state) = Unit {0}
   JobMakes counts = Unit {0}
 
   abbrev pub MakesLeft : Option Job → Type 0

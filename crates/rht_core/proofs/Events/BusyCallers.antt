@@ -16,8 +16,9 @@ use Rattle.rht_move.specs.Work.{work_after}
 use Rattle.rht_callers.specs.PortCounts.{count_after}
 use Rattle.rht_callers.specs.declared.local.Local.{Local}
 use Rattle.rht_callers.specs.declared.local.Doing.{Doing}
-use Rattle.rht_callers.specs.declared.local.Doing.TheVariants.{Idle, Finding, Binding, Releasing, Rebinding, Listing, Working, Counting}
+use Rattle.rht_callers.specs.declared.local.Doing.TheVariants.{Idle, Finding, Binding, Releasing, Rebinding, Listing, Working, Counting, Tidying}
 use Rattle.rht_callers.specs.Locals.{does_nothing, is_idle, machine_of, doing_plan, plan_of, doing_next, doing_after, local_after, without_node}
+use Rattle.rht_grace.specs.Tidy.{tidy_after}
 use Rattle.rht_callers.proofs.CallBeginnings.{begins_so}
 
 module _ (M : Type 0) where
@@ -56,6 +57,7 @@ module _ (M : Type 0) where
   doing_ends mix (Rebinding m) old busy =
       let next = rebind_after mix m old in next_ends Rebinding (λ n. refl) (next.0, without_node next.1)
   doing_ends mix (Working m) old busy = next_ends Working (λ n. refl) (work_after mix m old)
+  doing_ends mix (Tidying m) old busy = next_ends Tidying (λ n. refl) (tidy_after m old)
   doing_ends mix (Counting m) old busy = next_ends Counting (λ n. refl) (count_after m old)
 
   -- an operation that gives no reply leaves its caller in the call

@@ -23,11 +23,15 @@ use Rattle.rht_release.specs.All.{AllModel, moved}
 use Rattle.rht_release.specs.AllHeld.{listing_of}
 use Rattle.rht_release.specs.declared.all.AllAt.{AllAt}
 use Rattle.rht_callers.specs.declared.local.Local.{Local}
+use Rattle.rht_grace.specs.Batch.{BatchModel}
+use Rattle.rht_grace.specs.Tidy as tidy
+use Rattle.rht_grace.specs.Tidy.{TidyModel}
+use Rattle.rht_grace.specs.declared.tidy.TidyAt.{TidyAt}
 use Rattle.rht_callers.specs.declared.local.Doing.{Doing}
-use Rattle.rht_callers.specs.declared.local.Doing.TheVariants.{Idle, Finding, Binding, Releasing, Rebinding, Listing, Working, Counting}
+use Rattle.rht_callers.specs.declared.local.Doing.TheVariants.{Idle, Finding, Binding, Releasing, Rebinding, Listing, Working, Counting, Tidying}
 use Rattle.rht_callers.specs.Locals.{fresh, does_nothing, machine_of, doing_plan, doing_after, owners_after, room_given, local_after, ending_of, doing_next, without_node, IsDoingOf, IsLocalOf}
 use Rattle.rht_core.specs.Laws.{IsDoingIn}
-use Rattle.rht_core.specs.Jobs.{listing_ending, node_ending, Job, finds, binds, releases, rebinds, lists, works, counts, call_of, first_job, first_rebind, job_plan, job_after, job_next, job_of, told, held_of}
+use Rattle.rht_core.specs.Jobs.{listing_ending, node_ending, Job, finds, binds, releases, rebinds, lists, works, tidies, tidying, tidied, counts, call_of, first_job, first_rebind, job_plan, job_after, job_next, job_of, told, held_of}
 use Rattle.rht_words.specs.declared.config.Kind.{Kind}
 use Rattle.rht_words.specs.declared.config.Kind.TheVariants.{Single, Listed}
 use Rattle.rht_release.specs.Release as release
@@ -77,6 +81,8 @@ goes_so mix env (rebinds port owner new state) old =
     (rebind.after_at mix env port owner state old)
 goes_so mix env (works state) old =
     job_next-so works plain_ending Work (λ s. refl) (λ e. refl) (work.after_at mix env state old)
+goes_so mix env (tidies batch state) old =
+    job_next-so tidying plain_ending Tidy (λ s. refl) (λ e. refl) (tidied (tidy.after_at env.geometry batch state old))
 goes_so mix env counts old = record { same = refl; alone = refl }
 
 pub same_call : (mix : ℕ → ℕ → ℕ → ℕ) (env : Env) (job : Job) (old : ℕ) → call_of (job_after mix env job old).0 ≡ call_of job
@@ -194,6 +200,7 @@ module _ {M : Type 0} where
       within.same_env within.same_caller plan
   plan-job env c (Working m) op within plan =
       plans-so env c (Working m) op (works m.at) m.env m.caller refl refl within.same_env within.same_caller plan
+  plan-job env c (Tidying m) op within plan = absurd within
   plan-job env c (Counting m) op within plan = plans-so env c (Counting m) op counts m.env c refl refl within refl plan
 
   module _ (local : Local M) (none : HasNoLists local) where
@@ -230,6 +237,11 @@ module _ {M : Type 0} where
     listed-told m after (state, Done done) =
         (λ i. (None, Some record { answer = listing_of after.items; pairs = none.pairs i }))
 
+    tidied-told : (m : TidyModel) (came : BatchModel × TidyAt × Next Reply)
+        → job_left (doing_next Tidying (tidy.moved m came)) ≡ told (job_next tidying plain_ending (tidied came))
+    tidied-told m (batch, state, Go) = refl
+    tidied-told m (batch, state, Done reply) = ap (λ e. (None, e)) (plain reply)
+
     -- what is left of a job is the same in its own table as in the run's, which is that one
     told-same : (mix : ℕ → ℕ → ℕ → ℕ) (own env : Env) (first job : Job) (old : ℕ) → own ≡ env → Some first ≡ Some job
         → told (job_after mix own first old) ≡ told (job_after mix env job old)
@@ -264,6 +276,11 @@ module _ {M : Type 0} where
     doing_after-job mix env (Working m) job old of is =
         next-told Working (λ state. record m { at = state }) works (λ state. refl) (work.after_at mix m.env m.at old)
         ∙ told-same mix m.env env (works m.at) job old of is
+    doing_after-job mix env (Tidying m) job old of is =
+        let here : tidies m.batch m.at ≡ job = cc in
+        tidied-told m (tidy.after_at m.geometry m.batch m.at old)
+        ∙ ap (λ g. told (job_next tidying plain_ending (tidied (tidy.after_at g m.batch m.at old)))) of
+        ∙ ap (λ (j : Job). told (job_after mix env j old)) here
     doing_after-job mix env (Counting m) job old of is =
         ap (λ e. (None, e)) (plain (Counted old)) ∙ told-same mix m.env env counts job old of is
 

@@ -47,16 +47,19 @@ use Rattle.rht_core.specs.declared.event.Event.TheVariants.{Enroll, Begin, Step}
 use Rattle.rht_callers.specs.PortCounts.{count_plan_in}
 use Rattle.rht_callers.specs.declared.local.Local.{Local}
 use Rattle.rht_callers.specs.declared.local.Doing.{Doing}
-use Rattle.rht_callers.specs.declared.local.Doing.TheVariants.{Idle, Finding, Binding, Releasing, Rebinding, Listing, Working, Counting}
+use Rattle.rht_callers.specs.declared.local.Doing.TheVariants.{Idle, Finding, Binding, Releasing, Rebinding, Listing, Working, Counting, Tidying}
 use Rattle.rht_callers.specs.Locals.{fresh, machine_of, begin_with, plan_of, doing_after, local_after, owners_room, without_node}
 use Rattle.rht_core.specs.Runs.{Core, World, local_of, beginning_in, with_machine, planned_in, with_step, enrolling, world_step, run_of, opening, IsAdmitted, IsAdmittedCall, IsAdmittedEvent}
-use Rattle.rht_core.specs.Laws.{IsDoingIn, IsLocalIn, InRange, WordsFit, IsOfCaller, IsEnrolledKept, Enrolled}
-use Rattle.rht_core.specs.Jobs.{Job, finds, binds, lists, releases, rebinds, works, counts, job_plan, job_of}
+use Rattle.rht_core.specs.Laws.{IsDoingIn, IsLocalIn, WordsFit, IsOfCaller, IsEnrolledKept, Enrolled}
+use Rattle.rht_core.specs.Jobs.{Job, finds, binds, lists, releases, rebinds, works, tidies, counts, job_plan, job_of}
 use Rattle.rht_core.proofs.Machines.JobSteps.{JobIn}
 use Rattle.rht_callers.proofs.CallBeginnings.{begins_so}
 use Rattle.rht_callers.proofs.NextDoings.{next_so}
 use Rattle.rht_callers.proofs.RoomsOfCallers.{idle-limit, begun-limit, owners_after-limit}
 use Rattle.rht_core.proofs.Events.Worlds.{beginning-some, planned-some, run_of-push, run_keeps_admitted}
+use Rattle.rht_callers.specs.Batches.{IsBatchIn, AreNodesIn, out_of}
+use Rattle.rht_callers.proofs.BatchesOfCallers.{idle-batch, begun-batch, batch_after-so, batch_after-in, AreNodesIn-out}
+use Rattle.rht_core.proofs.Events.HandedOut.{out_in}
 use Rattle.rht_core.proofs.Events.JobsOfCallers.{first-so, plan-job}
 use Rattle.rht_core.proofs.Events.SoundRuns.{StaysIn, opens-in, stays-in, has_place, made_in, step-count, IsSound-stays}
 
@@ -98,6 +101,7 @@ planned_job env mix c (lists port room state) few within = planned_all env c sta
 planned_job env mix c (releases port owner state) few within = planned_release env c state few within
 planned_job env mix c (rebinds port owner new state) few within = planned_rebind env c state few within.at_in
 planned_job env mix c (works state) few within = planned_work env c state few within
+planned_job env mix c (tidies batch state) few within = absurd within
 planned_job env mix c counts few within = planned_count env
 
 module _ (M : Type 0) where
@@ -206,6 +210,7 @@ module _ (M : Type 0) where
         same_caller = within.same_caller;
         at_in = subst (λ (e : Env). IsWorkAtIn e (work_after mix m old).0.at) within.same_env next;
       }
+  doing_after-in mix env c (Tidying m) old within told = absurd within
   doing_after-in mix env c (Counting m) old within told = tt
 
   module _ (env : Env) (mix : ℕ → ℕ → ℕ → ℕ) (c : ℕ) where
@@ -224,10 +229,11 @@ module _ (M : Type 0) where
         first-so (JobIn env mix c) (Some (rebinds m.port m.owner m.new_owner m.at)) job
         (record { new_in = within.new_owner_in; at_in = within.at_in }) is
     job-in (Working m) job room is within roomy = first-so (JobIn env mix c) (Some (works m.at)) job within.at_in is
+    job-in (Tidying m) job room is within roomy = absurd within
     job-in (Counting m) job room is within roomy = first-so (JobIn env mix c) (Some counts) job tt is
 
     -- so the operation that it plans is on a word
-    plans-in : (local : Local M) (op : Op) → c < 16 → IsLocalIn env c local → plan_of local ≡ Some op
+    pub plans-in : (local : Local M) (op : Op) → c < 16 → IsLocalIn env c local → plan_of local ≡ Some op
         → IsPlannedIn env.geometry op
     plans-in local op few within is =
         let plans = plan-job env c local.doing op within.doing is in
@@ -269,7 +275,7 @@ module _ (M : Type 0) (mix : ℕ → ℕ → ℕ → ℕ) (env : Env) where
         AllByRecursion-map IsWord (λ place. opening_word env (address_at env.geometry place))
         (λ place. opening_word-fits env (address_at env.geometry place)) _;
     locals = λ c. each_replicate (IsLocalIn env c) env.geometry.callers c (fresh env)
-        record { doing = tt; owners = refl; pairs = refl };
+        record { doing = tt; owners = refl; pairs = refl; batch = refl; among = tt };
   }
 
   begin-all : (core : Core M) (c : ℕ) (call : Call) (machine : Option (Doing M)) → IsAdmittedCall call
@@ -291,6 +297,12 @@ module _ (M : Type 0) (mix : ℕ → ℕ → ℕ → ℕ) (env : Env) where
             begun-limit M env c call machine made (local_of core c).owners
             (idle-limit M (local_of core c) env.geometry.nodes can.idle here.owners);
         pairs = here.pairs;
+        batch =
+            begun-batch M (IsBatchIn env) env c call machine made (local_of core c).batch
+            (idle-batch M (IsBatchIn env) (local_of core c) can.idle here.batch);
+        among =
+            begun-batch M (AreNodesIn env.geometry.nodes) env c call machine made (local_of core c).batch
+            (idle-batch M (AreNodesIn env.geometry.nodes) (local_of core c) can.idle here.among);
       }
       all.locals k
 
@@ -319,6 +331,14 @@ module _ (M : Type 0) (mix : ℕ → ℕ → ℕ → ℕ) (env : Env) where
                   owners_after-limit M mix (local_of core c).doing (local_of core c).owners old
                   ∙ here.owners;
               pairs = here.pairs;
+              batch = batch_after-in M mix env (local_of core c).doing (local_of core c).batch old here.batch;
+              among =
+                  batch_after-so M (AreNodesIn env.geometry.nodes) mix (local_of core c).doing (local_of core c).batch old
+                  here.among
+                  (λ beside. AreNodesIn-out env.geometry.nodes (local_of core c).batch (out_of mix (local_of core c).doing old)
+                  (λ node is. out_in mix env c (local_of core c).doing old node here.doing is)
+                  (subst (AreNodesIn env.geometry.nodes) beside here.among))
+                  (λ m same. absurd (subst (IsDoingIn env c) same here.doing));
             }
             all.locals;
       }
@@ -368,16 +388,13 @@ module _ (M : Type 0) (mix : ℕ → ℕ → ℕ → ℕ) (env : Env) where
   }
 
 module _ (M : Type 0) (mix : ℕ → ℕ → ℕ → ℕ) where
-  pub in_range : InRange M mix
-  in_range env events admitted =
+  -- the operation that a caller plans is on a word
+  pub planned_now : (env : Env) (events : List Event) → IsAdmitted env.config.kind events → (c : ℕ) (op : Op)
+      → plan_of (local_of (run_of {M = M} mix env events).core c) ≡ Some op → IsPlannedIn env.geometry op
+  planned_now env events admitted c op is =
       let all = runs-all M mix env events admitted in
       let core = (run_of {M = M} mix env events).core in
-      record {
-        same_env = all.stays.same_env;
-        sound = IsSound-stays M mix env core all.stays;
-        locals = all.locals;
-        plans = λ c op is. plans-in M env mix c (local_of core c) op (few-planning M mix env core c op all.stays is) (all.locals c) is;
-      }
+      plans-in M env mix c (local_of core c) op (few-planning M mix env core c op all.stays is) (all.locals c) is
 
   pub words_fit : WordsFit M mix
   words_fit env events admitted = (runs-all M mix env events admitted).words

@@ -1,7 +1,7 @@
 -- What holds of words and callers that a run has reached: they are sound, who isn't enrolled is idle, and after one more
 -- admitted event a run has reached them too.
-use Rattle.std.proofs.Common.{◌≡◌, ℕ, ◌<◌, ◌≤◌, true, [], ◌∷◌, ◌++◌, length, refl, sym, ap, ◌∙◌, subst, arith}
-use Rattle.std.specs.Prelude.{Option, Some, None, slice_index_or}
+use Rattle.std.proofs.Common.{◌≡◌, ℕ, ◌<◌, ◌≤◌, Bool, true, List, [], ◌∷◌, ◌++◌, length, refl, sym, ap, ◌∙◌, subst, arith}
+use Rattle.std.specs.Prelude.{Option, Some, None, nat_lt, cond, slice_index_or}
 use Rattle.std.specs.List.{AllByRecursion}
 use Rattle.std.proofs.lemmas.List.{get_or_read}
 use Rattle.rht_words.specs.declared.op.Op.{Op}
@@ -11,8 +11,11 @@ use Rattle.rht_core.specs.declared.event.Event.{Event}
 use Rattle.rht_core.specs.declared.event.Event.TheVariants.{Enroll, Begin, Step}
 use Rattle.rht_core.specs.declared.event.Stepped.{Stepped}
 use Rattle.rht_callers.specs.declared.local.Local.{Local}
-use Rattle.rht_callers.specs.Locals.{fresh, is_idle}
-use Rattle.rht_core.specs.Runs.{Core, World, View, local_of, planned_in, with_step, core_step, run_of, IsSound, IsAdmittedEvent, IsReached}
+use Rattle.rht_callers.specs.Batches.{CanPut, out_of}
+use Rattle.rht_callers.specs.Locals.{fresh, is_idle, plan_of}
+use Rattle.rht_words.specs.Operations.{old_of}
+use Rattle.rht_core.specs.Runs.{Core, World, View, core_of, local_of, planned_in, with_step, core_step, run_of, IsSound, MayPut, IsAdmittedEvent, IsReached}
+use Rattle.rht_core.proofs.Events.BatchesInRuns.{may_put}
 use Rattle.rht_core.proofs.Events.Worlds.{run_of-push}
 use Rattle.rht_core.proofs.Events.SoundRuns.{runs-in, IsSound-stays}
 use Rattle.rht_core.proofs.Events.CallersNotEnrolled.{all-fresh}
@@ -23,6 +26,24 @@ module _ (M : Type 0) (mix : ℕ → ℕ → ℕ → ℕ) where
       subst (λ (k : Core M). IsSound k) reached.same
       (IsSound-stays M mix core.env (run_of mix core.env reached.events).core
       (runs-in M mix core.env reached.events))
+
+  pub MayPut-reached : (core : Core M) → IsReached mix core → MayPut mix core
+  MayPut-reached core reached =
+      subst (λ (k : Core M). MayPut mix k) reached.same
+      (λ c op plan. may_put core.env mix M reached.events reached.admitted c op plan)
+
+  -- as is said of the caller in its place, of what it plans and of the word that it finds
+  pub put_now : (env : Env) (words : List ℕ) (enrolled : ℕ) (locals : List (Local M)) (c old : ℕ) (local : Local M) (op : Op)
+      → MayPut mix (core_of env words enrolled locals) → c < enrolled → c < length locals → local ≡ slice_index_or locals c local
+      → plan_of local ≡ Some op → old ≡ old_of words op → CanPut local.batch (out_of mix local.doing old)
+  put_now env words enrolled locals c old local op may low place read plan found =
+      let core : Core M = core_of env words enrolled locals in
+      let same : local ≡ local_of core c = get_or_read locals c local place read (fresh env) in
+      let enrolled_is : nat_lt c enrolled ≡ true = lt-ltb c enrolled low in
+      let plans : planned_in core c ≡ Some op =
+      ap (λ (b : Bool). cond b (plan_of (local_of core c)) None) enrolled_is ∙ ap plan_of (sym same) ∙ plan in
+      subst (λ (l : Local M). CanPut l.batch (out_of mix l.doing old)) (sym same)
+      (subst (λ word. CanPut (local_of core c).batch (out_of mix (local_of core c).doing word)) (sym found) (may c op plans))
 
   -- a caller that there may be has a place
   pub place-reached : (core : Core M) (c : ℕ) → IsReached mix core → c < core.env.geometry.callers

@@ -36,7 +36,7 @@ use Rattle.rht_ghost.proofs.Theory.Steps.{bare, Holding, mem, LeavesBits, IsAsid
 use Rattle.rht_ghost.proofs.Theory.Steps as moves
 use Rattle.rht_core.proofs.Events.Worlds.{beginning-some, planned-some, run_keeps_admitted}
 use Rattle.rht_core.proofs.Events.SoundRuns.{has_place, made_in}
-use Rattle.rht_core.proofs.Events.RangesInRuns.{event-all, opens-all, in_range}
+use Rattle.rht_core.proofs.Events.RangesInRuns.{event-all, opens-all, planned_now}
 use Rattle.rht_core.proofs.Events.JobsOfCallers.{is_no_job, nothing-job, left-job, first_job-machine, first_holds}
 use Rattle.rht_core.proofs.Events.Invariants.{kept, step_of}
 use Rattle.rht_core.proofs.Events.InvariantRuns.{HasInv, has_inv, idle_at_opening, opening_ghost, opening_inv}
@@ -305,7 +305,7 @@ own_sections M mix env events c d did admitted low recorded on =
     let has = has_inv env mix M before first in
     let of = step_of env mix M core has.ghost c did.op has.all has.inv recorded.plan in
     let old = old_of core.words did.op in
-    let fits = (in_range M mix env before first).plans c did.op
+    let fits = planned_now M mix env before first c did.op
     (planned-some core.env core.enrolled core.locals c did.op recorded.plan).plan in
     let found = old_of-fits core.words did.op has.all.words in
     subst (λ word. (word_after word did.op ≡ word) ⊎ AddsToOwn env.geometry c d did.op) recorded.found

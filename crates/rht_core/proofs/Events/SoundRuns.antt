@@ -24,11 +24,19 @@ use Rattle.rht_core.specs.declared.event.Event.{Event}
 use Rattle.rht_core.specs.declared.event.Event.TheVariants.{Enroll, Begin, Step}
 use Rattle.rht_callers.specs.declared.local.Local.{Local}
 use Rattle.rht_callers.specs.declared.local.Doing.{Doing}
-use Rattle.rht_callers.specs.declared.local.Doing.TheVariants.{Idle, Finding, Binding, Releasing, Rebinding, Listing, Working, Counting}
-use Rattle.rht_callers.specs.Locals.{fresh, machine_of, begin_with, doing_after, local_after, without_node, IsDoingOf, IsLocalOf}
+use Rattle.rht_callers.specs.declared.local.Doing.TheVariants.{Idle, Finding, Binding, Releasing, Rebinding, Listing, Working, Counting, Tidying}
+use Rattle.rht_callers.specs.Locals.{fresh, machine_of, begin_with, doing_after, doing_next, local_after, without_node, IsDoingOf, IsLocalOf}
 use Rattle.rht_core.specs.Runs.{Core, World, local_of, beginning_in, with_machine, planned_in, with_step, enrolling, enrolled_after, world_step, run_of, opening, opening_core, IsSound}
 use Rattle.rht_callers.proofs.CallBeginnings.{begins_so}
 use Rattle.rht_callers.proofs.NextDoings.{next_so}
+use Rattle.rht_model.specs.declared.history.Reply.{Reply}
+use Rattle.rht_words.specs.declared.machine.Next.{Next}
+use Rattle.rht_words.specs.declared.machine.Next.TheVariants.{Go, Done}
+use Rattle.rht_grace.specs.Batch.{BatchModel}
+use Rattle.rht_grace.specs.Tidy.{TidyModel, after_at, moved}
+use Rattle.rht_grace.specs.declared.tidy.TidyAt.{TidyAt}
+use Rattle.rht_callers.specs.Batches.{IsBatchIn}
+use Rattle.rht_callers.proofs.BatchesOfCallers.{idle-batch, begun-batch, batch_after-in}
 use Rattle.rht_callers.proofs.RoomsOfCallers.{idle-limit, begun-limit, owners_after-limit}
 use Rattle.rht_core.proofs.Events.Worlds.{CanBegin, beginning-some, planned-some, run_keeps}
 
@@ -41,6 +49,12 @@ module _ (M : Type 0) where
   begins-of env c =
       begins_so M env c (λ call machine. IsDoingOf env machine) (λ port. refl) (λ port owner once. refl)
       (λ port. refl) (λ port owner. refl) (λ port owner new single. refl) refl refl
+
+  -- a tidying stays in its table
+  tidied-of : (env : Env) (m : TidyModel) (came : BatchModel × TidyAt × Next Reply) → IsDoingOf {M = M} env (Tidying m)
+      → IsDoingOf {M = M} env (doing_next Tidying (moved m came)).0
+  tidied-of env m (batch, state, Go) of = of
+  tidied-of env m (batch, state, Done reply) of = tt
 
   -- who is told a word stays in its table
   doing_after-of : (mix : ℕ → ℕ → ℕ → ℕ) (env : Env) (doing : Doing M) (old : ℕ) → IsDoingOf env doing
@@ -58,6 +72,7 @@ module _ (M : Type 0) where
       next_so (IsDoingOf env) Rebinding tt (rebind_after mix m old).0 (without_node (rebind_after mix m old).1) of
   doing_after-of mix env (Working m) old of =
       next_so (IsDoingOf env) Working tt (work_after mix m old).0 (work_after mix m old).1 of
+  doing_after-of mix env (Tidying m) old of = tidied-of env m (after_at m.geometry m.batch m.at old) of
   doing_after-of mix env (Counting m) old of = tt
 
 -- ---- runs
@@ -80,9 +95,9 @@ module _ (M : Type 0) (mix : ℕ → ℕ → ℕ → ℕ) (env : Env) where
     few_enrolled = omega arith;
     all_local =
         AllByRecursion-replicate (IsLocalOf env) env.geometry.callers (fresh env)
-        (record { doing = tt; owners = refl });
+        (record { doing = tt; owners = refl; batch = refl });
     locals_of = λ c. each_replicate (IsLocalOf env) env.geometry.callers c (fresh env)
-        (record { doing = tt; owners = refl });
+        (record { doing = tt; owners = refl; batch = refl });
   }
 
   -- a caller that there is has a place in the list
@@ -144,6 +159,9 @@ module _ (M : Type 0) (mix : ℕ → ℕ → ℕ → ℕ) (env : Env) where
         owners =
             begun-limit M env c call machine made (local_of core c).owners
             (idle-limit M (local_of core c) env.geometry.nodes can.idle (stays.locals_of c).owners);
+        batch =
+            begun-batch M (IsBatchIn env) env c call machine made (local_of core c).batch
+            (idle-batch M (IsBatchIn env) (local_of core c) can.idle (stays.locals_of c).batch);
       })
 
   step-in : (core : Core M) (c : ℕ) (op : Option Op) → planned_in core c ≡ op → StaysIn core
@@ -159,6 +177,7 @@ module _ (M : Type 0) (mix : ℕ → ℕ → ℕ → ℕ) (env : Env) where
         owners =
             owners_after-limit M mix (local_of core c).doing (local_of core c).owners old
             ∙ (stays.locals_of c).owners;
+        batch = batch_after-in M mix env (local_of core c).doing (local_of core c).batch old (stays.locals_of c).batch;
       }))
 
   pub stays-in : (w : World M) (event : Event) → StaysIn w.core → StaysIn (world_step mix w event).core

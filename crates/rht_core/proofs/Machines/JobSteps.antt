@@ -25,7 +25,7 @@ use Rattle.rht_release.specs.All.{IsAllAtIn}
 use Rattle.rht_release.specs.All as all_at
 use Rattle.rht_release.specs.declared.all.AllAt.{AllAt}
 use Rattle.rht_callers.specs.PortCounts.{count_plan_in}
-use Rattle.rht_core.specs.Jobs.{listing_ending, node_ending, Job, finds, binds, releases, rebinds, lists, works, counts, call_of, job_plan, job_next, job_after, held_of, held_next}
+use Rattle.rht_core.specs.Jobs.{listing_ending, node_ending, Job, finds, binds, releases, rebinds, lists, works, tidies, counts, call_of, job_plan, job_next, job_after, held_of, held_next}
 use Rattle.rht_words.specs.declared.config.Kind.TheVariants.{Single}
 use Rattle.rht_release.specs.Release.{IsReleaseAtIn}
 use Rattle.rht_release.specs.Release as release_at
@@ -72,6 +72,7 @@ stands_of (releases port owner state) =
 stands_of (rebinds port owner new state) =
     record { known = known_of_rebind port owner new state; early = (held_of (rebinds port owner new state)).early }
 stands_of (works state) = record { known = known_of_work state; early = None }
+stands_of (tidies batch state) = record { known = known_nothing; early = None }
 stands_of counts = record { known = known_nothing; early = None }
 
 abbrev pub known_of : Job → Known
@@ -132,6 +133,7 @@ module _ (env : Env) (mix : ℕ → ℕ → ℕ → ℕ) (c : ℕ) where
     fits = fits_rebind env mix c port owner new state;
   }
   facts_of (works state) = record { built = Unit {0}; within = IsWorkAtIn env state; fits = Unit {0} }
+  facts_of (tidies batch state) = record { built = Unit {0}; within = ⊥; fits = Unit {0} }
   facts_of counts = record { built = Unit {0}; within = Unit {0}; fits = Unit {0} }
 
   abbrev pub JobIn : Job → Type 0
@@ -248,6 +250,7 @@ module _ (env : Env) (mix : ℕ → ℕ → ℕ → ℕ) (c : ℕ) where
     job_step (works state) within knows =
         works_so state (work_at.after_at mix env state (old_of words (work_at.plan_at env c state)))
         (work_step env mix c low words G all whole state within knows.knowing)
+    job_step (tidies batch state) within knows = absurd within
     job_step counts within knows =
         let old = old_of words (count_plan_in env) in
         reads env mix whole refl refl (inr (record {

@@ -19,7 +19,7 @@ use Rattle.rht_find.specs.Find.{after_at as find_after_at}
 use Rattle.rht_bind.specs.Bind.{after_at}
 use Rattle.rht_release.specs.All as all
 use Rattle.rht_core.specs.declared.event.Event.{Event}
-use Rattle.rht_core.specs.Jobs.{listing_ending, node_ending, call_of, Job, finds, binds, releases, rebinds, lists, works, counts, first_job, job_next, job_after}
+use Rattle.rht_core.specs.Jobs.{listing_ending, node_ending, call_of, Job, finds, binds, releases, rebinds, lists, works, tidies, counts, first_job, job_next, job_after}
 use Rattle.rht_core.specs.Replies.{IsReplyTo}
 use Rattle.rht_core.specs.Traces.{Did, Past, traced_of, behind_call, IsRising, AreInOrder}
 use Rattle.rht_core.specs.Runs.{IsAdmitted}
@@ -70,6 +70,7 @@ module _ (env : Env) (c : ℕ) (words_at : ℕ → List ℕ) (mix : ℕ → ℕ 
   JobSaw (releases port owner state) steps = SawRelease env state steps
   JobSaw (rebinds port owner new state) steps = SawAtRebind env state steps
   JobSaw (works state) steps = SawAtWork env c words_at state steps
+  JobSaw (tidies batch state) steps = Unit {0}
   JobSaw counts steps = Unit {0}
 
 -- ---- runs
@@ -128,6 +129,7 @@ module _ (M : Type 0) (mix : ℕ → ℕ → ℕ → ℕ) (env : Env) (events : 
   job-leads (works state) steps did performs own now saw =
       next-leads (works state) works plain_ending (steps ++ did ∷ []) (work.after_at mix env state did.old)
       (work-saw env c words_at mix state steps did performs own now.now saw)
+  job-leads (tidies batch state) steps did performs own now saw = absurd performs.within
   job-leads counts steps did performs own now saw =
       Any-push (LoadedCount env did.old) steps did (record { loaded = performs.planned; found = refl })
 

@@ -45,7 +45,7 @@ use Rattle.rht_move.specs.WorkHeld.{held_of_work}
 use Rattle.rht_move.specs.WorkStanding.{standing_of_work}
 use Rattle.rht_move.specs.declared.work.WorkAt.{WorkAt}
 use Rattle.rht_move.specs.declared.work.WorkAt.TheVariants as working
-use Rattle.rht_core.specs.Jobs.{Job, finds, binds, lists, releases, rebinds, works, counts, first_job, listing_ending, node_ending, job_plan, job_next, job_after, told, held_of}
+use Rattle.rht_core.specs.Jobs.{Job, finds, binds, lists, releases, rebinds, works, tidies, tidying, counts, first_job, listing_ending, node_ending, job_plan, job_next, job_after, told, held_of}
 use Rattle.rht_release.proofs.RebindKnowledge.{own}
 use Rattle.rht_core.specs.Standings.{standing_of, standing_with}
 use Rattle.rht_ghost.proofs.Theory.Ghosts.{Ghost}
@@ -165,6 +165,8 @@ job_outside mix env (rebinds port owner new state) out =
 job_outside mix env (works state) out =
     let is = work_outside mix env state out in
     record { before = is.0; behind = λ old. told-stands works plain_ending IsNowhere _ (is.1 old) refl }
+job_outside mix env (tidies batch state) out =
+    record { before = refl; behind = λ old. told-stands tidying plain_ending IsNowhere _ refl refl }
 job_outside mix env counts out = record { before = refl; behind = λ old. refl }
 
 -- a call begins nowhere
@@ -217,4 +219,5 @@ module _ (env : Env) (mix : ℕ → ℕ → ℕ → ℕ) (words : List ℕ) (G :
   job_comes since Says P (works state) within knows look =
       told-stands works plain_ending (Comes env.geometry words (standing_of_work state)) _
       (work_comes env mix words G whole c state within knows.knowing.means.work) (to_nowhere _ _ _)
+  job_comes since Says P (tidies batch state) within knows look = absurd within
   job_comes since Says P counts within knows look = to_nowhere _ _ _

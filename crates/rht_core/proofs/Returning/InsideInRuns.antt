@@ -16,7 +16,7 @@ use Rattle.rht_find.specs.FindHeld.{held_of_find}
 use Rattle.rht_find.specs.FindStanding.{standing_of_find}
 use Rattle.rht_find.specs.declared.find.FindAt.{FindAt}
 use Rattle.rht_core.specs.declared.event.Event.{Event}
-use Rattle.rht_core.specs.Jobs.{Job, finds, binds, lists, releases, rebinds, works, counts, job_of, job_plan, held_of}
+use Rattle.rht_core.specs.Jobs.{Job, finds, binds, lists, releases, rebinds, works, tidies, counts, job_of, job_plan, held_of}
 use Rattle.rht_core.specs.Reach.{Thing, TableIn, PageAt, NodeAt, CouldReach, ReachesPage, at_table, at_node, at_listed, in_chain, IsReading, IsOwnNode, IsOwnSlot, IsWithin, Inside}
 use Rattle.rht_core.specs.Runs.{Core, World, local_of, run_of, IsAdmitted, IsAdmittedEvent}
 use Rattle.rht_core.specs.Standings.{standing, standing_of, standing_with}
@@ -210,6 +210,7 @@ module _ (env : Env) (mix : ℕ → ℕ → ℕ → ℕ) (L : Type 0) where
           (record { knowing = knows.knowing; fits = knows.fits }) tied)
       job_asked (works state) does within knows tied =
           with_own (works state) does _ (work_lies env mix core.words G whole c low state within knows.knowing)
+      job_asked (tidies batch state) does within knows tied = absurd within
       job_asked counts does within knows tied = record { address = PortCount; there = tt; on = refl; asked = tt }
 
 pub inside : (L : Type 0) (mix : ℕ → ℕ → ℕ → ℕ) → Inside L mix

@@ -18,7 +18,7 @@ use Rattle.rht_release.specs.declared.release.ReleaseAt.{ReleaseAt}
 use Rattle.rht_release.specs.declared.release.ReleaseAt.TheVariants as releasing
 use Rattle.rht_release.specs.declared.seek.SeekAt.{SeekAt}
 use Rattle.rht_release.specs.declared.seek.SeekAt.TheVariants as seeks
-use Rattle.rht_core.specs.Jobs.{Job, finds, binds, lists, releases, rebinds, works, counts, first_job, listing_ending, node_ending, job_next, job_after, told}
+use Rattle.rht_core.specs.Jobs.{Job, finds, binds, lists, releases, rebinds, works, tidies, tidying, counts, first_job, listing_ending, node_ending, job_next, job_after, told}
 use Rattle.rht_core.proofs.Events.JobsOfCallers.{first-so, first_rebind-so}
 use Rattle.rht_core.proofs.Machines.JobSteps.{JobIn, JobKnows}
 use Rattle.rht_core.proofs.Returning.TiedBuckets.{IsTied, tied_of_seek, tied_of_all, tied_of_release, tied_of_rebind, tied_of_bind, all_ties, release_ties, rebind_ties, bind_ties}
@@ -35,6 +35,7 @@ module _ (env : Env) (mix : ℕ → ℕ → ℕ → ℕ) where
   tied_of G (releases port owner state) = tied_of_release env mix G state
   tied_of G (rebinds port owner new state) = tied_of_rebind env mix G state
   tied_of G (works state) = Unit {0}
+  tied_of G (tidies batch state) = Unit {0}
   tied_of G counts = Unit {0}
 
   abbrev pub tied_with : Ghost → Option Job → Type 0
@@ -99,6 +100,7 @@ module _ (env : Env) (mix : ℕ → ℕ → ℕ → ℕ) where
     job-stays (releases port owner state) tied = release-stays state tied
     job-stays (rebinds port owner new state) tied = rebind-stays state tied
     job-stays (works state) tied = tt
+    job-stays (tidies batch state) tied = tt
     job-stays counts tied = tt
 
     pub ties_stay : (job : Option Job) → tied_with G job → tied_with G' job
@@ -131,4 +133,5 @@ module _ (env : Env) (mix : ℕ → ℕ → ℕ → ℕ) where
       told-tied G (rebinds port owner new) node_ending _
       (rebind_ties env mix words G whole port owner new state old within.at_in knows.knowing.means.table tied)
   job_ties words G whole c (works state) within knows old tied = none-tied G works plain_ending (λ state. tt) _
+  job_ties words G whole c (tidies batch state) within knows old tied = none-tied G tidying plain_ending (λ at. tt) _
   job_ties words G whole c counts within knows old tied = tt

@@ -13,7 +13,7 @@ use Rattle.rht_model.specs.Endings.{Ending, ended_with}
 use Rattle.rht_core.specs.declared.event.Event.{Event}
 use Rattle.rht_core.specs.declared.book.Book.{Book}
 use Rattle.rht_callers.specs.declared.local.Doing.{Doing}
-use Rattle.rht_callers.specs.declared.local.Doing.TheVariants.{Idle, Counting}
+use Rattle.rht_callers.specs.declared.local.Doing.TheVariants.{Idle, Counting, Tidying}
 use Rattle.rht_core.specs.Jobs.{Job, call_of, job_after, job_of, held_of, held_next}
 use Rattle.rht_core.specs.Runs.{World, IsAdmitted, view_of, local_of}
 use Rattle.rht_core.specs.Traces.{Did, Past, Traced, traced_of}
@@ -78,6 +78,7 @@ module _ (M : Type 0) (mix : ℕ → ℕ → ℕ → ℕ) (env : Env) where
       → IsAtJob M mix env Holds Answered (job_of doing) book steps
       → IsBookOf env c doing book
   book-of c Idle book steps within at = at
+  book-of c (Tidying m) book steps within at = absurd within
   book-of c (Counting m) book steps within at = record { same_env = within; call = at.call }
   book-of c _ book steps within at =
       record { same_env = within.same_env; same_caller = within.same_caller; call = at.call }

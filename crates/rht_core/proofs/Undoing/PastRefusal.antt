@@ -52,7 +52,7 @@ use Rattle.rht_move.specs.declared.work.ending.Ending.{Ending}
 use Rattle.rht_move.specs.declared.work.ending.Ending.TheVariants as endings
 use Rattle.rht_move.specs.declared.work.WorkAt.{WorkAt}
 use Rattle.rht_move.specs.declared.work.WorkAt.TheVariants as at
-use Rattle.rht_core.specs.Jobs.{Job, finds, binds, lists, releases, rebinds, works, counts}
+use Rattle.rht_core.specs.Jobs.{Job, finds, binds, lists, releases, rebinds, works, tidies, counts}
 use Rattle.rht_core.specs.Refused.{changes_nothing}
 
 -- a bind is past it at the closing of its section where it has linked its node
@@ -178,6 +178,7 @@ is_past (lists port room state) = false
 is_past (releases port owner state) = release_is_past state
 is_past (rebinds port owner new state) = rebind_is_past state
 is_past (works state) = work_is_past state
+is_past (tidies batch state) = false
 is_past counts = false
 
 -- ---- it stays past that

@@ -1,10 +1,13 @@
 use Rattle.std.proofs.Common.{rules, subst, sym}
 use Rattle.rht_core.specs.Runs.{Core, IsAdmittedEvent, IsBuiltEvent}
-use Rattle.rht_core.proofs.Events.ReachedStates.{IsSound-reached, IsReached-more}
+use Rattle.rht_core.proofs.Events.ReachedStates.{IsSound-reached, MayPut-reached, IsReached-more}
 use Rattle.rht_core.proofs.state.State.step.Goals as goal
 
-pub perform-requires : goal.perform-requires
-perform-requires g c = IsSound-reached g.row.M.Denot g.M.Mix.mix_of _ c.self.invariant
+pub perform-requires-clause-sound : goal.perform-requires-clause-sound
+perform-requires-clause-sound g c = IsSound-reached g.row.M.Denot g.M.Mix.mix_of _ c.self.invariant
+
+pub perform-requires-clause-put : goal.perform-requires-clause-put
+perform-requires-clause-put g c = MayPut-reached g.row.M.Denot g.M.Mix.mix_of _ c.self.invariant
 
 pub invariant_of-self : goal.invariant_of-self
 invariant_of-self g c =
