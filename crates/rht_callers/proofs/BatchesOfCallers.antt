@@ -149,6 +149,34 @@ module _ (M : Type 0) where
   batch_after-so So mix (Tidying m) batch old is put tidied =
       tidied-batch So m batch (after_at m.geometry m.batch m.at old) (tidied m refl)
 
+  with_out-none : (batch : Option BatchModel) → batch ≡ with_out batch None
+  with_out-none None = refl
+  with_out-none (Some batch) = refl
+
+  -- who isn't tidying has the batch with the node that is handed out, where one is
+  pub batch_after-out : (mix : ℕ → ℕ → ℕ → ℕ) (doing : Doing M) (batch : Option BatchModel) (old : ℕ)
+      → ((m : TidyModel) → doing ≡ Tidying m → ⊥)
+      → batch_room (doing_after mix doing old).0 (batch_after mix doing batch old) ≡ with_out batch (out_of mix doing old)
+  batch_after-out mix Idle batch old not = with_out-none batch
+  batch_after-out mix (Finding m) batch old not =
+      beside-batch (λ b. b ≡ with_out batch None) Finding batch (λ n. refl) (find_after mix m old) (with_out-none batch)
+  batch_after-out mix (Binding m) batch old not =
+      beside-batch (λ b. b ≡ with_out batch None) Binding batch (λ n. refl) (bind_after mix m old) (with_out-none batch)
+  batch_after-out mix (Listing m) batch old not =
+      beside-batch (λ b. b ≡ with_out batch None) Listing batch (λ n. refl) (all_after mix m old) (with_out-none batch)
+  batch_after-out mix (Releasing m) batch old not =
+      let next = release_after mix m old in
+      let after = with_out batch (node_out next.1) in
+      beside-batch (λ b. b ≡ after) Releasing after (λ n. refl) (next.0, without_node next.1) refl
+  batch_after-out mix (Rebinding m) batch old not =
+      let next = rebind_after mix m old in
+      let after = with_out batch (node_out next.1) in
+      beside-batch (λ b. b ≡ after) Rebinding after (λ n. refl) (next.0, without_node next.1) refl
+  batch_after-out mix (Working m) batch old not =
+      beside-batch (λ b. b ≡ with_out batch None) Working batch (λ n. refl) (work_after mix m old) (with_out-none batch)
+  batch_after-out mix (Counting m) batch old not = with_out-none batch
+  batch_after-out mix (Tidying m) batch old not = absurd (not m refl)
+
   -- so a batch stays one of its table
   pub batch_after-in : (mix : ℕ → ℕ → ℕ → ℕ) (env : Env) (doing : Doing M) (batch : Option BatchModel) (old : ℕ)
       → IsBatchIn env (batch_room doing batch)

@@ -1,5 +1,5 @@
 -- The nodes that a caller's calls took out: they go into its batch, which a tidying has while it runs.
-use Rattle.std.specs.Prelude.{◌≡◌, ℕ, ◌<◌, ◌++◌, Option, Some, None}
+use Rattle.std.specs.Prelude.{◌≡◌, ℕ, ◌<◌, ◌++◌, List, [], Option, Some, None}
 use Rattle.std.specs.List.{AllByRecursion}
 use Rattle.rht_words.specs.declared.env.Env.{Env}
 use Rattle.rht_words.specs.declared.machine.Next.{Next}
@@ -27,6 +27,11 @@ AreNodesIn nodes (Some batch) = AllByRecursion (λ node. node < nodes) (batch.fr
 abbrev pub IsSoundBatch : Option BatchModel → Type 0
 IsSoundBatch None = ⊥
 IsSoundBatch (Some batch) = IsBatch batch
+
+-- its nodes
+abbrev pub nodes_in : Option BatchModel → List ℕ
+nodes_in None = []
+nodes_in (Some batch) = batch.fresh ++ batch.waiting
 
 -- the batch with the node that was taken out, where one was
 abbrev pub with_out : Option BatchModel → Option ℕ → Option BatchModel

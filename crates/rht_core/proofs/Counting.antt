@@ -8,6 +8,8 @@ pub mod CountedNodes
 pub mod NumbersBelow
 -- the nodes that calls have taken out of ports' lists
 pub mod NodesOut
+-- while nobody is in a call the nodes that are out are those in the callers' batches
+pub mod BatchedNodes
 -- in every run a bind or a rebind takes one node at most, and no other call takes one
 pub mod NodesTaken
 -- which callers have raised the count, by what their jobs hold

@@ -32,6 +32,8 @@ pub mod KeptAtEvents
 pub mod BooksInRuns
 -- the node that a call has taken out of a port's list, by its state
 pub mod TakenOut
+-- what a release or a rebind says of the node that it has taken out
+pub mod SaidOfNodes
 -- in every run the nodes of a caller's batch were taken out by it, and none stands there twice
 pub mod BatchesInRuns
 -- in every run a section word is odd just where its caller's call is in its section, and no other call changes it

@@ -1,6 +1,6 @@
 -- What the count of ports counts, and what a table is like while nobody is in a call.
 use Rattle.std.specs.Prelude.{◌≡◌, ◌≢◌, ℕ, ◌+◌, ◌/◌, ◌%◌, ◌<◌, ◌≤◌, ◌⊎◌, Bool, Option, Some, List, [], ◌∷◌, ◌++◌, length, slice_index, sum_by, count_by}
-use Rattle.std.specs.List.{AllByRecursion, range_with_len}
+use Rattle.std.specs.List.{AllByRecursion, flat_map, range_with_len}
 use Rattle.std.specs.Int.{bit_at}
 use Rattle.rht_words.specs.declared.env.Env.{Env}
 use Rattle.rht_words.specs.declared.geometry.Geometry.{Geometry}
@@ -11,7 +11,8 @@ use Rattle.rht_words.specs.Shapes.{unpacked, size_of}
 use Rattle.rht_model.specs.declared.history.Call.{Call}
 use Rattle.rht_model.specs.declared.history.Call.TheVariants.{Bind, Release}
 use Rattle.rht_core.specs.declared.event.Event.{Event}
-use Rattle.rht_core.specs.Runs.{World, run_of, IsAdmitted}
+use Rattle.rht_callers.specs.Batches.{nodes_in, batch_room}
+use Rattle.rht_core.specs.Runs.{Core, World, local_of, run_of, IsAdmitted}
 use Rattle.rht_stands.specs.StandsFor.{in_force, shape_of, bucket_in, nodes_of, stands_for, AreAllBound}
 use Rattle.rht_core.specs.TablePages.{IsPageOfTable}
 use Rattle.rht_core.specs.Sections.{IsInNoSection}
@@ -86,20 +87,34 @@ abbrev pub taken_out : {M : Type 0} → World M → ℕ
 taken_out w =
     sum_by (λ c. count_by (λ done. takes_out done.reply) (w.books c).finished) (range_with_len 0 w.core.env.geometry.callers)
 
+-- the nodes in this caller's batch, wherever that lies, and those in anybody's
+abbrev pub in_batch : {M : Type 0} → Core M → ℕ → List ℕ
+in_batch core c = nodes_in (batch_room (local_of core c).doing (local_of core c).batch)
+
+abbrev pub in_batches : {M : Type 0} → Env → Core M → List ℕ
+in_batches env core = flat_map (in_batch core) (range_with_len 0 env.geometry.callers)
+
+-- each node is free, in a port's list, or in a batch, and never two of these; and none is twice in batches
+pub record AreBatched {M : Type 0} (env : Env) (core : Core M) : Type 0 where
+  pub distinct : IsDistinct (in_batches env core)
+  pub among : AllByRecursion (λ node. node < env.geometry.nodes) (in_batches env core)
+  pub placed : (node : ℕ) → node < env.geometry.nodes → IsPlaced env.geometry core.words (in_batches env core) node
+
 -- No bucket of a table in force, or in a slot that isn't free, is locked, and the word of each bucket of a retired one is 0; as many
--- nodes are out as were taken out, and no others; in a table of one owner each no port's list has a second node; the count of ports is
+-- nodes are out as were taken out, and no others, and they are those in the callers' batches; in a table of one owner each no port's list has a second node; the count of ports is
 -- the number of those bound; no caller has the work lock, a slot or pages, or is in a read section; and each table that was left behind
 -- is retired
-pub record IsAtRest (env : Env) (words : List ℕ) (out : ℕ) : Type 0 where
-  pub unlocked : (slot place : ℕ) → HasTable env.geometry words slot → IsBucketOfSlot env.geometry words slot place
-      → slice_index words place % 2 ≡ 0
-  pub emptied : (slot place : ℕ) → slot < 8 → word_at env.geometry words (Slot slot StateWord) ≡ 2
-      → IsBucketOfSlot env.geometry words slot place → slice_index words place ≡ 0
-  pub nodes : AreOut env.geometry words out
-  pub single : env.config.kind ≡ Single → (port : ℕ) → length (nodes_of env.geometry words port) ≤ 1
-  pub counted : AreAllBound (stands_for env.geometry words) (word_at env.geometry words PortCount)
-  pub none_held : AreNoneHeld env.geometry words
-  pub sections : (c : ℕ) → c < env.geometry.callers → IsInNoSection env.geometry words c
+pub record IsAtRest {M : Type 0} (env : Env) (core : Core M) (out : ℕ) : Type 0 where
+  pub unlocked : (slot place : ℕ) → HasTable env.geometry core.words slot → IsBucketOfSlot env.geometry core.words slot place
+      → slice_index core.words place % 2 ≡ 0
+  pub emptied : (slot place : ℕ) → slot < 8 → word_at env.geometry core.words (Slot slot StateWord) ≡ 2
+      → IsBucketOfSlot env.geometry core.words slot place → slice_index core.words place ≡ 0
+  pub nodes : AreOut env.geometry core.words out
+  pub batched : AreBatched env core
+  pub single : env.config.kind ≡ Single → (port : ℕ) → length (nodes_of env.geometry core.words port) ≤ 1
+  pub counted : AreAllBound (stands_for env.geometry core.words) (word_at env.geometry core.words PortCount)
+  pub none_held : AreNoneHeld env.geometry core.words
+  pub sections : (c : ℕ) → c < env.geometry.callers → IsInNoSection env.geometry core.words c
 
 module _ (M : Type 0) (mix : ℕ → ℕ → ℕ → ℕ) where
   -- the operation gave a port its first owner
@@ -164,4 +179,4 @@ module _ (M : Type 0) (mix : ℕ → ℕ → ℕ → ℕ) where
   abbrev pub AtRest : Type 0
   AtRest =
       (env : Env) (events : List Event) → IsAdmitted env.config.kind events → IsQuiet M mix env events
-      → let w : World M = run_of mix env events in IsAtRest env w.core.words (taken_out w)
+      → let w : World M = run_of mix env events in IsAtRest env w.core (taken_out w)

@@ -1,35 +1,20 @@
--- What a call that tidies gives back, why one waits, and which nodes wait, in every run.
+-- What a call that tidies gives back, and why one waits, in every run.
 use Rattle.std.specs.Prelude.{◌≡◌, ◌↔◌, ℕ, ◌%◌, ◌<◌, List, [], ◌∷◌, ◌++◌, length, take, slice_index_or}
-use Rattle.std.specs.List.{AllByRecursion, Any, Contains, flat_map, range_with_len}
+use Rattle.std.specs.List.{Any, Contains}
 use Rattle.rht_words.specs.declared.env.Env.{Env}
 use Rattle.rht_words.specs.declared.geometry.Geometry.{Geometry}
-use Rattle.rht_words.specs.Members.{In, IsDistinct}
+use Rattle.rht_words.specs.Members.{In}
 use Rattle.rht_words.specs.Places.{Section}
 use Rattle.rht_model.specs.declared.history.Call.TheVariants.{Tidy}
 use Rattle.rht_model.specs.declared.history.Reply.TheVariants.{Clear, Pending}
+use Rattle.rht_grace.specs.Batch.{BatchModel}
+use Rattle.rht_grace.specs.TidyLaws.{due_of, left_of}
 use Rattle.rht_arena.specs.Laws.{map_place, map_bit}
 use Rattle.rht_core.specs.declared.event.Event.{Event}
-use Rattle.rht_core.specs.Counts.{IsPlaced}
 use Rattle.rht_core.specs.Runs.{Core, run_of, IsAdmitted}
 use Rattle.rht_core.specs.Reach.{SetsBit}
 use Rattle.rht_core.specs.Seen.{LoadsWord}
 use Rattle.rht_core.specs.Traces.{Did, Past, traced_of, behind_call}
-
--- a caller's batch: nodes that were taken out since the last tidying, those that wait, and the section words
--- kept for these
-pub record Batch : Type 0 where
-  pub fresh : List ℕ
-  pub waiting : List ℕ
-  pub kept : List ℕ
-
--- the nodes that a tidying is to give back, and those that it leaves fresh
-abbrev pub due_of : List ℕ → List ℕ → List ℕ
-due_of fresh [] = fresh
-due_of fresh (node ∷ nodes) = node ∷ nodes
-
-abbrev pub left_of : List ℕ → List ℕ → List ℕ
-left_of fresh [] = []
-left_of fresh (node ∷ nodes) = fresh
 
 -- one of the operations sets the node's bit
 abbrev pub GivesNode : Geometry → List Did → ℕ → Type 0
@@ -37,7 +22,7 @@ GivesNode g steps node = (node < g.nodes) × Any (SetsBit (map_place g node) (ma
 
 -- A tidying that clears has given back just the nodes that were due, and says how many; none waits then. One
 -- that waits has given back none, and they wait.
-pub record TidiesRightly (g : Geometry) (before after : Batch) (past : Past) : Type 0 where
+pub record TidiesRightly (g : Geometry) (before after : BatchModel) (past : Past) : Type 0 where
   pub cleared : (count : ℕ) → past.done.reply ≡ Clear count
       → (count ≡ length (due_of before.fresh before.waiting))
       × (after.waiting ≡ [])
@@ -48,8 +33,8 @@ pub record TidiesRightly (g : Geometry) (before after : Batch) (past : Past) : T
       × (after.fresh ≡ left_of before.fresh before.waiting)
       × ((node : ℕ) → ¬ GivesNode g past.steps node)
 
-module _ (M : Type 0) (mix : ℕ → ℕ → ℕ → ℕ) (batch_of : Core M → ℕ → Batch) where
-  abbrev pub batch_before : Env → List Event → ℕ → ℕ → Batch
+module _ (M : Type 0) (mix : ℕ → ℕ → ℕ → ℕ) (batch_of : Core M → ℕ → BatchModel) where
+  abbrev pub batch_before : Env → List Event → ℕ → ℕ → BatchModel
   batch_before env events c index = batch_of (run_of {M = M} mix env (take index events)).core c
 
   -- in every run each tidying that has ended
@@ -76,17 +61,3 @@ module _ (M : Type 0) (mix : ℕ → ℕ → ℕ → ℕ) (batch_of : Core M →
     pub last : Did
     pub are : steps ≡ before ++ last ∷ []
     pub finds : FindsKept env events c caller section last
-
-  -- the nodes that wait in anybody's batch
-  abbrev pub in_batches : Env → Core M → List ℕ
-  in_batches env core =
-      flat_map (λ c. (batch_of core c).fresh ++ (batch_of core c).waiting)
-      (range_with_len 0 env.geometry.callers)
-
-  -- while nobody is in a call each node is free, in a port's list, or in a batch, and never two of these; and
-  -- none is twice in batches
-  pub record AreBatched (env : Env) (core : Core M) : Type 0 where
-    pub distinct : IsDistinct (in_batches env core)
-    pub among : AllByRecursion (λ node. node < env.geometry.nodes) (in_batches env core)
-    pub placed : (node : ℕ) → node < env.geometry.nodes
-        → IsPlaced env.geometry core.words (in_batches env core) node

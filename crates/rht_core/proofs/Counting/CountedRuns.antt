@@ -15,7 +15,7 @@ use Rattle.rht_core.specs.Runs.{IsAdmitted, Core, World, local_of, view_of, run_
 use Rattle.rht_stands.specs.StandsFor.{in_force, nodes_of}
 use Rattle.rht_core.proofs.Counting.RaisingCallers.{is_raising, raising, IsCountedBy}
 use Rattle.rht_core.proofs.Counting.AheadCalls.{are_ahead}
-use Rattle.rht_core.specs.Counts.{IsListed, IsPlaced, IsPageFree, IsPageOfSlot, IsPageInSlot, AreNoneHeld, taken_out, Counted, AtRest}
+use Rattle.rht_core.specs.Counts.{IsListed, IsPlaced, IsPageFree, IsPageOfSlot, IsPageInSlot, AreNoneHeld, AreBatched, taken_out, Counted, AtRest}
 use Rattle.rht_core.specs.declared.event.Event.{Event}
 use Rattle.rht_core.specs.TablePages.{IsPageOfTable}
 use Rattle.rht_ghost.proofs.Theory.Ghosts.{Owner, Free, NodeHeld, First, Leaving, Behind, Taken, PageOwner, PageFree, PageHeld, PageOf, SlotOwner, SlotFree, SlotHeld, Live, Retired, Ghost, has_table, index_at, state_word, is_used, IsUsed, lock_bit, seat-used}
@@ -26,6 +26,9 @@ use Rattle.rht_core.proofs.Machines.JobSteps.{KnowsNothing}
 use Rattle.rht_core.proofs.Events.Invariants.{Inv, idle_knows}
 use Rattle.rht_core.proofs.Events.InvariantRuns.{has_inv}
 use Rattle.rht_core.proofs.Events.BooksInRuns.{ended_outs, idle-says, has_books}
+use Rattle.rht_core.specs.Alone.{IsQuiet}
+use Rattle.rht_core.proofs.Events.BatchesInRuns.{has_batches}
+use Rattle.rht_core.proofs.Counting.BatchedNodes.{are_batched}
 use Rattle.rht_core.proofs.Events.SectionsInRuns.{in_no_section}
 use Rattle.rht_core.proofs.Meaning.TablesInForce.{table_in_force}
 use Rattle.rht_core.proofs.Meaning.BoundPorts.{listed_bound}
@@ -242,6 +245,21 @@ module _ (M : Type 0) (mix : ℕ → ℕ → ℕ → ℕ) where
         few = by.few;
       }
 
+  -- each node is free, in a port's list or in a batch
+  batched_at : (env : Env) (events : List Event) → IsAdmitted env.config.kind events → IsQuiet M mix env events
+      → AreBatched env (run_of {M = M} mix env events).core
+  batched_at env events admitted quiet =
+      let core : Core M = (run_of mix env events).core in
+      let has = has_batches env mix M events admitted in
+      let G = has.ghost in
+      let whole = has.inv.whole in
+      let built = whole.arena.built in
+      let knows : (c : ℕ) → KnowsNothing env mix c (mem env mix core.words) G =
+      λ c. idle_knows env mix M c (local_of core c).doing (mem env mix core.words) G (quiet c) (has.inv.each c) in
+      are_batched env mix M core G built has.each (λ c. (has.all.locals c).among) quiet (out_nodes env mix G built)
+      (out_nodes-in env mix G built) (out_nodes-out env mix G built)
+      (λ n l. placed env mix core.words G whole n l (λ c held. let none = (knows c).only.nodes n held in absurd (cc)))
+
   pub at_rest : AtRest M mix
   at_rest env events admitted quiet =
       let core : Core M = (run_of mix env events).core in
@@ -276,6 +294,7 @@ module _ (M : Type 0) (mix : ℕ → ℕ → ℕ → ℕ) where
           placed = λ n l. placed env mix core.words G has.inv.whole n l
               (λ c held. let none = (knows c).only.nodes n held in absurd (cc));
         };
+        batched = batched_at env events admitted quiet;
         single = few_listed env mix core.words G has.inv.whole;
         counted = rw all (firsts-AreAllBound env mix core.words G has.inv.whole);
         none_held = none_held env mix core.words G has.inv.whole

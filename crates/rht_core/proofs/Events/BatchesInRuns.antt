@@ -1,46 +1,66 @@
 -- In every run the nodes of a caller's batch are those that its calls took out of lists, and none of them stands there twice, nor is it the one
 -- that the call in progress has taken out. So a node that a call hands out may be put in.
 -- This goes with the invariant event by event, since it speaks of the ghost.
-use Rattle.std.proofs.Common.{◌≡◌, ◌⊎◌, ℕ, ◌<◌, List, [], ◌∷◌, ◌++◌, true, false, Option, Some, None, refl, sym, ap, ◌∙◌, subst, inl, inr}
-use Rattle.std.proofs.lemmas.List.{length-replicate}
+use Rattle.std.specs.Prelude.{◌==◌, IfSome, option_map}
+use Rattle.std.proofs.Common.{◌≡◌, ◌≢◌, ◌⊎◌, ℕ, ◌+◌, ◌<◌, List, [], ◌∷◌, ◌++◌, length, length-append, Bool, true, false, arith, Option, Some, None, refl, sym, ap, ◌∙◌, subst, inl, inr}
+use Rattle.std.proofs.lemmas.Bool.{cases_eq}
+use Rattle.std.proofs.lemmas.List.{length-replicate, get_or-set_same, get_or-set_other}
 use Rattle.rht_words.specs.declared.op.Op.{Op}
 use Rattle.rht_words.specs.declared.env.Env.{Env}
 use Rattle.rht_words.specs.declared.geometry.Geometry.{Geometry}
 use Rattle.rht_words.specs.Members.{In, NotIn}
 use Rattle.rht_words.specs.Operations.{old_of}
 use Rattle.rht_words.proofs.EachElement.{each_set}
-use Rattle.rht_words.proofs.Members.{not_in_from}
+use Rattle.rht_words.specs.declared.machine.Next.{Next}
+use Rattle.rht_words.specs.declared.machine.Next.TheVariants.{Go, Done}
+use Rattle.rht_words.specs.Links.{node_of}
+use Rattle.rht_words.specs.Ports.{owner_of}
+use Rattle.rht_words.proofs.Members.{not_in_from, one_if, count_below-none}
+use Rattle.rht_arena.specs.NewNode.{NewNodeModel, new_node_after}
+use Rattle.rht_chain.specs.Relink.{RelinkModel, relink_after}
 use Rattle.rht_model.specs.declared.history.Call.{Call}
+use Rattle.rht_model.specs.declared.history.Call.TheVariants.{Release, Rebind}
 use Rattle.rht_model.specs.declared.history.Reply.{Reply}
+use Rattle.rht_model.specs.declared.history.Reply.TheVariants.{Released, Rebound, Absent, NoNode}
+use Rattle.rht_model.specs.Answers.{Answer}
+use Rattle.rht_model.specs.Endings.{Ending, plain_ending}
+use Rattle.rht_model.specs.Replies.{takes_out, IsReplyTo}
+use Rattle.rht_release.specs.declared.found_port.FoundPort.{FoundPort}
+use Rattle.rht_release.specs.Seek.{SeekModel, seek_after}
+use Rattle.rht_release.specs.Release as release
+use Rattle.rht_release.specs.declared.release.ReleaseAt.{ReleaseAt}
+use Rattle.rht_release.specs.declared.release.ReleaseAt.TheVariants as releasing
+use Rattle.rht_release.specs.Rebind as rebind
+use Rattle.rht_release.specs.declared.rebind.RebindAt.{RebindAt}
+use Rattle.rht_release.specs.declared.rebind.RebindAt.TheVariants as rebinding
+use Rattle.rht_release.specs.declared.rebind.RebindEnd.TheVariants as ends_at
 use Rattle.rht_grace.specs.Batch.{BatchModel}
 use Rattle.rht_grace.specs.Tidy.{TidyModel}
 use Rattle.rht_callers.specs.declared.local.Local.{Local}
 use Rattle.rht_callers.specs.declared.local.Doing.{Doing}
-use Rattle.rht_callers.specs.declared.local.Doing.TheVariants.{Idle, Tidying}
-use Rattle.rht_callers.specs.Batches.{IsBatchIn, IsSoundBatch, CanPut, with_out, out_of, batch_room, batch_beside, batch_after}
+use Rattle.rht_callers.specs.declared.local.Doing.TheVariants.{Idle, Finding, Binding, Listing, Releasing, Rebinding, Working, Counting, Tidying}
+use Rattle.rht_callers.specs.Batches.{nodes_in, node_out, IsBatchIn, IsSoundBatch, CanPut, with_out, out_of, batch_room, batch_beside, batch_after}
 use Rattle.rht_callers.specs.Locals.{fresh, does_nothing, is_idle, begin_with, doing_after, local_after}
-use Rattle.rht_callers.proofs.BatchesOfCallers.{idle-batch, begun-batch, batch_after-so, IsSoundBatch-out}
+use Rattle.rht_callers.proofs.BatchesOfCallers.{idle-batch, begun-batch, batch_after-so, batch_after-out, IsSoundBatch-out}
 use Rattle.rht_core.specs.declared.event.Event.{Event}
 use Rattle.rht_core.specs.declared.event.Event.TheVariants.{Enroll, Begin, Step}
-use Rattle.rht_core.specs.Jobs.{Job, job_of, job_after, told}
+use Rattle.rht_core.specs.Jobs.{Job, finds, binds, lists, releases, rebinds, works, tidies, counts, call_of, first_job, job_of, job_next, job_after, node_ending, told, held_of, held_next}
 use Rattle.rht_core.specs.Laws.{IsDoingIn, IsInRange, InRange}
 use Rattle.rht_core.specs.Runs.{Core, World, core_step, with_step, world_step, run_of, opening, local_of, beginning_in, planned_in, IsAdmitted, IsAdmittedEvent}
 use Rattle.rht_core.proofs.Events.HandedOut.{out_in}
-use Rattle.rht_core.proofs.Events.Invariants.{Inv, kept, step_of, StepOf}
+use Rattle.rht_core.proofs.Events.Invariants.{Inv, kept, step_of, StepOf, others_outs}
 use Rattle.rht_core.proofs.Events.InvariantRuns.{opening_ghost, opening_inv, idle_at_opening}
-use Rattle.rht_core.proofs.Events.JobsOfCallers.{first_job-machine, left-job, nothing-job, is_no_job}
+use Rattle.rht_core.proofs.Events.JobsOfCallers.{first_job-machine, first_unknown, first-so, first_rebind-so, same_call, left-job, nothing-job, is_no_job, doing_after-reply}
 use Rattle.rht_core.proofs.Events.RangesInRuns.{AllIn, event-all, opens-all, plans-in, few-planning}
 use Rattle.rht_core.proofs.Events.SoundRuns.{has_place, made_in, IsSound-stays}
+use Rattle.rht_core.proofs.Events.SaidOfNodes.{outs_with, many_of, SaysTaken, AnsweredWith, left-says, ended_says, longer, first-says, outs-idle, untaken-idle}
 use Rattle.rht_core.proofs.Events.TakenOut.{taken_with, taken_of, first_untaken, taken_known, taken_then, hands_out, goes_none}
 use Rattle.rht_core.proofs.Events.BusyCallers.{ends}
 use Rattle.rht_core.proofs.Events.Worlds.{run_keeps_admitted, beginning-some, planned-some}
-use Rattle.rht_ghost.proofs.Theory.Ghosts.{Ghost, Taken}
+use Rattle.rht_ghost.proofs.Theory.Ghosts.{Ghost, Free, Taken, is_taken_by}
+use Rattle.rht_ghost.proofs.Theory.Wholes.{outs}
+use Rattle.rht_ghost.proofs.Theory.Answering.{outs_of, IsReplied, IsReplied-same, known_so}
 use Rattle.rht_ghost.proofs.Theory.Steps.{mem, ghost_after}
-
--- the nodes of a batch
-abbrev pub nodes_in : Option BatchModel → List ℕ
-nodes_in None = []
-nodes_in (Some batch) = batch.fresh ++ batch.waiting
 
 -- those with a node that is put in
 nodes_in-out : (batch : Option BatchModel) (removed : Option ℕ) (n : ℕ) → In n (nodes_in (with_out batch removed))
@@ -70,21 +90,20 @@ with_caller : (L : Type 0) (doing : Doing L) (batch : Option BatchModel) → ((m
 with_caller L (Tidying m) batch not = absurd (not m refl)
 with_caller L _ batch not = refl
 
--- and who is in no call has taken none
-untaken-idle : {L : Type 0} (doing : Doing L) → does_nothing doing ≡ true → taken_with (job_of doing) ≡ None
-untaken-idle Idle idle = refl
-untaken-idle _ idle = absurd (cc)
-
 module _ (env : Env) (mix : ℕ → ℕ → ℕ → ℕ) (L : Type 0) where
   -- the nodes of a caller's batch
   abbrev pub batch_of : Local L → Option BatchModel
   batch_of local = batch_room local.doing local.batch
 
-  -- they were taken out by its calls, none stands there twice, and none is the one that the call in progress has taken out
+  -- They were taken out by its calls, none stands there twice, and none is the one that the call in progress has taken out. There are as
+  -- many of them as its calls have taken out, but for that one. And the answer of the call in progress, once it is known, is one of its
+  -- kind, and says whether it has taken one out.
   pub record BatchRight (G : Ghost) (c : ℕ) (local : Local L) : Type 0 where
     pub out : (n : ℕ) → In n (nodes_in (batch_of local)) → G.node n ≡ Taken c
     pub sound : IsSoundBatch (batch_of local)
     pub apart : (n : ℕ) → taken_with (job_of local.doing) ≡ Some n → NotIn n (nodes_in (batch_of local))
+    pub many : outs env mix G c ≡ length (nodes_in (batch_of local)) + outs_with (job_of local.doing)
+    pub answered : AnsweredWith (job_of local.doing)
 
   -- the invariant, with some ghost, all that is in range, and what is so of batches
   pub record HasBatches (core : Core L) : Type 0 where
@@ -112,6 +131,16 @@ module _ (env : Env) (mix : ℕ → ℕ → ℕ → ℕ) (L : Type 0) where
             let none : taken_with (job_of machine) ≡ None =
             ap taken_with first.does ∙ first_untaken env call first.job first.first in
             absurd (let both : None ≡ Some n = sym none ∙ taken in cc);
+        many =
+            let none : outs_with (job_of machine) ≡ 0 = ap outs_with first.does ∙ ap outs_of (first_unknown env call first.job first.first) in
+            let idle : outs_with (job_of local.doing) ≡ 0 = outs-idle local.doing can.idle in
+            let here = idle-batch L (λ batch. outs env mix G c ≡ length (nodes_in batch) + outs_with (job_of local.doing)) local can.idle right.many in
+            begun-batch L (λ batch. outs env mix G c ≡ length (nodes_in batch) + outs_with (job_of machine)) env c call machine made local.batch
+            (omega (arith, none, idle, here));
+        answered =
+            subst AnsweredWith (sym first.does)
+            (subst (λ (answer : Option Answer). IfSome answer (IsReplied (call_of first.job))) (sym (first_unknown env call first.job first.first)) tt,
+            first-says env call first.job first.first);
       }
 
   -- ---- an operation
@@ -183,6 +212,54 @@ module _ (env : Env) (mix : ℕ → ℕ → ℕ → ℕ) (L : Type 0) where
           | inr not ↦ not_in_from n (nodes_in (batch_of local)) (λ there. not (right.out n there))
         ]
 
+    abbrev next_job : Job × Next Ending
+    next_job = job_after mix env of.job old
+
+    says : AnsweredWith (Some of.job)
+    says = subst AnsweredWith of.is right.answered
+
+    replied_now : IfSome (held_next next_job).answer (IsReplied (call_of of.job))
+    replied_now =
+        known_so env.config.kind c (call_of of.job) (IsReplied (call_of of.job)) (IsReplied-same (call_of of.job)) _ _ _ _
+        (held_of of.job).answer (held_next next_job).answer of.step.says
+        (λ answer unknown known. (of.step.right answer unknown known).replied) says.0
+
+    answered_now : AnsweredWith (told next_job).0
+    answered_now = go next_job (same_call mix env of.job old) replied_now (left-says mix env of.job old says.1)
+      where
+        go : (next : Job × Next Ending) → call_of next.0 ≡ call_of of.job → IfSome (held_next next).answer (IsReplied (call_of of.job))
+            → SaysTaken next.0 → AnsweredWith (told next).0
+        go (after, Go) same replied taken = (subst (λ call. IfSome (held_of after).answer (IsReplied call)) (sym same) replied, taken)
+        go (after, Done ending) same replied taken = tt
+
+    -- the call has a node, or hands it out
+    hands_or_has : outs_of (held_next next_job).answer ≡ many_of (out_of mix local.doing old) + outs_with (told next_job).0
+    hands_or_has = go next_job refl (doing_after-reply mix env local.doing of.job old (all.stays.locals_of c).doing of.is)
+      where
+        go : (next : Job × Next Ending) → next_job ≡ next
+            → (doing_after mix local.doing old).1 ≡ option_map (λ (e : Ending). e.answer.reply) (told next_job).1
+            → outs_of (held_next next).answer ≡ many_of (out_of mix local.doing old) + outs_with (told next).0
+        go (after, Go) same replied =
+            let none = ap many_of (goes_none mix local.doing old (replied ∙ ap (λ n. option_map (λ (e : Ending). e.answer.reply) (told n).1) same)) in
+            omega (arith, none)
+        go (after, Done ending) same replied =
+            let ended = ended_says mix env local.doing of.job old ending of.is says.1 (ap (λ n. (told n).1) same)
+            (subst (λ (n : Job × Next Ending). IfSome (held_next n).answer (IsReplied (call_of of.job))) same replied_now) in
+            omega (arith, ended)
+
+    many_now : outs env mix G' c
+        ≡ length (nodes_in (batch_room (doing_after mix local.doing old).0 (batch_after mix local.doing local.batch old)))
+        + outs_with (told next_job).0
+    many_now =
+        let beside = with_caller L local.doing local.batch not_tidying in
+        let was = right.many ∙ ap (λ job. length (nodes_in (batch_of local)) + outs_with job) of.is in
+        let same = ap (λ batch. length (nodes_in batch)) beside in
+        let more = longer env local.batch (out_of mix local.doing old) (beside_in beside) in
+        let after = ap (λ batch. length (nodes_in batch)) (batch_after-out L mix local.doing local.batch old not_tidying) in
+        let step = of.step.outs in
+        let hands = hands_or_has in
+        omega (arith, was, same, more, after, step, hands)
+
     pub stepped-right : BatchRight G' c (local_after mix local old).0
     stepped-right = record {
       out = batch_after-so L AreOut mix local.doing local.batch old (λ n there. out_now n (right.out n there))
@@ -196,6 +273,11 @@ module _ (env : Env) (mix : ℕ → ℕ → ℕ → ℕ) (L : Type 0) where
           let left = left-job mix env local.doing of.job old (all.stays.locals_of c).doing of.is in
           let by_job = sym (ap taken_with left) ∙ taken in
           lacks_now n (goes_on n taken) by_job;
+      many =
+          let left = left-job mix env local.doing of.job old (all.stays.locals_of c).doing of.is in
+          let same = ap outs_with left in
+          omega (arith, many_now, same);
+      answered = subst AnsweredWith (sym (left-job mix env local.doing of.job old (all.stays.locals_of c).doing of.is)) answered_now;
     }
       where
         -- what has a node is still in the call
@@ -212,12 +294,14 @@ module _ (env : Env) (mix : ℕ → ℕ → ℕ → ℕ) (L : Type 0) where
                 absurd (let both : None ≡ Some n = sym none ∙ taken in cc)
 
   -- another caller's nodes stay its
-  others-right : (core : Core L) (G : Ghost) (c : ℕ) (op : Op) (of : StepOf env mix L core G c op) (k : ℕ) (other : Local L)
+  others-right : (core : Core L) (G : Ghost) (c : ℕ) (op : Op) (of : StepOf env mix L core G c op) (k : ℕ) (other : Local L) → k ≢ c
       → BatchRight G k other → BatchRight (ghost_after env mix c of.step.move G) k other
-  others-right core G c op of k other right = record {
+  others-right core G c op of k other ne right = record {
     out = λ n there. of.step.made.stale.owners.out n k (right.out n there);
     sound = right.sound;
     apart = right.apart;
+    many = others_outs env mix L k (mem env mix core.words) _ G _ (of.step.made.others k ne) ∙ right.many;
+    answered = right.answered;
   }
 
   -- ---- one event
@@ -246,10 +330,13 @@ module _ (env : Env) (mix : ℕ → ℕ → ℕ → ℕ) (L : Type 0) where
       let place = has_place L mix env core c all.stays can.below in
       let next = (local_after mix (local_of core c) (old_of core.words op)).0 in
       subst (λ o. BatchRight after.ghost k (local_of (with_step mix core c o).0 k)) (sym is)
-      (each_set (BatchRight after.ghost) (fresh core.env) core.locals c next place
-      (subst (λ g. BatchRight g c next) (sym moves.1) (stepped-right core G all inv c op moves.0 (each c)))
-      (λ other. subst (λ g. BatchRight g other (local_of core other)) (sym moves.1)
-      (others-right core G c op moves.0 other (local_of core other) (each other))) k)
+      (elim (cases_eq k c) [
+        | inl e ↦ rw e (rw (get_or-set_same core.locals c next (fresh core.env) place)
+            (subst (λ g. BatchRight g c next) (sym moves.1) (stepped-right core G all inv c op moves.0 (each c))))
+        | inr ne ↦ rw (get_or-set_other core.locals c k next (fresh core.env) ne)
+            (subst (λ g. BatchRight g k (local_of core k)) (sym moves.1)
+            (others-right core G c op moves.0 k (local_of core k) ne (each k)))
+      ])
 
   event-each : (w : World L) (event : Event) → IsAdmittedEvent env.config.kind event → (has : HasBatches w.core)
       → (k : ℕ) → BatchRight (kept env mix L w.core has.ghost event has.all has.inv).ghost k (local_of (world_step mix w event).core k)
@@ -284,6 +371,8 @@ module _ (env : Env) (mix : ℕ → ℕ → ℕ → ℕ) (L : Type 0) where
               out = λ n there. absurd there;
               sound = record { among = tt; distinct = tt; callers = length-replicate env.geometry.callers 0 };
               apart = λ n taken. absurd (cc);
+              many = count_below-none (λ n. is_taken_by c Free) env.geometry.nodes (λ n l. refl);
+              answered = tt;
             });
       })
 

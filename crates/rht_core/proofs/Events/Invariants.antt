@@ -169,7 +169,7 @@ module _ (env : Env) (mix : ℕ → ℕ → ℕ → ℕ) where
       pub ghost_kept : GhostKept core G ghost event
 
     -- others see no node taken out
-    others_outs : (k : ℕ) (M M' : Memory) (G G' : Ghost) → Rely env mix k M G M' G'
+    pub others_outs : (k : ℕ) (M M' : Memory) (G G' : Ghost) → Rely env mix k M G M' G'
         → outs env mix G' k ≡ outs env mix G k
     others_outs k M M' G G' rely =
         count_below-same (λ n. is_taken_by k (G.node n)) (λ n. is_taken_by k (G'.node n))

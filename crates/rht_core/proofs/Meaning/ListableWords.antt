@@ -25,7 +25,7 @@ IsDistinct-append (x ∷ xs) ys left right apart = (
 )
 
 -- each member tells in whose list it is
-IsDistinct-flat_map : (f : ℕ → List ℕ) (whose : ℕ → ℕ) → ((x y : ℕ) → In y (f x) → whose y ≡ x) → ((x : ℕ) → IsDistinct (f x))
+pub IsDistinct-flat_map : (f : ℕ → List ℕ) (whose : ℕ → ℕ) → ((x y : ℕ) → In y (f x) → whose y ≡ x) → ((x : ℕ) → IsDistinct (f x))
     → (xs : List ℕ) → IsDistinct xs → IsDistinct (flat_map f xs)
 IsDistinct-flat_map f whose told each [] distinct = tt
 IsDistinct-flat_map f whose told each (x ∷ xs) distinct =
