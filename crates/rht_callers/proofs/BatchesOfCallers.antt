@@ -95,14 +95,12 @@ module _ (M : Type 0) where
       go _ idle is = absurd (cc)
 
   -- no call begins with a tidying, so who has begun has it as well
-  pub begun-batch : (So : Option BatchModel → Type 0) (env : Env) (c : ℕ) (call : Call) (machine : Doing M)
-      → machine_of env c call ≡ Some machine → (batch : Option BatchModel) → So batch
-      → So (batch_room machine (batch_beside machine batch))
-  begun-batch So env c =
-      begins_so M env c
-      (λ call machine. (batch : Option BatchModel) → So batch → So (batch_room machine (batch_beside machine batch)))
-      (λ port batch is. is) (λ port owner once batch is. is) (λ port batch is. is) (λ port owner batch is. is)
-      (λ port owner new single batch is. is) (λ batch is. is) (λ batch is. is)
+  pub begun-batch : (So : Option BatchModel → Type 0) (env : Env) (c : ℕ) (batch : Option BatchModel) (call : Call) (machine : Doing M)
+      → machine_of env c batch call ≡ Some machine → So batch → So (batch_room machine (batch_beside machine batch))
+  begun-batch So env c batch =
+      begins_so M env c batch (λ call machine. So batch → So (batch_room machine (batch_beside machine batch)))
+      (λ port is. is) (λ port owner once is. is) (λ port is. is) (λ port owner is. is) (λ port owner new single is. is) (λ is. is)
+      (λ is. is)
 
   -- ---- an operation
 

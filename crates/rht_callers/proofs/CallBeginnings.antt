@@ -17,11 +17,12 @@ use Rattle.rht_callers.specs.Locals.{room_for_nodes, does_nothing, is_idle, mach
 use Rattle.rht_release.specs.Release.{release_new}
 use Rattle.rht_release.specs.Rebind.{rebind_new}
 use Rattle.rht_move.specs.Work.{work_new}
+use Rattle.rht_grace.specs.Batch.{BatchModel}
 
 module _ (M : Type 0) where
   -- A call begins as a look-up, a bind, a listing, a release, a rebind, a resizing or a reading of the count. What
   -- is so of these is so of whatever begins.
-  module _ (env : Env) (c : ℕ) (So : Call → Doing M → Type 0)
+  module _ (env : Env) (c : ℕ) (batch : Option BatchModel) (So : Call → Doing M → Type 0)
       (find : (port : ℕ) → So (Find port) (Finding (find_new env c port)))
       (bind : (port owner : ℕ) (once : Bool) → So (Bind port owner once) (Binding (bind_new env c port owner once)))
       (list : (port : ℕ) → So (All port) (Listing (all_new env c port (room_for_nodes env))))
@@ -40,7 +41,7 @@ module _ (M : Type 0) where
       rebinding-so port owner new Single is = rebind port owner new is
       rebinding-so port owner new Listed is = tt
 
-      machine-so : (call : Call) → BeginsSo call (machine_of env c call)
+      machine-so : (call : Call) → BeginsSo call (machine_of env c batch call)
       machine-so (Find port) = find port
       machine-so (Bind port owner once) = bind port owner once
       machine-so (All port) = list port
@@ -50,7 +51,7 @@ module _ (M : Type 0) where
       machine-so Count = count
       machine-so _ = tt
 
-      pub begins_so : (call : Call) (machine : Doing M) → machine_of env c call ≡ Some machine
+      pub begins_so : (call : Call) (machine : Doing M) → machine_of env c batch call ≡ Some machine
           → So call machine
       begins_so call machine is = subst (BeginsSo call) is (machine-so call)
 

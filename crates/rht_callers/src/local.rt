@@ -200,7 +200,7 @@ impl<M: Mix> Local<M> {
     pub fn begin(&mut self, env: Env, caller: u32, call: Call)
         requires owners { self.old.owners.limit ≡ env.geometry.nodes }
         requires caller { caller < 16 }
-        ensures { self.new ≡ begun_with self.old (machine_of env caller call) }
+        ensures { self.new ≡ begun_with self.old (machine_of env caller self.old.batch call) }
     {
         let doing = match call {
             Call::Find { port } => Doing::Finding(Find::new(env, caller, port)),
