@@ -1,7 +1,7 @@
 -- Of a job what it makes is of interest, as of a bind and of a resizing; of any other job there is nothing to say, before an operation or
 -- behind it.
 use Rattle.std.proofs.Common.{◌≡◌, ℕ, false, ap, ◌∙◌}
-use Rattle.std.specs.Prelude.{Option, Some, IfSome}
+use Rattle.std.specs.Prelude.{Option, IfSome}
 use Rattle.rht_words.specs.declared.env.Env.{Env}
 use Rattle.rht_words.specs.declared.machine.Next.{Next}
 use Rattle.rht_words.specs.declared.machine.Next.TheVariants.{Go, Done}
@@ -12,7 +12,7 @@ use Rattle.rht_nest.specs.Make.{MakeModel}
 use Rattle.rht_grace.specs.Batch.{BatchModel}
 use Rattle.rht_core.specs.Jobs.{Job, finds, binds, lists, releases, rebinds, works, tidies, counts, call_of, first_job, job_next, job_after, told, IsFirstJob}
 use Rattle.rht_core.proofs.Machines.NeverHeld.{may_make}
-use Rattle.rht_core.proofs.Events.JobsOfCallers.{first-so, first_rebind-so, same_call, first-of}
+use Rattle.rht_core.proofs.Events.JobsOfCallers.{first_rebind-so, same_call, first-of}
 use Rattle.rht_core.proofs.Counting.MakingWorks.{WorkMakes}
 use Rattle.rht_core.proofs.Counting.MakingBinds.{BindMakes}
 

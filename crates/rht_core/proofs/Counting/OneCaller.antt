@@ -66,7 +66,7 @@ use Rattle.rht_core.proofs.Events.BooksInRuns.{BookSays, has_books}
 use Rattle.rht_core.proofs.Events.Invariants.{Inv, StepOf, step_of, kept}
 use Rattle.rht_core.proofs.Events.InvariantRuns.{opening_ghost, opening_inv, idle_at_opening}
 use Rattle.rht_core.proofs.Events.KeptAtEvents.{views_kept, ghosts_kept}
-use Rattle.rht_core.proofs.Events.JobsOfCallers.{first-so, first_rebind-so, each_goes, same_call, left-job, doing_after-reply, first-of}
+use Rattle.rht_core.proofs.Events.JobsOfCallers.{first_rebind-so, each_goes, same_call, left-job, doing_after-reply, first-of}
 use Rattle.rht_core.proofs.Events.RangesInRuns.{AllIn, opens-all, event-all}
 use Rattle.rht_core.proofs.Events.Worlds.{induct_by_last, run_of-push}
 use Rattle.rht_core.proofs.Tracing.TracedJobs.{Performs, IsAtJob, jobs_keep_own}

@@ -32,7 +32,7 @@ use Rattle.rht_callers.specs.declared.local.Doing.TheVariants.{Idle, Finding, Bi
 use Rattle.rht_callers.specs.Batches.{nodes_in, node_out, IsBatchIn, with_out, out_of}
 use Rattle.rht_callers.specs.Locals.{fresh, does_nothing}
 use Rattle.rht_core.specs.Jobs.{Job, finds, binds, lists, releases, rebinds, works, tidies, counts, call_of, first_job, job_of, job_next, job_after, node_ending, told, held_of, IsFirstJob}
-use Rattle.rht_core.proofs.Events.JobsOfCallers.{first-so, first_rebind-so, same_call, first-of}
+use Rattle.rht_core.proofs.Events.JobsOfCallers.{first_rebind-so, same_call, first-of}
 use Rattle.rht_core.proofs.Events.TakenOut.{taken_with}
 use Rattle.rht_ghost.proofs.Theory.Answering.{outs_of, IsReplied}
 

@@ -48,7 +48,7 @@ use Rattle.rht_ghost.proofs.Pieces.Relinks.{unstored}
 use Rattle.rht_release.proofs.ReleaseKnowledge.{known_of_release, known_relinking}
 use Rattle.rht_release.proofs.RebindKnowledge.{known_of_rebind, known_replacing}
 use Rattle.rht_core.proofs.Machines.JobSteps.{JobKnows}
-use Rattle.rht_core.proofs.Events.JobsOfCallers.{first-so, first_rebind-so, first-of}
+use Rattle.rht_core.proofs.Events.JobsOfCallers.{first_rebind-so, first-of}
 
 -- ---- by the state
 

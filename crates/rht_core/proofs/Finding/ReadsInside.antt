@@ -23,7 +23,7 @@ use Rattle.rht_core.specs.Jobs.{Job, finds, call_of, first_job, job_next, job_af
 use Rattle.rht_core.specs.Lookups.{IsLoad, IsReading, HasRead, ReadsInside}
 use Rattle.rht_core.specs.Traces.{Did}
 use Rattle.std.specs.Prelude.{IfSome, ◌⊎◌}
-use Rattle.rht_core.proofs.Events.JobsOfCallers.{first-so, first_rebind-so, each_goes, same_call, first-of}
+use Rattle.rht_core.proofs.Events.JobsOfCallers.{first_rebind-so, each_goes, same_call, first-of}
 use Rattle.rht_core.proofs.Tracing.TracedJobs.{Performs, LeadsOn, IsAtJob, jobs_keep_own}
 
 -- its operation loads a word, where its section is open and it isn't about to close it

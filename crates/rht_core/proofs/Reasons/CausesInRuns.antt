@@ -5,7 +5,7 @@
 -- node. So when a call answers, all that its reply has to show was seen; and each of its operations was
 -- recorded at its event.
 use Rattle.std.proofs.Common.{◌≡◌, ℕ, ◌+◌, List, [], ◌∷◌, ◌++◌, refl, arith, Option}
-use Rattle.std.specs.Prelude.{Some, IfSome}
+use Rattle.std.specs.Prelude.{IfSome}
 use Rattle.std.specs.List.{AllByRecursion}
 use Rattle.std.proofs.lemmas.List.Quantifiers.{Any-push}
 use Rattle.rht_words.specs.declared.env.Env.{Env}
@@ -32,7 +32,7 @@ use Rattle.rht_release.specs.Rebind as rebind
 use Rattle.rht_words.specs.Machines.{GoesOrEnds}
 use Rattle.rht_core.proofs.Tracing.RepliesInRuns.{Holds, Answered, runs-right}
 use Rattle.rht_core.proofs.Tracing.TracesAtEvents.{at_events}
-use Rattle.rht_core.proofs.Events.JobsOfCallers.{first-so, first_rebind-so, first-of}
+use Rattle.rht_core.proofs.Events.JobsOfCallers.{first_rebind-so, first-of}
 use Rattle.rht_core.proofs.Tracing.TracedJobs.{Performs, StandsIn, LeadsOn, IsEndedSo, jobs_keep_own}
 use Rattle.rht_move.specs.Work as work
 use Rattle.rht_core.proofs.Reasons.WorksSeen.{SawForWork, SawAtWork}

@@ -52,7 +52,7 @@ use Rattle.rht_core.specs.Standings.{standing_of, standing_with}
 use Rattle.rht_ghost.proofs.Theory.Ghosts.{Ghost}
 use Rattle.rht_ghost.proofs.Theory.Steps.{mem}
 use Rattle.rht_ghost.proofs.Theory.Wholes.{Whole}
-use Rattle.rht_core.proofs.Events.JobsOfCallers.{first-so, first_rebind-so, first-of}
+use Rattle.rht_core.proofs.Events.JobsOfCallers.{first_rebind-so, first-of}
 use Rattle.rht_core.proofs.Finding.Lookups.{LookMeans}
 use Rattle.rht_core.proofs.Finding.Places.{Places}
 use Rattle.rht_core.proofs.Machines.JobSteps.{JobIn, JobKnows}

@@ -19,7 +19,7 @@ use Rattle.rht_callers.specs.declared.local.Doing.{Doing}
 use Rattle.rht_callers.specs.Locals.{fresh, begin_with, local_after}
 use Rattle.rht_core.specs.declared.event.Event.{Event}
 use Rattle.rht_core.specs.declared.event.Event.TheVariants.{Enroll, Begin, Step}
-use Rattle.rht_core.specs.Jobs.{Job, finds, job_of, job_after, job_plan, told, held_of, first_job, IsFirstJob}
+use Rattle.rht_core.specs.Jobs.{Job, finds, job_of, job_after, job_plan, told, held_of, IsFirstJob}
 use Rattle.rht_core.specs.Reach.{IsReading, ComesTo}
 use Rattle.rht_core.specs.Runs.{Core, World, opening_core, core_step, with_step, with_machine, world_step, run_of, local_of, beginning_in, planned_in, IsAdmitted, IsAdmittedEvent}
 use Rattle.rht_core.specs.Sections.{IsInNoSection}

@@ -1,5 +1,5 @@
 -- The bucket that a call has locked is one of the table at which it stands: said of jobs. It outlives what others do.
-use Rattle.std.proofs.Common.{◌≡◌, ℕ, ◌/◌, List, Option, Some, None, sym, ◌∙◌, ap}
+use Rattle.std.proofs.Common.{ℕ, ◌/◌, List, Option, Some, None, sym, ◌∙◌, ap}
 use Rattle.std.specs.Prelude.{IfSome}
 use Rattle.rht_words.specs.declared.env.Env.{Env}
 use Rattle.rht_words.specs.declared.machine.Next.{Next}
@@ -20,7 +20,7 @@ use Rattle.rht_release.specs.declared.seek.SeekAt.{SeekAt}
 use Rattle.rht_release.specs.declared.seek.SeekAt.TheVariants as seeks
 use Rattle.rht_grace.specs.Batch.{BatchModel}
 use Rattle.rht_core.specs.Jobs.{Job, finds, binds, lists, releases, rebinds, works, tidies, tidying, counts, first_job, listing_ending, node_ending, job_next, job_after, told, IsFirstJob}
-use Rattle.rht_core.proofs.Events.JobsOfCallers.{first-so, first_rebind-so, first-of}
+use Rattle.rht_core.proofs.Events.JobsOfCallers.{first_rebind-so, first-of}
 use Rattle.rht_core.proofs.Machines.JobSteps.{JobIn, JobKnows}
 use Rattle.rht_core.proofs.Returning.TiedBuckets.{IsTied, tied_of_seek, tied_of_all, tied_of_release, tied_of_rebind, tied_of_bind, all_ties, release_ties, rebind_ties, bind_ties}
 use Rattle.rht_ghost.proofs.Theory.Ghosts.{Ghost, PageOf}

@@ -28,7 +28,7 @@ use Rattle.rht_core.specs.declared.book.Book.{Book}
 use Rattle.rht_callers.specs.declared.local.Local.{Local}
 use Rattle.rht_callers.specs.declared.local.Doing.{Doing}
 use Rattle.rht_callers.specs.Locals.{is_idle, machine_of, local_after, ending_of}
-use Rattle.rht_core.specs.Jobs.{Job, call_of, first_job, job_plan, job_after, job_of, told, IsFirstJob}
+use Rattle.rht_core.specs.Jobs.{Job, call_of, job_plan, job_after, job_of, told, IsFirstJob}
 use Rattle.rht_core.specs.Runs.{Core, World, View, planned_in, IsAdmitted, view_of, run_of, book_begun, book_after, finished_with}
 use Rattle.rht_core.specs.Traces.{Did, Past, Trace, Traced, trace_begun, trace_did, traced_of}
 use Rattle.rht_core.specs.Seen.{words_before}

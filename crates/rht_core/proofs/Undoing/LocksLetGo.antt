@@ -27,7 +27,7 @@ use Rattle.rht_move.specs.Work.{IsWorkAtIn}
 use Rattle.rht_move.specs.declared.work.WorkAt.{WorkAt}
 use Rattle.rht_move.specs.declared.work.WorkAt.TheVariants as working
 use Rattle.rht_core.specs.declared.event.Event.{Event}
-use Rattle.rht_core.specs.Jobs.{Job, binds, works, call_of, first_job, job_plan, job_after, held_of, held_next, IsFirstJob}
+use Rattle.rht_core.specs.Jobs.{Job, binds, works, call_of, job_plan, job_after, held_of, held_next, IsFirstJob}
 use Rattle.rht_core.specs.Traces.{Did, Past, traced_of}
 use Rattle.rht_core.specs.Seen.{words_before}
 use Rattle.rht_core.specs.Refused.{turned, turns, IsMissingEntry}

@@ -51,7 +51,7 @@ use Rattle.rht_ghost.proofs.Pieces.WorkLoads.{has_future}
 use Rattle.rht_ghost.proofs.Theory.Steps.{Holding, mem, ghost_after, Does, SaysChange}
 use Rattle.rht_core.proofs.Meaning.BoundPorts.{stands_for_bound}
 use Rattle.rht_core.proofs.Events.Worlds.{run_of-next, step_words}
-use Rattle.rht_core.proofs.Events.JobsOfCallers.{each_goes, first-so, first_holds, first_rebind-so, same_call, first-of}
+use Rattle.rht_core.proofs.Events.JobsOfCallers.{each_goes, first_holds, first_rebind-so, same_call, first-of}
 use Rattle.rht_core.proofs.Tracing.TracedJobs.{Performs, LeadsOn, IsEndedSo}
 use Rattle.rht_core.proofs.Tracing.JobsBeside.{kept_beside}
 use Rattle.rht_core.proofs.Tracing.BehindCalls.{section_left}
