@@ -1,0 +1,2 @@
+-- whatever words it is told, a walk stays in its table
+pub mod WalkStays

@@ -1,0 +1,7 @@
+use Rattle.std.proofs.Common.{◌≡◌, sym, subst, refl}
+use Rattle.rht_walk.specs.Walk.{walk_after}
+use Rattle.rht_walk.proofs.walk.Walk.take.Goals as goal
+
+pub returns : goal.returns
+returns c =
+    rw (sym c.self.view_is) (rw c.said-said.ensures (rw c.keep_pair.ensures (rw c.after-at.ensures (rw c.len-shown.ensures refl))))

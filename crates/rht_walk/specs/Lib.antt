@@ -1,0 +1,6 @@
+-- the walk, state by state
+pub mod Walk
+-- what a walk holds
+pub mod WalkHeld
+-- and where it stands
+pub mod WalkStanding
