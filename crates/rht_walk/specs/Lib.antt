@@ -4,3 +4,5 @@ pub mod Walk
 pub mod WalkHeld
 -- and where it stands
 pub mod WalkStanding
+-- what it does, whatever it finds
+pub mod WalkLaws
