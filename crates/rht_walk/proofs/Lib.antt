@@ -1,2 +1,6 @@
 -- whatever words it is told, a walk stays in its table
 pub mod WalkStays
+-- on which words a walk works
+pub mod WalkPlanned
+-- a walk ends soon
+mod WalkBounds

@@ -58,7 +58,7 @@ abbrev pub step_of : WalkModel → ℕ → WalkModel × Next Shown
 step_of m word = with_room (walk_after m word)
 
 -- it is where its state leads, whether it goes on or has ended
-with_room-first : (m : WalkModel) (next : Next Reply) → (with_room (m, next)).0 ≡ m
+pub with_room-first : (m : WalkModel) (next : Next Reply) → (with_room (m, next)).0 ≡ m
 with_room-first m Go = refl
 with_room-first m (Done reply) = refl
 
