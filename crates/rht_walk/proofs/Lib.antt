@@ -2,5 +2,7 @@
 pub mod WalkStays
 -- on which words a walk works
 pub mod WalkPlanned
+-- a walk has done what it answers
+mod WalkAnswers
 -- a walk ends soon
 mod WalkBounds

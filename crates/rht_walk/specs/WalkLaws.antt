@@ -15,6 +15,7 @@ use Rattle.rht_words.specs.Ports.{port_of, owner_of}
 use Rattle.rht_words.specs.Shapes.{unpacked, size_of}
 use Rattle.rht_grace.specs.Sections.{turning}
 use Rattle.rht_nest.specs.PlaceLaws.{finding_ran}
+use Rattle.rht_nest.specs.declared.place.Bucket.{Bucket}
 use Rattle.rht_nest.specs.declared.place.Bucket.TheVariants as buckets
 use Rattle.rht_model.specs.declared.history.Cursor.{Cursor}
 use Rattle.rht_model.specs.declared.history.Reply.{Reply}
@@ -76,3 +77,207 @@ abbrev pub WalksSoon : Type 0
 WalksSoon =
     (env : Env) (caller : ℕ) (from : Option Cursor) (limit : ℕ) (room : Pairs) (olds : List ℕ)
     → EndsWithinBound env caller from limit room olds
+
+-- ---- what it shows
+
+-- a load of the word at an address, which found this
+abbrev pub loaded : Geometry → Address → ℕ → Performed
+loaded g address word = record { op = Load (place_of g address); old = word }
+
+-- a node that it visited, and the words that it found there: the key, the owner, and the link behind it
+pub record NodeSeen : Type 0 where
+  pub node : ℕ
+  pub key : ℕ
+  pub owner : ℕ
+  pub link : ℕ
+
+-- the three loads, one directly behind the other, and the pair that they show
+abbrev pub node_steps : Geometry → NodeSeen → List Performed
+node_steps g seen =
+    loaded g (Node seen.node KeyWord) seen.key
+    ∷ loaded g (Node seen.node OwnerWord) seen.owner
+    ∷ loaded g (Node seen.node ChainLink) seen.link
+    ∷ []
+
+abbrev pub pair_of : NodeSeen → ℕ × ℕ
+pair_of seen = (port_of seen.key, owner_of seen.owner)
+
+-- the first link leads to the first of these nodes, and the link that was found behind each to the next one; the last link is this
+abbrev pub LeadsOver : Geometry → ℕ → List NodeSeen → ℕ → Type 0
+LeadsOver g link [] last = last ≡ link
+LeadsOver g link (seen ∷ nodes) last = (node_of g.nodes link ≡ Some seen.node) × LeadsOver g seen.link nodes last
+
+-- what it found at a bucket, behind these entries of a nested table
+pub data BucketSeen : Type 0 where
+  -- that a page is missing
+  MissingPage : List ℕ → BucketSeen
+  -- the bucket's place, its word, and a chain over these nodes that ends at the bucket's own marker
+  OwnChain : List ℕ → ℕ → ℕ → List NodeSeen → BucketSeen
+  -- the same with another last link, and then this future of the table
+  StrangeChain : List ℕ → ℕ → ℕ → List NodeSeen → ℕ → ℕ → BucketSeen
+
+abbrev pub nodes_of : BucketSeen → List NodeSeen
+nodes_of (MissingPage entries) = []
+nodes_of (OwnChain entries place word nodes) = nodes
+nodes_of (StrangeChain entries place word nodes last future) = nodes
+
+-- the pairs of these buckets, in order
+abbrev pub pairs_of : List BucketSeen → List (ℕ × ℕ)
+pairs_of seen = flat_map (λ bucket. map pair_of (nodes_of bucket)) seen
+
+-- the loads of a chain: the bucket's word, and the nodes
+abbrev pub chain_steps : Geometry → ℕ → ℕ → List NodeSeen → List Performed
+chain_steps g place word nodes = record { op = Load place; old = word } ∷ flat_map (node_steps g) nodes
+
+-- the way to a bucket of a table with this shape ends here
+abbrev pub FindsBucket : Geometry → ℕ → ℕ → List ℕ → Bucket → Type 0
+FindsBucket g shape bucket entries found = (finding_ran g shape bucket entries).next ≡ Done found
+
+-- a chain ends strangely: not at the bucket's own marker, and at no node, or where as many were visited as there are
+pub record IsStrange (g : Geometry) (place : ℕ) (nodes : List NodeSeen) (last : ℕ) : Type 0 where
+  pub foreign : last ≢ marker_of place
+  pub stops : (node_of g.nodes last ≡ None) ⊎ (length nodes ≡ g.nodes)
+
+-- of a table in this slot with this shape
+module _ (g : Geometry) (table shape : ℕ) where
+  -- the operations at a bucket
+  abbrev pub bucket_steps : ℕ → BucketSeen → List Performed
+  bucket_steps bucket (MissingPage entries) = (finding_ran g shape bucket entries).steps
+  bucket_steps bucket (OwnChain entries place word nodes) =
+      (finding_ran g shape bucket entries).steps ++ chain_steps g place word nodes
+  bucket_steps bucket (StrangeChain entries place word nodes last future) =
+      (finding_ran g shape bucket entries).steps
+      ++ (chain_steps g place word nodes ++ loaded g (Slot table FutureWord) future ∷ [])
+
+  -- at a bucket it finds what is there by the words that it found
+  abbrev pub IsBucketSeen : ℕ → BucketSeen → Type 0
+  IsBucketSeen bucket (MissingPage entries) =
+      (entry : ℕ) × FindsBucket g shape bucket entries (buckets.Absent entry)
+  IsBucketSeen bucket (OwnChain entries place word nodes) =
+      FindsBucket g shape bucket entries (buckets.At place)
+      × LeadsOver g (head_of place word) nodes (marker_of place)
+  IsBucketSeen bucket (StrangeChain entries place word nodes last future) =
+      FindsBucket g shape bucket entries (buckets.At place)
+      × LeadsOver g (head_of place word) nodes last
+      × IsStrange g place nodes last
+
+  -- and no table behind the one that is walked
+  abbrev pub FindsNone : BucketSeen → Type 0
+  FindsNone (MissingPage entries) = Unit {0}
+  FindsNone (OwnChain entries place word nodes) = Unit {0}
+  FindsNone (StrangeChain entries place word nodes last future) = slot_of future ≡ None
+
+  -- the buckets from this one on up to that, each directly behind the one before
+  abbrev pub AreSeen : ℕ → List BucketSeen → ℕ → Type 0
+  AreSeen bucket [] upto = upto ≡ bucket
+  AreSeen bucket (seen ∷ more) upto =
+      IsBucketSeen bucket seen × FindsNone seen × AreSeen (bucket + 1) more upto
+
+  abbrev pub steps_of : ℕ → List BucketSeen → List Performed
+  steps_of bucket [] = []
+  steps_of bucket (seen ∷ more) = bucket_steps bucket seen ++ steps_of (bucket + 1) more
+
+-- the bucket at which a call begins
+abbrev pub first_bucket : Option Cursor → ℕ
+first_bucket None = 0
+first_bucket (Some cursor) = cursor.bucket
+
+-- a cursor fits a table with this serial and this shape
+abbrev pub Fits : ℕ → ℕ → Option Cursor → Type 0
+Fits serial shape None = Unit {0}
+Fits serial shape (Some cursor) = (cursor.serial ≡ serial) × (cursor.bucket < size_of (unpacked shape))
+
+-- the operations before the first bucket: the opening of the section, and the loads of which table is current, of its serial and of its
+-- shape
+abbrev pub opening_steps : Geometry → ℕ → ℕ → ℕ → ℕ → ℕ → List Performed
+opening_steps g caller entered current serial shape =
+    record { op = turning caller; old = entered }
+    ∷ loaded g CurrentTable current
+    ∷ loaded g (Slot (table_of current) SerialWord) serial
+    ∷ loaded g (Slot (table_of current) ShapeWord) shape
+    ∷ []
+
+-- the buckets that were walked, and the operations there
+pub record SawBuckets (g : Geometry) (from : Option Cursor) (table serial shape : ℕ) (seen : List BucketSeen)
+    (upto : ℕ) : Type 0 where
+  pub fits : Fits serial shape from
+  pub are : AreSeen g table shape (first_bucket from) seen upto
+
+-- `Walked`: the pairs are all that the nodes of these buckets show, as many as there is room for. With a cursor it is the walked table's,
+-- at a later bucket, and enough pairs were kept. Without one all buckets were walked, and then the table's future was found to be none.
+pub record WalkedTo (g : Geometry) (from : Option Cursor) (limit most table serial shape : ℕ) (len : ℕ)
+    (next : Option Cursor) (pairs : List (ℕ × ℕ)) (steps : List Performed) : Type 0 where
+  pub seen : List BucketSeen
+  pub upto : ℕ
+  pub saw : SawBuckets g from table serial shape seen upto
+  pub kept : pairs ≡ take most (pairs_of seen)
+  pub counted : len ≡ length pairs
+  pub ended : ((next ≡ Some (record { serial = serial; bucket = upto }))
+      × (first_bucket from < upto)
+      × (upto < size_of (unpacked shape))
+      × (limit ≤ len)
+      × (steps ≡ steps_of g table shape (first_bucket from) seen))
+      ⊎ ((next ≡ None)
+      × (upto ≡ size_of (unpacked shape))
+      × (future : ℕ)
+      × (slot_of future ≡ None)
+      × (steps ≡ steps_of g table shape (first_bucket from) seen ++ loaded g (Slot table FutureWord) future ∷ []))
+
+-- `Again`, of a table behind: the last load is of the walked table's future, and leads there. It is behind all buckets, or behind a
+-- strange end.
+pub record MetTable (g : Geometry) (from : Option Cursor) (table serial shape slot : ℕ) (steps : List Performed) :
+    Type 0 where
+  pub seen : List BucketSeen
+  pub upto : ℕ
+  pub saw : SawBuckets g from table serial shape seen upto
+  pub future : ℕ
+  pub leads : slot_of future ≡ Some slot
+  pub ended : ((upto ≡ size_of (unpacked shape))
+      × (steps ≡ steps_of g table shape (first_bucket from) seen ++ loaded g (Slot table FutureWord) future ∷ []))
+      ⊎ ((upto < size_of (unpacked shape))
+      × (entries : List ℕ)
+      × (place : ℕ)
+      × (word : ℕ)
+      × (nodes : List NodeSeen)
+      × (last : ℕ)
+      × IsBucketSeen g table shape upto (StrangeChain entries place word nodes last future)
+      × (steps ≡ steps_of g table shape (first_bucket from) seen
+      ++ bucket_steps g table shape upto (StrangeChain entries place word nodes last future)))
+
+-- `Again`, of the current table itself: the cursor doesn't fit it, and no bucket was looked at
+pub record MisfitsTable (from : Option Cursor) (table serial shape slot : ℕ) (steps : List Performed) : Type 0 where
+  pub own : slot ≡ table
+  pub misfits : Fits serial shape from → ⊥
+  pub none : steps ≡ []
+
+-- it answers nothing else
+abbrev pub AnswersRightly : Geometry → Option Cursor → ℕ → ℕ → ℕ → ℕ → ℕ → Reply → List (ℕ × ℕ) → List Performed → Type 0
+AnswersRightly g from limit most table serial shape (Walked len next) pairs steps =
+    WalkedTo g from limit most table serial shape len next pairs steps
+AnswersRightly g from limit most table serial shape (Again slot) pairs steps =
+    (pairs ≡ []) × (MetTable g from table serial shape slot steps ⊎ MisfitsTable from table serial shape slot steps)
+AnswersRightly g from limit most table serial shape _ pairs steps = ⊥
+
+-- All that a call performs: it opens its section, loads which table is current and what that is, looks at buckets, and closes its section.
+pub record EndsRightly (g : Geometry) (caller : ℕ) (from : Option Cursor) (limit most : ℕ) (end : Shown)
+    (steps : List Performed) : Type 0 where
+  pub entered : ℕ
+  pub current : ℕ
+  pub serial : ℕ
+  pub shape : ℕ
+  pub left : ℕ
+  pub middle : List Performed
+  pub split :
+      steps
+      ≡ opening_steps g caller entered current serial shape
+      ++ (middle ++ record { op = turning caller; old = left } ∷ [])
+  pub answers :
+      AnswersRightly g from limit most (table_of current) serial shape end.reply end.room.items middle
+  pub room : end.room.limit ≡ most
+
+-- whatever words its operations find, a walk that has ended has done what it answers
+abbrev pub WalksRightly : Type 0
+WalksRightly =
+    (env : Env) (caller : ℕ) (from : Option Cursor) (limit : ℕ) (room : Pairs) (olds : List ℕ) (end : Shown)
+    → (walk_ran env caller from limit room olds).next ≡ Done end
+    → EndsRightly env.geometry caller from limit room.limit end (walk_ran env caller from limit room olds).steps
