@@ -451,7 +451,11 @@ module _ (g : Geometry) (caller : ℕ) (from : Option Cursor) (limit most : ℕ)
       let chain_is = chain_steps g chain.place here.word here.nodes in
       ended_at steps (here.ways ++ (chain_is ++ [])) room chain.visit here.seen
       (OwnChain here.entries chain.place here.word here.nodes) here.below here.in_table
-      (way.1, subst (λ l. LeadsOver g (head_of chain.place here.word) here.nodes l) own here.leads) tt
+      (
+        way.1,
+        subst (λ l. LeadsOver g (head_of chain.place here.word) here.nodes l) own here.leads,
+        let few = here.few in let counted = here.counted in omega (arith, few, counted),
+      ) tt
       (ap (λ s. here.ways ++ s) (append-nil chain_is) ∙ ap (λ s. s ++ chain_is) way.0)
       (here.kept ∙ ap (λ s. kept_of most (pairs_of here.seen ++ s)) (append-nil (map pair_of here.nodes))))
       (λ f. record {

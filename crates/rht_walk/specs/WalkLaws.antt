@@ -156,6 +156,7 @@ module _ (g : Geometry) (table shape : ℕ) where
   IsBucketSeen bucket (OwnChain entries place word nodes) =
       FindsBucket g shape bucket entries (buckets.At place)
       × LeadsOver g (head_of place word) nodes (marker_of place)
+      × (length nodes ≤ g.nodes)
   IsBucketSeen bucket (StrangeChain entries place word nodes last future) =
       FindsBucket g shape bucket entries (buckets.At place)
       × LeadsOver g (head_of place word) nodes last
