@@ -6,7 +6,7 @@
 use Rattle.std.proofs.Common.{◌≡◌, ◌≢◌, ℕ, suc, ◌+◌, ◌<◌, ◌≤◌, ◌⊎◌, nat_lt, nat_le, List, [], ◌∷◌, ◌++◌, length, map, take, append_assoc, append-nil, Bool, true, false, cond, Option, Some, None, refl, sym, ◌∙◌, ap, subst, inl, inr, arith}
 use Rattle.std.specs.Prelude.{◌==◌}
 use Rattle.std.specs.List.{flat_map}
-use Rattle.std.proofs.lemmas.Bool.{cond_both, cases_eq, cases_lt, eq-eqb, lt-ltb, eqb-true, eqb-false, and_parts, ltb-true, ltb-false, leb-true}
+use Rattle.std.proofs.lemmas.Bool.{cond_both, cases_eq, cases_lt, eq-eqb, lt-ltb, eqb-true, eqb-false, and_parts, ltb-true, ltb-false, leb-true, leb-false}
 use Rattle.std.proofs.lemmas.Grind.{flat_map-append}
 use Rattle.std.proofs.lemmas.List.{take_all, take-append-le, length-take-le, length-append, map-append}
 use Rattle.std.proofs.lemmas.Bool.Decides.{nat_tests}
@@ -31,7 +31,7 @@ use Rattle.rht_model.specs.declared.history.Reply.{Reply}
 use Rattle.rht_model.specs.declared.history.Reply.TheVariants.{Walked, Again}
 use Rattle.rht_model.specs.Rooms.{emptied, with_kept}
 use Rattle.rht_walk.specs.Walk.{Pairs, WalkModel, fits, begun, visiting, next_bucket, bucket_ended, table_ended, reached, chain_ended, led_to, led_on, unless_behind, chain_of, one_more, plan_at, goes, says, reply_of, room_after, room_at_end, walk_plan, walk_after, walk_new}
-use Rattle.rht_walk.specs.WalkLaws.{Shown, with_room, loaded, NodeSeen, node_steps, pair_of, LeadsOver, BucketSeen, MissingPage, OwnChain, StrangeChain, nodes_of, pairs_of, chain_steps, FindsBucket, IsStrange, bucket_steps, IsBucketSeen, FindsNone, AreSeen, steps_of, first_bucket, Fits, opening_steps, SawBuckets, AnswersRightly, EndsRightly, WalksRightly}
+use Rattle.rht_walk.specs.WalkLaws.{Shown, with_room, loaded, NodeSeen, node_steps, pair_of, LeadsOver, BucketSeen, MissingPage, OwnChain, StrangeChain, nodes_of, pairs_at, pairs_of, AreTooFew, chain_steps, FindsBucket, IsStrange, bucket_steps, IsBucketSeen, FindsNone, AreSeen, steps_of, first_bucket, Fits, opening_steps, SawBuckets, AnswersRightly, EndsRightly, WalksRightly}
 use Rattle.rht_walk.specs.declared.walk.Visit.{Visit}
 use Rattle.rht_walk.specs.declared.walk.Chain.{Chain}
 use Rattle.rht_walk.specs.declared.walk.WalkEnd.{WalkEnd}
@@ -110,8 +110,28 @@ module _ (g : Geometry) (table shape : ℕ) where
 pairs_of-push : (seen : List BucketSeen) (more : BucketSeen)
     → pairs_of (seen ++ more ∷ []) ≡ pairs_of seen ++ map pair_of (nodes_of more)
 pairs_of-push seen more =
-    flat_map-append (λ bucket. map pair_of (nodes_of bucket)) seen (more ∷ [])
+    flat_map-append pairs_at seen (more ∷ [])
     ∙ ap (λ s. pairs_of seen ++ s) (append-nil (map pair_of (nodes_of more)))
+
+-- Where too few pairs were shown before it, one bucket more is walked.
+module _ (limit most : ℕ) where
+  -- none was walked before, or there were too few pairs behind them
+  abbrev IsOpen : List (ℕ × ℕ) → List BucketSeen → Type 0
+  IsOpen pairs seen = (seen ≡ []) ⊎ (length (take most (pairs ++ pairs_of seen)) < limit)
+
+  AreTooFew-push : (pairs : List (ℕ × ℕ)) (seen : List BucketSeen) (more : BucketSeen) → AreTooFew limit most pairs seen
+      → IsOpen pairs seen
+      → AreTooFew limit most pairs (seen ++ more ∷ [])
+  AreTooFew-push pairs [] more few open_now = tt
+  AreTooFew-push pairs (one ∷ []) more few (inl none) = absurd (cc)
+  AreTooFew-push pairs (one ∷ []) more few (inr less) =
+      (subst (λ s. length (take most (pairs ++ s)) < limit) (append-nil (pairs_at one)) less, tt)
+  AreTooFew-push pairs (one ∷ next ∷ seen) more few (inl none) = absurd (cc)
+  AreTooFew-push pairs (one ∷ next ∷ seen) more few (inr less) = (
+    few.0,
+    AreTooFew-push (pairs ++ pairs_at one) (next ∷ seen) more few.1
+    (inr (subst (λ s. length (take most s) < limit) (sym (append_assoc pairs (pairs_at one) (pairs_of (next ∷ seen)))) less)),
+  )
 
 -- one node more
 LeadsOver-push : (g : Geometry) (link last : ℕ) (nodes : List NodeSeen) (seen : NodeSeen) → LeadsOver g link nodes last
@@ -179,6 +199,7 @@ module _ (g : Geometry) (caller : ℕ) (from : Option Cursor) (limit most : ℕ)
     table_is : visit.table ≡ table_of current
     fits_it : Fits visit.serial visit.shape from
     are : AreSeen g visit.table visit.shape first seen visit.bucket
+    goes_on : AreTooFew limit most [] seen
     is : steps
         ≡ opening_steps g caller entered current visit.serial visit.shape
         ++ (steps_of g visit.table visit.shape first seen ++ behind)
@@ -188,6 +209,7 @@ module _ (g : Geometry) (caller : ℕ) (from : Option Cursor) (limit most : ℕ)
     seen : List BucketSeen
     entries : List ℕ
     ways : List Performed
+    is_open : IsOpen limit most [] seen
     below : visit.bucket < size_of (unpacked visit.shape)
     in_table : InTable steps ways visit seen
     kept : room ≡ kept_of most (pairs_of seen)
@@ -197,6 +219,7 @@ module _ (g : Geometry) (caller : ℕ) (from : Option Cursor) (limit most : ℕ)
     seen : List BucketSeen
     entries : List ℕ
     ways : List Performed
+    is_open : IsOpen limit most [] seen
     below : visit.bucket < size_of (unpacked visit.shape)
     in_table : InTable steps ways visit seen
     kept : room ≡ kept_of most (pairs_of seen)
@@ -210,6 +233,7 @@ module _ (g : Geometry) (caller : ℕ) (from : Option Cursor) (limit most : ℕ)
     ways : List Performed
     word : ℕ
     nodes : List NodeSeen
+    is_open : IsOpen limit most [] seen
     below : chain.visit.bucket < size_of (unpacked chain.visit.shape)
     in_table : InTable steps (ways ++ (chain_steps g chain.place word nodes ++ more)) chain.visit seen
     kept : room ≡ kept_of most (pairs_of seen ++ (map pair_of nodes ++ shows))
@@ -310,13 +334,15 @@ module _ (g : Geometry) (caller : ℕ) (from : Option Cursor) (limit most : ℕ)
       → visit.bucket < size_of (unpacked visit.shape)
       → InTable steps [] visit seen
       → room ≡ kept_of most (pairs_of seen)
+      → IsOpen limit most [] seen
       → KeptAt steps room (visiting g visit)
-  begins_at steps room visit seen below in_table kept =
+  begins_at steps room visit seen below in_table kept is_open =
       cond_both (is_nested visit.shape) _ _ (KeptAt steps room)
       (λ t. record {
         seen = seen;
         entries = [];
         ways = [];
+        is_open = is_open;
         below = below;
         in_table = in_table;
         kept = kept;
@@ -326,6 +352,7 @@ module _ (g : Geometry) (caller : ℕ) (from : Option Cursor) (limit most : ℕ)
         seen = seen;
         entries = [];
         ways = [];
+        is_open = is_open;
         below = below;
         in_table = in_table;
         kept = kept;
@@ -352,14 +379,16 @@ module _ (g : Geometry) (caller : ℕ) (from : Option Cursor) (limit most : ℕ)
             in_table.table_is (record {
               seen = seen;
               upto = visit.bucket;
-              saw = record { fits = in_table.fits_it; are = in_table.are };
+              saw = record { fits = in_table.fits_it; are = in_table.are; goes_on = in_table.goes_on };
               kept = ap (λ (r : Pairs). r.items) kept;
               counted = refl;
               ended = inl (refl, later, below, leb-true limit (length room.items) t, append-nil _);
             });
         room_is = ap (λ (r : Pairs). r.limit) kept;
       })
-      (λ f. begins_at steps room visit seen below in_table kept)
+      (λ f.
+      begins_at steps room visit seen below in_table kept
+      (inr (subst (λ (r : Pairs). length r.items < limit) kept (leb-false limit (length room.items) f))))
 
   -- behind a bucket
   ended_at : (steps behind : List Performed) (room : Pairs) (visit : Visit) (seen : List BucketSeen) (more : BucketSeen)
@@ -369,8 +398,9 @@ module _ (g : Geometry) (caller : ℕ) (from : Option Cursor) (limit most : ℕ)
       → FindsNone g visit.table visit.shape more
       → behind ≡ bucket_steps g visit.table visit.shape visit.bucket more
       → room ≡ kept_of most (pairs_of seen ++ map pair_of (nodes_of more))
+      → IsOpen limit most [] seen
       → KeptAt steps room (bucket_ended g limit (length room.items) visit)
-  ended_at steps behind room visit seen more below in_table is none steps_are kept =
+  ended_at steps behind room visit seen more below in_table is none steps_are kept is_open =
       cond_both (nat_lt (visit.bucket + 1) (size_of (unpacked visit.shape))) _ _ (KeptAt steps room)
       (λ t. next_at steps room next all (ltb-true (visit.bucket + 1) (size_of (unpacked visit.shape)) t) later here kept_all)
       (λ f. record {
@@ -401,6 +431,7 @@ module _ (g : Geometry) (caller : ℕ) (from : Option Cursor) (limit most : ℕ)
         table_is = in_table.table_is;
         fits_it = in_table.fits_it;
         are = AreSeen-push g visit.table visit.shape first seen more visit.bucket in_table.are is none;
+        goes_on = AreTooFew-push limit most [] seen more in_table.goes_on is_open;
         is = in_table.is
             ∙ ap (λ s. opening_steps g caller in_table.entered in_table.current visit.serial visit.shape ++ s)
             (ap (λ s. steps_of g visit.table visit.shape first seen ++ s) steps_are
@@ -420,6 +451,7 @@ module _ (g : Geometry) (caller : ℕ) (from : Option Cursor) (limit most : ℕ)
     table_is = in_table.table_is;
     fits_it = in_table.fits_it;
     are = in_table.are;
+    goes_on = in_table.goes_on;
     is = push steps front middle behind step in_table.is
         ∙ ap (λ s. front ++ (middle ++ s)) (push behind ways (chain_steps g chain.place word nodes) more step refl);
   }
@@ -457,7 +489,7 @@ module _ (g : Geometry) (caller : ℕ) (from : Option Cursor) (limit most : ℕ)
         let few = here.few in let counted = here.counted in omega (arith, few, counted),
       ) tt
       (ap (λ s. here.ways ++ s) (append-nil chain_is) ∙ ap (λ s. s ++ chain_is) way.0)
-      (here.kept ∙ ap (λ s. kept_of most (pairs_of here.seen ++ s)) (append-nil (map pair_of here.nodes))))
+      (here.kept ∙ ap (λ s. kept_of most (pairs_of here.seen ++ s)) (append-nil (map pair_of here.nodes))) here.is_open)
       (λ f. record {
         place = chain.place;
         visited = chain.visited;
@@ -491,6 +523,7 @@ module _ (g : Geometry) (caller : ℕ) (from : Option Cursor) (limit most : ℕ)
     table_is = in_table.table_is;
     fits_it = in_table.fits_it;
     are = in_table.are;
+    goes_on = in_table.goes_on;
     is = push steps (opening_steps g caller in_table.entered in_table.current visit.serial visit.shape)
         (steps_of g visit.table visit.shape first seen) behind step in_table.is;
   }
@@ -503,6 +536,7 @@ module _ (g : Geometry) (caller : ℕ) (from : Option Cursor) (limit most : ℕ)
     ways = here.ways;
     word = word;
     nodes = [];
+    is_open = here.is_open;
     below = here.below;
     in_table = record {
       entered = here.in_table.entered;
@@ -510,6 +544,7 @@ module _ (g : Geometry) (caller : ℕ) (from : Option Cursor) (limit most : ℕ)
       table_is = here.in_table.table_is;
       fits_it = here.in_table.fits_it;
       are = here.in_table.are;
+      goes_on = here.in_table.goes_on;
       is = push steps (opening_steps g caller here.in_table.entered here.in_table.current visit.serial visit.shape)
           (steps_of g visit.table visit.shape first here.seen) here.ways _ here.in_table.is;
     };
@@ -536,6 +571,7 @@ module _ (g : Geometry) (caller : ℕ) (from : Option Cursor) (limit most : ℕ)
           ways = nodes.ways;
           word = nodes.word;
           nodes = nodes.nodes;
+          is_open = nodes.is_open;
           below = nodes.below;
           in_table = more_at steps nodes.ways [] chain nodes.word nodes.nodes nodes.seen _ nodes.in_table;
           kept = nodes.kept;
@@ -564,6 +600,7 @@ module _ (g : Geometry) (caller : ℕ) (from : Option Cursor) (limit most : ℕ)
           ways = nodes.ways;
           word = nodes.word;
           nodes = nodes.nodes;
+          is_open = nodes.is_open;
           below = nodes.below;
           in_table = more_at steps nodes.ways _ chain nodes.word nodes.nodes nodes.seen _ nodes.in_table;
           kept = ap (λ p. with_kept room (p, owner_of word)) here.port_is
@@ -594,6 +631,7 @@ module _ (g : Geometry) (caller : ℕ) (from : Option Cursor) (limit most : ℕ)
         ways = nodes.ways;
         word = nodes.word;
         nodes = all;
+        is_open = nodes.is_open;
         below = nodes.below;
         in_table = subst
             (λ s. InTable (steps ++ loaded g (Node node ChainLink) word ∷ []) (nodes.ways ++ s) chain.visit nodes.seen)
@@ -618,6 +656,7 @@ module _ (g : Geometry) (caller : ℕ) (from : Option Cursor) (limit most : ℕ)
     seen = here.seen;
     entries = here.entries ++ word ∷ [];
     ways = here.ways ++ entry_step g visit.shape visit.bucket way word ∷ [];
+    is_open = here.is_open;
     below = here.below;
     in_table = along steps here.ways visit here.seen _ here.in_table;
     kept = here.kept;
@@ -627,6 +666,7 @@ module _ (g : Geometry) (caller : ℕ) (from : Option Cursor) (limit most : ℕ)
     seen = here.seen;
     entries = here.entries ++ word ∷ [];
     ways = here.ways ++ entry_step g visit.shape visit.bucket way word ∷ [];
+    is_open = here.is_open;
     below = here.below;
     in_table = along steps here.ways visit here.seen _ here.in_table;
     kept = here.kept;
@@ -637,7 +677,7 @@ module _ (g : Geometry) (caller : ℕ) (from : Option Cursor) (limit most : ℕ)
       let found = ways_of visit (here.entries ++ word ∷ []) (here.ways ++ entry_step g visit.shape visit.bucket way word ∷ []) (buckets.Absent entry) at_end in
       ended_at (steps ++ entry_step g visit.shape visit.bucket way word ∷ []) (here.ways ++ entry_step g visit.shape visit.bucket way word ∷ []) room visit here.seen
       (MissingPage (here.entries ++ word ∷ [])) here.below (along steps here.ways visit here.seen _ here.in_table) (entry, found.1) tt found.0
-      (here.kept ∙ ap (kept_of most) (sym (append-nil (pairs_of here.seen))))
+      (here.kept ∙ ap (kept_of most) (sym (append-nil (pairs_of here.seen)))) here.is_open
 
   shape_leads : (steps : List Performed) (room : Pairs) (start : Option Cursor) (table serial shape : ℕ) → from ≡ start
       → AtShape steps room table serial
@@ -665,8 +705,9 @@ module _ (g : Geometry) (caller : ℕ) (from : Option Cursor) (limit most : ℕ)
             table_is = here.table_is;
             fits_it = fits_it;
             are = sym is;
+            goes_on = tt;
             is = opened;
-          }) here.kept
+          }) here.kept (inl refl)
 
       go : (start : Option Cursor) → from ≡ start → KeptAt after room (begun g start table serial shape)
       go None same =
@@ -739,7 +780,7 @@ module _ (g : Geometry) (caller : ℕ) (from : Option Cursor) (limit most : ℕ)
           → KeptAt (steps ++ loaded g (Slot visit.table FutureWord) word ∷ []) room (unless_behind future (bucket_ended g limit (length room.items) visit))
       go None is =
           ended_at (steps ++ loaded g (Slot visit.table FutureWord) word ∷ []) behind room visit nodes.seen found nodes.below table_here is_seen is steps_are
-          (nodes.kept ∙ ap (λ s. kept_of most (pairs_of nodes.seen ++ s)) (append-nil (map pair_of nodes.nodes)))
+          (nodes.kept ∙ ap (λ s. kept_of most (pairs_of nodes.seen ++ s)) (append-nil (map pair_of nodes.nodes))) nodes.is_open
       go (Some slot) is = record {
         entered = table_here.entered;
         current = table_here.current;
@@ -752,7 +793,7 @@ module _ (g : Geometry) (caller : ℕ) (from : Option Cursor) (limit most : ℕ)
             (refl, inl (record {
               seen = nodes.seen;
               upto = visit.bucket;
-              saw = record { fits = table_here.fits_it; are = table_here.are };
+              saw = record { fits = table_here.fits_it; are = table_here.are; goes_on = table_here.goes_on };
               future = word;
               leads = is;
               ended = inr (
@@ -763,6 +804,7 @@ module _ (g : Geometry) (caller : ℕ) (from : Option Cursor) (limit most : ℕ)
                 nodes.nodes,
                 here.last,
                 is_seen,
+                AreTooFew-push limit most [] nodes.seen found table_here.goes_on nodes.is_open,
                 ap (λ s. steps_of g visit.table visit.shape first nodes.seen ++ s) steps_are,
               );
             }));
@@ -788,8 +830,8 @@ module _ (g : Geometry) (caller : ℕ) (from : Option Cursor) (limit most : ℕ)
       in_table : InTable (steps ++ last ∷ []) ([] ++ last ∷ []) visit here.seen
       in_table = along steps [] visit here.seen last here.in_table
 
-      saw : SawBuckets g from visit.table visit.serial visit.shape here.seen visit.bucket
-      saw = record { fits = in_table.fits_it; are = in_table.are }
+      saw : SawBuckets g from limit most visit.table visit.serial visit.shape here.seen visit.bucket
+      saw = record { fits = in_table.fits_it; are = in_table.are; goes_on = in_table.goes_on }
 
       go : (future : Option ℕ) → slot_of word ≡ future
           → KeptAt (steps ++ last ∷ []) room (unless_behind future (at.Closing (ends.Walked None)))

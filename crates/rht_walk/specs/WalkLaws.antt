@@ -121,9 +121,20 @@ nodes_of (MissingPage entries) = []
 nodes_of (OwnChain entries place word nodes) = nodes
 nodes_of (StrangeChain entries place word nodes last future) = nodes
 
--- the pairs of these buckets, in order
+-- the pairs of a bucket, and those of these buckets, in order
+abbrev pub pairs_at : BucketSeen → List (ℕ × ℕ)
+pairs_at seen = map pair_of (nodes_of seen)
+
 abbrev pub pairs_of : List BucketSeen → List (ℕ × ℕ)
-pairs_of seen = flat_map (λ bucket. map pair_of (nodes_of bucket)) seen
+pairs_of seen = flat_map pairs_at seen
+
+-- behind each of these buckets but the last one fewer pairs than the limit were kept, in a room for so many, with these shown before
+abbrev pub AreTooFew : ℕ → ℕ → List (ℕ × ℕ) → List BucketSeen → Type 0
+AreTooFew limit most pairs [] = Unit {0}
+AreTooFew limit most pairs (seen ∷ []) = Unit {0}
+AreTooFew limit most pairs (seen ∷ next ∷ more) =
+    (length (take most (pairs ++ pairs_at seen)) < limit)
+    × AreTooFew limit most (pairs ++ pairs_at seen) (next ∷ more)
 
 -- the loads of a chain: the bucket's word, and the nodes
 abbrev pub chain_steps : Geometry → ℕ → ℕ → List NodeSeen → List Performed
@@ -198,11 +209,13 @@ opening_steps g caller entered current serial shape =
     ∷ loaded g (Slot (table_of current) ShapeWord) shape
     ∷ []
 
--- the buckets that were walked, and the operations there
-pub record SawBuckets (g : Geometry) (from : Option Cursor) (table serial shape : ℕ) (seen : List BucketSeen)
-    (upto : ℕ) : Type 0 where
+-- The buckets that were walked, from the cursor's one on, which fits, or from the first. The call goes on behind each but the last since
+-- there weren't enough pairs.
+pub record SawBuckets (g : Geometry) (from : Option Cursor) (limit most table serial shape : ℕ)
+    (seen : List BucketSeen) (upto : ℕ) : Type 0 where
   pub fits : Fits serial shape from
   pub are : AreSeen g table shape (first_bucket from) seen upto
+  pub goes_on : AreTooFew limit most [] seen
 
 -- `Walked`: the pairs are all that the nodes of these buckets show, as many as there is room for. With a cursor it is the walked table's,
 -- at a later bucket, and enough pairs were kept. Without one all buckets were walked, and then the table's future was found to be none.
@@ -210,7 +223,7 @@ pub record WalkedTo (g : Geometry) (from : Option Cursor) (limit most table seri
     (next : Option Cursor) (pairs : List (ℕ × ℕ)) (steps : List Performed) : Type 0 where
   pub seen : List BucketSeen
   pub upto : ℕ
-  pub saw : SawBuckets g from table serial shape seen upto
+  pub saw : SawBuckets g from limit most table serial shape seen upto
   pub kept : pairs ≡ take most (pairs_of seen)
   pub counted : len ≡ length pairs
   pub ended : ((next ≡ Some (record { serial = serial; bucket = upto }))
@@ -226,11 +239,11 @@ pub record WalkedTo (g : Geometry) (from : Option Cursor) (limit most table seri
 
 -- `Again`, of a table behind: the last load is of the walked table's future, and leads there. It is behind all buckets, or behind a
 -- strange end.
-pub record MetTable (g : Geometry) (from : Option Cursor) (table serial shape slot : ℕ) (steps : List Performed) :
-    Type 0 where
+pub record MetTable (g : Geometry) (from : Option Cursor) (limit most table serial shape slot : ℕ)
+    (steps : List Performed) : Type 0 where
   pub seen : List BucketSeen
   pub upto : ℕ
-  pub saw : SawBuckets g from table serial shape seen upto
+  pub saw : SawBuckets g from limit most table serial shape seen upto
   pub future : ℕ
   pub leads : slot_of future ≡ Some slot
   pub ended : ((upto ≡ size_of (unpacked shape))
@@ -242,6 +255,7 @@ pub record MetTable (g : Geometry) (from : Option Cursor) (table serial shape sl
       × (nodes : List NodeSeen)
       × (last : ℕ)
       × IsBucketSeen g table shape upto (StrangeChain entries place word nodes last future)
+      × AreTooFew limit most [] (seen ++ StrangeChain entries place word nodes last future ∷ [])
       × (steps ≡ steps_of g table shape (first_bucket from) seen
       ++ bucket_steps g table shape upto (StrangeChain entries place word nodes last future)))
 
@@ -256,7 +270,7 @@ abbrev pub AnswersRightly : Geometry → Option Cursor → ℕ → ℕ → ℕ �
 AnswersRightly g from limit most table serial shape (Walked len next) pairs steps =
     WalkedTo g from limit most table serial shape len next pairs steps
 AnswersRightly g from limit most table serial shape (Again slot) pairs steps =
-    (pairs ≡ []) × (MetTable g from table serial shape slot steps ⊎ MisfitsTable from table serial shape slot steps)
+    (pairs ≡ []) × (MetTable g from limit most table serial shape slot steps ⊎ MisfitsTable from table serial shape slot steps)
 AnswersRightly g from limit most table serial shape _ pairs steps = ⊥
 
 -- All that a call performs: it opens its section, loads which table is current and what that is, looks at buckets, and closes its section.
