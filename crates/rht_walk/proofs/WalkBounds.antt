@@ -1,27 +1,24 @@
 -- How many operations a walk makes at most. Of each state it is shown how many are left: in the bucket at which it is, as many as nodes
 -- may still be visited there; for each bucket behind it as many as a bucket takes; and the two behind the last one.
-use Rattle.std.proofs.Common.{◌≡◌, ℕ, zero, suc, ◌+◌, ◌-◌, ◌*◌, ◌/◌, ◌<◌, ◌≤◌, nat_lt, nat_le, cond, Bool, true, false, List, [], ◌∷◌, length, get_or, Option, Some, None, refl, sym, ap, subst, arith}
-use Rattle.std.specs.Prelude.{◌==◌, IfSome, if◌then◌else◌}
+use Rattle.std.proofs.Common.{◌≡◌, ℕ, suc, ◌+◌, ◌-◌, ◌*◌, ◌/◌, ◌<◌, ◌≤◌, nat_lt, nat_le, cond, Bool, true, false, List, [], ◌∷◌, length, get_or, Option, Some, None, refl, sym, subst, arith}
+use Rattle.std.specs.Prelude.{◌==◌, if◌then◌else◌}
 use Rattle.std.proofs.lemmas.Bool.{cond_both, and_parts, ltb-true}
 use Rattle.rht_words.specs.declared.op.Op.{Op}
 use Rattle.rht_words.specs.declared.env.Env.{Env}
 use Rattle.rht_words.specs.declared.geometry.Geometry.{Geometry}
 use Rattle.rht_words.specs.declared.machine.Next.{Next}
 use Rattle.rht_words.specs.declared.machine.Next.TheVariants.{Go, Done}
-use Rattle.rht_words.specs.declared.machine.Start.{Start}
 use Rattle.rht_words.specs.declared.machine.Start.TheVariants as starts
 use Rattle.rht_words.specs.Places.{PageWord, place_of}
 use Rattle.rht_words.specs.Links.{node_of, slot_of, head_of, marker_of, page_of, table_of}
 use Rattle.rht_words.specs.Machines.{Performed, Ran, ran, went_on}
 use Rattle.rht_words.specs.Shapes.{unpacked, size_of}
-use Rattle.rht_nest.specs.Place.{PlaceModel, nested_place, picked, place_after, entry_seen, went_behind, entered}
+use Rattle.rht_nest.specs.Place.{PlaceModel, nested_place, picked, entry_seen, went_behind}
 use Rattle.rht_nest.specs.Tables.{is_nested}
-use Rattle.rht_nest.specs.declared.place.Bucket.{Bucket}
-use Rattle.rht_nest.specs.declared.place.Bucket.TheVariants as buckets
 use Rattle.rht_model.specs.declared.history.Cursor.{Cursor}
 use Rattle.rht_model.specs.declared.history.Reply.{Reply}
 use Rattle.rht_model.specs.Rooms.{emptied}
-use Rattle.rht_walk.specs.Walk.{Pairs, WalkModel, reply_of, room_after, fits, begun, visiting, next_bucket, bucket_ended, table_ended, reached, chain_ended, led_to, led_on, unless_behind, chain_of, one_more, goes, says, walk_plan, walk_after, walk_new, IsWalkAtIn}
+use Rattle.rht_walk.specs.Walk.{Pairs, WalkModel, reply_of, room_after, fits, begun, visiting, next_bucket, bucket_ended, reached, chain_ended, led_to, led_on, unless_behind, chain_of, one_more, goes, says, walk_plan, walk_after, walk_new, IsWalkAtIn}
 use Rattle.rht_walk.specs.WalkLaws.{Shown, with_room, walk_ran, bucket_bound, walk_bound, WalksSoon}
 use Rattle.rht_walk.specs.declared.walk.Visit.{Visit}
 use Rattle.rht_walk.specs.declared.walk.Chain.{Chain}
@@ -382,13 +379,12 @@ short_from (old ∷ olds) m there within =
     by_state g m.at (room_after m.at m.room old) next (record { op = walk_plan m; old = old })
     (ran walk_plan step_of (step_of m old).0 olds) there
     (λ unended.
-    let fewer = lessens g m.from m.limit shown m.at old there within unended in
-    (
+    let fewer = lessens g m.from m.limit shown m.at old there within unended in (
       left g next.at,
       fewer.fewer,
       subst (λ n. IsShort (left g next.at) (ran walk_plan step_of n olds))
-      (sym (with_room-first next (walk_after m old).1))
-      (short_from olds next fewer.at_bucket (walk_stays g m.from m.limit shown m.at old within)),
+          (sym (with_room-first next (walk_after m old).1))
+          (short_from olds next fewer.at_bucket (walk_stays g m.from m.limit shown m.at old within)),
     ))
 
 -- and from the beginning

@@ -1,5 +1,5 @@
 -- On which words a walk works, a case a state: those of slots, nodes, buckets and entries, and the section word of its caller.
-use Rattle.std.proofs.Common.{ℕ, ◌<◌, List, [], ◌∷◌, Option, inl, inr, refl, sym, subst, ◌≡◌, arith}
+use Rattle.std.proofs.Common.{ℕ, ◌<◌, List, [], ◌∷◌, inl, inr, refl, sym, subst, ◌≡◌, arith}
 use Rattle.std.specs.List.{AllByRecursion}
 use Rattle.rht_words.specs.declared.geometry.Geometry.{Geometry}
 use Rattle.rht_words.specs.declared.machine.Next.{Next}
@@ -12,7 +12,7 @@ use Rattle.rht_nest.specs.Place.{entry_place}
 use Rattle.rht_nest.proofs.Places.{planned_place}
 use Rattle.rht_grace.proofs.SectionsPlanned.{planned_enter, planned_leave}
 use Rattle.rht_model.specs.declared.history.Reply.{Reply}
-use Rattle.rht_walk.specs.Walk.{WalkModel, plan_at, walk_plan, walk_after, walk_new, says, room_after, IsWalkAtIn}
+use Rattle.rht_walk.specs.Walk.{WalkModel, plan_at, walk_plan, walk_after, walk_new, IsWalkAtIn}
 use Rattle.rht_walk.specs.WalkLaws.{Shown, with_room, LoadsOnly, WalksWithin}
 use Rattle.rht_walk.specs.declared.walk.WalkAt.{WalkAt}
 use Rattle.rht_walk.specs.declared.walk.WalkAt.TheVariants as at

@@ -1,6 +1,6 @@
 -- Whatever words it is told, a walk stays in its table: a case a state.
 -- Slots, links and entries are read totally, so what they name is there or is none.
-use Rattle.std.proofs.Common.{ℕ, ◌+◌, ◌<◌, ◌≤◌, nat_lt, nat_le, Option, Some, None, refl, sym, subst, arith}
+use Rattle.std.proofs.Common.{ℕ, ◌+◌, ◌<◌, nat_lt, nat_le, Option, Some, None, arith}
 use Rattle.std.specs.Prelude.{IfSome, ◌==◌}
 use Rattle.std.proofs.lemmas.Bool.{cond_both, and_parts, ltb-true}
 use Rattle.rht_words.specs.declared.geometry.Geometry.{Geometry}
@@ -18,7 +18,7 @@ use Rattle.rht_nest.specs.declared.place.Bucket.TheVariants as buckets
 use Rattle.rht_nest.proofs.BucketsApart.{flat_place_in}
 use Rattle.rht_nest.proofs.Places.{PlaceStays, place_stays, nested_place_in}
 use Rattle.rht_model.specs.declared.history.Cursor.{Cursor}
-use Rattle.rht_walk.specs.Walk.{fits, begun, visiting, next_bucket, bucket_ended, table_ended, reached, chain_ended, led_to, led_on, unless_behind, chain_of, one_more, goes, IsVisitIn, IsWalkAtIn}
+use Rattle.rht_walk.specs.Walk.{fits, begun, visiting, next_bucket, bucket_ended, reached, chain_ended, led_to, led_on, unless_behind, chain_of, one_more, goes, IsVisitIn, IsWalkAtIn}
 use Rattle.rht_walk.specs.declared.walk.Visit.{Visit}
 use Rattle.rht_walk.specs.declared.walk.Chain.{Chain}
 use Rattle.rht_walk.specs.declared.walk.WalkAt.{WalkAt}

@@ -203,11 +203,13 @@ says room (at.TableEnd table) = Go
 says room (at.Closing end) = Done (reply_of room end)
 
 abbrev pub walk_after : WalkModel → ℕ → WalkModel × Next Reply
-walk_after m word =
-    (record m {
-      room = room_after m.at m.room word;
-      at = goes m.env.geometry m.from m.limit (length m.room.items) m.at word;
-    }, says (room_after m.at m.room word) m.at)
+walk_after m word = (
+  record m {
+    room = room_after m.at m.room word;
+    at = goes m.env.geometry m.from m.limit (length m.room.items) m.at word;
+  },
+  says (room_after m.at m.room word) m.at,
+)
 
 -- ---- what a walk names
 
@@ -247,24 +249,8 @@ IsWalkAtIn g (at.StrangeEnd visit) = IsVisitIn visit
 IsWalkAtIn g (at.TableEnd table) = table < 8
 IsWalkAtIn g (at.Closing end) = Unit {0}
 
--- until a node's owner was loaded no pair is kept
-abbrev pub IsRoomIn : WalkAt → Pairs → Type 0
-IsRoomIn at.Opening room = room.items ≡ []
-IsRoomIn at.CurrentTable room = room.items ≡ []
-IsRoomIn (at.Serial table) room = room.items ≡ []
-IsRoomIn (at.Shape table serial) room = room.items ≡ []
-IsRoomIn (at.Entry visit way) room = Unit {0}
-IsRoomIn (at.Heading visit place) room = Unit {0}
-IsRoomIn (at.Key chain node) room = Unit {0}
-IsRoomIn (at.Owner chain node port) room = Unit {0}
-IsRoomIn (at.Link chain node) room = Unit {0}
-IsRoomIn (at.StrangeEnd visit) room = Unit {0}
-IsRoomIn (at.TableEnd table) room = Unit {0}
-IsRoomIn (at.Closing end) room = Unit {0}
-
 -- a walk of this caller in this table, all that its state names being the table's
 pub record IsWalkIn (env : Env) (caller : ℕ) (m : WalkModel) : Type 0 where
   pub same_env : m.env ≡ env
   pub same_caller : m.caller ≡ caller
   pub at_in : IsWalkAtIn env.geometry m.at
-  pub room_in : IsRoomIn m.at m.room

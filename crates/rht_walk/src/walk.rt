@@ -67,8 +67,7 @@ pub enum WalkAt {
     Heading { visit: Visit, place: usize },
     /// Loads the key of a node, which may have left the chain since the link to it was loaded.
     Key { chain: Chain, node: u32 },
-    /// Loads the owner of the node with this port, which is the first of the port's list. The pair is
-    /// kept.
+    /// Loads the owner of the node, whose key says this port. The pair is kept.
     Owner { chain: Chain, node: u32, port: Port },
     /// Loads the link behind the node.
     Link { chain: Chain, node: u32 },
@@ -185,7 +184,14 @@ impl Walk {
         ensures { (self.new, result) ≡ walk_after self.old old }
     {
         let shown = self.room.len();
-        let at = after(self.env.geometry, self.from, self.limit, shown, &self.at, old);
+        let at = after(
+            self.env.geometry,
+            self.from,
+            self.limit,
+            shown,
+            &self.at,
+            old,
+        );
         keep_pair(&mut self.room, &self.at, old);
         let said = said(&self.room, &self.at);
         self.at = at;
@@ -359,14 +365,7 @@ pub fn visiting(geometry: Geometry, visit: Visit) -> WalkAt
 
 /// After an entry, which was this.
 #[inline(always)]
-fn entered(
-    geometry: Geometry,
-    limit: u32,
-    shown: u32,
-    visit: Visit,
-    way: Place,
-    old: u64,
-) -> WalkAt
+fn entered(geometry: Geometry, limit: u32, shown: u32, visit: Visit, way: Place, old: u64) -> WalkAt
     requires visit { IsVisitIn visit }
     requires way { IsPlaceIn geometry way }
     ensures { result ≡ reached geometry limit shown visit (place_after way old).0 (place_after way old).1 }

@@ -1,5 +1,4 @@
-use Rattle.std.proofs.Common.{◌≡◌, sym, subst, refl}
-use Rattle.rht_walk.specs.Walk.{walk_after}
+use Rattle.std.proofs.Common.{sym, refl}
 use Rattle.rht_walk.proofs.walk.Walk.take.Goals as goal
 
 pub returns : goal.returns
