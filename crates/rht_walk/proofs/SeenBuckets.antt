@@ -1,36 +1,21 @@
 -- What was found at buckets and nodes, where one more is found; and the way to a bucket, cut at an entry.
-use Rattle.std.proofs.Common.{◌≡◌, ℕ, ◌+◌, ◌<◌, ◌≤◌, ◌⊎◌, nat_lt, nat_le, List, [], ◌∷◌, ◌++◌, length, map, take, append_assoc, append-nil, true, false, Option, Some, None, refl, sym, ◌∙◌, ap, subst, inl, inr, arith}
-use Rattle.std.specs.Prelude.{◌==◌}
-use Rattle.std.proofs.lemmas.Bool.{cond_both, cases_lt, eq-eqb, lt-ltb, eqb-true, eqb-false, and_parts, ltb-true, ltb-false, leb-true, leb-false}
+use Rattle.std.proofs.Common.{◌≡◌, ℕ, ◌+◌, ◌<◌, ◌≤◌, ◌⊎◌, nat_lt, List, [], ◌∷◌, ◌++◌, length, map, take, append_assoc, append-nil, true, false, Some, refl, sym, ◌∙◌, ap, subst, inl, inr, arith}
+use Rattle.std.proofs.lemmas.Bool.{cases_lt}
 use Rattle.std.proofs.lemmas.Grind.{flat_map-append}
-use Rattle.std.proofs.lemmas.List.{take_all, take-append-le, length-take-le, length-append, map-append}
+use Rattle.std.proofs.lemmas.List.{take_all, take-append-le, length-take-le, length-append}
 use Rattle.std.proofs.lemmas.Bool.Decides.{nat_tests}
-use Rattle.rht_words.specs.declared.op.Op.TheVariants.{Load}
 use Rattle.rht_words.specs.declared.geometry.Geometry.{Geometry}
-use Rattle.rht_words.specs.declared.machine.Next.{Next}
 use Rattle.rht_words.specs.declared.machine.Next.TheVariants.{Go, Done}
-use Rattle.rht_words.specs.Links.{table_of, slot_of, node_of, head_of, marker_of}
-use Rattle.rht_words.specs.Machines.{Performed, Ran, ran, went_on}
-use Rattle.rht_words.specs.Places.{CurrentTable, Slot, FutureWord, SerialWord, ShapeWord, Node, KeyWord, OwnerWord, ChainLink}
-use Rattle.rht_words.specs.Ports.{port_of, owner_of}
-use Rattle.rht_words.specs.Shapes.{unpacked, size_of}
-use Rattle.rht_grace.specs.Sections.{turning}
+use Rattle.rht_words.specs.Links.{node_of}
+use Rattle.rht_words.specs.Machines.{Performed, Ran, ran}
 use Rattle.rht_nest.specs.Place.{PlaceModel, place_plan, place_after, nested_place, flat_place}
 use Rattle.rht_nest.specs.PlaceLaws.{finding_ran}
 use Rattle.rht_nest.specs.Tables.{is_nested}
 use Rattle.rht_nest.specs.declared.place.Bucket.{Bucket}
 use Rattle.rht_nest.specs.declared.place.Bucket.TheVariants as buckets
-use Rattle.rht_model.specs.declared.history.Cursor.{Cursor}
-use Rattle.rht_model.specs.declared.history.Reply.TheVariants.{Walked, Again}
 use Rattle.rht_model.specs.Rooms.{with_kept}
-use Rattle.rht_walk.specs.Walk.{Pairs, WalkModel, fits, begun, visiting, next_bucket, bucket_ended, reached, chain_ended, led_to, unless_behind, chain_of, one_more, plan_at, goes, says, reply_of, room_after, room_at_end, walk_plan, walk_after, walk_new}
-use Rattle.rht_walk.specs.WalkLaws.{Shown, with_room, loaded, NodeSeen, node_steps, pair_of, LeadsOver, BucketSeen, MissingPage, OwnChain, StrangeChain, nodes_of, pairs_at, pairs_of, AreTooFew, chain_steps, FindsBucket, IsStrange, bucket_steps, IsBucketSeen, FindsNone, AreSeen, steps_of, first_bucket, Fits, opening_steps, SawBuckets, AnswersRightly, EndsRightly, WalksRightly}
-use Rattle.rht_walk.specs.declared.walk.Visit.{Visit}
-use Rattle.rht_walk.specs.declared.walk.Chain.{Chain}
-use Rattle.rht_walk.specs.declared.walk.WalkEnd.{WalkEnd}
-use Rattle.rht_walk.specs.declared.walk.WalkEnd.TheVariants as ends
-use Rattle.rht_walk.specs.declared.walk.WalkAt.{WalkAt}
-use Rattle.rht_walk.specs.declared.walk.WalkAt.TheVariants as at
+use Rattle.rht_walk.specs.Walk.{Pairs}
+use Rattle.rht_walk.specs.WalkLaws.{NodeSeen, pair_of, LeadsOver, BucketSeen, nodes_of, pairs_at, pairs_of, AreTooFew, bucket_steps, IsBucketSeen, FindsNone, AreSeen, steps_of}
 
 -- ---- lists
 

@@ -3,48 +3,30 @@
 -- Of each state it is said what the operations before it were (`KeptAt`): the opening, the buckets that were walked, and of the bucket at
 -- which it is the entries, the word and the nodes so far. Each operation leads on to what is said of the next state. So it is told of the
 -- last one, by induction over the words that are found.
-use Rattle.std.proofs.Common.{◌≡◌, ℕ, ◌+◌, ◌<◌, ◌≤◌, ◌⊎◌, nat_lt, nat_le, List, [], ◌∷◌, ◌++◌, length, map, take, append_assoc, append-nil, true, false, Option, Some, None, refl, sym, ◌∙◌, ap, subst, inl, inr, arith}
-use Rattle.std.specs.Prelude.{◌==◌}
-use Rattle.std.proofs.lemmas.Bool.{cond_both, cases_lt, eq-eqb, lt-ltb, eqb-true, eqb-false, and_parts, ltb-true, ltb-false, leb-true, leb-false}
-use Rattle.std.proofs.lemmas.Grind.{flat_map-append}
-use Rattle.std.proofs.lemmas.List.{take_all, take-append-le, length-take-le, length-append, map-append}
-use Rattle.std.proofs.lemmas.Bool.Decides.{nat_tests}
-use Rattle.rht_words.specs.declared.op.Op.TheVariants.{Load}
+use Rattle.std.proofs.Common.{◌≡◌, ℕ, List, [], ◌∷◌, ◌++◌, length, append_assoc, Option, refl, sym, ◌∙◌, ap, subst, arith}
+use Rattle.std.proofs.lemmas.List.{take_all}
 use Rattle.rht_words.specs.declared.geometry.Geometry.{Geometry}
-use Rattle.rht_words.specs.declared.machine.Next.{Next}
-use Rattle.rht_words.specs.declared.machine.Next.TheVariants.{Go, Done}
-use Rattle.rht_words.specs.Links.{table_of, slot_of, node_of, head_of, marker_of}
+use Rattle.rht_words.specs.declared.machine.Next.TheVariants.{Done}
+use Rattle.rht_words.specs.Links.{slot_of, node_of, head_of}
 use Rattle.rht_words.specs.Machines.{Performed, Ran, ran, went_on}
-use Rattle.rht_words.specs.Places.{CurrentTable, Slot, FutureWord, SerialWord, ShapeWord, Node, KeyWord, OwnerWord, ChainLink}
-use Rattle.rht_words.specs.Ports.{port_of, owner_of}
-use Rattle.rht_words.specs.Shapes.{unpacked, size_of}
+use Rattle.rht_words.specs.Places.{CurrentTable, Slot, SerialWord}
 use Rattle.rht_grace.specs.Sections.{turning}
-use Rattle.rht_nest.specs.Place.{PlaceModel, place_plan, place_after, nested_place, flat_place}
-use Rattle.rht_nest.specs.PlaceLaws.{finding_ran}
-use Rattle.rht_nest.specs.Tables.{is_nested}
-use Rattle.rht_nest.specs.declared.place.Bucket.{Bucket}
-use Rattle.rht_nest.specs.declared.place.Bucket.TheVariants as buckets
+use Rattle.rht_nest.specs.Place.{place_after}
 use Rattle.rht_model.specs.declared.history.Cursor.{Cursor}
-use Rattle.rht_model.specs.declared.history.Reply.TheVariants.{Walked, Again}
-use Rattle.rht_model.specs.Rooms.{with_kept}
-use Rattle.rht_walk.specs.Walk.{Pairs, WalkModel, fits, begun, visiting, next_bucket, bucket_ended, reached, chain_ended, led_to, unless_behind, chain_of, one_more, plan_at, goes, says, reply_of, room_after, room_at_end, walk_plan, walk_after, walk_new}
-use Rattle.rht_walk.specs.WalkLaws.{Shown, with_room, loaded, NodeSeen, node_steps, pair_of, LeadsOver, BucketSeen, MissingPage, OwnChain, StrangeChain, nodes_of, pairs_at, pairs_of, AreTooFew, chain_steps, FindsBucket, IsStrange, bucket_steps, IsBucketSeen, FindsNone, AreSeen, steps_of, first_bucket, Fits, opening_steps, SawBuckets, AnswersRightly, EndsRightly, WalksRightly}
-use Rattle.rht_walk.specs.declared.walk.Visit.{Visit}
-use Rattle.rht_walk.specs.declared.walk.Chain.{Chain}
+use Rattle.rht_walk.specs.Walk.{Pairs, WalkModel, chain_of, one_more, plan_at, goes, says, reply_of, room_after, room_at_end, walk_plan, walk_after, walk_new}
+use Rattle.rht_walk.specs.WalkLaws.{Shown, with_room, loaded, first_bucket, opening_steps, EndsRightly, WalksRightly}
 use Rattle.rht_walk.specs.declared.walk.WalkEnd.{WalkEnd}
 use Rattle.rht_walk.specs.declared.walk.WalkEnd.TheVariants as ends
 use Rattle.rht_walk.specs.declared.walk.WalkAt.{WalkAt}
 use Rattle.rht_walk.specs.declared.walk.WalkAt.TheVariants as at
 use Rattle.rht_walk.proofs.WalkPlanned.{step_of, with_room-first}
-use Rattle.rht_walk.proofs.WalkStays.{some_buckets}
-use Rattle.rht_walk.proofs.SeenBuckets.{kept_of, kept_of-push, push, steps_of-push, AreSeen-push, AreSeen-from, pairs_of-push, IsOpen, AreTooFew-push, LeadsOver-push, OnWay, AtEnd, begins_nested, begins_flat, entry_step, further, ends_way}
-use Rattle.rht_walk.proofs.WalkStates.{InTable, AtEntry, AtHead, AtNodes, AtKey, AtOwner, AtLink, AtStrangeEnd, AtTableEnd, AtClosing, AtCurrent, AtSerial, AtShape, KeptAt, begins_at, next_at, ended_at, more_at, ways_of, chain_ended_at, led_at}
-use Rattle.rht_walk.proofs.WalkSteps.{along, head_leads, key_leads, owner_leads, link_leads, entry_leads, shape_leads, strange_leads, end_leads}
+use Rattle.rht_walk.proofs.SeenBuckets.{kept_of}
+use Rattle.rht_walk.proofs.WalkStates.{AtClosing, KeptAt, led_at}
+use Rattle.rht_walk.proofs.WalkSteps.{head_leads, key_leads, owner_leads, link_leads, entry_leads, shape_leads, strange_leads, end_leads}
 
 module _ (g : Geometry) (caller : ℕ) (from : Option Cursor) (limit most : ℕ) where
   abbrev first : ℕ
   first = first_bucket from
-
 
   -- what is said of a state is led on to the next one
   leads_on : (steps : List Performed) (room : Pairs) (state : WalkAt) (word : ℕ) → KeptAt g caller from limit most steps room state

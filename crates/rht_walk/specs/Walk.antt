@@ -1,5 +1,5 @@
 -- The walk over the buckets of a table, which takes no lock: what each state performs, and what comes after it.
-use Rattle.std.specs.Prelude.{◌≡◌, ℕ, Bool, [], ◌+◌, ◌<◌, ◌==◌, ◌&&◌, nat_lt, nat_le, Option, None, Some, length, if◌then◌else◌}
+use Rattle.std.specs.Prelude.{◌≡◌, ℕ, Bool, ◌+◌, ◌<◌, ◌==◌, ◌&&◌, nat_lt, nat_le, Option, None, Some, length, if◌then◌else◌}
 use Rattle.rht_words.specs.declared.op.Op.{Op}
 use Rattle.rht_words.specs.declared.op.Op.TheVariants.{Load}
 use Rattle.rht_words.specs.declared.env.Env.{Env}
