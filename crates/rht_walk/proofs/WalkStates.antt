@@ -220,7 +220,13 @@ module _ (g : Geometry) (caller : ℕ) (from : Option Cursor) (limit most : ℕ)
               saw = record { fits = in_table.fits_it; are = in_table.are; goes_on = in_table.goes_on };
               kept = ap (λ (r : Pairs). r.items) kept;
               counted = refl;
-              ended = inl (refl, later, below, leb-true limit (length room.items) t, append-nil _);
+              ended = inl (record {
+                cursor_is = refl;
+                later = later;
+                there = below;
+                enough = leb-true limit (length room.items) t;
+                steps_are = append-nil _;
+              });
             });
         room_is = ap (λ (r : Pairs). r.limit) kept;
       })

@@ -322,17 +322,17 @@ module _ (g : Geometry) (caller : ℕ) (from : Option Cursor) (limit most : ℕ)
                 saw = record { fits = table_here.fits_it; are = table_here.are; goes_on = table_here.goes_on };
                 future = word;
                 leads = is;
-                ended = inr (
-                  nodes.below,
-                  nodes.entries,
-                  here.place,
-                  nodes.word,
-                  nodes.nodes,
-                  here.last,
-                  is_seen,
-                  AreTooFew-push limit most [] nodes.seen found table_here.goes_on nodes.is_open,
-                  ap (λ s. steps_of g visit.table visit.shape first nodes.seen ++ s) steps_are,
-                );
+                ended = inr (record {
+                  there = nodes.below;
+                  entries = nodes.entries;
+                  place = here.place;
+                  word = nodes.word;
+                  nodes = nodes.nodes;
+                  last = here.last;
+                  is_seen = is_seen;
+                  goes_on = AreTooFew-push limit most [] nodes.seen found table_here.goes_on nodes.is_open;
+                  steps_are = ap (λ s. steps_of g visit.table visit.shape first nodes.seen ++ s) steps_are;
+                });
               }),
             );
         room_is = ap (λ (r : Pairs). r.limit) nodes.kept;
@@ -376,7 +376,12 @@ module _ (g : Geometry) (caller : ℕ) (from : Option Cursor) (limit most : ℕ)
               saw = saw;
               kept = ap (λ (r : Pairs). r.items) here.kept;
               counted = refl;
-              ended = inr (refl, here.whole, word, is, refl);
+              ended = inr (record {
+                no_cursor = refl;
+                future = word;
+                none_behind = is;
+                comes = record { all = here.whole; steps_are = refl };
+              });
             });
         room_is = ap (λ (r : Pairs). r.limit) here.kept;
       }
@@ -396,7 +401,7 @@ module _ (g : Geometry) (caller : ℕ) (from : Option Cursor) (limit most : ℕ)
                 saw = saw;
                 future = word;
                 leads = is;
-                ended = inl (here.whole, refl);
+                ended = inl (record { all = here.whole; steps_are = refl });
               }),
             );
         room_is = ap (λ (r : Pairs). r.limit) here.kept;

@@ -217,28 +217,60 @@ pub record SawBuckets (g : Geometry) (from : Option Cursor) (limit most table se
   pub are : AreSeen g table shape (first_bucket from) seen upto
   pub goes_on : AreTooFew limit most [] seen
 
--- `Walked`: the pairs are all that the nodes of these buckets show, as many as there is room for. With a cursor it is the walked table's,
--- at a later bucket, and enough pairs were kept. Without one all buckets were walked, and then the table's future was found to be none.
-pub record WalkedTo (g : Geometry) (from : Option Cursor) (limit most table serial shape : ℕ) (len : ℕ)
+-- it stops before a later bucket that the table has, since enough pairs are kept, and the cursor is of this table and that bucket
+pub record StopsBefore (g : Geometry) (from : Option Cursor) (limit table serial shape : ℕ) (seen : List BucketSeen)
+    (upto len : ℕ) (next : Option Cursor) (steps : List Performed) : Type 0 where
+  pub cursor_is : next ≡ Some (record { serial = serial; bucket = upto })
+  pub later : first_bucket from < upto
+  pub there : upto < size_of (unpacked shape)
+  pub enough : limit ≤ len
+  pub steps_are : steps ≡ steps_of g table shape (first_bucket from) seen
+
+-- it has walked all buckets, and behind the last one found this future of the table
+pub record ComesToEnd (g : Geometry) (from : Option Cursor) (table shape : ℕ) (seen : List BucketSeen)
+    (upto future : ℕ) (steps : List Performed) : Type 0 where
+  pub all : upto ≡ size_of (unpacked shape)
+  pub steps_are :
+      steps ≡ steps_of g table shape (first_bucket from) seen ++ loaded g (Slot table FutureWord) future ∷ []
+
+-- and there is no cursor, since no table is behind
+pub record EndsThere (g : Geometry) (from : Option Cursor) (table shape : ℕ) (seen : List BucketSeen) (upto : ℕ)
+    (next : Option Cursor) (steps : List Performed) : Type 0 where
+  pub no_cursor : next ≡ None
+  pub future : ℕ
+  pub none_behind : slot_of future ≡ None
+  pub comes : ComesToEnd g from table shape seen upto future steps
+
+-- at the bucket behind these its chain has a strange end, and then it found this future of the table
+pub record MeetsStrangeEnd (g : Geometry) (from : Option Cursor) (limit most table shape : ℕ)
+    (seen : List BucketSeen) (upto future : ℕ) (steps : List Performed) : Type 0 where
+  pub there : upto < size_of (unpacked shape)
+  pub entries : List ℕ
+  pub place : ℕ
+  pub word : ℕ
+  pub nodes : List NodeSeen
+  pub last : ℕ
+  pub is_seen : IsBucketSeen g table shape upto (StrangeChain entries place word nodes last future)
+  pub goes_on : AreTooFew limit most [] (seen ++ StrangeChain entries place word nodes last future ∷ [])
+  pub steps_are :
+      steps
+      ≡ steps_of g table shape (first_bucket from) seen
+      ++ bucket_steps g table shape upto (StrangeChain entries place word nodes last future)
+
+-- `Walked`: the pairs are all that the nodes of these buckets show, as many as there is room for, and it stops there or has come to the
+-- table's end
+pub record WalkedTo (g : Geometry) (from : Option Cursor) (limit most table serial shape len : ℕ)
     (next : Option Cursor) (pairs : List (ℕ × ℕ)) (steps : List Performed) : Type 0 where
   pub seen : List BucketSeen
   pub upto : ℕ
   pub saw : SawBuckets g from limit most table serial shape seen upto
   pub kept : pairs ≡ take most (pairs_of seen)
   pub counted : len ≡ length pairs
-  pub ended : ((next ≡ Some (record { serial = serial; bucket = upto }))
-      × (first_bucket from < upto)
-      × (upto < size_of (unpacked shape))
-      × (limit ≤ len)
-      × (steps ≡ steps_of g table shape (first_bucket from) seen))
-      ⊎ ((next ≡ None)
-      × (upto ≡ size_of (unpacked shape))
-      × (future : ℕ)
-      × (slot_of future ≡ None)
-      × (steps ≡ steps_of g table shape (first_bucket from) seen ++ loaded g (Slot table FutureWord) future ∷ []))
+  pub ended :
+      StopsBefore g from limit table serial shape seen upto len next steps
+      ⊎ EndsThere g from table shape seen upto next steps
 
--- `Again`, of a table behind: the last load is of the walked table's future, and leads there. It is behind all buckets, or behind a
--- strange end.
+-- `Again`, of a table behind: the last load is of the walked table's future, behind all buckets or behind a strange end, and leads there
 pub record MetTable (g : Geometry) (from : Option Cursor) (limit most table serial shape slot : ℕ)
     (steps : List Performed) : Type 0 where
   pub seen : List BucketSeen
@@ -246,18 +278,9 @@ pub record MetTable (g : Geometry) (from : Option Cursor) (limit most table seri
   pub saw : SawBuckets g from limit most table serial shape seen upto
   pub future : ℕ
   pub leads : slot_of future ≡ Some slot
-  pub ended : ((upto ≡ size_of (unpacked shape))
-      × (steps ≡ steps_of g table shape (first_bucket from) seen ++ loaded g (Slot table FutureWord) future ∷ []))
-      ⊎ ((upto < size_of (unpacked shape))
-      × (entries : List ℕ)
-      × (place : ℕ)
-      × (word : ℕ)
-      × (nodes : List NodeSeen)
-      × (last : ℕ)
-      × IsBucketSeen g table shape upto (StrangeChain entries place word nodes last future)
-      × AreTooFew limit most [] (seen ++ StrangeChain entries place word nodes last future ∷ [])
-      × (steps ≡ steps_of g table shape (first_bucket from) seen
-      ++ bucket_steps g table shape upto (StrangeChain entries place word nodes last future)))
+  pub ended :
+      ComesToEnd g from table shape seen upto future steps
+      ⊎ MeetsStrangeEnd g from limit most table shape seen upto future steps
 
 -- `Again`, of the current table itself: the cursor doesn't fit it, and no bucket was looked at
 pub record MisfitsTable (from : Option Cursor) (table serial shape slot : ℕ) (steps : List Performed) : Type 0 where
