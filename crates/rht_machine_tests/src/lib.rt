@@ -1,7 +1,7 @@
 //! The tests of machines and their pieces: each alone, operation by operation, told old values by hand.
 //!
 //! There is no code here but tests. They use what `rht_arena`, `rht_chain`, `rht_nest`, `rht_grace`,
-//! `rht_find`, `rht_bind`, `rht_release` and `rht_move` hand out, and stand in a crate of
+//! `rht_find`, `rht_bind`, `rht_release`, `rht_move` and `rht_walk` hand out, and stand in a crate of
 //! their own since a crate with tests is proved twice, with them and without.
 #![tactic(auto)]
 
@@ -25,3 +25,5 @@ mod release;
 mod resize;
 #[cfg(test)]
 mod tidy;
+#[cfg(test)]
+mod walk;

@@ -26,8 +26,8 @@ const OTHER_READS: Reply = Reply::Pending {
 };
 
 /// A load of a caller's section word, and what it finds.
-fn section(caller: usize, word: u64) -> (Op, u64) {
-    (Op::load(8 + caller), word)
+fn section(caller: u32, word: u64) -> (Op, u64) {
+    (Op::load(8 + caller as usize), word)
 }
 
 /// Gives back the node whose bit has this value. What the word was before isn't looked at.
