@@ -2,7 +2,7 @@
 -- takes it as it begins and gives it back as it ends. And while a call goes on nothing comes into the room
 -- of its caller.
 use Rattle.std.proofs.Common.{◌≡◌, ℕ, true, ◌++◌, ◌∷◌, [], length, nat_lt, refl, ap, ◌∙◌}
-use Rattle.std.specs.Prelude.{Some, None}
+use Rattle.std.specs.Prelude.{Option, Some, None}
 use Rattle.std.proofs.lemmas.Bool.{cond_both}
 use Rattle.rht_words.specs.declared.env.Env.{Env}
 use Rattle.rht_words.specs.declared.machine.Next.{Next}
@@ -24,6 +24,7 @@ use Rattle.rht_callers.specs.declared.local.Doing.{Doing}
 use Rattle.rht_callers.specs.declared.local.Doing.TheVariants.{Idle, Finding, Binding, Listing, Releasing, Rebinding, Working, Counting, Tidying}
 use Rattle.rht_callers.specs.Locals.{does_nothing, is_idle, machine_of, doing_after, doing_next, without_node, owners_room, owners_beside, owners_after, room_given}
 use Rattle.rht_grace.specs.Tidy.{tidy_after}
+use Rattle.rht_grace.specs.Batch.{BatchModel}
 use Rattle.rht_callers.proofs.CallBeginnings.{begins_so}
 
 -- an operation of a listing leaves its room's limit
@@ -49,15 +50,15 @@ module _ (M : Type 0) where
       go _ idle is = absurd (cc)
 
   -- who has begun has it as well, or its listing
-  pub begun-limit : (env : Env) (c : ℕ) (call : Call) (machine : Doing M)
-      → machine_of env c call ≡ Some machine → (room : Kept ℕ) → room.limit ≡ env.geometry.nodes
+  pub begun-limit : (env : Env) (c : ℕ) (batch : Option BatchModel) (call : Call) (machine : Doing M)
+      → machine_of env c batch call ≡ Some machine → (room : Kept ℕ) → room.limit ≡ env.geometry.nodes
       → (owners_room machine (owners_beside machine room)).limit ≡ env.geometry.nodes
-  begun-limit env c =
-      begins_so M env c
+  begun-limit env c batch =
+      begins_so M env c batch
       (λ call machine. (room : Kept ℕ) → room.limit ≡ env.geometry.nodes
       → (owners_room machine (owners_beside machine room)).limit ≡ env.geometry.nodes)
       (λ port room is. is) (λ port owner once room is. is) (λ port room is. refl) (λ port owner room is. is)
-      (λ port owner new single room is. is) (λ room is. is) (λ room is. is)
+      (λ port owner new single room is. is) (λ room is. is) (λ room is. is) (λ own has room is. is)
 
   -- whose own room is empty then
   pub owners_beside-none : (doing : Doing M) (room : Kept ℕ) → (owners_beside doing room).items ≡ []
