@@ -1,21 +1,20 @@
 -- While nobody is in a call the nodes that are out are those in the callers' batches, each in one.
-use Rattle.std.proofs.Common.{◌≡◌, ℕ, zero, suc, ◌+◌, ◌<◌, ◌≤◌, ◌==◌, Bool, true, false, List, [], ◌∷◌, ◌++◌, length, refl, sym, ap, ◌∙◌, subst, inl, inr, arith, Option, Some, None}
+use Rattle.std.proofs.Common.{◌≡◌, ℕ, zero, suc, ◌+◌, ◌<◌, ◌≤◌, Bool, true, List, [], ◌∷◌, refl, ap, ◌∙◌, inl, inr, arith, Option, Some, None}
 use Rattle.std.specs.List.{AllByRecursion, flat_map, range_with_len}
 use Rattle.rht_words.specs.declared.env.Env.{Env}
-use Rattle.rht_words.specs.Members.{In, NotIn, IsDistinct}
+use Rattle.rht_words.specs.Members.{In, IsDistinct}
 use Rattle.rht_words.proofs.EachElement.{AllByRecursion-append}
 use Rattle.rht_words.proofs.Members.{in_or_not, flat_map-In, In-flat_map, In-range_with_len, not_in_from, length-count_below}
-use Rattle.rht_callers.specs.Batches.{IsBatchIn, IsSoundBatch, AreNodesIn, nodes_in, batch_room}
+use Rattle.rht_callers.specs.Batches.{IsSoundBatch, AreNodesIn, nodes_in, batch_room}
 use Rattle.rht_grace.specs.Batch.{BatchModel}
 use Rattle.rht_callers.specs.Locals.{is_idle}
 use Rattle.std.proofs.lemmas.Bool.{eq-eqb}
 use Rattle.rht_core.specs.Counts.{IsPlaced, ExactlyOne, in_batch, in_batches, AreBatched}
 use Rattle.rht_core.specs.Runs.{Core, local_of}
-use Rattle.rht_core.specs.Jobs.{job_of}
-use Rattle.rht_ghost.proofs.Theory.Ghosts.{Owner, Free, NodeHeld, First, Leaving, Behind, Taken, Ghost, is_taken_by, taken_is}
-use Rattle.rht_ghost.proofs.Theory.Wholes.{IsBuilt, outs}
+use Rattle.rht_ghost.proofs.Theory.Ghosts.{Owner, Taken, Ghost, is_taken_by}
+use Rattle.rht_ghost.proofs.Theory.Wholes.{IsBuilt}
 use Rattle.rht_core.proofs.Events.BatchesInRuns.{BatchRight}
-use Rattle.rht_core.proofs.Events.SaidOfNodes.{outs_with, outs-idle}
+use Rattle.rht_core.proofs.Events.SaidOfNodes.{outs-idle}
 use Rattle.rht_core.proofs.Counting.NodesOut.{is_out}
 use Rattle.rht_core.proofs.Meaning.ListableWords.{IsDistinct-flat_map}
 
@@ -47,7 +46,7 @@ range-distinct : (from n : ℕ) → IsDistinct (range_with_len from n)
 range-distinct from zero = tt
 range-distinct from (suc n) = (
   not_in_from from (range_with_len (from + 1) n)
-  (λ there. let low = range-low (from + 1) n from there in absurd (omega (arith, low))),
+      (λ there. let low = range-low (from + 1) n from there in absurd (omega (arith, low))),
   range-distinct (from + 1) n,
 )
 

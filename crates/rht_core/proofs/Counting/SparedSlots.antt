@@ -204,6 +204,7 @@ other-spares env mix c few (jobs.lists port room state) within none = all-spares
 other-spares env mix c few (jobs.releases port owner state) within none = release-spares env c few state within
 other-spares env mix c few (jobs.rebinds port owner new state) within none = rebind-spares env c few state within.at_in
 other-spares env mix c few (jobs.works state) within none = absurd (cc)
+other-spares env mix c few (jobs.tidies batch state) within none = absurd within
 other-spares env mix c few _ within none = by_load _ _ refl
 
 -- an operation that leaves the words of slots attaches no table

@@ -1,8 +1,8 @@
 -- In every run the nodes of a caller's batch are those that its calls took out of lists, and none of them stands there twice, nor is it the one
 -- that the call in progress has taken out. So a node that a call hands out may be put in.
 -- This goes with the invariant event by event, since it speaks of the ghost.
-use Rattle.std.specs.Prelude.{◌==◌, IfSome, option_map}
-use Rattle.std.proofs.Common.{◌≡◌, ◌≢◌, ◌⊎◌, ℕ, ◌+◌, ◌<◌, List, [], ◌∷◌, ◌++◌, length, length-append, Bool, true, false, arith, Option, Some, None, refl, sym, ap, ◌∙◌, subst, inl, inr}
+use Rattle.std.specs.Prelude.{IfSome, option_map}
+use Rattle.std.proofs.Common.{◌≡◌, ◌≢◌, ◌⊎◌, ℕ, ◌+◌, ◌<◌, List, [], ◌∷◌, ◌++◌, length, false, arith, Option, Some, None, refl, sym, ap, ◌∙◌, subst, inl, inr}
 use Rattle.std.proofs.lemmas.Bool.{cases_eq}
 use Rattle.std.proofs.lemmas.List.{length-replicate, get_or-set_same, get_or-set_other}
 use Rattle.rht_words.specs.declared.op.Op.{Op}
@@ -13,44 +13,28 @@ use Rattle.rht_words.specs.Operations.{old_of}
 use Rattle.rht_words.proofs.EachElement.{each_set}
 use Rattle.rht_words.specs.declared.machine.Next.{Next}
 use Rattle.rht_words.specs.declared.machine.Next.TheVariants.{Go, Done}
-use Rattle.rht_words.specs.Links.{node_of}
-use Rattle.rht_words.specs.Ports.{owner_of}
-use Rattle.rht_words.proofs.Members.{not_in_from, one_if, count_below-none}
-use Rattle.rht_arena.specs.NewNode.{NewNodeModel, new_node_after}
-use Rattle.rht_chain.specs.Relink.{RelinkModel, relink_after}
+use Rattle.rht_words.proofs.Members.{not_in_from, count_below-none}
 use Rattle.rht_model.specs.declared.history.Call.{Call}
-use Rattle.rht_model.specs.declared.history.Call.TheVariants.{Release, Rebind}
 use Rattle.rht_model.specs.declared.history.Reply.{Reply}
-use Rattle.rht_model.specs.declared.history.Reply.TheVariants.{Released, Rebound, Absent, NoNode}
 use Rattle.rht_model.specs.Answers.{Answer}
-use Rattle.rht_model.specs.Endings.{Ending, plain_ending}
-use Rattle.rht_model.specs.Replies.{takes_out, IsReplyTo}
-use Rattle.rht_release.specs.declared.found_port.FoundPort.{FoundPort}
-use Rattle.rht_release.specs.Seek.{SeekModel, seek_after}
-use Rattle.rht_release.specs.Release as release
-use Rattle.rht_release.specs.declared.release.ReleaseAt.{ReleaseAt}
-use Rattle.rht_release.specs.declared.release.ReleaseAt.TheVariants as releasing
-use Rattle.rht_release.specs.Rebind as rebind
-use Rattle.rht_release.specs.declared.rebind.RebindAt.{RebindAt}
-use Rattle.rht_release.specs.declared.rebind.RebindAt.TheVariants as rebinding
-use Rattle.rht_release.specs.declared.rebind.RebindEnd.TheVariants as ends_at
+use Rattle.rht_model.specs.Endings.{Ending}
 use Rattle.rht_grace.specs.Batch.{BatchModel}
 use Rattle.rht_grace.specs.Tidy.{TidyModel}
 use Rattle.rht_callers.specs.declared.local.Local.{Local}
 use Rattle.rht_callers.specs.declared.local.Doing.{Doing}
-use Rattle.rht_callers.specs.declared.local.Doing.TheVariants.{Idle, Finding, Binding, Listing, Releasing, Rebinding, Working, Counting, Tidying}
-use Rattle.rht_callers.specs.Batches.{nodes_in, node_out, IsBatchIn, IsSoundBatch, CanPut, with_out, out_of, batch_room, batch_beside, batch_after}
-use Rattle.rht_callers.specs.Locals.{fresh, does_nothing, is_idle, begin_with, doing_after, local_after}
+use Rattle.rht_callers.specs.declared.local.Doing.TheVariants.{Tidying}
+use Rattle.rht_callers.specs.Batches.{nodes_in, IsBatchIn, IsSoundBatch, CanPut, with_out, out_of, batch_room, batch_after}
+use Rattle.rht_callers.specs.Locals.{fresh, is_idle, begin_with, doing_after, local_after}
 use Rattle.rht_callers.proofs.BatchesOfCallers.{idle-batch, begun-batch, batch_after-so, batch_after-out, IsSoundBatch-out}
 use Rattle.rht_core.specs.declared.event.Event.{Event}
 use Rattle.rht_core.specs.declared.event.Event.TheVariants.{Enroll, Begin, Step}
-use Rattle.rht_core.specs.Jobs.{Job, finds, binds, lists, releases, rebinds, works, tidies, counts, call_of, first_job, job_of, job_next, job_after, node_ending, told, held_of, held_next}
+use Rattle.rht_core.specs.Jobs.{Job, call_of, job_of, job_after, told, held_of, held_next}
 use Rattle.rht_core.specs.Laws.{IsDoingIn, IsInRange, InRange}
 use Rattle.rht_core.specs.Runs.{Core, World, core_step, with_step, world_step, run_of, opening, local_of, beginning_in, planned_in, IsAdmitted, IsAdmittedEvent}
 use Rattle.rht_core.proofs.Events.HandedOut.{out_in}
 use Rattle.rht_core.proofs.Events.Invariants.{Inv, kept, step_of, StepOf, others_outs}
 use Rattle.rht_core.proofs.Events.InvariantRuns.{opening_ghost, opening_inv, idle_at_opening}
-use Rattle.rht_core.proofs.Events.JobsOfCallers.{first_job-machine, first_unknown, first-so, first_rebind-so, same_call, left-job, nothing-job, is_no_job, doing_after-reply}
+use Rattle.rht_core.proofs.Events.JobsOfCallers.{first_job-machine, first_unknown, same_call, left-job, nothing-job, is_no_job, doing_after-reply}
 use Rattle.rht_core.proofs.Events.RangesInRuns.{AllIn, event-all, opens-all, plans-in, few-planning}
 use Rattle.rht_core.proofs.Events.SoundRuns.{has_place, made_in, IsSound-stays}
 use Rattle.rht_core.proofs.Events.SaidOfNodes.{outs_with, many_of, SaysTaken, AnsweredWith, left-says, ended_says, longer, first-says, outs-idle, untaken-idle}
@@ -138,9 +122,10 @@ module _ (env : Env) (mix : ℕ → ℕ → ℕ → ℕ) (L : Type 0) where
             begun-batch L (λ batch. outs env mix G c ≡ length (nodes_in batch) + outs_with (job_of machine)) env c call machine made local.batch
             (omega (arith, none, idle, here));
         answered =
-            subst AnsweredWith (sym first.does)
-            (subst (λ (answer : Option Answer). IfSome answer (IsReplied (call_of first.job))) (sym (first_unknown env call first.job first.first)) tt,
-            first-says env call first.job first.first);
+            subst AnsweredWith (sym first.does) (
+              subst (λ (answer : Option Answer). IfSome answer (IsReplied (call_of first.job))) (sym (first_unknown env call first.job first.first)) tt,
+              first-says env call first.job first.first,
+            );
       }
 
   -- ---- an operation

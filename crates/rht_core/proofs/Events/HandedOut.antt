@@ -6,7 +6,7 @@ use Rattle.rht_words.specs.declared.machine.Next.TheVariants.{Go, Done}
 use Rattle.rht_arena.specs.NewNode.{NewNodeModel, new_node_after}
 use Rattle.rht_callers.specs.Batches.{node_out, out_of}
 use Rattle.rht_callers.specs.declared.local.Doing.{Doing}
-use Rattle.rht_callers.specs.declared.local.Doing.TheVariants.{Idle, Finding, Binding, Listing, Releasing, Rebinding, Working, Counting, Tidying}
+use Rattle.rht_callers.specs.declared.local.Doing.TheVariants.{Releasing, Rebinding}
 use Rattle.rht_release.specs.Release.{IsReleaseAtIn}
 use Rattle.rht_release.specs.Release as release
 use Rattle.rht_release.specs.declared.release.ReleaseAt.{ReleaseAt}

@@ -61,7 +61,7 @@ use Rattle.rht_callers.specs.Batches.{IsBatchIn, AreNodesIn, out_of}
 use Rattle.rht_callers.proofs.BatchesOfCallers.{idle-batch, begun-batch, batch_after-so, batch_after-in, AreNodesIn-out}
 use Rattle.rht_core.proofs.Events.HandedOut.{out_in}
 use Rattle.rht_core.proofs.Events.JobsOfCallers.{first-so, plan-job}
-use Rattle.rht_core.proofs.Events.SoundRuns.{StaysIn, opens-in, stays-in, has_place, made_in, step-count, IsSound-stays}
+use Rattle.rht_core.proofs.Events.SoundRuns.{StaysIn, opens-in, stays-in, has_place, made_in, step-count}
 
 -- ---- at opening
 

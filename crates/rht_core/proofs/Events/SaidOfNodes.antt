@@ -1,23 +1,20 @@
 -- What a release or a rebind says of the node that it has taken out: its answer says that there is one exactly where it hands one out as it
 -- ends. No other call takes one out.
-use Rattle.std.specs.Prelude.{◌==◌, IfSome, option_map}
-use Rattle.std.proofs.Common.{◌≡◌, ◌≢◌, ◌⊎◌, ℕ, ◌+◌, ◌<◌, List, [], ◌∷◌, ◌++◌, length, length-append, Bool, true, false, arith, Option, Some, None, refl, sym, ap, ◌∙◌, subst, inl, inr}
+use Rattle.std.specs.Prelude.{◌==◌, IfSome}
+use Rattle.std.proofs.Common.{◌≡◌, ℕ, ◌+◌, [], ◌∷◌, ◌++◌, length, length-append, Bool, true, false, arith, Option, Some, None, refl, sym, ap, ◌∙◌, subst}
 use Rattle.rht_words.specs.declared.env.Env.{Env}
 use Rattle.rht_words.specs.declared.geometry.Geometry.{Geometry}
-use Rattle.rht_words.specs.Members.{In, NotIn}
-use Rattle.rht_words.specs.Operations.{old_of}
 use Rattle.rht_words.specs.declared.machine.Next.{Next}
 use Rattle.rht_words.specs.declared.machine.Next.TheVariants.{Go, Done}
 use Rattle.rht_words.specs.Links.{node_of}
 use Rattle.rht_words.specs.Ports.{owner_of}
-use Rattle.rht_words.proofs.Members.{not_in_from, one_if, count_below-none}
+use Rattle.rht_words.proofs.Members.{one_if}
 use Rattle.rht_arena.specs.NewNode.{NewNodeModel, new_node_after}
 use Rattle.rht_chain.specs.Relink.{RelinkModel, relink_after}
 use Rattle.rht_model.specs.declared.history.Call.{Call}
 use Rattle.rht_model.specs.declared.history.Call.TheVariants.{Release, Rebind}
 use Rattle.rht_model.specs.declared.history.Reply.{Reply}
 use Rattle.rht_model.specs.declared.history.Reply.TheVariants.{Released, Rebound, Absent, NoNode}
-use Rattle.rht_model.specs.Answers.{Answer}
 use Rattle.rht_model.specs.Endings.{Ending, plain_ending}
 use Rattle.rht_model.specs.Replies.{takes_out, IsReplyTo}
 use Rattle.rht_release.specs.declared.found_port.FoundPort.{FoundPort}
@@ -32,12 +29,12 @@ use Rattle.rht_release.specs.declared.rebind.RebindEnd.TheVariants as ends_at
 use Rattle.rht_grace.specs.Batch.{BatchModel}
 use Rattle.rht_callers.specs.declared.local.Doing.{Doing}
 use Rattle.rht_callers.specs.declared.local.Doing.TheVariants.{Idle, Finding, Binding, Listing, Releasing, Rebinding, Working, Counting, Tidying}
-use Rattle.rht_callers.specs.Batches.{nodes_in, node_out, IsBatchIn, IsSoundBatch, CanPut, with_out, out_of, batch_room, batch_beside, batch_after}
-use Rattle.rht_callers.specs.Locals.{fresh, does_nothing, is_idle, begin_with, doing_after, local_after}
-use Rattle.rht_core.specs.Jobs.{Job, finds, binds, lists, releases, rebinds, works, tidies, counts, call_of, first_job, job_of, job_next, job_after, node_ending, told, held_of, held_next}
-use Rattle.rht_core.proofs.Events.JobsOfCallers.{first_job-machine, first_unknown, first-so, first_rebind-so, same_call, left-job, nothing-job, is_no_job, doing_after-reply}
+use Rattle.rht_callers.specs.Batches.{nodes_in, node_out, IsBatchIn, with_out, out_of}
+use Rattle.rht_callers.specs.Locals.{fresh, does_nothing}
+use Rattle.rht_core.specs.Jobs.{Job, finds, binds, lists, releases, rebinds, works, tidies, counts, call_of, first_job, job_of, job_next, job_after, node_ending, told, held_of}
+use Rattle.rht_core.proofs.Events.JobsOfCallers.{first-so, first_rebind-so, same_call}
 use Rattle.rht_core.proofs.Events.TakenOut.{taken_with}
-use Rattle.rht_ghost.proofs.Theory.Answering.{outs_of, IsReplied, IsReplied-same, known_so}
+use Rattle.rht_ghost.proofs.Theory.Answering.{outs_of, IsReplied}
 
 -- how many nodes the call in progress has taken out, by what is known of its answer
 abbrev pub outs_with : Option Job → ℕ

@@ -1,6 +1,6 @@
 -- The node that a call has taken out of a port's list, by its state. Its caller knows that it has taken it out; and where the state has it only
 -- behind an operation, the caller hadn't taken it out before. It is the one that the call hands out as it ends.
-use Rattle.std.proofs.Common.{◌≡◌, ℕ, Bool, true, false, Option, Some, None, List, [], ◌∷◌, ◌⊎◌, refl, sym, ap, ◌∙◌, subst, inl, inr}
+use Rattle.std.proofs.Common.{◌≡◌, ℕ, Bool, true, false, Option, Some, None, List, ◌∷◌, ◌⊎◌, refl, sym, ap, ◌∙◌, subst, inl, inr}
 use Rattle.std.specs.Prelude.{if◌then◌else◌, ◌==◌, IfSome}
 use Rattle.rht_words.specs.declared.env.Env.{Env}
 use Rattle.rht_words.specs.declared.geometry.Geometry.{Geometry}
@@ -25,7 +25,7 @@ use Rattle.rht_grace.specs.Tidy as tidy
 use Rattle.rht_callers.specs.Batches.{node_out, out_of}
 use Rattle.rht_callers.specs.Locals.{doing_after, doing_next, without_node}
 use Rattle.rht_callers.specs.declared.local.Doing.{Doing}
-use Rattle.rht_callers.specs.declared.local.Doing.TheVariants.{Idle, Finding, Binding, Listing, Releasing, Rebinding, Working, Counting, Tidying}
+use Rattle.rht_callers.specs.declared.local.Doing.TheVariants.{Releasing, Rebinding}
 use Rattle.rht_release.specs.FoundPort.{relink_of}
 use Rattle.rht_release.specs.declared.found_port.FoundPort.{FoundPort}
 use Rattle.rht_release.specs.Seek.{SeekModel, seek_after}

@@ -12,7 +12,7 @@ use Rattle.rht_words.specs.Maps.{bit_of}
 use Rattle.rht_words.specs.Places.{Section, NodeMap, place_of}
 use Rattle.rht_model.specs.declared.history.Reply.{Reply}
 use Rattle.rht_model.specs.declared.history.Reply.TheVariants.{Clear, Pending}
-use Rattle.rht_core.specs.Tidied.{due_of, left_of}
+use Rattle.rht_grace.specs.TidyLaws.{due_of, left_of}
 
 -- a caller's nodes that were taken out: those that wait for nothing yet, those that wait for section words to
 -- change, and these words
