@@ -60,12 +60,12 @@ after_at-same g batch (tidy_at.Giving index) word = giving-same batch (index + 1
 
 -- and so does its beginning
 pub begun-same : (batch : BatchModel) → (begun batch).0.geometry ≡ batch.geometry
-begun-same batch = go (length batch.waiting == 0)
+begun-same batch = go (length batch.waiting == 0) (turned batch, tidy_at.Keeping 0) (batch, asked_at (first_odd batch.kept 0)) refl refl
   where
-    go : (none : Bool) → (if none then (turned batch, tidy_at.Keeping 0) else (batch, asked_at (first_odd batch.kept 0))).0.geometry
-        ≡ batch.geometry
-    go true = refl
-    go false = refl
+    go : (none : Bool) (one other : BatchModel × TidyAt) → one.0.geometry ≡ batch.geometry → other.0.geometry ≡ batch.geometry
+        → (if none then one else other).0.geometry ≡ batch.geometry
+    go true one other is same = is
+    go false one other is same = same
 
 -- it leaves a batch's nodes, and a sound one sound
 pub begun-sound : (batch : BatchModel) → IsSoundBatch (Some batch) → IsSoundBatch (Some (begun batch).0)
