@@ -1,6 +1,6 @@
 -- Jobs: what a caller does, said without its number, its table and the type of its mix. What is said of a caller by where
 -- its machine stands is said of its job, so that each machine is told apart from the others here and in few places else.
-use Rattle.std.specs.Prelude.{ℕ, Bool, Option, Some, None, []}
+use Rattle.std.specs.Prelude.{◌≡◌, ℕ, Bool, Option, Some, None, []}
 use Rattle.rht_words.specs.declared.op.Op.{Op}
 use Rattle.rht_words.specs.declared.env.Env.{Env}
 use Rattle.rht_words.specs.declared.machine.Next.{Next}
@@ -75,16 +75,21 @@ abbrev pub first_rebind : Env → ℕ → ℕ → ℕ → Kind → Option Job
 first_rebind env port owner new Single = Some (rebinds port owner new (rebind.first_state env port new))
 first_rebind env port owner new Listed = None
 
-abbrev pub first_job : Env → Call → Option Job
-first_job env (Find port) = Some (finds port Opening)
-first_job env (Bind port owner once) = Some (binds port owner once (bind.first_state env port owner))
-first_job env (All port) = Some (lists port (room_for_nodes env) alls.Opening)
-first_job env (Release port owner) = Some (releases port owner releasing.Opening)
-first_job env (Rebind port owner new) = first_rebind env port owner new env.config.kind
-first_job env (Walk from limit) = None
-first_job env Work = Some (works works_at.WorkLock)
-first_job env Tidy = None
-first_job env Count = Some counts
+-- it is that of a caller who has this batch
+abbrev pub first_job : Env → Option BatchModel → Call → Option Job
+first_job env batch (Find port) = Some (finds port Opening)
+first_job env batch (Bind port owner once) = Some (binds port owner once (bind.first_state env port owner))
+first_job env batch (All port) = Some (lists port (room_for_nodes env) alls.Opening)
+first_job env batch (Release port owner) = Some (releases port owner releasing.Opening)
+first_job env batch (Rebind port owner new) = first_rebind env port owner new env.config.kind
+first_job env batch (Walk from limit) = None
+first_job env batch Work = Some (works works_at.WorkLock)
+first_job env batch Tidy = None
+first_job env batch Count = Some counts
+
+-- so the call may begin, with some batch
+abbrev pub IsFirstJob : Env → Call → Job → Type 0
+IsFirstJob env call job = (batch : Option BatchModel) × (first_job env batch call ≡ Some job)
 
 -- the operation that this caller performs next for it
 abbrev pub job_plan : Env → ℕ → Job → Op

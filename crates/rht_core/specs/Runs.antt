@@ -62,7 +62,7 @@ module _ {M : Type 0} where
   -- what a caller does that is given this call; none where it isn't enrolled, is in a call, or has no machine for it
   abbrev pub beginning : Env → ℕ → List (Local M) → ℕ → Call → Option (Doing M)
   beginning env enrolled locals c call =
-      if nat_lt c enrolled && is_idle (local_in env locals c) then machine_of env c call else None
+      if nat_lt c enrolled && is_idle (local_in env locals c) then machine_of env c (local_in env locals c).batch call else None
 
   -- the callers after one of them has begun with what it does
   abbrev pub with_machine : Env → List (Local M) → ℕ → Option (Doing M) → List (Local M)

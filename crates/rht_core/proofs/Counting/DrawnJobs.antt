@@ -22,7 +22,7 @@ use Rattle.rht_bind.specs.declared.bind.BindAt.TheVariants as bind_at
 use Rattle.rht_move.specs.Work as work
 use Rattle.rht_move.specs.declared.work.WorkAt.{WorkAt}
 use Rattle.rht_move.specs.declared.work.WorkAt.TheVariants as work_at
-use Rattle.rht_core.specs.Jobs.{Job, binds, works, call_of, first_job, job_plan, job_next, job_after, told}
+use Rattle.rht_core.specs.Jobs.{Job, binds, works, call_of, job_plan, job_next, job_after, told, IsFirstJob}
 use Rattle.rht_ghost.proofs.Theory.Ghosts.{Ghost}
 use Rattle.rht_ghost.proofs.Theory.Reliance.{HoldingsStay}
 use Rattle.rht_ghost.proofs.Theory.Steps.{mem, by_test}
@@ -78,7 +78,7 @@ module _ (M : Memory) (has : Option ℕ) where
       → DrawnLeft (told (job_after mix env job old)).0
   other-of mix env job old none = others-make Any Makes Has mix env job old none
 
-  pub begins-drawn : (env : Env) (call : Call) (job : Job) → first_job env call ≡ Some job → DrawnJob job
+  pub begins-drawn : (env : Env) (call : Call) (job : Job) → IsFirstJob env call job → DrawnJob job
   begins-drawn env call job is = begins-making Any Makes Has env call job is
 
 -- the job makes a table

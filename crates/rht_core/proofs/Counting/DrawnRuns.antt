@@ -323,7 +323,7 @@ module _ (env : Env) (mix : ℕ → ℕ → ℕ → ℕ) where
           self =
               let can = beginning-some w.core.env w.core.enrolled w.core.locals c call machine is in
               let place = has_place L mix env w.core c has.all.stays can.below in
-              let first = first_job-machine env c call machine (made_in L mix env w.core c call machine has.all.stays can) in
+              let first = first_job-machine env c (local_of w.core c).batch call machine (made_in L mix env w.core c call machine has.all.stays can) in
               subst (λ (view : View L). DrawnLeft M (has.of_caller c) (job_of view.local.doing))
               (sym (begin_self L mix w c call machine is place))
               (subst (DrawnLeft M (has.of_caller c)) (sym first.does)

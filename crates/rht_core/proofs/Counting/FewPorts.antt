@@ -32,6 +32,7 @@ use Rattle.rht_model.specs.declared.history.Call.TheVariants.{Rebind}
 use Rattle.rht_core.specs.declared.event.Event.{Event}
 use Rattle.rht_core.specs.declared.event.Event.TheVariants.{Enroll, Begin, Step}
 use Rattle.rht_core.specs.FewPorts.{IsNoTableMade, IsCallTaken, StaysWithFirst, FewPorts}
+use Rattle.rht_grace.specs.Batch.{BatchModel}
 use Rattle.rht_core.specs.Jobs.{Job, binds, works, first_job, call_of, job_of, job_plan, job_next, job_after}
 use Rattle.rht_core.specs.Runs.{World, enrolling, local_of, planned_in, view_of, world_step, run_of, IsAdmitted, IsAdmittedEvent}
 use Rattle.rht_core.specs.Seen.{words_before}
@@ -40,7 +41,7 @@ use Rattle.rht_core.proofs.Machines.JobSteps.{JobIn}
 use Rattle.rht_core.proofs.Machines.NeverHeld.{may_make}
 use Rattle.rht_core.proofs.Events.Invariants.{step_of}
 use Rattle.rht_core.proofs.Events.InvariantRuns.{has_inv}
-use Rattle.rht_core.proofs.Events.JobsOfCallers.{first-so, first_rebind-so, each_goes, same_call}
+use Rattle.rht_core.proofs.Events.JobsOfCallers.{first_rebind-so, each_goes, same_call, first-of}
 use Rattle.rht_core.proofs.Events.Worlds.{induct_by_last, take-push, take-push_all, run_of-push, step_none, step_words}
 use Rattle.rht_core.proofs.Tracing.TracedJobs.{Performs, LeadsOn, IsKeeping, IsAtJob, jobs_keep_own}
 use Rattle.rht_core.proofs.Tracing.TracedRuns.{world-traced_of}
@@ -196,15 +197,15 @@ module _ (M : Type 0) (mix : ℕ → ℕ → ℕ → ℕ) (env : Env) (roomy : I
         each_goes (CalmJob env) (CalmEnd env (call_of job)) (call_of job) (job_after mix env job did.old) (same_call mix env job did.old)
         (λ other same. other-calm other (ap may_make same)) (λ ending. tt)
 
-    first-calm : (call : Call) → IfSome (first_job env call) (CalmJob env)
-    first-calm (Rebind port owner new) = first_rebind-so (CalmJob env) env port owner new tt
-    first-calm _ = tt
+    first-calm : (call : Call) (batch : Option BatchModel) → IfSome (first_job env batch call) (CalmJob env)
+    first-calm (Rebind port owner new) batch = first_rebind-so (CalmJob env) env port owner new tt
+    first-calm _ batch = tt
 
     calls-calm : IsAdmitted env.config.kind events
         → let r : Traced M = traced_of mix env events in IsKeeping M mix env Now Ended (view_of r.world c) (r.traces c)
     calls-calm admitted =
         jobs_keep_own M mix env Now Ended events c record {
-          begins = λ call job is. (first_job-saw M mix env events c call job is, first-so (CalmJob env) (first_job env call) job (first-calm call) is);
+          begins = λ call job is. (first_job-saw M mix env events c call job is, first-of (CalmJob env) env call job (first-calm call) is);
           goes = λ job steps did performs own now kept.
               both-lead job (steps ++ did ∷ []) (job_after mix env job did.old)
               (job-leads M mix env events c job steps did performs own now kept.0) (job-calm job steps did performs now.now kept);

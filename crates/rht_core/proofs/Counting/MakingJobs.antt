@@ -1,7 +1,7 @@
 -- Of a job what it makes is of interest, as of a bind and of a resizing; of any other job there is nothing to say, before an operation or
 -- behind it.
 use Rattle.std.proofs.Common.{◌≡◌, ℕ, false, ap, ◌∙◌}
-use Rattle.std.specs.Prelude.{Option, Some, IfSome}
+use Rattle.std.specs.Prelude.{Option, IfSome}
 use Rattle.rht_words.specs.declared.env.Env.{Env}
 use Rattle.rht_words.specs.declared.machine.Next.{Next}
 use Rattle.rht_words.specs.declared.machine.Next.TheVariants.{Go, Done}
@@ -9,9 +9,10 @@ use Rattle.rht_model.specs.declared.history.Call.{Call}
 use Rattle.rht_model.specs.declared.history.Call.TheVariants.{Rebind}
 use Rattle.rht_model.specs.Endings.{Ending}
 use Rattle.rht_nest.specs.Make.{MakeModel}
-use Rattle.rht_core.specs.Jobs.{Job, finds, binds, lists, releases, rebinds, works, tidies, counts, call_of, first_job, job_next, job_after, told}
+use Rattle.rht_grace.specs.Batch.{BatchModel}
+use Rattle.rht_core.specs.Jobs.{Job, finds, binds, lists, releases, rebinds, works, tidies, counts, call_of, first_job, job_next, job_after, told, IsFirstJob}
 use Rattle.rht_core.proofs.Machines.NeverHeld.{may_make}
-use Rattle.rht_core.proofs.Events.JobsOfCallers.{first-so, first_rebind-so, same_call}
+use Rattle.rht_core.proofs.Events.JobsOfCallers.{first_rebind-so, same_call, first-of}
 use Rattle.rht_core.proofs.Counting.MakingWorks.{WorkMakes}
 use Rattle.rht_core.proofs.Counting.MakingBinds.{BindMakes}
 
@@ -52,9 +53,9 @@ module _ (Full : ℕ → Type 0) (Makes : MakeModel → Type 0) (Has : ℕ → �
 
   -- ---- the first job of a call
 
-  first-makes : (env : Env) (call : Call) → IfSome (first_job env call) JobMakes
-  first-makes env (Rebind port owner new) = first_rebind-so JobMakes env port owner new tt
-  first-makes env _ = tt
+  first-makes : (env : Env) (call : Call) (batch : Option BatchModel) → IfSome (first_job env batch call) JobMakes
+  first-makes env (Rebind port owner new) batch = first_rebind-so JobMakes env port owner new tt
+  first-makes env _ batch = tt
 
-  pub begins-making : (env : Env) (call : Call) (job : Job) → first_job env call ≡ Some job → JobMakes job
-  begins-making env call job is = first-so JobMakes (first_job env call) job (first-makes env call) is
+  pub begins-making : (env : Env) (call : Call) (job : Job) → IsFirstJob env call job → JobMakes job
+  begins-making env call job is = first-of JobMakes env call job (first-makes env call) is

@@ -26,7 +26,7 @@ use Rattle.rht_model.specs.declared.history.Reply.TheVariants.{NoNode}
 use Rattle.rht_model.specs.Answers.{Answer}
 use Rattle.rht_model.specs.Endings.{Ending}
 use Rattle.rht_arena.specs.Laws.{map_bit}
-use Rattle.rht_core.specs.Jobs.{Job, call_of, first_job, job_after, held_of, held_next}
+use Rattle.rht_core.specs.Jobs.{Job, call_of, job_after, held_of, held_next, IsFirstJob}
 use Rattle.rht_core.specs.declared.event.Event.{Event}
 use Rattle.rht_core.specs.Runs.{IsAdmitted, view_of}
 use Rattle.rht_core.specs.Traces.{Did, Traced, traced_of}
@@ -388,7 +388,7 @@ module _ (mix : ℕ → ℕ → ℕ → ℕ) (env : Env) where
       ends_taken (call_of job) kept.node ending.answer.reply all kept.told kept.taken
 
   -- at its beginning a call holds nothing
-  begins_taken : (call : Call) (job : Job) → first_job env call ≡ Some job → JobTakes job []
+  begins_taken : (call : Call) (job : Job) → IsFirstJob env call job → JobTakes job []
   begins_taken call job is = record {
     node = None;
     taken = tt;

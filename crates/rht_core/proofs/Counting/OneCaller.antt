@@ -45,6 +45,7 @@ use Rattle.rht_core.specs.declared.book.Book.{Book}
 use Rattle.rht_core.specs.declared.event.Event.{Event}
 use Rattle.rht_callers.specs.declared.local.Local.{Local}
 use Rattle.rht_core.specs.FewPorts.{IsBindTaken, OneCaller}
+use Rattle.rht_grace.specs.Batch.{BatchModel}
 use Rattle.rht_core.specs.Jobs.{Job, binds, works, first_job, call_of, job_of, job_plan, job_after, told, held_of, held_next}
 use Rattle.rht_core.specs.Laws.{view_stepped}
 use Rattle.rht_callers.specs.Locals.{local_after, ending_of}
@@ -65,7 +66,7 @@ use Rattle.rht_core.proofs.Events.BooksInRuns.{BookSays, has_books}
 use Rattle.rht_core.proofs.Events.Invariants.{Inv, StepOf, step_of, kept}
 use Rattle.rht_core.proofs.Events.InvariantRuns.{opening_ghost, opening_inv, idle_at_opening}
 use Rattle.rht_core.proofs.Events.KeptAtEvents.{views_kept, ghosts_kept}
-use Rattle.rht_core.proofs.Events.JobsOfCallers.{first-so, first_rebind-so, each_goes, same_call, left-job, doing_after-reply}
+use Rattle.rht_core.proofs.Events.JobsOfCallers.{first_rebind-so, each_goes, same_call, left-job, doing_after-reply, first-of}
 use Rattle.rht_core.proofs.Events.RangesInRuns.{AllIn, opens-all, event-all}
 use Rattle.rht_core.proofs.Events.Worlds.{induct_by_last, run_of-push}
 use Rattle.rht_core.proofs.Tracing.TracedJobs.{Performs, IsAtJob, jobs_keep_own}
@@ -118,9 +119,9 @@ module _ (env : Env) where
     other-one (works state) other = absurd (cc)
     other-one _ other = tt
 
-    first-one : (call : Call) → IfSome (first_job env call) OneJob
-    first-one (Rebind port owner new) = first_rebind-so OneJob env port owner new tt
-    first-one _ = tt
+    first-one : (call : Call) (batch : Option BatchModel) → IfSome (first_job env batch call) OneJob
+    first-one (Rebind port owner new) batch = first_rebind-so OneJob env port owner new tt
+    first-one _ batch = tt
 
     module _ (first : 16 ≤ first_size env.config) (mix : ℕ → ℕ → ℕ → ℕ) (words_at : ℕ → List ℕ)
         (few : (i : ℕ) → HasFew env (words_at i)) (did : Did) where
@@ -348,7 +349,7 @@ module _ (L : Type 0) (mix : ℕ → ℕ → ℕ → ℕ) (env : Env) (keeps : e
           ones = views_kept L mix env w ViewOne has.all.stays has.ones
               (λ c call machine first. (
                 subst (λ (j : Option Job). IfSome j (OneJob env keeps)) (sym first.does)
-                    (first-so (OneJob env keeps) (first_job env call) first.job (first-one env keeps call) first.first),
+                    (first-of (OneJob env keeps) env call first.job (first-one env keeps call) first.first),
                 (has.ones c).1,
               ))
               step-one event;

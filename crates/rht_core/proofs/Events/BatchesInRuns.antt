@@ -105,11 +105,11 @@ module _ (env : Env) (mix : ℕ → ℕ → ℕ → ℕ) (L : Type 0) where
       let local = local_of core c in
       let can = beginning-some core.env core.enrolled core.locals c call machine is in
       let made = made_in L mix env core c call machine all.stays can in
-      let first = first_job-machine env c call machine made in
+      let first = first_job-machine env c local.batch call machine made in
       record {
-        out = begun-batch L (λ batch. (n : ℕ) → In n (nodes_in batch) → G.node n ≡ Taken c) env c call machine made local.batch
+        out = begun-batch L (λ batch. (n : ℕ) → In n (nodes_in batch) → G.node n ≡ Taken c) env c local.batch call machine made
             (idle-batch L (λ batch. (n : ℕ) → In n (nodes_in batch) → G.node n ≡ Taken c) local can.idle right.out);
-        sound = begun-batch L IsSoundBatch env c call machine made local.batch
+        sound = begun-batch L IsSoundBatch env c local.batch call machine made
             (idle-batch L IsSoundBatch local can.idle right.sound);
         apart = λ n taken.
             let none : taken_with (job_of machine) ≡ None =
@@ -119,7 +119,7 @@ module _ (env : Env) (mix : ℕ → ℕ → ℕ → ℕ) (L : Type 0) where
             let none : outs_with (job_of machine) ≡ 0 = ap outs_with first.does ∙ ap outs_of (first_unknown env call first.job first.first) in
             let idle : outs_with (job_of local.doing) ≡ 0 = outs-idle local.doing can.idle in
             let here = idle-batch L (λ batch. outs env mix G c ≡ length (nodes_in batch) + outs_with (job_of local.doing)) local can.idle right.many in
-            begun-batch L (λ batch. outs env mix G c ≡ length (nodes_in batch) + outs_with (job_of machine)) env c call machine made local.batch
+            begun-batch L (λ batch. outs env mix G c ≡ length (nodes_in batch) + outs_with (job_of machine)) env c local.batch call machine made
             (omega (arith, none, idle, here));
         answered =
             subst AnsweredWith (sym first.does) (

@@ -70,10 +70,10 @@ module _ (env : Env) (mix : ℕ → ℕ → ℕ → ℕ) (L : Type 0) where
       go (Some job) none says = absurd (cc)
 
   begun-says : (c : ℕ) (call : Call) (machine : Doing L) (view : View L) (many : ℕ)
-      → machine_of env c call ≡ Some machine
+      → machine_of env c view.local.batch call ≡ Some machine
       → is_idle view.local ≡ true → ViewSays view many → ViewSays (view_begun call machine view) many
   begun-says c call machine view many is idle says =
-      let first = first_job-machine env c call machine is in
+      let first = first_job-machine env c view.local.batch call machine is in
       let so_far = idle-says view many idle says in
       let none : outs_of (held_of first.job).answer ≡ 0 = ap outs_of
       (first_unknown env call first.job first.first) in

@@ -13,6 +13,7 @@ use Rattle.rht_release.specs.All.{all_after}
 use Rattle.rht_release.specs.Release.{release_after}
 use Rattle.rht_release.specs.Rebind.{rebind_after}
 use Rattle.rht_move.specs.Work.{work_after}
+use Rattle.rht_grace.specs.Batch.{BatchModel}
 use Rattle.rht_callers.specs.PortCounts.{count_after}
 use Rattle.rht_callers.specs.declared.local.Local.{Local}
 use Rattle.rht_callers.specs.declared.local.Doing.{Doing}
@@ -31,10 +32,10 @@ module _ (M : Type 0) where
   busy_plans local busy none = doing_plans local.doing busy none
 
   -- who begins is in a call
-  pub begun_busy : (env : Env) (c : ℕ) (call : Call) (machine : Doing M) → machine_of env c call ≡ Some machine
+  pub begun_busy : (env : Env) (c : ℕ) (batch : Option BatchModel) (call : Call) (machine : Doing M) → machine_of env c batch call ≡ Some machine
       → does_nothing machine ≡ false
-  begun_busy env c =
-      begins_so M env c (λ call machine. does_nothing machine ≡ false) (λ port. refl) (λ port owner once. refl)
+  begun_busy env c batch =
+      begins_so M env c batch (λ call machine. does_nothing machine ≡ false) (λ port. refl) (λ port owner once. refl)
       (λ port. refl) (λ port owner. refl) (λ port owner new single. refl) refl refl
 
   -- it goes on without a reply, or has one and is idle

@@ -18,6 +18,7 @@ use Rattle.rht_model.specs.Endings.{Ending}
 use Rattle.rht_core.specs.declared.event.Event.{Event}
 use Rattle.rht_core.specs.declared.event.Event.TheVariants.{Enroll, Begin}
 use Rattle.rht_core.specs.declared.event.Event.TheVariants as events
+use Rattle.rht_grace.specs.Batch.{BatchModel}
 use Rattle.rht_callers.specs.declared.local.Doing.{Doing}
 use Rattle.rht_callers.specs.Locals.{fresh, does_nothing, machine_of, begin_with, local_after}
 use Rattle.rht_core.specs.Runs.{Core, local_of, beginning_in, planned_in, enrolling, core_step}
@@ -66,10 +67,10 @@ module _ (env : Env) (mix : ℕ → ℕ → ℕ → ℕ) where
       pub each : (c : ℕ) → Knows c (job_of (local_of core c).doing) (mem env mix core.words) G
 
     -- a caller that is given a call knows what the first state of its machine says
-    begun_knows : (c : ℕ) (call : Call) (machine : Doing L) (M : Memory) (G : Ghost)
-        → machine_of env c call ≡ Some machine → KnowsNothing env mix c M G → Knows c (job_of machine) M G
-    begun_knows c call machine M G is knows =
-        begins_so L env c (λ asked first. Knows c (job_of first) M G)
+    begun_knows : (c : ℕ) (batch : Option BatchModel) (call : Call) (machine : Doing L) (M : Memory) (G : Ghost)
+        → machine_of env c batch call ≡ Some machine → KnowsNothing env mix c M G → Knows c (job_of machine) M G
+    begun_knows c batch call machine M G is knows =
+        begins_so L env c batch (λ asked first. Knows c (job_of first) M G)
         (λ port. record { built = tt; knowing = record { only = knows.only; means = knows.means }; fits = tt })
         (λ port owner once. record { built = tt; knowing = record { only = knows.only; means = knows.means }; fits = (refl, refl) })
         (λ port. record { built = tt; knowing = record { only = knows.only; means = knows.means }; fits = refl })
@@ -188,7 +189,7 @@ module _ (env : Env) (mix : ℕ → ℕ → ℕ → ℕ) where
         let place = has_place L mix env core c sound.stays can.below in
         let M = mem env mix core.words in
         let nothing = idle_knows c (local_of core c).doing M G can.idle (inv.each c) in
-        let knows = begun_knows c call machine M G (made_in L mix env core c call machine sound.stays
+        let knows = begun_knows c (local_of core c).batch call machine M G (made_in L mix env core c call machine sound.stays
         can) nothing in
         record {
           ghost = G;

@@ -31,7 +31,7 @@ use Rattle.rht_callers.specs.declared.local.Doing.{Doing}
 use Rattle.rht_callers.specs.declared.local.Doing.TheVariants.{Idle, Finding, Binding, Releasing, Rebinding, Listing, Working, Counting, Tidying}
 use Rattle.rht_callers.specs.Locals.{fresh, does_nothing, machine_of, doing_plan, doing_after, owners_after, room_given, local_after, ending_of, doing_next, without_node, IsDoingOf, IsLocalOf}
 use Rattle.rht_core.specs.Laws.{IsDoingIn}
-use Rattle.rht_core.specs.Jobs.{listing_ending, node_ending, Job, finds, binds, releases, rebinds, lists, works, tidies, tidying, tidied, counts, call_of, first_job, first_rebind, job_plan, job_after, job_next, job_of, told, held_of}
+use Rattle.rht_core.specs.Jobs.{listing_ending, node_ending, Job, finds, binds, releases, rebinds, lists, works, tidies, tidying, tidied, counts, call_of, first_job, first_rebind, job_plan, job_after, job_next, job_of, told, held_of, IsFirstJob}
 use Rattle.rht_words.specs.declared.config.Kind.{Kind}
 use Rattle.rht_words.specs.declared.config.Kind.TheVariants.{Single, Listed}
 use Rattle.rht_release.specs.Release as release
@@ -104,6 +104,11 @@ pub first-so : (Now : Job → Type 0) (first : Option Job) (job : Job) → IfSom
 first-so Now None job kept is = absurd (cc)
 first-so Now (Some first) job kept is = let same : first ≡ job = cc in subst Now same kept
 
+-- what is so of it whatever batch its caller has
+pub first-of : (Now : Job → Type 0) (env : Env) (call : Call) (job : Job) → ((batch : Option BatchModel) → IfSome (first_job env batch call) Now)
+    → IsFirstJob env call job → Now job
+first-of Now env call job each (batch, is) = first-so Now (first_job env batch call) job (each batch) is
+
 -- a rebind begins where the table has one owner for each port
 pub first_rebind-so : (Now : Job → Type 0) (env : Env) (port owner new : ℕ)
     → Now (rebinds port owner new (rebind.first_state env port new)) → IfSome (first_rebind env port owner new env.config.kind) Now
@@ -117,24 +122,24 @@ first_rebind-so Now env port owner new so = go env.config.kind
 abbrev HoldsNothing : Job → Type 0
 HoldsNothing job = held_of job ≡ held.holds_nothing
 
-first_job-holds : (env : Env) (call : Call) → IfSome (first_job env call) HoldsNothing
-first_job-holds env (Rebind port owner new) = first_rebind-so HoldsNothing env port owner new refl
-first_job-holds env (Walk from limit) = tt
-first_job-holds env Tidy = tt
-first_job-holds env _ = refl
+first_job-holds : (env : Env) (call : Call) (batch : Option BatchModel) → IfSome (first_job env batch call) HoldsNothing
+first_job-holds env (Rebind port owner new) batch = first_rebind-so HoldsNothing env port owner new refl
+first_job-holds env (Walk from limit) batch = tt
+first_job-holds env Tidy batch = tt
+first_job-holds env _ batch = refl
 
-pub first_holds : (env : Env) (call : Call) (job : Job) → first_job env call ≡ Some job
+pub first_holds : (env : Env) (call : Call) (job : Job) → IsFirstJob env call job
     → held_of job ≡ held.holds_nothing
-first_holds env call job is = first-so HoldsNothing (first_job env call) job (first_job-holds env call) is
+first_holds env call job is = first-of HoldsNothing env call job (first_job-holds env call) is
 
 -- so nothing is known of its answer, now or early, and it has no node
-pub first_unknown : (env : Env) (call : Call) (job : Job) → first_job env call ≡ Some job → (held_of job).answer ≡ None
+pub first_unknown : (env : Env) (call : Call) (job : Job) → IsFirstJob env call job → (held_of job).answer ≡ None
 first_unknown env call job is = ap (λ (h : held.Held Answer). h.answer) (first_holds env call job is)
 
-pub first_not_early : (env : Env) (call : Call) (job : Job) → first_job env call ≡ Some job → (held_of job).early ≡ None
+pub first_not_early : (env : Env) (call : Call) (job : Job) → IsFirstJob env call job → (held_of job).early ≡ None
 first_not_early env call job is = ap (λ (h : held.Held Answer). h.early) (first_holds env call job is)
 
-pub first_without : (env : Env) (call : Call) (job : Job) → first_job env call ≡ Some job → (held_of job).node ≡ None
+pub first_without : (env : Env) (call : Call) (job : Job) → IsFirstJob env call job → (held_of job).node ≡ None
 first_without env call job is = ap (λ (h : held.Held Answer). h.node) (first_holds env call job is)
 
 module _ {M : Type 0} where
@@ -148,25 +153,26 @@ module _ {M : Type 0} where
   -- the job with which a call begins is that of its machine, and does the call
   pub record IsFirst (env : Env) (call : Call) (doing : Doing M) : Type 0 where
     pub job : Job
-    pub first : first_job env call ≡ Some job
+    pub first : IsFirstJob env call job
     pub does : job_of doing ≡ Some job
     pub asked : call_of job ≡ call
 
-  pub first_job-machine : (env : Env) (c : ℕ) (call : Call) (doing : Doing M) → machine_of env c call ≡ Some doing
+  pub first_job-machine : (env : Env) (c : ℕ) (batch : Option BatchModel) (call : Call) (doing : Doing M)
+      → machine_of env c batch call ≡ Some doing
       → IsFirst env call doing
-  first_job-machine env c =
-      begins_so M env c (IsFirst env) (λ port. record { job = _; first = refl; does = refl; asked = refl })
-      (λ port owner once. record { job = _; first = refl; does = refl; asked = refl })
-      (λ port. record { job = _; first = refl; does = refl; asked = refl })
-      (λ port owner. record { job = _; first = refl; does = refl; asked = refl })
+  first_job-machine env c batch =
+      begins_so M env c batch (IsFirst env) (λ port. record { job = _; first = (batch, refl); does = refl; asked = refl })
+      (λ port owner once. record { job = _; first = (batch, refl); does = refl; asked = refl })
+      (λ port. record { job = _; first = (batch, refl); does = refl; asked = refl })
+      (λ port owner. record { job = _; first = (batch, refl); does = refl; asked = refl })
       (λ port owner new single. record {
         job = _;
-        first = ap (first_rebind env port owner new) single;
+        first = (batch, ap (first_rebind env port owner new) single);
         does = refl;
         asked = refl;
       })
-      (record { job = _; first = refl; does = refl; asked = refl })
-      (record { job = _; first = refl; does = refl; asked = refl })
+      (record { job = _; first = (batch, refl); does = refl; asked = refl })
+      (record { job = _; first = (batch, refl); does = refl; asked = refl })
 
   -- ---- an operation
 

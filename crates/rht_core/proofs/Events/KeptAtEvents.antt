@@ -10,7 +10,7 @@ use Rattle.rht_callers.specs.declared.local.Doing.{Doing}
 use Rattle.rht_core.specs.declared.event.Event.{Event}
 use Rattle.rht_core.specs.declared.event.Event.TheVariants.{Enroll, Begin, Step}
 use Rattle.rht_core.specs.Laws.{view_begun, view_stepped}
-use Rattle.rht_core.specs.Runs.{World, View, planned_in, beginning_in, view_of, world_step}
+use Rattle.rht_core.specs.Runs.{World, View, local_of, planned_in, beginning_in, view_of, world_step}
 use Rattle.rht_ghost.proofs.Theory.Ghosts.{Ghost}
 use Rattle.rht_ghost.proofs.Theory.Steps.{ghost_after}
 use Rattle.rht_core.proofs.Events.Worlds.{beginning-some, planned-some, begin_none, begin_self, begin_other, step_none, step_self, step_other}
@@ -32,7 +32,7 @@ module _ (L : Type 0) (mix : ℕ → ℕ → ℕ → ℕ) (env : Env) (w : World
       begun c call (Some machine) is =
           let can = beginning-some w.core.env w.core.enrolled w.core.locals c call machine is in
           subst So (sym (begin_self L mix w c call machine is (has_place L mix env w.core c stays can.below)))
-          (begins c call machine (first_job-machine env c call machine (made_in L mix env w.core c call machine stays can)))
+          (begins c call machine (first_job-machine env c (local_of w.core c).batch call machine (made_in L mix env w.core c call machine stays can)))
 
       stepped : (c : ℕ) (plan : Option Op) → planned_in w.core c ≡ plan → So (view_of (world_step mix w (Step c)) c)
       stepped c None is = subst (λ (v : World L). So (view_of v c)) (sym (step_none L mix w c is)) (was c)

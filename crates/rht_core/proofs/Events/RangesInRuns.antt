@@ -44,6 +44,7 @@ use Rattle.rht_move.proofs.WorkStays.{work_stays}
 use Rattle.rht_move.proofs.WorkPlanned.{planned_work}
 use Rattle.rht_core.specs.declared.event.Event.{Event}
 use Rattle.rht_core.specs.declared.event.Event.TheVariants.{Enroll, Begin, Step}
+use Rattle.rht_grace.specs.Batch.{BatchModel}
 use Rattle.rht_callers.specs.PortCounts.{count_plan_in}
 use Rattle.rht_callers.specs.declared.local.Local.{Local}
 use Rattle.rht_callers.specs.declared.local.Doing.{Doing}
@@ -106,10 +107,11 @@ planned_job env mix c counts few within = planned_count env
 
 module _ (M : Type 0) where
   -- a caller that begins an admitted call begins in range
-  begins-in : (env : Env) (c : ℕ) (call : Call) (machine : Doing M) → machine_of env c call ≡ Some machine
+  begins-in : (env : Env) (c : ℕ) (batch : Option BatchModel) (call : Call) (machine : Doing M)
+      → machine_of env c batch call ≡ Some machine
       → IsAdmittedCall call → IsDoingIn env c machine
-  begins-in env c =
-      begins_so M env c (λ call machine. IsAdmittedCall call → IsDoingIn env c machine)
+  begins-in env c batch =
+      begins_so M env c batch (λ call machine. IsAdmittedCall call → IsDoingIn env c machine)
       (λ port admitted. record { same_env = refl; same_caller = refl; port_in = admitted; at_in = tt })
       (λ port owner once admitted. record {
         same_env = refl;
@@ -292,16 +294,16 @@ module _ (M : Type 0) (mix : ℕ → ℕ → ℕ → ℕ) (env : Env) where
       each_set (IsLocalIn env) (fresh core.env) core.locals c (begin_with (local_of core c) machine)
       (has_place M mix env core c all.stays can.below)
       record {
-        doing = begins-in M env c call machine made admitted;
+        doing = begins-in M env c (local_of core c).batch call machine made admitted;
         owners =
-            begun-limit M env c call machine made (local_of core c).owners
+            begun-limit M env c (local_of core c).batch call machine made (local_of core c).owners
             (idle-limit M (local_of core c) env.geometry.nodes can.idle here.owners);
         pairs = here.pairs;
         batch =
-            begun-batch M (IsBatchIn env) env c call machine made (local_of core c).batch
+            begun-batch M (IsBatchIn env) env c (local_of core c).batch call machine made
             (idle-batch M (IsBatchIn env) (local_of core c) can.idle here.batch);
         among =
-            begun-batch M (AreNodesIn env.geometry.nodes) env c call machine made (local_of core c).batch
+            begun-batch M (AreNodesIn env.geometry.nodes) env c (local_of core c).batch call machine made
             (idle-batch M (AreNodesIn env.geometry.nodes) (local_of core c) can.idle here.among);
       }
       all.locals k

@@ -31,8 +31,8 @@ use Rattle.rht_callers.specs.declared.local.Doing.{Doing}
 use Rattle.rht_callers.specs.declared.local.Doing.TheVariants.{Idle, Finding, Binding, Listing, Releasing, Rebinding, Working, Counting, Tidying}
 use Rattle.rht_callers.specs.Batches.{nodes_in, node_out, IsBatchIn, with_out, out_of}
 use Rattle.rht_callers.specs.Locals.{fresh, does_nothing}
-use Rattle.rht_core.specs.Jobs.{Job, finds, binds, lists, releases, rebinds, works, tidies, counts, call_of, first_job, job_of, job_next, job_after, node_ending, told, held_of}
-use Rattle.rht_core.proofs.Events.JobsOfCallers.{first-so, first_rebind-so, same_call}
+use Rattle.rht_core.specs.Jobs.{Job, finds, binds, lists, releases, rebinds, works, tidies, counts, call_of, first_job, job_of, job_next, job_after, node_ending, told, held_of, IsFirstJob}
+use Rattle.rht_core.proofs.Events.JobsOfCallers.{first_rebind-so, same_call, first-of}
 use Rattle.rht_core.proofs.Events.TakenOut.{taken_with}
 use Rattle.rht_ghost.proofs.Theory.Answering.{outs_of, IsReplied}
 
@@ -244,12 +244,12 @@ longer env (Some batch) (Some node) is =
     omega (arith, whole, fresh, both)
 
 -- a call says nothing of a node at its beginning
-first_says : (env : Env) (call : Call) → IfSome (first_job env call) SaysTaken
-first_says env (Rebind port owner new) = first_rebind-so SaysTaken env port owner new tt
-first_says env _ = tt
+first_says : (env : Env) (call : Call) (batch : Option BatchModel) → IfSome (first_job env batch call) SaysTaken
+first_says env (Rebind port owner new) batch = first_rebind-so SaysTaken env port owner new tt
+first_says env _ batch = tt
 
-pub first-says : (env : Env) (call : Call) (job : Job) → first_job env call ≡ Some job → SaysTaken job
-first-says env call job is = first-so SaysTaken (first_job env call) job (first_says env call) is
+pub first-says : (env : Env) (call : Call) (job : Job) → IsFirstJob env call job → SaysTaken job
+first-says env call job is = first-of SaysTaken env call job (first_says env call) is
 
 pub outs-idle : {L : Type 0} (doing : Doing L) → does_nothing doing ≡ true → outs_with (job_of doing) ≡ 0
 outs-idle Idle idle = refl

@@ -245,7 +245,7 @@ module _ (env : Env) (mix : ℕ → ℕ → ℕ → ℕ) where
     begin_right core c call (Some machine) has is right =
         let can = beginning-some core.env core.enrolled core.locals c call machine is in
         let place = has_place L mix env core c has.all.stays can.below in
-        let first = first_job-machine env c call machine (made_in L mix env core c call machine has.all.stays can) in
+        let first = first_job-machine env c (local_of core c).batch call machine (made_in L mix env core c call machine has.all.stays can) in
         let begun : in_section (job_of machine) ≡ false =
         ap in_section first.does ∙ ap (λ (h : Holding). h.section) (first_holds env call first.job first.first) in
         let idle = idle_outside (local_of core c).doing can.idle in

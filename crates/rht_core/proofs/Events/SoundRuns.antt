@@ -44,10 +44,10 @@ use Rattle.rht_core.proofs.Events.Worlds.{CanBegin, beginning-some, planned-some
 
 module _ (M : Type 0) where
   -- who begins does it in the table of the environment
-  begins-of : (env : Env) (c : ℕ) (call : Call) (machine : Doing M) → machine_of env c call ≡ Some machine
+  begins-of : (env : Env) (c : ℕ) (batch : Option BatchModel) (call : Call) (machine : Doing M) → machine_of env c batch call ≡ Some machine
       → IsDoingOf env machine
-  begins-of env c =
-      begins_so M env c (λ call machine. IsDoingOf env machine) (λ port. refl) (λ port owner once. refl)
+  begins-of env c batch =
+      begins_so M env c batch (λ call machine. IsDoingOf env machine) (λ port. refl) (λ port owner once. refl)
       (λ port. refl) (λ port owner. refl) (λ port owner new single. refl) refl refl
 
   -- a tidying stays in its table
@@ -143,9 +143,9 @@ module _ (M : Type 0) (mix : ℕ → ℕ → ℕ → ℕ) (env : Env) where
 
   -- who begins does what the run's environment says
   pub made_in : (core : Core M) (c : ℕ) (call : Call) (machine : Doing M) → StaysIn core
-      → CanBegin core.env core.enrolled core.locals c call machine → machine_of env c call ≡ Some machine
+      → CanBegin core.env core.enrolled core.locals c call machine → machine_of env c (local_of core c).batch call ≡ Some machine
   made_in core c call machine stays can =
-      subst (λ (e : Env). machine_of e c call ≡ Some machine) stays.same_env can.machine_is
+      subst (λ (e : Env). machine_of e c (local_of core c).batch call ≡ Some machine) stays.same_env can.machine_is
 
   begin-in : (core : Core M) (c : ℕ) (call : Call) (machine : Option (Doing M))
       → beginning_in core c call ≡ machine → StaysIn core
@@ -155,12 +155,12 @@ module _ (M : Type 0) (mix : ℕ → ℕ → ℕ → ℕ) (env : Env) where
       let can = beginning-some core.env core.enrolled core.locals c call machine is in
       let made = made_in core c call machine stays can in
       set-in core c (begin_with (local_of core c) machine) stays can.below (record {
-        doing = begins-of M env c call machine made;
+        doing = begins-of M env c (local_of core c).batch call machine made;
         owners =
-            begun-limit M env c call machine made (local_of core c).owners
+            begun-limit M env c (local_of core c).batch call machine made (local_of core c).owners
             (idle-limit M (local_of core c) env.geometry.nodes can.idle (stays.locals_of c).owners);
         batch =
-            begun-batch M (IsBatchIn env) env c call machine made (local_of core c).batch
+            begun-batch M (IsBatchIn env) env c (local_of core c).batch call machine made
             (idle-batch M (IsBatchIn env) (local_of core c) can.idle (stays.locals_of c).batch);
       })
 

@@ -37,7 +37,8 @@ use Rattle.rht_release.specs.declared.rebind.RebindAt.{RebindAt}
 use Rattle.rht_release.specs.declared.rebind.RebindAt.TheVariants as rebinding
 use Rattle.rht_release.specs.declared.rebind.RebindEnd.{RebindEnd}
 use Rattle.rht_release.specs.declared.rebind.RebindEnd.TheVariants as ends
-use Rattle.rht_core.specs.Jobs.{Job, finds, binds, lists, releases, rebinds, works, tidies, counts, first_job, job_next, job_after, job_of, listing_ending, node_ending, told, tidying, tidied}
+use Rattle.rht_grace.specs.Batch.{BatchModel}
+use Rattle.rht_core.specs.Jobs.{Job, finds, binds, lists, releases, rebinds, works, tidies, counts, first_job, job_next, job_after, job_of, listing_ending, node_ending, told, tidying, tidied, IsFirstJob}
 use Rattle.rht_ghost.proofs.Theory.Ghosts.{Ghost, Taken, Behind, seat_of, taken_is}
 use Rattle.rht_ghost.proofs.Theory.Wholes.{Whole}
 use Rattle.rht_ghost.proofs.Theory.Knowns.{KnownList}
@@ -47,7 +48,7 @@ use Rattle.rht_ghost.proofs.Pieces.Relinks.{unstored}
 use Rattle.rht_release.proofs.ReleaseKnowledge.{known_of_release, known_relinking}
 use Rattle.rht_release.proofs.RebindKnowledge.{known_of_rebind, known_replacing}
 use Rattle.rht_core.proofs.Machines.JobSteps.{JobKnows}
-use Rattle.rht_core.proofs.Events.JobsOfCallers.{first-so, first_rebind-so}
+use Rattle.rht_core.proofs.Events.JobsOfCallers.{first_rebind-so, first-of}
 
 -- ---- by the state
 
@@ -100,14 +101,14 @@ taken_with None = None
 taken_with (Some job) = taken_of job
 
 -- at its beginning a call has taken none
-first-untaken : (env : Env) (call : Call) → IfSome (first_job env call) (λ job. taken_of job ≡ None)
-first-untaken env (Rebind port owner new) = first_rebind-so (λ job. taken_of job ≡ None) env port owner new refl
-first-untaken env (Walk from limit) = tt
-first-untaken env Tidy = tt
-first-untaken env _ = refl
+first-untaken : (env : Env) (call : Call) (batch : Option BatchModel) → IfSome (first_job env batch call) (λ job. taken_of job ≡ None)
+first-untaken env (Rebind port owner new) batch = first_rebind-so (λ job. taken_of job ≡ None) env port owner new refl
+first-untaken env (Walk from limit) batch = tt
+first-untaken env Tidy batch = tt
+first-untaken env _ batch = refl
 
-pub first_untaken : (env : Env) (call : Call) (job : Job) → first_job env call ≡ Some job → taken_of job ≡ None
-first_untaken env call job is = first-so (λ j. taken_of j ≡ None) (first_job env call) job (first-untaken env call) is
+pub first_untaken : (env : Env) (call : Call) (job : Job) → IsFirstJob env call job → taken_of job ≡ None
+first_untaken env call job is = first-of (λ j. taken_of j ≡ None) env call job (first-untaken env call) is
 
 -- ---- nodes that ports are bound to
 

@@ -73,14 +73,14 @@ module _ {M : Type 0} where
       : Type 0 where
     pub below : c < enrolled
     pub idle : is_idle (local_in env locals c) ≡ true
-    pub machine_is : machine_of env c call ≡ Some machine
+    pub machine_is : machine_of env c (local_in env locals c).batch call ≡ Some machine
 
   pub beginning-some : (env : Env) (enrolled : ℕ) (locals : List (Local M)) (c : ℕ) (call : Call)
       (machine : Doing M)
       → beginning env enrolled locals c call ≡ Some machine → CanBegin env enrolled locals c call machine
   beginning-some env enrolled locals c call machine is =
       let parts =
-      cond_none (nat_lt c enrolled && is_idle (local_in env locals c)) (machine_of env c call) machine is in
+      cond_none (nat_lt c enrolled && is_idle (local_in env locals c)) (machine_of env c (local_in env locals c).batch call) machine is in
       let both = and_parts (nat_lt c enrolled) (is_idle (local_in env locals c)) parts.0 in
       record { below = ltb-true c enrolled both.0; idle = both.1; machine_is = parts.1 }
 

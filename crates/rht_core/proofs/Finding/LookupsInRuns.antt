@@ -32,6 +32,7 @@ use Rattle.rht_callers.specs.declared.local.Doing.{Doing}
 use Rattle.rht_callers.specs.Locals.{local_after, ending_of}
 use Rattle.rht_core.specs.declared.event.Event.{Event}
 use Rattle.rht_core.specs.declared.event.Event.TheVariants.{Enroll, Begin, Step}
+use Rattle.rht_grace.specs.Batch.{BatchModel}
 use Rattle.rht_core.specs.Jobs.{Job, finds, first_job, job_of, job_plan, job_next, job_after, told, held_of, held_next, call_of}
 use Rattle.rht_core.specs.Runs.{Core, World, View, IsAdmitted, IsAdmittedEvent, local_of, beginning_in, planned_in, world_step}
 use Rattle.rht_core.specs.Traces.{Did, Past, Trace, Traced, trace_begun, trace_did, traces_after, traced_step, traced_of, behind_call}
@@ -43,7 +44,7 @@ use Rattle.rht_ghost.proofs.Theory.Passed.{TablesGrow}
 use Rattle.rht_ghost.proofs.Theory.Steps.{mem, ghost_after}
 use Rattle.rht_core.proofs.Events.Worlds.{induct_by_last, beginning-some, planned-some, begin_none, begin_self, begin_other, step_none, step_self, step_other}
 use Rattle.rht_core.proofs.Events.SoundRuns.{has_place, made_in}
-use Rattle.rht_core.proofs.Events.JobsOfCallers.{is_no_job, first-so, first_rebind-so, first_job-machine, nothing-job, same_call, local_after-job}
+use Rattle.rht_core.proofs.Events.JobsOfCallers.{is_no_job, first_rebind-so, first_job-machine, nothing-job, same_call, local_after-job, first-of}
 use Rattle.rht_core.proofs.Events.Invariants.{step_of}
 use Rattle.rht_core.proofs.Events.InvariantRuns.{idle_at_opening}
 use Rattle.rht_core.proofs.Machines.JobSteps.{JobIn}
@@ -295,13 +296,13 @@ module _ (L : Type 0) (mix : ℕ → ℕ → ℕ → ℕ) (env : Env) where
           other-then job (job_after mix env job old) refl (same_call mix env job old) looked
 
     -- a call begins
-    first-looks : (c : ℕ) (call : Call) → IfSome (first_job env call) (λ job. JobLooks more core' placed' c (length events) 0 (Some job))
-    first-looks c (calls.Find port) = record { begun = omega (arith, longer); means = tt; spent = omega arith }
-    first-looks c (calls.Rebind port owner new) =
+    first-looks : (c : ℕ) (call : Call) (batch : Option BatchModel) → IfSome (first_job env batch call) (λ job. JobLooks more core' placed' c (length events) 0 (Some job))
+    first-looks c (calls.Find port) batch = record { begun = omega (arith, longer); means = tt; spent = omega arith }
+    first-looks c (calls.Rebind port owner new) batch =
         first_rebind-so (λ job. JobLooks more core' placed' c (length events) 0 (Some job)) env port owner new tt
-    first-looks c (calls.Walk from limit) = tt
-    first-looks c calls.Tidy = tt
-    first-looks c _ = tt
+    first-looks c (calls.Walk from limit) batch = tt
+    first-looks c calls.Tidy batch = tt
+    first-looks c _ batch = tt
 
     -- the same by the trace and the job that a caller is found with
     found_with : (c : ℕ) (trace trace' : Trace) (job job' : Option Job) → trace' ≡ trace → job' ≡ job
@@ -344,7 +345,7 @@ module _ (L : Type 0) (mix : ℕ → ℕ → ℕ → ℕ) (env : Env) where
       let sound = looking.placed.all in
       let can = beginning-some r.world.core.env r.world.core.enrolled r.world.core.locals c call machine is in
       let place = has_place L mix env r.world.core c sound.stays can.below in
-      let first = first_job-machine env c call machine (made_in L mix env r.world.core c call machine sound.stays can) in
+      let first = first_job-machine env c (local_of r.world.core c).batch call machine (made_in L mix env r.world.core c call machine sound.stays can) in
       elim (cases_eq d c) [
         | inl same ↦
             subst (λ k. LooksThen events event looking makes k (traces_after mix r event k)
@@ -355,9 +356,9 @@ module _ (L : Type 0) (mix : ℕ → ℕ → ℕ → ℕ) (env : Env) where
             (ap (λ (s : View L). job_of s.local.doing) (begin_self L mix r.world c call machine is place) ∙ first.does)
             (record {
               past = pasts-later events event looking makes c (r.traces c).past (looking.looks c).past;
-              now = first-so (λ job. JobLooks (events ++ event ∷ []) (world_step mix r.world event).core
+              now = first-of (λ job. JobLooks (events ++ event ∷ []) (world_step mix r.world event).core
                   (next env mix L events event r.world.core (world_step mix r.world event).core (end-is L mix env events)
-                  looking.placed makes) c (length events) 0 (Some job)) (first_job env call) first.job
+                  looking.placed makes) c (length events) 0 (Some job)) env call first.job
                   (first-looks events event looking makes c call) first.first;
             }))
         | inr other ↦

@@ -18,11 +18,12 @@ use Rattle.rht_find.specs.declared.find.FindAt.{FindAt}
 use Rattle.rht_find.specs.declared.find.FindAt.TheVariants as at
 use Rattle.rht_find.proofs.FindSteps.{stays_open}
 use Rattle.rht_core.specs.declared.book.Book.{Book}
+use Rattle.rht_grace.specs.Batch.{BatchModel}
 use Rattle.rht_core.specs.Jobs.{Job, finds, call_of, first_job, job_next, job_after}
 use Rattle.rht_core.specs.Lookups.{IsLoad, IsReading, HasRead, ReadsInside}
 use Rattle.rht_core.specs.Traces.{Did}
 use Rattle.std.specs.Prelude.{IfSome, ◌⊎◌}
-use Rattle.rht_core.proofs.Events.JobsOfCallers.{first-so, first_rebind-so, each_goes, same_call}
+use Rattle.rht_core.proofs.Events.JobsOfCallers.{first_rebind-so, each_goes, same_call, first-of}
 use Rattle.rht_core.proofs.Tracing.TracedJobs.{Performs, LeadsOn, IsAtJob, jobs_keep_own}
 
 -- its operation loads a word, where its section is open and it isn't about to close it
@@ -106,12 +107,12 @@ module _ (mix : ℕ → ℕ → ℕ → ℕ) (env : Env) (c : ℕ) where
   other-ended : (call : Call) (ending : Ending) (steps : List Did) → is_look call ≡ false → Ended call ending steps
   other-ended call ending steps other = λ port same. absurd (let both : false ≡ true = sym other ∙ ap is_look same in cc)
 
-  first-now : (call : Call) → IfSome (first_job env call) (λ job. Now job [])
-  first-now (Find port) = refl
-  first-now (Rebind port owner new) = first_rebind-so (λ job. Now job []) env port owner new tt
-  first-now (Walk from limit) = tt
-  first-now Tidy = tt
-  first-now _ = tt
+  first-now : (call : Call) (batch : Option BatchModel) → IfSome (first_job env batch call) (λ job. Now job [])
+  first-now (Find port) batch = refl
+  first-now (Rebind port owner new) batch = first_rebind-so (λ job. Now job []) env port owner new tt
+  first-now (Walk from limit) batch = tt
+  first-now Tidy batch = tt
+  first-now _ batch = tt
 
   leads : (L : Type 0) (job : Job) (steps : List Did) (did : Did) (performs : Performs mix env job did) → performs.caller ≡ c
       → Now job steps → LeadsOn L mix env Now Ended job (steps ++ did ∷ []) (job_after mix env job did.old)
@@ -139,7 +140,7 @@ pub reads_inside : (L : Type 0) (mix : ℕ → ℕ → ℕ → ℕ) → ReadsIns
 reads_inside L mix env events c admitted =
     let kept = jobs_keep_own L mix env (Now mix env c) (Ended mix env c) events c
     (record {
-      begins = λ call job is. first-so (λ j. Now mix env c j []) (first_job env call) job (first-now mix env c call) is;
+      begins = λ call job is. first-of (λ j. Now mix env c j []) env call job (first-now mix env c call) is;
       goes = λ job steps did performs own stands now. leads mix env c L job steps did performs own now;
     }) admitted in
     record {

@@ -100,7 +100,7 @@ module _ (M : Type 0) (mix : ℕ → ℕ → ℕ → ℕ) (env : Env) where
       let can = beginning-some r.world.core.env r.world.core.enrolled r.world.core.locals c call machine is in
       let stays = stays_in M mix env events in
       let place = has_place M mix env r.world.core c stays can.below in
-      let first = first_job-machine env c call machine
+      let first = first_job-machine env c (local_of r.world.core c).batch call machine
       (made_in M mix env r.world.core c call machine stays can) in
       let here = begin_self M mix r.world c call machine is place in
       let was = fitting.callers c in

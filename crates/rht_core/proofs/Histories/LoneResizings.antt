@@ -23,7 +23,7 @@ use Rattle.rht_move.specs.Work as work
 use Rattle.rht_move.specs.declared.work.WorkAt.{WorkAt}
 use Rattle.rht_move.specs.declared.work.WorkAt.TheVariants as works_at
 use Rattle.rht_core.specs.declared.event.Event.{Event}
-use Rattle.rht_core.specs.Jobs.{call_of, Job, works, first_job, first_rebind, job_next, job_after}
+use Rattle.rht_core.specs.Jobs.{call_of, Job, works, first_rebind, job_next, job_after, IsFirstJob}
 use Rattle.rht_core.specs.Runs.{IsAdmitted}
 use Rattle.rht_core.specs.Seen.{words_before}
 use Rattle.rht_core.specs.Traces.{Did, Past, traced_of, behind_call}
@@ -74,14 +74,14 @@ module _ (M : Type 0) (mix : ℕ → ℕ → ℕ → ℕ) (env : Env) (events : 
   no_work port owner new Single state is = cc
   no_work port owner new Listed state is = cc
 
-  work-begins : (call : Call) (state : WorkAt) → first_job env call ≡ Some (works state) → Now (works state) []
-  work-begins (Rebind port owner new) state is = absurd (no_work port owner new env.config.kind state is)
-  work-begins Work state is =
+  work-begins : (call : Call) (state : WorkAt) → IsFirstJob env call (works state) → Now (works state) []
+  work-begins (Rebind port owner new) state (batch, is) = absurd (no_work port owner new env.config.kind state is)
+  work-begins Work state (batch, is) =
       let here : works_at.WorkLock ≡ state = cc in
       subst (λ s. Now (works s) []) here (refl, λ now still. tt)
-  work-begins _ state is = absurd (cc)
+  work-begins _ state (batch, is) = absurd (cc)
 
-  begins : (call : Call) (job : Job) → first_job env call ≡ Some job → Now job []
+  begins : (call : Call) (job : Job) → IsFirstJob env call job → Now job []
   begins call (works state) is = work-begins call state is
   begins call _ is = tt
 

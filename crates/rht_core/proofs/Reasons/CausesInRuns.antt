@@ -4,8 +4,8 @@
 -- has raised no count, a release and a resizing what they need, and a rebind what it sees while it takes a
 -- node. So when a call answers, all that its reply has to show was seen; and each of its operations was
 -- recorded at its event.
-use Rattle.std.proofs.Common.{◌≡◌, ℕ, ◌+◌, List, [], ◌∷◌, ◌++◌, refl, arith}
-use Rattle.std.specs.Prelude.{Some, IfSome}
+use Rattle.std.proofs.Common.{◌≡◌, ℕ, ◌+◌, List, [], ◌∷◌, ◌++◌, refl, arith, Option}
+use Rattle.std.specs.Prelude.{IfSome}
 use Rattle.std.specs.List.{AllByRecursion}
 use Rattle.std.proofs.lemmas.List.Quantifiers.{Any-push}
 use Rattle.rht_words.specs.declared.env.Env.{Env}
@@ -19,7 +19,8 @@ use Rattle.rht_find.specs.Find.{after_at as find_after_at}
 use Rattle.rht_bind.specs.Bind.{after_at}
 use Rattle.rht_release.specs.All as all
 use Rattle.rht_core.specs.declared.event.Event.{Event}
-use Rattle.rht_core.specs.Jobs.{listing_ending, node_ending, call_of, Job, finds, binds, releases, rebinds, lists, works, tidies, counts, first_job, job_next, job_after}
+use Rattle.rht_grace.specs.Batch.{BatchModel}
+use Rattle.rht_core.specs.Jobs.{listing_ending, node_ending, call_of, Job, finds, binds, releases, rebinds, lists, works, tidies, counts, first_job, job_next, job_after, IsFirstJob}
 use Rattle.rht_core.specs.Replies.{IsReplyTo}
 use Rattle.rht_core.specs.Traces.{Did, Past, traced_of, behind_call, IsRising, AreInOrder}
 use Rattle.rht_core.specs.Runs.{IsAdmitted}
@@ -31,7 +32,7 @@ use Rattle.rht_release.specs.Rebind as rebind
 use Rattle.rht_words.specs.Machines.{GoesOrEnds}
 use Rattle.rht_core.proofs.Tracing.RepliesInRuns.{Holds, Answered, runs-right}
 use Rattle.rht_core.proofs.Tracing.TracesAtEvents.{at_events}
-use Rattle.rht_core.proofs.Events.JobsOfCallers.{first-so, first_rebind-so}
+use Rattle.rht_core.proofs.Events.JobsOfCallers.{first_rebind-so, first-of}
 use Rattle.rht_core.proofs.Tracing.TracedJobs.{Performs, StandsIn, LeadsOn, IsEndedSo, jobs_keep_own}
 use Rattle.rht_move.specs.Work as work
 use Rattle.rht_core.proofs.Reasons.WorksSeen.{SawForWork, SawAtWork}
@@ -134,17 +135,17 @@ module _ (M : Type 0) (mix : ℕ → ℕ → ℕ → ℕ) (env : Env) (events : 
       Any-push (LoadedCount env did.old) steps did (record { loaded = performs.planned; found = refl })
 
   -- below the first node there is none
-  first-saw : (call : Call) → IfSome (first_job env call) (λ job. JobSaw env c words_at mix job [])
-  first-saw (Bind port owner once) = (λ node l. absurd (omega arith), (tt, tt))
-  first-saw (Release port owner) = (tt, tt)
-  first-saw (Rebind port owner new) =
+  first-saw : (call : Call) (batch : Option BatchModel) → IfSome (first_job env batch call) (λ job. JobSaw env c words_at mix job [])
+  first-saw (Bind port owner once) batch = (λ node l. absurd (omega arith), (tt, tt))
+  first-saw (Release port owner) batch = (tt, tt)
+  first-saw (Rebind port owner new) batch =
       first_rebind-so (λ job. JobSaw env c words_at mix job []) env port owner new (λ node l. absurd (omega arith))
-  first-saw Work = refl
-  first-saw _ = tt
+  first-saw Work batch = refl
+  first-saw _ batch = tt
 
-  pub first_job-saw : (call : Call) (job : Job) → first_job env call ≡ Some job
+  pub first_job-saw : (call : Call) (job : Job) → IsFirstJob env call job
       → JobSaw env c words_at mix job []
-  first_job-saw call job is = first-so (λ j. JobSaw env c words_at mix j []) (first_job env call) job (first-saw call) is
+  first_job-saw call job is = first-of (λ j. JobSaw env c words_at mix j []) env call job (first-saw call) is
 
   -- what the operations of each call that has ended have seen
   pub past-saw : IsAdmitted env.config.kind events

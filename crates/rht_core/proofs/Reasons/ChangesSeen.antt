@@ -20,7 +20,7 @@ use Rattle.rht_model.specs.Endings.{Ending}
 use Rattle.rht_bind.specs.declared.bind.growth.Growing.{Growing}
 use Rattle.rht_stands.specs.StandsFor.{in_force, tables_from}
 use Rattle.rht_core.specs.declared.event.Event.{Event}
-use Rattle.rht_core.specs.Jobs.{Job, call_of, job_after, held_of, held_next, first_job}
+use Rattle.rht_core.specs.Jobs.{Job, call_of, job_after, held_of, held_next, IsFirstJob}
 use Rattle.rht_core.specs.Runs.{IsAdmitted, IsAdmittedEvent}
 use Rattle.rht_core.specs.Traces.{Did, performed_of}
 use Rattle.rht_core.specs.Seen.{words_before}
@@ -484,7 +484,7 @@ module _ (M : Type 0) (mix : ℕ → ℕ → ℕ → ℕ) (env : Env) (events : 
         (same_call mix env job did.old) paged)
 
   -- a call has no work lock and no pages at its beginning
-  pub begins : (call : Call) (job : Job) → first_job env call ≡ Some job → HasTakenWork job [] × HasTakenPages job []
+  pub begins : (call : Call) (job : Job) → IsFirstJob env call job → HasTakenWork job [] × HasTakenPages job []
   begins call job is =
       let holds = first_holds env call job is in (
         λ has. absurd (both_ways _ (ap (λ (h : Holding). h.worker) holds) has),

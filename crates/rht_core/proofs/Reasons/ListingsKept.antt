@@ -4,8 +4,8 @@
 -- the room: those on the way to the port are on words of slots and of pages, and on the keys and the chain links of nodes;
 -- then come the links of the list, and the unlocking, which is a store. And where it loads an owner the room isn't full: it
 -- has no more owners than the port's list has nodes before this one (`kept`, in `AllSteps` of `rht_release`).
-use Rattle.std.proofs.Common.{◌≡◌, ℕ, ◌+◌, ◌-◌, ◌<◌, Bool, true, false, cond, List, [], ◌∷◌, ◌++◌, refl, sym, ap, ◌∙◌, subst, arith}
-use Rattle.std.specs.Prelude.{Some, IfSome}
+use Rattle.std.proofs.Common.{◌≡◌, ℕ, ◌+◌, ◌-◌, ◌<◌, Bool, true, false, cond, List, [], ◌∷◌, ◌++◌, refl, sym, ap, ◌∙◌, subst, arith, Option}
+use Rattle.std.specs.Prelude.{IfSome}
 use Rattle.std.proofs.lemmas.List.{append-nil, append_assoc}
 use Rattle.rht_words.specs.declared.op.Op.{Op}
 use Rattle.rht_words.specs.declared.op.Op.TheVariants.{Load}
@@ -41,12 +41,13 @@ use Rattle.rht_release.specs.declared.all.AllAt.{AllAt}
 use Rattle.rht_release.specs.declared.all.AllAt.TheVariants as listing
 use Rattle.rht_release.specs.declared.found_port.FoundPort.{FoundPort}
 use Rattle.rht_nest.specs.Place.{PlaceModel, place_plan, IsPlaceIn}
-use Rattle.rht_core.specs.Jobs.{Job, finds, binds, lists, releases, rebinds, works, tidies, counts, call_of, first_job, job_next, job_after, listing_ending}
+use Rattle.rht_grace.specs.Batch.{BatchModel}
+use Rattle.rht_core.specs.Jobs.{Job, finds, binds, lists, releases, rebinds, works, tidies, counts, call_of, first_job, job_next, job_after, listing_ending, IsFirstJob}
 use Rattle.rht_core.specs.Traces.{Did}
 use Rattle.rht_core.specs.ListedOwners.{is_owner_word, loads_owner, owner_loaded, owners_loaded, ListedOwners}
 use Rattle.rht_ghost.proofs.Theory.Steps.{mem}
 use Rattle.rht_release.proofs.AllSteps.{AllKnows, kept}
-use Rattle.rht_core.proofs.Events.JobsOfCallers.{first-so, first_rebind-so, each_goes, same_call}
+use Rattle.rht_core.proofs.Events.JobsOfCallers.{first_rebind-so, each_goes, same_call, first-of}
 use Rattle.rht_core.proofs.Tracing.TracedJobs.{Performs, LeadsOn, jobs_keep}
 
 -- ---- one operation more
@@ -203,13 +204,13 @@ module _ (mix : ℕ → ℕ → ℕ → ℕ) (env : Env) where
   -- ---- jobs
 
   -- at its beginning a listing has loaded none, and its room is empty
-  first-keeps : (call : Call) → IfSome (first_job env call) (λ job. Keeps job [])
-  first-keeps (All port) = refl
-  first-keeps (Rebind port owner new) = first_rebind-so (λ job. Keeps job []) env port owner new tt
-  first-keeps _ = tt
+  first-keeps : (call : Call) (batch : Option BatchModel) → IfSome (first_job env batch call) (λ job. Keeps job [])
+  first-keeps (All port) batch = refl
+  first-keeps (Rebind port owner new) batch = first_rebind-so (λ job. Keeps job []) env port owner new tt
+  first-keeps _ batch = tt
 
-  begins : (call : Call) (job : Job) → first_job env call ≡ Some job → Keeps job []
-  begins call job is = first-so (λ j. Keeps j []) (first_job env call) job (first-keeps call) is
+  begins : (call : Call) (job : Job) → IsFirstJob env call job → Keeps job []
+  begins call job is = first-of (λ j. Keeps j []) env call job (first-keeps call) is
 
   module _ (M : Type 0) where
     abbrev Leads : Job → List Did → Job × Next Ending → Type 0

@@ -1,5 +1,5 @@
 -- A caller stands next only where it could come to before; and out of its section it stands nowhere. It is said of jobs, each machine apart.
-use Rattle.std.proofs.Common.{◌≡◌, ℕ, Bool, true, false, List, Some, None, refl, sym, ◌∙◌, subst}
+use Rattle.std.proofs.Common.{◌≡◌, ℕ, Bool, true, false, List, Some, None, refl, sym, ◌∙◌, subst, Option}
 use Rattle.std.specs.Prelude.{IfSome, if◌then◌else◌}
 use Rattle.rht_words.specs.declared.env.Env.{Env}
 use Rattle.rht_words.specs.Held.{Held}
@@ -45,13 +45,14 @@ use Rattle.rht_move.specs.WorkHeld.{held_of_work}
 use Rattle.rht_move.specs.WorkStanding.{standing_of_work}
 use Rattle.rht_move.specs.declared.work.WorkAt.{WorkAt}
 use Rattle.rht_move.specs.declared.work.WorkAt.TheVariants as working
-use Rattle.rht_core.specs.Jobs.{Job, finds, binds, lists, releases, rebinds, works, tidies, tidying, counts, first_job, listing_ending, node_ending, job_plan, job_next, job_after, told, held_of}
+use Rattle.rht_grace.specs.Batch.{BatchModel}
+use Rattle.rht_core.specs.Jobs.{Job, finds, binds, lists, releases, rebinds, works, tidies, tidying, counts, first_job, listing_ending, node_ending, job_plan, job_next, job_after, told, held_of, IsFirstJob}
 use Rattle.rht_release.proofs.RebindKnowledge.{own}
 use Rattle.rht_core.specs.Standings.{standing_of, standing_with}
 use Rattle.rht_ghost.proofs.Theory.Ghosts.{Ghost}
 use Rattle.rht_ghost.proofs.Theory.Steps.{mem}
 use Rattle.rht_ghost.proofs.Theory.Wholes.{Whole}
-use Rattle.rht_core.proofs.Events.JobsOfCallers.{first-so, first_rebind-so}
+use Rattle.rht_core.proofs.Events.JobsOfCallers.{first_rebind-so, first-of}
 use Rattle.rht_core.proofs.Finding.Lookups.{LookMeans}
 use Rattle.rht_core.proofs.Finding.Places.{Places}
 use Rattle.rht_core.proofs.Machines.JobSteps.{JobIn, JobKnows}
@@ -170,15 +171,15 @@ job_outside mix env (tidies batch state) out =
 job_outside mix env counts out = record { before = refl; behind = λ old. refl }
 
 -- a call begins nowhere
-first-nowhere : (env : Env) (call : Call) → IfSome (first_job env call) (λ job. standing_of job ≡ stands_nowhere)
-first-nowhere env (Rebind port owner new) = first_rebind-so (λ job. standing_of job ≡ stands_nowhere) env port owner new refl
-first-nowhere env (Walk from limit) = tt
-first-nowhere env Tidy = tt
-first-nowhere env _ = refl
+first-nowhere : (env : Env) (call : Call) (batch : Option BatchModel) → IfSome (first_job env batch call) (λ job. standing_of job ≡ stands_nowhere)
+first-nowhere env (Rebind port owner new) batch = first_rebind-so (λ job. standing_of job ≡ stands_nowhere) env port owner new refl
+first-nowhere env (Walk from limit) batch = tt
+first-nowhere env Tidy batch = tt
+first-nowhere env _ batch = refl
 
-pub first_stands : (env : Env) (call : Call) (job : Job) → first_job env call ≡ Some job → standing_of job ≡ stands_nowhere
+pub first_stands : (env : Env) (call : Call) (job : Job) → IsFirstJob env call job → standing_of job ≡ stands_nowhere
 first_stands env call job is =
-    first-so (λ j. standing_of j ≡ stands_nowhere) (first_job env call) job (first-nowhere env call) is
+    first-of (λ j. standing_of j ≡ stands_nowhere) env call job (first-nowhere env call) is
 
 -- ---- an operation
 

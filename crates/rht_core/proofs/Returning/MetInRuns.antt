@@ -19,7 +19,7 @@ use Rattle.rht_callers.specs.declared.local.Doing.{Doing}
 use Rattle.rht_callers.specs.Locals.{fresh, begin_with, local_after}
 use Rattle.rht_core.specs.declared.event.Event.{Event}
 use Rattle.rht_core.specs.declared.event.Event.TheVariants.{Enroll, Begin, Step}
-use Rattle.rht_core.specs.Jobs.{Job, finds, job_of, job_after, job_plan, told, held_of, first_job}
+use Rattle.rht_core.specs.Jobs.{Job, finds, job_of, job_after, job_plan, told, held_of, IsFirstJob}
 use Rattle.rht_core.specs.Reach.{IsReading, ComesTo}
 use Rattle.rht_core.specs.Runs.{Core, World, opening_core, core_step, with_step, with_machine, world_step, run_of, local_of, beginning_in, planned_in, IsAdmitted, IsAdmittedEvent}
 use Rattle.rht_core.specs.Sections.{IsInNoSection}
@@ -79,7 +79,7 @@ module _ (env : Env) (mix : ℕ → ℕ → ℕ → ℕ) (L : Type 0) where
   pub record Begins (core' : Core L) (c : ℕ) : Type 0 where
     pub call : Call
     pub job : Job
-    pub first : first_job env call ≡ Some job
+    pub first : IsFirstJob env call job
     pub is : job_of (local_of core' c).doing ≡ Some job
 
   abbrev pub StaysOrBegins : Core L → Core L → ℕ → Type 0
@@ -125,7 +125,7 @@ module _ (env : Env) (mix : ℕ → ℕ → ℕ → ℕ) (L : Type 0) where
     begun_job c d call (Some machine) is =
         let can = beginning-some core.env core.enrolled core.locals d call machine is in
         let place = has_place L mix env core d all.stays can.below in
-        let first = first_job-machine env d call machine (made_in L mix env core d call machine all.stays can) in
+        let first = first_job-machine env d (local_of core d).batch call machine (made_in L mix env core d call machine all.stays can) in
         let local = begin_with (local_of core d) machine in
         elim (cases_eq c d) [
           | inl e ↦ inr (record {

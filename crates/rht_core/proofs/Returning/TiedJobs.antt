@@ -1,5 +1,5 @@
 -- The bucket that a call has locked is one of the table at which it stands: said of jobs. It outlives what others do.
-use Rattle.std.proofs.Common.{◌≡◌, ℕ, ◌/◌, List, Option, Some, None, sym, ◌∙◌, ap}
+use Rattle.std.proofs.Common.{ℕ, ◌/◌, List, Option, Some, None, sym, ◌∙◌, ap}
 use Rattle.std.specs.Prelude.{IfSome}
 use Rattle.rht_words.specs.declared.env.Env.{Env}
 use Rattle.rht_words.specs.declared.machine.Next.{Next}
@@ -18,8 +18,9 @@ use Rattle.rht_release.specs.declared.release.ReleaseAt.{ReleaseAt}
 use Rattle.rht_release.specs.declared.release.ReleaseAt.TheVariants as releasing
 use Rattle.rht_release.specs.declared.seek.SeekAt.{SeekAt}
 use Rattle.rht_release.specs.declared.seek.SeekAt.TheVariants as seeks
-use Rattle.rht_core.specs.Jobs.{Job, finds, binds, lists, releases, rebinds, works, tidies, tidying, counts, first_job, listing_ending, node_ending, job_next, job_after, told}
-use Rattle.rht_core.proofs.Events.JobsOfCallers.{first-so, first_rebind-so}
+use Rattle.rht_grace.specs.Batch.{BatchModel}
+use Rattle.rht_core.specs.Jobs.{Job, finds, binds, lists, releases, rebinds, works, tidies, tidying, counts, first_job, listing_ending, node_ending, job_next, job_after, told, IsFirstJob}
+use Rattle.rht_core.proofs.Events.JobsOfCallers.{first_rebind-so, first-of}
 use Rattle.rht_core.proofs.Machines.JobSteps.{JobIn, JobKnows}
 use Rattle.rht_core.proofs.Returning.TiedBuckets.{IsTied, tied_of_seek, tied_of_all, tied_of_release, tied_of_rebind, tied_of_bind, all_ties, release_ties, rebind_ties, bind_ties}
 use Rattle.rht_ghost.proofs.Theory.Ghosts.{Ghost, PageOf}
@@ -43,14 +44,14 @@ module _ (env : Env) (mix : ℕ → ℕ → ℕ → ℕ) where
   tied_with G (Some job) = tied_of G job
 
   -- it is so of a job with which a call begins
-  first-tied : (G : Ghost) (call : Call) → IfSome (first_job env call) (tied_of G)
-  first-tied G (Rebind port owner new) = first_rebind-so (tied_of G) env port owner new tt
-  first-tied G (Walk from limit) = tt
-  first-tied G Tidy = tt
-  first-tied G _ = tt
+  first-tied : (G : Ghost) (call : Call) (batch : Option BatchModel) → IfSome (first_job env batch call) (tied_of G)
+  first-tied G (Rebind port owner new) batch = first_rebind-so (tied_of G) env port owner new tt
+  first-tied G (Walk from limit) batch = tt
+  first-tied G Tidy batch = tt
+  first-tied G _ batch = tt
 
-  pub first_ties : (G : Ghost) (call : Call) (job : Job) → first_job env call ≡ Some job → tied_of G job
-  first_ties G call job is = first-so (tied_of G) (first_job env call) job (first-tied G call) is
+  pub first_ties : (G : Ghost) (call : Call) (job : Job) → IsFirstJob env call job → tied_of G job
+  first_ties G call job is = first-of (tied_of G) env call job (first-tied G call) is
 
   -- ---- it outlives whatever leaves tables what they are
 

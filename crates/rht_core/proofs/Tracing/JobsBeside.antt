@@ -1,5 +1,5 @@
 -- What is kept of calls where something else is: what jobs keep beside it may use that of the operations so far.
-use Rattle.std.proofs.Common.{◌≡◌, ℕ, List, [], ◌∷◌, ◌++◌, Some}
+use Rattle.std.proofs.Common.{◌≡◌, ℕ, List, [], ◌∷◌, ◌++◌}
 use Rattle.std.specs.List.{AllByRecursion}
 use Rattle.rht_words.specs.declared.env.Env.{Env}
 use Rattle.rht_words.specs.declared.machine.Next.{Next}
@@ -7,7 +7,7 @@ use Rattle.rht_words.specs.declared.machine.Next.TheVariants.{Go, Done}
 use Rattle.rht_model.specs.declared.history.Call.{Call}
 use Rattle.rht_model.specs.Endings.{Ending}
 use Rattle.rht_core.specs.declared.event.Event.{Event}
-use Rattle.rht_core.specs.Jobs.{Job, first_job, job_after}
+use Rattle.rht_core.specs.Jobs.{Job, job_after, IsFirstJob}
 use Rattle.rht_core.specs.Runs.{IsAdmitted}
 use Rattle.rht_core.specs.Traces.{Did, Past, traced_of}
 use Rattle.rht_core.specs.Seen.{words_before}
@@ -18,7 +18,7 @@ module _ (M : Type 0) (mix : ℕ → ℕ → ℕ → ℕ) (env : Env) (events : 
   where
     -- what has to be shown of the jobs of this caller
     pub record KeepsBeside (c : ℕ) : Type 0 where
-      pub begins : (call : Call) (job : Job) → first_job env call ≡ Some job → Now job []
+      pub begins : (call : Call) (job : Job) → IsFirstJob env call job → Now job []
       pub goes : (job : Job) (steps : List Did) (did : Did) (performs : Performs mix env job did) → performs.caller ≡ c
           → StandsIn mix env (words_before M mix env events) job did performs → First job steps → Now job steps
           → LeadsOn M mix env Now Ended job (steps ++ did ∷ []) (job_after mix env job did.old)

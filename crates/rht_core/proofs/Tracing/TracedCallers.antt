@@ -140,7 +140,7 @@ module _ (M : Type 0) (mix : ℕ → ℕ → ℕ → ℕ) (env : Env) where
       pub begins : (events : List Event) (c : ℕ) (call : Call) (machine : Doing M) (index : ℕ)
           (view : View M) (trace : Trace)
           → index ≡ length events
-          → is_idle view.local ≡ true → machine_of env c call ≡ Some machine
+          → is_idle view.local ≡ true → machine_of env c view.local.batch call ≡ Some machine
           → P events c view trace
           → P (events ++ Begin c call ∷ []) c (view_begun call machine view) (trace_begun index trace)
       pub steps : (events : List Event) (c : ℕ) (did : Did) (view : View M) (trace : Trace)

@@ -28,7 +28,7 @@ use Rattle.rht_core.specs.declared.book.Book.{Book}
 use Rattle.rht_callers.specs.declared.local.Local.{Local}
 use Rattle.rht_callers.specs.declared.local.Doing.{Doing}
 use Rattle.rht_callers.specs.Locals.{is_idle, machine_of, local_after, ending_of}
-use Rattle.rht_core.specs.Jobs.{Job, call_of, first_job, job_plan, job_after, job_of, told}
+use Rattle.rht_core.specs.Jobs.{Job, call_of, job_plan, job_after, job_of, told, IsFirstJob}
 use Rattle.rht_core.specs.Runs.{Core, World, View, planned_in, IsAdmitted, view_of, run_of, book_begun, book_after, finished_with}
 use Rattle.rht_core.specs.Traces.{Did, Past, Trace, Traced, trace_begun, trace_did, traced_of}
 use Rattle.rht_core.specs.Seen.{words_before}
@@ -185,27 +185,27 @@ module _ (M : Type 0) (mix : ℕ → ℕ → ℕ → ℕ) (env : Env) (Now : Job
 
     -- what has to be shown of jobs; no job turns into one of another call
     pub record JobsKeep : Type 0 where
-      pub begins : (call : Call) (job : Job) → first_job env call ≡ Some job → Now job []
+      pub begins : (call : Call) (job : Job) → IsFirstJob env call job → Now job []
       pub goes : (job : Job) (steps : List Did) (did : Did) → Performs mix env job did → Now job steps
           → LeadsOn job (steps ++ did ∷ []) (job_after mix env job did.old)
 
     -- the same in the run of these events, where the words in which an operation is performed are those before its event
     pub record JobsKeepIn (events : List Event) : Type 0 where
-      pub begins : (call : Call) (job : Job) → first_job env call ≡ Some job → Now job []
+      pub begins : (call : Call) (job : Job) → IsFirstJob env call job → Now job []
       pub goes : (job : Job) (steps : List Did) (did : Did) (performs : Performs mix env job did)
           → performs.words ≡ words_before M mix env events did.index → Now job steps
           → LeadsOn job (steps ++ did ∷ []) (job_after mix env job did.old)
 
     -- and in which the buckets that there are then stay where they are
     pub record JobsKeepStanding (events : List Event) : Type 0 where
-      pub begins : (call : Call) (job : Job) → first_job env call ≡ Some job → Now job []
+      pub begins : (call : Call) (job : Job) → IsFirstJob env call job → Now job []
       pub goes : (job : Job) (steps : List Did) (did : Did) (performs : Performs mix env job did)
           → StandsIn mix env (words_before M mix env events) job did performs → Now job steps
           → LeadsOn job (steps ++ did ∷ []) (job_after mix env job did.old)
 
     -- and which are those of this caller
     pub record JobsKeepOwn (events : List Event) (c : ℕ) : Type 0 where
-      pub begins : (call : Call) (job : Job) → first_job env call ≡ Some job → Now job []
+      pub begins : (call : Call) (job : Job) → IsFirstJob env call job → Now job []
       pub goes : (job : Job) (steps : List Did) (did : Did) (performs : Performs mix env job did) → performs.caller ≡ c
           → StandsIn mix env (words_before M mix env events) job did performs → Now job steps
           → LeadsOn job (steps ++ did ∷ []) (job_after mix env job did.old)
@@ -234,10 +234,10 @@ module _ (M : Type 0) (mix : ℕ → ℕ → ℕ → ℕ) (env : Env) (Now : Job
 
     module _ (events : List Event) (own : ℕ) (keep : JobsKeepOwn events own) where
       begins-keeping : (c : ℕ) (call : Call) (machine : Doing M) (index : ℕ) (here : View M) (trace : Trace)
-          → machine_of env c call ≡ Some machine → IsKeeping here trace
+          → machine_of env c here.local.batch call ≡ Some machine → IsKeeping here trace
           → IsKeeping (view_begun call machine here) (trace_begun index trace)
       begins-keeping c call machine index here trace is keeping =
-          let first = first_job-machine env c call machine is in
+          let first = first_job-machine env c here.local.batch call machine is in
           let busy = nothing-job machine ∙ ap is_no_job first.does in
           record {
             past = keeping.past;

@@ -27,7 +27,7 @@ use Rattle.rht_move.specs.Work.{IsWorkAtIn}
 use Rattle.rht_move.specs.declared.work.WorkAt.{WorkAt}
 use Rattle.rht_move.specs.declared.work.WorkAt.TheVariants as working
 use Rattle.rht_core.specs.declared.event.Event.{Event}
-use Rattle.rht_core.specs.Jobs.{Job, binds, works, call_of, first_job, job_plan, job_after, held_of, held_next}
+use Rattle.rht_core.specs.Jobs.{Job, binds, works, call_of, job_plan, job_after, held_of, held_next, IsFirstJob}
 use Rattle.rht_core.specs.Traces.{Did, Past, traced_of}
 use Rattle.rht_core.specs.Seen.{words_before}
 use Rattle.rht_core.specs.Refused.{turned, turns, IsMissingEntry}
@@ -295,7 +295,7 @@ module _ (M : Type 0) (mix : ℕ → ℕ → ℕ → ℕ) (env : Env) (events : 
 
   -- ---- the beginning
 
-  begins : (call : Call) (job : Job) → first_job env call ≡ Some job → HasTurned job []
+  begins : (call : Call) (job : Job) → IsFirstJob env call job → HasTurned job []
   begins call job is = record {
     turned = subst (λ h. Turned (call_of job) h []) (sym (first_holds env call job is)) (λ place at. inr refl);
     section = subst (λ h. TurnedSection h []) (sym (first_holds env call job is)) refl;

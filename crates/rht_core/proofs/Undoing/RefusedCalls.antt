@@ -35,7 +35,8 @@ use Rattle.rht_move.specs.declared.work.Due.TheVariants as dues
 use Rattle.rht_move.specs.declared.work.WorkAt.TheVariants as works_at
 use Rattle.rht_core.specs.declared.event.Event.{Event}
 use Rattle.rht_core.specs.declared.event.Event.TheVariants.{Step as Steps}
-use Rattle.rht_core.specs.Jobs.{Job, binds, releases, rebinds, works, call_of, first_job, job_plan, job_after, job_next, node_ending, held_of, held_next}
+use Rattle.rht_grace.specs.Batch.{BatchModel}
+use Rattle.rht_core.specs.Jobs.{Job, binds, releases, rebinds, works, call_of, first_job, job_plan, job_after, job_next, node_ending, held_of, held_next, IsFirstJob}
 use Rattle.rht_core.specs.Runs.{World, run_of, IsAdmitted}
 use Rattle.rht_core.specs.Traces.{Did, Past, traced_of}
 use Rattle.rht_core.specs.Seen.{words_before}
@@ -50,7 +51,7 @@ use Rattle.rht_ghost.proofs.Pieces.WorkLoads.{has_future}
 use Rattle.rht_ghost.proofs.Theory.Steps.{Holding, mem, ghost_after, Does, SaysChange}
 use Rattle.rht_core.proofs.Meaning.BoundPorts.{stands_for_bound}
 use Rattle.rht_core.proofs.Events.Worlds.{run_of-next, step_words}
-use Rattle.rht_core.proofs.Events.JobsOfCallers.{each_goes, first-so, first_holds, first_rebind-so, same_call}
+use Rattle.rht_core.proofs.Events.JobsOfCallers.{each_goes, first_holds, first_rebind-so, same_call, first-of}
 use Rattle.rht_core.proofs.Tracing.TracedJobs.{Performs, LeadsOn, IsEndedSo}
 use Rattle.rht_core.proofs.Tracing.JobsBeside.{kept_beside}
 use Rattle.rht_core.proofs.Tracing.BehindCalls.{section_left}
@@ -362,12 +363,12 @@ module _ (M : Type 0) (mix : ℕ → ℕ → ℕ → ℕ) (env : Env) (events : 
       by_case true past = past-leads (steps ++ did ∷ []) job did performs past
       by_case false may = leads_on job steps did may kept performs own here came
 
-  first-stored : (call : Call) → IfSome (first_job env call) (λ job. JobStored env job [])
-  first-stored (Rebind port owner new) = first_rebind-so (λ job. JobStored env job []) env port owner new tt
-  first-stored _ = tt
+  first-stored : (call : Call) (batch : Option BatchModel) → IfSome (first_job env batch call) (λ job. JobStored env job [])
+  first-stored (Rebind port owner new) batch = first_rebind-so (λ job. JobStored env job []) env port owner new tt
+  first-stored _ batch = tt
 
   -- at first nothing is held, and nothing was turned
-  pub begins : (call : Call) (job : Job) → first_job env call ≡ Some job → Going job []
+  pub begins : (call : Call) (job : Job) → IsFirstJob env call job → Going job []
   begins call job is = inr (inr (record {
     undoes =
         subst (λ h. Undoes g (words_before M mix env events) c (call_of job) h []) (sym (first_holds env call job is))
@@ -379,7 +380,7 @@ module _ (M : Type 0) (mix : ℕ → ℕ → ℕ → ℕ) (env : Env) (events : 
           took = λ page i. absurd i;
         });
     still = tt;
-    stored = first-so (λ j. JobStored env j []) (first_job env call) job (first-stored call) is;
+    stored = first-of (λ j. JobStored env j []) env call job (first-stored call) is;
   }))
 
   -- ---- the law
