@@ -1,6 +1,6 @@
 -- A caller's batch is one of the table, wherever it lies: with its caller, or in a tidying, which takes it as it begins and gives it
 -- back as it ends. Only a tidying, and a call that hands out a node, changes it.
-use Rattle.std.proofs.Common.{◌≡◌, ℕ, true, refl, sym, ◌∙◌, subst, ◌+◌, ◌<◌, ◌∷◌, ◌++◌, [], Bool, false}
+use Rattle.std.proofs.Common.{◌≡◌, ℕ, true, refl, sym, ◌∙◌, subst, ◌+◌, ◌==◌, ◌<◌, ◌∷◌, ◌++◌, [], Bool, false}
 use Rattle.std.specs.Prelude.{Option, Some, None, length, nat_lt, if◌then◌else◌}
 use Rattle.rht_words.specs.declared.env.Env.{Env}
 use Rattle.rht_words.proofs.EachElement.{AllByRecursion-append, AllByRecursion-cut}
@@ -9,12 +9,12 @@ use Rattle.rht_words.specs.declared.machine.Next.{Next}
 use Rattle.rht_words.specs.declared.machine.Next.TheVariants.{Go, Done}
 use Rattle.rht_model.specs.declared.history.Call.{Call}
 use Rattle.rht_model.specs.declared.history.Reply.{Reply}
-use Rattle.rht_grace.specs.Batch.{BatchModel, with_word, first_odd}
-use Rattle.rht_grace.specs.Tidy.{TidyModel, IsTidyAtIn, giving, ask, asking, keeping, after_at, moved}
+use Rattle.rht_grace.specs.Batch.{BatchModel, turned, with_word, first_odd}
+use Rattle.rht_grace.specs.Tidy.{TidyModel, IsTidyAtIn, begun, asked_at, giving, ask, asking, keeping, after_at, moved}
 use Rattle.rht_grace.specs.declared.tidy.TidyAt.{TidyAt}
 use Rattle.rht_grace.specs.declared.tidy.TidyAt.TheVariants as tidy_at
 use Rattle.rht_grace.proofs.BatchNodes.{IsBatch-with_fresh}
-use Rattle.rht_grace.proofs.TidyPlanned.{tidy_stays}
+use Rattle.rht_grace.proofs.TidyPlanned.{tidy_stays, begun_sound}
 use Rattle.rht_callers.specs.declared.local.Local.{Local}
 use Rattle.rht_callers.specs.declared.local.Doing.{Doing}
 use Rattle.rht_callers.specs.declared.local.Doing.TheVariants.{Idle, Finding, Binding, Listing, Releasing, Rebinding, Working, Counting, Tidying}
@@ -58,6 +58,19 @@ after_at-same g batch (tidy_at.Keeping caller) word = keeping-same g (with_word 
 after_at-same g batch (tidy_at.Asking caller) word = by_test batch _ _ _ refl (asking-same (with_word batch caller 0) (caller + 1))
 after_at-same g batch (tidy_at.Giving index) word = giving-same batch (index + 1)
 
+-- and so does its beginning
+pub begun-same : (batch : BatchModel) → (begun batch).0.geometry ≡ batch.geometry
+begun-same batch = go (length batch.waiting == 0) (turned batch, tidy_at.Keeping 0) (batch, asked_at (first_odd batch.kept 0)) refl refl
+  where
+    go : (none : Bool) (one other : BatchModel × TidyAt) → one.0.geometry ≡ batch.geometry → other.0.geometry ≡ batch.geometry
+        → (if none then one else other).0.geometry ≡ batch.geometry
+    go true one other is same = is
+    go false one other is same = same
+
+-- it leaves a batch's nodes, and a sound one sound
+pub begun-sound : (batch : BatchModel) → IsSoundBatch (Some batch) → IsSoundBatch (Some (begun batch).0)
+begun-sound batch sound = let begins = begun_sound batch.geometry batch sound refl in begins.sound
+
 -- a batch with a node more is of the same table, and stays sound
 IsBatchIn-out : (env : Env) (batch : Option BatchModel) (removed : Option ℕ) → IsBatchIn env batch
     → IsBatchIn env (with_out batch removed)
@@ -94,13 +107,18 @@ module _ (M : Type 0) where
       go Idle idle is = is
       go _ idle is = absurd (cc)
 
-  -- no call begins with a tidying, so who has begun has it as well
+  -- who has begun has what it had, or its tidying has it: the same nodes, of which none is fresh then where none waited
   pub begun-batch : (So : Option BatchModel → Type 0) (env : Env) (c : ℕ) (batch : Option BatchModel) (call : Call) (machine : Doing M)
-      → machine_of env c batch call ≡ Some machine → So batch → So (batch_room machine (batch_beside machine batch))
+      → machine_of env c batch call ≡ Some machine → So batch
+      → ((own : BatchModel) → batch ≡ Some own → So (Some (begun own).0))
+      → So (batch_room machine (batch_beside machine batch))
   begun-batch So env c batch =
-      begins_so M env c batch (λ call machine. So batch → So (batch_room machine (batch_beside machine batch)))
-      (λ port is. is) (λ port owner once is. is) (λ port is. is) (λ port owner is. is) (λ port owner new single is. is) (λ is. is)
-      (λ is. is)
+      begins_so M env c batch
+      (λ call machine. So batch → ((own : BatchModel) → batch ≡ Some own → So (Some (begun own).0))
+      → So (batch_room machine (batch_beside machine batch)))
+      (λ port is tidies. is) (λ port owner once is tidies. is) (λ port is tidies. is) (λ port owner is tidies. is)
+      (λ port owner new single is tidies. is) (λ is tidies. is) (λ is tidies. is)
+      (λ own has is tidies. tidies own has)
 
   -- ---- an operation
 

@@ -5,7 +5,7 @@ use Rattle.rht_words.specs.declared.machine.Next.{Next}
 use Rattle.rht_words.specs.declared.machine.Next.TheVariants.{Go, Done}
 use Rattle.rht_words.specs.declared.env.Env.{Env}
 use Rattle.rht_model.specs.declared.history.Call.{Call}
-use Rattle.rht_model.specs.declared.history.Call.TheVariants.{Bind, Find, Release, Rebind, All, Work, Count}
+use Rattle.rht_model.specs.declared.history.Call.TheVariants.{Bind, Find, Release, Rebind, All, Work, Tidy, Count}
 use Rattle.rht_model.specs.declared.history.Reply.{Reply}
 use Rattle.rht_model.specs.Rooms.{Kept, emptied, no_room}
 use Rattle.rht_model.specs.Endings.{Ending}
@@ -18,7 +18,7 @@ use Rattle.rht_release.specs.Release.{release_new, release_plan, release_after}
 use Rattle.rht_release.specs.Rebind.{rebind_new, rebind_plan, rebind_after}
 use Rattle.rht_move.specs.Work.{work_new, work_plan, work_after}
 use Rattle.rht_grace.specs.Batch.{BatchModel, batch_new}
-use Rattle.rht_grace.specs.Tidy.{tidy_plan, tidy_after}
+use Rattle.rht_grace.specs.Tidy.{tidy_new, tidy_plan, tidy_after}
 use Rattle.rht_callers.specs.Batches.{IsBatchIn, batch_room, batch_beside, batch_after}
 use Rattle.rht_callers.specs.PortCounts.{count_plan, count_after}
 use Rattle.rht_callers.specs.declared.local.Local.{Local}
@@ -59,7 +59,12 @@ module _ {M : Type 0} where
   rebinding_of env caller port owner new Single = Some (Rebinding (rebind_new env caller port owner new))
   rebinding_of env caller port owner new Listed = None
 
-  -- what a caller does that has this batch and is given a call; none where it can't be given one yet: a tidying isn't begun
+  -- a tidying begins with its caller's batch
+  abbrev pub tidying_of : Env → Option BatchModel → Option (Doing M)
+  tidying_of env None = None
+  tidying_of env (Some batch) = Some (Tidying (tidy_new env.geometry batch))
+
+  -- what a caller does that has this batch and is given a call; none where there is no such machine yet
   abbrev pub machine_of : Env → ℕ → Option BatchModel → Call → Option (Doing M)
   machine_of env caller batch (Find port) = Some (Finding (find_new env caller port))
   machine_of env caller batch (Bind port owner once) = Some (Binding (bind_new env caller port owner once))
@@ -67,6 +72,7 @@ module _ {M : Type 0} where
   machine_of env caller batch (Release port owner) = Some (Releasing (release_new env caller port owner))
   machine_of env caller batch (Rebind port owner new) = rebinding_of env caller port owner new env.config.kind
   machine_of env caller batch Work = Some (Working (work_new env caller))
+  machine_of env caller batch Tidy = tidying_of env batch
   machine_of env caller batch Count = Some (Counting (record { env = env }))
   machine_of env caller batch _ = None
 

@@ -5,7 +5,7 @@ ghost use Rattle.rht_words.specs.Operations.{op_place};
 ghost use Rattle.rht_words.specs.Places.{words_in};
 ghost use Rattle.rht_words.specs.declared.env.Env.{Env};
 ghost use Rattle.rht_callers.specs.Locals.{does_nothing, is_idle, machine_of, doing_plan, plan_of, doing_after, without_node, owners_after, local_after, begun_with, fresh, IsDoingOf, IsLocalOf};
-ghost use Rattle.rht_callers.specs.Batches.{with_out, node_out, out_of, batch_after, CanPut};
+ghost use Rattle.rht_callers.specs.Batches.{with_out, node_out, out_of, batch_after, IsBatchIn, CanPut};
 
 use crate::count::PortCount;
 use rht_bind::Bind;
@@ -196,9 +196,10 @@ impl<M: Mix> Local<M> {
     }
 
     /// Begins a call, and empties both rooms; no memory is taken or given back. It does nothing for a
-    /// call which isn't begun yet: `walk` and `tidy`, and `rebind` in a table of lists.
+    /// call of which there is no machine yet: `walk`, and `rebind` in a table of lists.
     pub fn begin(&mut self, env: Env, caller: u32, call: Call)
         requires owners { self.old.owners.limit ≡ env.geometry.nodes }
+        requires batch { IsBatchIn env self.old.batch }
         requires caller { caller < 16 }
         ensures { self.new ≡ begun_with self.old (machine_of env caller self.old.batch call) }
     {
@@ -216,6 +217,10 @@ impl<M: Mix> Local<M> {
             }
             Call::Work => Doing::Working(Work::new(env, caller)),
             Call::Count => Doing::Counting(PortCount { env }),
+            Call::Tidy => match self.batch.take() {
+                Some(batch) => Doing::Tidying(Tidy::new(env.geometry, batch)),
+                None => return,
+            },
             _ => return,
         };
         self.owners.clear();

@@ -1,6 +1,6 @@
 -- The moves of nodes: a word of a node that the caller has is written, a free node is taken, one that the caller has is given back.
 -- Others see nothing of them but that a node is or isn't free.
-use Rattle.std.proofs.Common.{◌≡◌, ◌≢◌, ◌↔◌, ℕ, ◌+◌, ◌*◌, ◌/◌, ◌%◌, ◌<◌, List, [], ◌∷◌, Some, false, refl, sym, ◌∙◌, ap, subst, inl, inr, bit_and, bit_or, arith}
+use Rattle.std.proofs.Common.{◌≡◌, ◌≢◌, ◌↔◌, ◌⊎◌, ℕ, ◌+◌, ◌*◌, ◌/◌, ◌%◌, ◌<◌, List, [], ◌∷◌, Some, false, refl, sym, ◌∙◌, ap, subst, inl, inr, bit_and, bit_or, arith}
 use Rattle.std.specs.Int.{bit_at, bit_not, w64}
 use Rattle.std.proofs.lemmas.Bool.{cases_eq}
 use Rattle.rht_words.specs.declared.env.Env.{Env}
@@ -10,12 +10,12 @@ use Rattle.rht_words.proofs.BitChanges.{bit_at-cleared, bit_at-cleared_other, bi
 use Rattle.rht_words.proofs.Memory.{Memory, IsWrite}
 use Rattle.rht_words.specs.Members.{In}
 use Rattle.rht_words.proofs.Members.{count_below-same}
-use Rattle.rht_ghost.proofs.Theory.Ghosts.{put, put-other, put-all, Owner, Free, NodeHeld, First, Behind, Ghost, HasSeat, is_first, is_used, is_taken_by, IsUsed, seat_of, seat-used, none-some, behind_one, held_not_used, held_by_one, with_owner, Taken, is_listed, taken_by_one, IsListedNode, unlisted-not_first}
+use Rattle.rht_ghost.proofs.Theory.Ghosts.{put, put-same, put-other, put-all, Owner, Free, NodeHeld, First, Behind, Ghost, HasSeat, is_first, is_used, is_taken_by, IsUsed, seat_of, seat-used, none-some, behind_one, held_not_used, held_by_one, with_owner, Taken, is_listed, taken_by_one, IsListedNode, unlisted-not_first}
 use Rattle.rht_ghost.proofs.Theory.Wholes.{chain_of, key_of, ArenaRight, IsBuilt, Whole, seated_at, firsts as count_firsts, raisers}
 use Rattle.rht_ghost.proofs.Theory.SeatedLinks.{chain-seated}
 use Rattle.rht_ghost.proofs.Theory.Knowledge.{HasNode}
 use Rattle.rht_ghost.proofs.Theory.Reliance.{bound_used}
-use Rattle.rht_ghost.proofs.Theory.Frames.{Made, UsedStay, used_stay, chains_stay, holdings_stay, entries_stay, work_stays, tables_stay, same_tables, Rely-same, Others, stale_write, same_owners, reowned_owners}
+use Rattle.rht_ghost.proofs.Theory.Frames.{Made, UsedStay, used_stay, chains_stay, holdings_stay, entries_stay, work_stays, tables_stay, same_tables, Rely-same, GoesBack, owners_left, stale_write, same_owners, reowned_owners}
 use Rattle.rht_ghost.proofs.Theory.WholeFrames.{chains_passes, SameChains, same_chains, Whole-frame, locks_stay, arena_stays}
 
 module _ (env : Env) (mix : ℕ → ℕ → ℕ → ℕ) where
@@ -94,7 +94,7 @@ module _ (env : Env) (mix : ℕ → ℕ → ℕ → ℕ) where
             (arena_stays env mix M M' G (Node n ChainLink) v whole write G refl (λ i e. cc))
             (write.others PortCount tt (λ e. cc) ∙ whole.counted);
         stale = record {
-          owners = same_owners env mix G G refl;
+          owners = owners_left env mix (same_owners env mix G G refl);
           chains = λ m l used none. elim (cases_eq m n) [
             | inl e ↦
                 let now : chain_of M' m ≡ chain_of M first = ap (chain_of M') e ∙ write.same ∙ link in
@@ -358,7 +358,7 @@ module _ (env : Env) (mix : ℕ → ℕ → ℕ → ℕ) where
   pub return_node : (d n : ℕ) (M M' : Memory) (G : Ghost) → Whole env mix M G → n < env.geometry.nodes
       → G.node n ≡ Taken d
       → IsWrite env.geometry M M' (NodeMap (n / 64)) (bit_or (M (NodeMap (n / 64))) (bit_of (n % 64)))
-      → Whole env mix M' (with_owner G n Free) × Others env mix d M G M' (with_owner G n Free)
+      → Made env mix d M G M' (with_owner G n Free)
   return_node d n M M' G whole among mine write =
       let i = n / 64 in
       let b = n % 64 in
@@ -371,9 +371,10 @@ module _ (env : Env) (mix : ℕ → ℕ → ℕ → ℕ) where
       (record { within = omega arith; below = omega (arith, among) }) tt write
       (ap (λ m. is_listed (G.node m)) parts ∙ was) refl
       ((λ set. refl), (λ e. bit_at-set (M (NodeMap i)) b))
-      (λ k l ne. bit_at-set_other (M (NodeMap i)) b k ne) in (
-        rw parts at made,
-        (λ c ne. record {
+      (λ k l ne. bit_at-set_other (M (NodeMap i)) b k ne) in
+      record {
+        whole = rw parts at made;
+        others = λ c ne. record {
           tables = tables_stay env mix M G (with_owner G n Free) whole same.tables
               (chains_passes env mix M G (with_owner G n Free) whole same);
           locks = λ j h. refl;
@@ -398,5 +399,19 @@ module _ (env : Env) (mix : ℕ → ℕ → ℕ → ℕ) where
               λ m. put-all (λ k o. o ≡ NodeHeld c → G.node k ≡ NodeHeld c) G.node n Free (λ e. absurd (cc))
               (λ k kn h. h) m;
           no_lock = λ j h. h;
-        }),
-      )
+        };
+        stale = record {
+          owners = record {
+            out = λ m e is. gone m (λ o. o ≡ Taken e) is;
+            used = λ m used. gone m IsUsed used;
+          };
+          chains = λ m l used none. inl (write.others (Node m ChainLink) l (λ e. cc));
+          lists = λ m l used other. write.others (Node m ListLink) l (λ e. cc);
+        };
+      }
+    where
+      gone : (m : ℕ) (P : Owner → Type 0) → P (G.node m) → P (put G.node n Free m) ⊎ GoesBack env mix d G (with_owner G n Free) m
+      gone m P is = elim (cases_eq m n) [
+        | inl same ↦ inr (record { was = ap G.node same ∙ mine; now = ap (put G.node n Free) same ∙ put-same G.node n Free })
+        | inr ne ↦ inl (subst P (sym (put-other G.node n Free m ne)) is)
+      ]

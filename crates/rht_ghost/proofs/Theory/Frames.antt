@@ -5,7 +5,7 @@ use Rattle.rht_words.specs.Places.{Address, CurrentTable, WorkLock, Slot, SlotWo
 use Rattle.rht_words.specs.Links.{link_of}
 use Rattle.rht_words.specs.Members.{In}
 use Rattle.rht_words.proofs.Memory.{Memory, IsWrite}
-use Rattle.rht_ghost.proofs.Theory.Ghosts.{Bucket, Owner, First, Leaving, Ghost, is_taken_by, is_used, IsUsed, SlotOwner, seat_of, seat_in, seat, seat-used, has_table, index_at, Taken, HasSeat, is_listed, put-other, with_owner, IsListedNode, seat-listed}
+use Rattle.rht_ghost.proofs.Theory.Ghosts.{Bucket, Owner, Free, First, Leaving, Ghost, is_taken_by, is_used, IsUsed, SlotOwner, seat_of, seat_in, seat, seat-used, has_table, index_at, Taken, HasSeat, is_listed, put-other, with_owner, IsListedNode, seat-listed}
 use Rattle.rht_ghost.proofs.Theory.Wholes.{chain_of, key_of, Whole, seated_at, out-seated}
 use Rattle.rht_ghost.proofs.Theory.Passed.{same-TableStays, TablesGrow, PassesStay, Passed-stays}
 use Rattle.rht_ghost.proofs.Theory.Knowledge.{HasNode, IsEmptied}
@@ -33,16 +33,32 @@ module _ (env : Env) (mix : ℕ → ℕ → ℕ → ℕ) where
     pub out : (n e : ℕ) → G.node n ≡ Taken e → G'.node n ≡ Taken e
     pub used : (n : ℕ) → IsUsed (G.node n) → IsUsed (G'.node n)
 
+  -- or a caller has given this one back, which a call of it had taken out
+  pub record GoesBack (d : ℕ) (G G' : Ghost) (n : ℕ) : Type 0 where
+    pub was : G.node n ≡ Taken d
+    pub now : G'.node n ≡ Free
+
+  -- what an operation of this caller leaves of that: such nodes stay, but for one that it gives back
+  pub record OwnersLeft (d : ℕ) (G G' : Ghost) : Type 0 where
+    pub out : (n e : ℕ) → G.node n ≡ Taken e → (G'.node n ≡ Taken e) ⊎ GoesBack d G G' n
+    pub used : (n : ℕ) → IsUsed (G.node n) → IsUsed (G'.node n) ⊎ GoesBack d G G' n
+
+  pub owners_left : {d : ℕ} {G G' : Ghost} → OwnersStay G G' → OwnersLeft d G G'
+  owners_left stay = record {
+    out = λ n e is. inl (stay.out n e is);
+    used = λ n used. inl (stay.used n used);
+  }
+
   -- the link in chains of each node that is or was a port's, and has no seat then; or it gets that of the
   -- port's first node
   abbrev pub LinksStay : Memory → Ghost → Memory → Ghost → Type 0
   LinksStay M G M' G' = (n : ℕ) → n < env.geometry.nodes → IsUsed (G.node n) → seat_of (G'.node n) ≡ None
       → (chain_of M' n ≡ chain_of M n) ⊎ IsLed M G M' G' n
 
-  -- What a step leaves of nodes that are in no chain then, and of those that are in no list: the links of
+  -- What a step of a caller leaves of nodes that are in no chain then, and of those that are in no list: the links of
   -- such that are or were ports', but that one may be led to where its port's first node leads.
-  pub record StaleStay (M : Memory) (G : Ghost) (M' : Memory) (G' : Ghost) : Type 0 where
-    pub owners : OwnersStay G G'
+  pub record StaleStay (d : ℕ) (M : Memory) (G : Ghost) (M' : Memory) (G' : Ghost) : Type 0 where
+    pub owners : OwnersLeft d G G'
     pub chains : LinksStay M G M' G'
     pub lists : (n : ℕ) → n < env.geometry.nodes → IsUsed (G.node n) → is_listed (G'.node n) ≡ false
         → M' (Node n ListLink) ≡ M (Node n ListLink)
@@ -64,20 +80,20 @@ module _ (env : Env) (mix : ℕ → ℕ → ℕ → ℕ) where
         (λ same. let q : true ≡ false = sym used ∙ ap (λ k. is_used (G.node k)) same ∙ was in cc)) ∙ used;
   }
 
-  pub stale_write : (M M' : Memory) (G G' : Ghost) (a : Address) (v : ℕ) → IsWrite env.geometry M M' a v
+  pub stale_write : {d : ℕ} (M M' : Memory) (G G' : Ghost) (a : Address) (v : ℕ) → IsWrite env.geometry M M' a v
       → OwnersStay G G'
       → ((n : ℕ) → IsUsed (G.node n) → seat_of (G'.node n) ≡ None → Node n ChainLink ≢ a)
       → ((n : ℕ) → IsUsed (G.node n) → is_listed (G'.node n) ≡ false → Node n ListLink ≢ a)
-      → StaleStay M G M' G'
+      → StaleStay d M G M' G'
   stale_write M M' G G' a v write owners chains lists = record {
-    owners = owners;
+    owners = owners_left owners;
     chains = λ n l used none. inl (write.others (Node n ChainLink) l (chains n used none));
     lists = λ n l used other. write.others (Node n ListLink) l (lists n used other);
   }
 
-  pub stale_none : (M : Memory) (G G' : Ghost) → OwnersStay G G' → StaleStay M G M G'
+  pub stale_none : {d : ℕ} (M : Memory) (G G' : Ghost) → OwnersStay G G' → StaleStay d M G M G'
   stale_none M G G' owners = record {
-    owners = owners;
+    owners = owners_left owners;
     chains = λ n l used none. inl refl;
     lists = λ n l used other. refl;
   }
@@ -86,7 +102,7 @@ module _ (env : Env) (mix : ℕ → ℕ → ℕ → ℕ) where
   pub record Made (d : ℕ) (M : Memory) (G : Ghost) (M' : Memory) (G' : Ghost) : Type 0 where
     pub whole : Whole env mix M' G'
     pub others : Others d M G M' G'
-    pub stale : StaleStay M G M' G'
+    pub stale : StaleStay d M G M' G'
 
   -- each word of a node that is or was a port's stays, but for links in chains of nodes that are in none
   pub record UsedStay (M : Memory) (G : Ghost) (M' : Memory) : Type 0 where

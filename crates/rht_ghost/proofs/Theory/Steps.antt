@@ -20,7 +20,7 @@ use Rattle.rht_model.specs.Multimap.{Multimap, Agree}
 use Rattle.rht_model.specs.Answers.{Answer, is_change}
 use Rattle.rht_arena.specs.Laws.{map_place, map_bit, IsTaking}
 use Rattle.rht_words.specs.TableWords.{IsTableWord}
-use Rattle.rht_ghost.proofs.Theory.Ghosts.{put, put-all, Owner, Free, NodeHeld, First, Leaving, PageFree, PageHeld, SlotFree, SlotHeld, Ghost, is_taken_by, with_holder, with_armed, with_owner, with_raised, with_slot, has_bit, with_pages, made_table, with_table}
+use Rattle.rht_ghost.proofs.Theory.Ghosts.{put, put-all, Owner, Free, NodeHeld, First, Leaving, Taken, PageFree, PageHeld, SlotFree, SlotHeld, Ghost, is_taken_by, with_holder, with_armed, with_owner, with_raised, with_slot, has_bit, with_pages, made_table, with_table}
 use Rattle.rht_ghost.proofs.Theory.Wholes.{place_at, outs, Whole}
 use Rattle.rht_ghost.proofs.Theory.Reliance.{bound_used}
 use Rattle.rht_ghost.proofs.Theory.Frames.{Made, still}
@@ -34,7 +34,8 @@ use Rattle.rht_ghost.proofs.Theory.Departures.{with_worker, published, retired, 
 -- of these bits of a word of the map taken or given back, the table in a slot attached that has this shape, seed and serial, or behind an
 -- entry a page entered. And what the work does: its lock taken or given back, that it begins to move entries, and the lock of a second bucket taken; an entry
 -- taken out of its bucket, brought into another one, and cut off from the first; the next table made the current one, and the table in
--- a slot retired. And the read section of a caller opened or closed
+-- a slot retired. And the read section of a caller opened or closed, and
+-- a node given back that a call of the caller had taken out
 pub data Move : Type 0 where
   Quiet : Move
   TakesNode : ℕ → Move
@@ -64,6 +65,7 @@ pub data Move : Type 0 where
   Retires : ℕ → Move
   Opens : ℕ → Move
   Closes : ℕ → Move
+  ReturnsNode : ℕ → Move
 
 -- a test's two cases, with what the test says
 pub by_test : (C : Bool → Type 0) (b : Bool) → ((b ≡ true) → C true) → ((b ≡ false) → C false) → C b
@@ -338,6 +340,17 @@ module _ (g : Geometry) where
     pub inside : h.section ≡ true
     pub holds : bare h' ≡ record (bare h) { section = false }
 
+  -- the node isn't one that the call has
+  pub record DoesReturnNode (node : ℕ) (op : Op) (h h' : Holding) : Type 0 where
+    pub among : node < g.nodes
+    pub giving : op ≡ Or (map_place g node) (bit_of (map_bit node))
+    pub holds : HoldsSame h h'
+
+-- how many nodes of its calls the caller has given back by the move, beside these
+abbrev pub with_returned : Move → ℕ → ℕ
+with_returned (ReturnsNode n) many = many + 1
+with_returned _ many = many
+
 module _ (env : Env) (mix : ℕ → ℕ → ℕ → ℕ) where
   -- the ghost after a move of a caller
   abbrev pub ghost_after : ℕ → Move → Ghost → Ghost
@@ -369,6 +382,7 @@ module _ (env : Env) (mix : ℕ → ℕ → ℕ → ℕ) where
   ghost_after c (Retires s) G = retired G s
   ghost_after c (Opens d) G = G
   ghost_after c (Closes d) G = G
+  ghost_after c (ReturnsNode n) G = with_owner G n Free
 
   -- the words as a memory
   abbrev pub mem : List ℕ → Memory
@@ -384,7 +398,7 @@ module _ (env : Env) (mix : ℕ → ℕ → ℕ → ℕ) where
   -- What a move needs: to link a node, all that makes it ready, and to be armed, the lock of a bucket in the last table. To take a slot or
   -- pages, that they are free, to give them back, that the caller has them, to attach a table, that the caller has made it, and to enter a
   -- page, that the caller has it. To take the work, that nobody has it, and to do it, that the caller has it, with what the moves of entries and tables need.
-  -- To open or close a section, that it is the caller's own.
+  -- To open or close a section, that it is the caller's own. To give a node back, that a call of the caller took it out.
   abbrev pub ReadyFor : ℕ → Memory → Ghost → Move → Type 0
   ReadyFor c M G Quiet = Unit {0}
   ReadyFor c M G (TakesNode n) = G.node n ≡ Free
@@ -414,6 +428,7 @@ module _ (env : Env) (mix : ℕ → ℕ → ℕ → ℕ) where
   ReadyFor c M G (Retires s) = CanRetire env mix c s G
   ReadyFor c M G (Opens d) = d ≡ c
   ReadyFor c M G (Closes d) = d ≡ c
+  ReadyFor c M G (ReturnsNode n) = G.node n ≡ Taken c
 
   -- which operation the move is, and how what the call holds changes by it
   abbrev pub Does : Move → Op → ℕ → Holding → Holding → Type 0
@@ -446,6 +461,7 @@ module _ (env : Env) (mix : ℕ → ℕ → ℕ → ℕ) where
   Does (Retires s) op old h h' = DoesRetire env.geometry s op h (bare h')
   Does (Opens d) op old h h' = DoesOpen env.geometry d op h (bare h')
   Does (Closes d) op old h h' = DoesClose env.geometry d op h (bare h')
+  Does (ReturnsNode n) op old h h' = DoesReturnNode env.geometry n op h (bare h')
 
   -- An operation of a caller in a call, which holds this before it and that after it, with what it knows afterwards.
   -- `early` is for a call that finds a page missing and answers as of its load of a future before, since which others may have bound the port:
@@ -462,7 +478,7 @@ module _ (env : Env) (mix : ℕ → ℕ → ℕ → ℕ) where
         h.early h'.early
     pub right : (answer : Answer) → h.answer ≡ None → h'.answer ≡ Some answer → IsRight call h.node answer
     pub in_time : HasNodeInTime h h'
-    pub outs : outs env mix (ghost_after c move G) c + outs_of h.answer ≡ outs env mix G c + outs_of h'.answer
+    pub outs : with_returned move (outs env mix (ghost_after c move G) c + outs_of h.answer) ≡ outs env mix G c + outs_of h'.answer
     pub knows : Knows (mem (applied words op)) (ghost_after c move G)
 
   -- an operation of a call that nowhere misses a page
@@ -515,7 +531,7 @@ module _ (env : Env) (mix : ℕ → ℕ → ℕ → ℕ) where
 
   -- ---- operations that change no bindings
 
-  -- the move binds no port otherwise
+  -- the move binds no port otherwise, and gives back no node that was taken out
   abbrev pub LinksNone : Move → Type 0
   LinksNone Quiet = Unit {0}
   LinksNone (TakesNode n) = Unit {0}
@@ -545,6 +561,7 @@ module _ (env : Env) (mix : ℕ → ℕ → ℕ → ℕ) where
   LinksNone (Retires s) = Unit {0}
   LinksNone (Opens d) = Unit {0}
   LinksNone (Closes d) = Unit {0}
+  LinksNone (ReturnsNode n) = ⊥
 
   -- An operation of a caller that leaves bindings, whatever is known of its call's answer.
   pub record SilentStep (c : ℕ) (words : List ℕ) (G : Ghost) (op : Op) (h h' : Holding) (Knows : Memory
@@ -569,6 +586,10 @@ module _ (env : Env) (mix : ℕ → ℕ → ℕ → ℕ) where
       (λ m l. put-all (λ i o. is_taken_by c o ≡ is_taken_by c (G.node i)) G.node n owner (now
       ∙ sym was) (λ i ne. refl) m)
 
+  none_returned : (move : Move) (many : ℕ) → LinksNone move → with_returned move many ≡ many
+  none_returned (ReturnsNode n) many none = absurd none
+  none_returned _ many none = refl
+
   -- where a move binds no port otherwise, each port is bound to what it was
   same_bound : (c : ℕ) (move : Move) (G : Ghost) (port : ℕ) → LinksNone move
       → (ghost_after c move G).bound port ≡ G.bound port
@@ -583,6 +604,7 @@ module _ (env : Env) (mix : ℕ → ℕ → ℕ → ℕ) where
   same_outs c (GivesNode n) M G whole none ready = reowned-outs c n Free G (ap (is_taken_by c) ready) refl
   same_outs c (Links n k j) M G whole none ready = absurd none
   same_outs c (Rebinds change) M G whole none ready = absurd none
+  same_outs c (ReturnsNode n) M G whole none ready = absurd none
   same_outs c (Leaves j i entry nodes) M G whole none can =
       let there : In entry (G.bucket j).nodes = subst (In entry) (sym can.split) (in-middle entry nodes []) in
       reowned-outs c entry (Leaving j) G (ap (is_taken_by c) (whole.owned.member j entry there)) refl
@@ -671,6 +693,7 @@ module _ (env : Env) (mix : ℕ → ℕ → ℕ → ℕ) where
       → Does move op old h (with_known h' answer early)
   does-answered (Links n port j) op old h h' answer early none does = absurd none
   does-answered (Rebinds change) op old h h' answer early none does = absurd none
+  does-answered (ReturnsNode n) op old h h' answer early none does = absurd none
   does-answered _ op old h h' answer early none does = does
 
   -- an operation that leaves bindings is a step, with what it says of the answer on the bindings as they are, now and early
@@ -697,7 +720,8 @@ module _ (env : Env) (mix : ℕ → ℕ → ℕ → ℕ) where
         early = KnowsEarly-agree kind c call There There' now after h.early early step.agree knows;
         right = told-right kind c call h.node h.early There now h.answer answer tells;
         in_time = in_time;
-        outs = ap (λ o. o + outs_of h.answer) step.outs
+        outs = none_returned step.move _ step.binds_none
+            ∙ ap (λ o. o + outs_of h.answer) step.outs
             ∙ ap (λ o. outs env mix G c + o)
             (sym (told-outs kind c call h.node h.early There now h.answer answer tells));
         knows = step.knows;
