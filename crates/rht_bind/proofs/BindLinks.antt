@@ -227,6 +227,7 @@ module _ (env : Env) (mix : ℕ → ℕ → ℕ → ℕ) (c : ℕ) (port owner :
           outs =
               ap (λ o. o + 0)
               (reowned-outs env mix c n (First j) G (ap (is_taken_by c) ready.has.mine) refl);
+          returning = λ n is. absurd (cc);
           knows = record {
             knowing = plainly env mix (nothing_left n j place is known.knowing.only) tt tt tt;
             fits = tt;

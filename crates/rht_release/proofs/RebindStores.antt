@@ -323,6 +323,7 @@ module _ (env : Env) (mix : ℕ → ℕ → ℕ → ℕ) (c : ℕ) (port owner n
           subst (IsRight call (Some n)) (cc) (with_node n Rebound tt refl refl (λ e. cc));
       in_time = record { taken = λ node none some. absurd (cc); gone = λ node some none told. absurd (cc) };
       outs = one_out;
+      returning = λ n is. absurd (cc);
       knows = knows;
     }
 

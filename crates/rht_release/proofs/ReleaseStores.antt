@@ -227,6 +227,7 @@ module _ (env : Env) (mix : ℕ → ℕ → ℕ → ℕ) (c : ℕ) (port owner :
               (released_right false);
           in_time = still_has refl;
           outs = omega (arith, more);
+          returning = λ n is. absurd (cc);
           knows = plainly env mix (record {
             nodes = only.nodes;
             locks = only.locks;

@@ -1,6 +1,6 @@
 -- How many operations a look-up has made in each of its states. In a table each operation leaves fewer to come (`lessens`), tables come in
 -- the order in which they were attached, and there are at most eight.
-use Rattle.std.proofs.Common.{◌≡◌, ℕ, ◌+◌, ◌*◌, ◌<◌, ◌≤◌, nat_lt, List, true, Option, Some, None, refl, sym, ap, ◌∙◌, subst, arith}
+use Rattle.std.proofs.Common.{◌≡◌, ℕ, ◌+◌, ◌*◌, ◌<◌, ◌≤◌, nat_lt, Bool, List, true, Option, Some, None, refl, sym, ap, ◌∙◌, subst, arith}
 use Rattle.std.specs.Prelude.{◌==◌}
 use Rattle.std.proofs.Math.Nat.{mul-le-mul_right}
 use Rattle.std.proofs.lemmas.Bool.{cond_both}
@@ -153,7 +153,7 @@ module _ (env : Env) where
   compared-of port head node visited key =
       cond_both (key == word_of port) _ _ (IsOfTable head.table) (λ t. tt) (λ f. refl)
 
-  module _ (mix : ℕ → ℕ → ℕ → ℕ) (port since : ℕ) (Says : Reply → Type 0) (words : List ℕ) (G : Ghost) (P : Places)
+  module _ (mix : ℕ → ℕ → ℕ → ℕ) (port : ℕ) (seen : ℕ → Bool) (since : ℕ) (Says : Reply → Type 0) (words : List ℕ) (G : Ghost) (P : Places)
       (whole : Whole env mix (mem env mix words) G) where
     abbrev M : Memory
     M = mem env mix words
@@ -188,7 +188,7 @@ module _ (env : Env) where
 
     -- but the last one, behind which the call has ended
     pub spent_leads : (caller made : ℕ) (state : FindAt) → says state ≡ Go → IsFindAtIn env state
-        → LookMeans env mix port since Says M G P state → IsSpent G state made
+        → LookMeans env mix port seen since Says M G P state → IsSpent G state made
         → IsSpent G (goes mix env port state (old_of words (plan_at env caller state))) (made + 1)
     spent_leads caller made at.Opening goes_on within known few = omega (arith, few)
     spent_leads caller made at.CurrentTable goes_on within known few =
@@ -221,7 +221,7 @@ module _ (env : Env) where
     spent_leads caller made (at.Closing reply) goes_on within known few = absurd (cc)
 
     -- so many are within the bound, in whatever state
-    pub spent_most : (made : ℕ) (state : FindAt) → LookMeans env mix port since Says M G P state → IsSpent G state made
+    pub spent_most : (made : ℕ) (state : FindAt) → LookMeans env mix port seen since Says M G P state → IsSpent G state made
         → made ≤ most_of (table_steps env)
     spent_most made at.Opening known few = most_of-first (table_steps env) made (omega (arith, few))
     spent_most made at.CurrentTable known few = most_of-first (table_steps env) made few
@@ -248,7 +248,7 @@ module _ (env : Env) where
       same_most slot has count few =
           subst (λ i. count ≤ most_in (table_steps env) i) (sym (grow.indices slot has)) few
 
-      pub spent_stays : (made : ℕ) (state : FindAt) → LookMeans env mix port since Says M G P state → IsSpent G state made
+      pub spent_stays : (made : ℕ) (state : FindAt) → LookMeans env mix port seen since Says M G P state → IsSpent G state made
           → IsSpent G' state made
       spent_stays made at.Opening known few = few
       spent_stays made at.CurrentTable known few = few

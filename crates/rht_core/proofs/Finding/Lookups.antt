@@ -1,7 +1,8 @@
 -- What a look-up without locks knows in each of its states, and that each of its loads leads from what it knows to what it knows next.
 -- A load leaves words and ghost, so all of this is said of one moment; what others do meanwhile is said by stages (`stage_stays`).
-use Rattle.std.proofs.Common.{◌≡◌, ◌≢◌, ◌⊎◌, ℕ, ◌+◌, ◌<◌, ◌≤◌, nat_lt, List, [], Option, Some, None, refl, sym, ◌∙◌, ap, subst, inl, inr, arith}
+use Rattle.std.proofs.Common.{◌≡◌, ◌≢◌, ◌⊎◌, ℕ, ◌+◌, ◌<◌, ◌≤◌, nat_lt, Bool, true, List, [], Option, Some, None, refl, sym, ◌∙◌, ap, subst, inl, inr, arith}
 use Rattle.std.specs.Prelude.{◌==◌, ◌%◌, if◌then◌else◌}
+use Rattle.std.specs.List.{AllByRecursion}
 use Rattle.std.proofs.lemmas.Bool.{cond_both, eqb-true, eqb-false, ltb-false}
 use Rattle.rht_words.specs.declared.env.Env.{Env}
 use Rattle.rht_words.specs.declared.machine.Next.{Next}
@@ -19,6 +20,7 @@ use Rattle.rht_nest.specs.Reach.{ReachModel, reach_after, reach_plan}
 use Rattle.rht_nest.specs.declared.place.Bucket.{Bucket}
 use Rattle.rht_nest.specs.declared.place.Bucket.TheVariants as buckets
 use Rattle.rht_find.specs.Find.{plan_at, goes, reached, walked_anew, chain_ended, led_to, next_table, IsFindAtIn}
+use Rattle.rht_find.specs.FindStanding.{standing_of_find}
 use Rattle.rht_find.specs.declared.find.Head.{Head}
 use Rattle.rht_find.specs.declared.find.FindAt.{FindAt}
 use Rattle.rht_find.specs.declared.find.FindAt.TheVariants as at
@@ -35,13 +37,13 @@ use Rattle.rht_core.proofs.Finding.Stages.{Stage, Reaching, Heading, AtKey, AtLi
 use Rattle.rht_core.proofs.Finding.StageSteps.{at_current, headed_to, headed_nowhere, key_differs, key_is_it, link_to, link_nowhere, all_visited, walks_again, none_behind, goes_on}
 use Rattle.rht_core.proofs.Finding.ReachSteps.{ReachLeads, reach_leads, reaching-stays}
 
-module _ (env : Env) (mix : ℕ → ℕ → ℕ → ℕ) (port since : ℕ) (Says : Reply → Type 0) where
+module _ (env : Env) (mix : ℕ → ℕ → ℕ → ℕ) (port : ℕ) (seen : ℕ → Bool) (since : ℕ) (Says : Reply → Type 0) where
   -- the bucket with this word
   abbrev bucket_of_head : Head → ℕ
   bucket_of_head head = word_index env mix head.place
 
   abbrev StageIs : Memory → Ghost → Places → Stage → Type 0
-  StageIs = StageMeans env mix port since (Says Missing)
+  StageIs = StageMeans env mix port seen since (Says Missing)
 
   -- what it knows in a state
   abbrev pub LookMeans : Memory → Ghost → Places → FindAt → Type 0
@@ -77,7 +79,7 @@ module _ (env : Env) (mix : ℕ → ℕ → ℕ → ℕ) (port since : ℕ) (Say
         let slot = (G.table G.current).slot in
         let is : table_of (M CurrentTable) ≡ slot =
         (let word = whole.tables.current_is in omega (arith, right_now.slot_in, word)) in
-        rw is (at_current env mix port since now M G P whole right deaths (Says Missing) slot right_now.has_slot
+        rw is (at_current env mix port seen since now M G P whole right deaths (Says Missing) slot right_now.has_slot
         right_now.index absent)
 
     -- ---- the end of a chain
@@ -86,7 +88,7 @@ module _ (env : Env) (mix : ℕ → ℕ → ℕ → ℕ) (port since : ℕ) (Say
         → Knows (walked_anew head)
     anew_known head home_is ending =
         cond_both (nat_lt 0 head.left) _ _ Knows
-        (λ t. walks_again env mix port since now M G P whole right deaths (Says Missing) head.table (bucket_of_head head) home_is
+        (λ t. walks_again env mix port seen since now M G P whole right deaths (Says Missing) head.table (bucket_of_head head) home_is
         ending)
         (λ f. ending)
 
@@ -150,27 +152,31 @@ module _ (env : Env) (mix : ℕ → ℕ → ℕ → ℕ) (port since : ℕ) (Say
     future_known : (slot : ℕ) → Means (Ending slot) → (future : Option ℕ) → LeadsBehind env mix M G whole slot future
         → Knows (next_table env future)
     future_known slot ending None last =
-        none_behind env mix port since now M G P whole right deaths (Says Missing) slot ending last
+        none_behind env mix port seen since now M G P whole right deaths (Says Missing) slot ending last
     future_known slot ending (Some next) behind =
-        (goes_on env mix port since now M G P whole right deaths (Says Missing) slot next ending behind, tt)
+        (goes_on env mix port seen since now M G P whole right deaths (Says Missing) slot next ending behind, tt)
 
     -- ---- each load
 
     reached_known : (next : ReachModel × Next Bucket)
-        → ReachLeads env mix port since now words G P whole right deaths (Says Missing) next
+        → ReachLeads env mix port seen since now words G P whole right deaths (Says Missing) next
         → Knows (reached env next.0 next.1)
     reached_known (m, Go) leads = (leads.means, leads.tells)
     reached_known (m, Done (buckets.At place)) leads = leads.means
     reached_known (m, Done (buckets.Absent entry)) leads = leads.means
 
-    pub look_leads : (caller : ℕ) (state : FindAt) → IsFindAtIn env state → Knows state
+    -- where its section has met the node at which it stands
+    abbrev pub HasMet : FindAt → Type 0
+    HasMet state = AllByRecursion (λ n. seen n ≡ true) (standing_of_find state).nodes
+
+    pub look_leads : (caller : ℕ) (state : FindAt) → IsFindAtIn env state → HasMet state → Knows state
         → Knows (goes mix env port state (old_of words (plan_at env caller state)))
-    look_leads caller at.Opening within known = tt
-    look_leads caller at.CurrentTable within known = (current_known, tt)
-    look_leads caller (at.Locating reach) within known =
+    look_leads caller at.Opening within met known = tt
+    look_leads caller at.CurrentTable within met known = (current_known, tt)
+    look_leads caller (at.Locating reach) within met known =
         reached_known (reach_after mix port reach (old_of words (reach_plan reach)))
-        (reach_leads env mix port since now words G P whole right deaths (Says Missing) reach within known.0 known.1)
-    look_leads caller (at.Heading head) within known =
+        (reach_leads env mix port seen since now words G P whole right deaths (Says Missing) reach within known.0 known.1)
+    look_leads caller (at.Heading head) within met known =
         let slot = head.table in
         let j = bucket_of_head head in
         let link = head_of head.place (old_of words (Load head.place)) in
@@ -178,51 +184,51 @@ module _ (env : Env) (mix : ℕ → ℕ → ℕ → ℕ) (port since : ℕ) (Say
         led_known head 0 link
         (record {
           home_is = known.0;
-          to_node = λ n leads. headed_to env mix port since now M G P whole right deaths (Says Missing) slot j n known
+          to_node = λ n leads. headed_to env mix port seen since now M G P whole right deaths (Says Missing) slot j n known
               (sym is ∙ leads);
-          to_none = λ none. headed_nowhere env mix port since now M G P whole right deaths (Says Missing) slot j known
+          to_none = λ none. headed_nowhere env mix port seen since now M G P whole right deaths (Says Missing) slot j known
               (λ n l leads. none n l (is ∙ leads));
-          visited_all = λ all. headed_nowhere env mix port since now M G P whole right deaths (Says Missing) slot j known
+          visited_all = λ all. headed_nowhere env mix port seen since now M G P whole right deaths (Says Missing) slot j known
               (λ n l leads. absurd (omega (arith, l, all)));
         })
         (node_of env.geometry.nodes link) refl
-    look_leads caller (at.Key head node visited) within known =
+    look_leads caller (at.Key head node visited) within met known =
         let slot = head.table in
         let j = bucket_of_head head in
         cond_both (key_of M node == port) _ _ Knows
-        (λ t. key_is_it env mix port since now M G P whole right deaths (Says Missing) slot j node visited known
+        (λ t. key_is_it env mix port seen since now M G P whole right deaths (Says Missing) slot j node visited known
         (eqb-true (key_of M node) port t))
-        (λ f. key_differs env mix port since now M G P whole right deaths (Says Missing) slot j node visited known
+        (λ f. key_differs env mix port seen since now M G P whole right deaths (Says Missing) slot j node visited known met.0
         (eqb-false (key_of M node) port f))
-    look_leads caller (at.Link head node visited) within known =
+    look_leads caller (at.Link head node visited) within met known =
         let slot = head.table in
         let j = bucket_of_head head in
         let link = chain_of M node in
         led_known head visited link
         (record {
           home_is = known.0;
-          to_node = λ n leads. link_to env mix port since now M G P whole right deaths (Says Missing) slot j node n visited
+          to_node = λ n leads. link_to env mix port seen since now M G P whole right deaths (Says Missing) slot j node n visited
               known leads;
-          to_none = λ none. link_nowhere env mix port since now M G P whole right deaths (Says Missing) slot j node visited
+          to_none = λ none. link_nowhere env mix port seen since now M G P whole right deaths (Says Missing) slot j node visited
               known none;
-          visited_all = λ all. all_visited env mix port since now M G P whole right deaths (Says Missing) slot j node visited
+          visited_all = λ all. all_visited env mix port seen since now M G P whole right deaths (Says Missing) slot j node visited
               known all;
         })
         (node_of env.geometry.nodes link) refl
-    look_leads caller (at.Future table) within known =
+    look_leads caller (at.Future table) within met known =
         future_known table known (slot_of (M (Slot table FutureWord))) (future_leads env mix M G whole table known.0.table)
-    look_leads caller (at.Owner node) within known = found node known.0 known.1
-    look_leads caller (at.Closing reply) within known = known
+    look_leads caller (at.Owner node) within met known = found node known.0 known.1
+    look_leads caller (at.Closing reply) within met known = known
 
 -- what it knows by one notion of a right answer, it knows by another that holds wherever that one does
-module _ (env : Env) (mix : ℕ → ℕ → ℕ → ℕ) (port since : ℕ) (Says Says' : Reply → Type 0)
+module _ (env : Env) (mix : ℕ → ℕ → ℕ → ℕ) (port : ℕ) (seen : ℕ → Bool) (since : ℕ) (Says Says' : Reply → Type 0)
     (said : (reply : Reply) → Says reply → Says' reply) (M : Memory) (G : Ghost) (P : Places) where
   or_else : {A : Type 0} → Says Missing ⊎ A → Says' Missing ⊎ A
   or_else (inl is) = inl (said Missing is)
   or_else (inr other) = inr other
 
-  stage_says : (stage : Stage) → StageMeans env mix port since (Says Missing) M G P stage
-      → StageMeans env mix port since (Says' Missing) M G P stage
+  stage_says : (stage : Stage) → StageMeans env mix port seen since (Says Missing) M G P stage
+      → StageMeans env mix port seen since (Says' Missing) M G P stage
   stage_says (Reaching slot) known = (known.0, or_else known.1)
   stage_says (Heading slot j) known = (known.0, or_else known.1)
   stage_says (AtKey slot j m visited) known = (known.0, known.1, or_else known.2)
@@ -230,7 +236,7 @@ module _ (env : Env) (mix : ℕ → ℕ → ℕ → ℕ) (port since : ℕ) (Say
   stage_says (Ending slot) known = (known.0, or_else known.1)
   stage_says (Owning m) known = known
 
-  pub look_says : (state : FindAt) → LookMeans env mix port since Says M G P state → LookMeans env mix port since Says' M G P state
+  pub look_says : (state : FindAt) → LookMeans env mix port seen since Says M G P state → LookMeans env mix port seen since Says' M G P state
   look_says at.Opening known = tt
   look_says at.CurrentTable known = tt
   look_says (at.Locating reach) known = (stage_says (Reaching reach.table) known.0, known.1)
@@ -242,18 +248,18 @@ module _ (env : Env) (mix : ℕ → ℕ → ℕ → ℕ) (port since : ℕ) (Say
   look_says (at.Closing reply) known = said reply known
 
 -- what it knows outlives an operation of anybody else
-module _ (env : Env) (mix : ℕ → ℕ → ℕ → ℕ) (port since now : ℕ) (M : Memory) (G : Ghost) (P : Places) (M' : Memory) (G' : Ghost)
+module _ (env : Env) (mix : ℕ → ℕ → ℕ → ℕ) (port : ℕ) (seen : ℕ → Bool) (since now : ℕ) (M : Memory) (G : Ghost) (P : Places) (M' : Memory) (G' : Ghost)
     (whole : Whole env mix M G) (whole' : Whole env mix M' G') (right : PlacesRight env mix G P M now)
     (step : PlacesNext env mix now M G P M' G') (grow : TablesGrow env mix G G') (began : since ≤ now)
     (Says Says' : Reply → Type 0) (said : (reply : Reply) → Says reply → Says' reply)
     (absent : G'.bound port ≡ [] → Says' Missing) where
-  stays : (stage : Stage) → StageMeans env mix port since (Says Missing) M G P stage
-      → StageMeans env mix port since (Says' Missing) M' G' step.places stage
-  stays = stage_stays env mix port since now M G P M' G' whole whole' right step grow began (Says Missing) (Says' Missing)
+  stays : (stage : Stage) → StageMeans env mix port seen since (Says Missing) M G P stage
+      → StageMeans env mix port seen since (Says' Missing) M' G' step.places stage
+  stays = stage_stays env mix port seen since now M G P M' G' whole whole' right step grow began (Says Missing) (Says' Missing)
       (said Missing) absent
 
-  pub look_stays : (state : FindAt) → LookMeans env mix port since Says M G P state
-      → LookMeans env mix port since Says' M' G' step.places state
+  pub look_stays : (state : FindAt) → LookMeans env mix port seen since Says M G P state
+      → LookMeans env mix port seen since Says' M' G' step.places state
   look_stays at.Opening known = tt
   look_stays at.CurrentTable known = tt
   look_stays (at.Locating reach) known = (

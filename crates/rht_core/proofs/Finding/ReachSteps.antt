@@ -1,6 +1,6 @@
 -- The way to a port's bucket serves a look-up without locks: behind each of its loads the look-up is on the way still, at the bucket's
 -- word, or, where the bucket is missing, before the table's future.
-use Rattle.std.proofs.Common.{◌≡◌, ℕ, List, sym, subst}
+use Rattle.std.proofs.Common.{◌≡◌, ℕ, Bool, List, sym, subst}
 use Rattle.rht_words.specs.declared.env.Env.{Env}
 use Rattle.rht_words.specs.declared.machine.Next.{Next}
 use Rattle.rht_words.specs.declared.machine.Next.TheVariants.{Go, Done}
@@ -32,21 +32,21 @@ module _ (env : Env) (mix : ℕ → ℕ → ℕ → ℕ) where
   reaching-stays G G' grow port m of is =
       IsReachingHome-stay env mix G G' grow port m.table m.at of.table of.attached is
 
-  module _ (port since now : ℕ) (words : List ℕ) (G : Ghost) (P : Places) (whole : Whole env mix (mem env mix words) G)
+  module _ (port : ℕ) (seen : ℕ → Bool) (since now : ℕ) (words : List ℕ) (G : Ghost) (P : Places) (whole : Whole env mix (mem env mix words) G)
       (right : PlacesRight env mix G P (mem env mix words) now) (deaths : DeathsRight env (mem env mix words) G P now)
       (Said : Type 0) where
     abbrev Means : Stage → Type 0
-    Means = StageMeans env mix port since Said (mem env mix words) G P
+    Means = StageMeans env mix port seen since Said (mem env mix words) G P
 
     -- the stage that what an operation tells leads to
     leads_on : (slot : ℕ) (next : ReachModel × Next Bucket) → next.0.table ≡ slot → Means (Reaching slot)
         → ReachTells env mix G port next → Means (stage_of_reach next)
     leads_on slot (m, Go) same means tells = subst (λ s. Means (Reaching s)) (sym same) means
     leads_on slot (m, Done (At place)) same means tells =
-        reached env mix port since now (mem env mix words) G P whole right deaths Said m.table (word_index env mix place)
+        reached env mix port seen since now (mem env mix words) G P whole right deaths Said m.table (word_index env mix place)
         (subst (λ s. Means (Reaching s)) (sym same) means) tells.here
     leads_on slot (m, Done (Absent entry)) same means tells =
-        missed env mix port since now (mem env mix words) G P whole right deaths Said m.table
+        missed env mix port seen since now (mem env mix words) G P whole right deaths Said m.table
         (subst (λ s. Means (Reaching s)) (sym same) means) tells
 
     pub record ReachLeads (next : ReachModel × Next Bucket) : Type 0 where

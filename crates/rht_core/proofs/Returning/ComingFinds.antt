@@ -1,5 +1,5 @@
 -- Where a look-up stands next it could reach before.
-use Rattle.std.proofs.Common.{◌≡◌, ℕ, List, Option, Some, None, nat_lt, refl, sym, subst, inl}
+use Rattle.std.proofs.Common.{◌≡◌, ℕ, Bool, List, Option, Some, None, nat_lt, refl, sym, subst, inl}
 use Rattle.std.specs.Prelude.{◌==◌}
 use Rattle.std.proofs.lemmas.Bool.{cond_both}
 use Rattle.rht_words.specs.declared.env.Env.{Env}
@@ -30,7 +30,7 @@ use Rattle.rht_core.proofs.Finding.Stages.{IsHome}
 use Rattle.rht_core.proofs.Finding.Lookups.{LookMeans}
 use Rattle.rht_core.proofs.Returning.Coming.{Comes, to_nowhere, to_tables, to_nodes, IsBucketThere, first_reached}
 
-module _ (env : Env) (mix : ℕ → ℕ → ℕ → ℕ) (port since : ℕ) (Says : Reply → Type 0) (words : List ℕ) (G : Ghost) (P : Places)
+module _ (env : Env) (mix : ℕ → ℕ → ℕ → ℕ) (port : ℕ) (seen : ℕ → Bool) (since : ℕ) (Says : Reply → Type 0) (words : List ℕ) (G : Ghost) (P : Places)
     (whole : Whole env mix (mem env mix words) G) where
   module _ (from : Standing) where
     abbrev To : FindAt → Type 0
@@ -84,7 +84,7 @@ module _ (env : Env) (mix : ℕ → ℕ → ℕ → ℕ) (port since : ℕ) (Say
       }
 
   pub find_comes : (c : ℕ) (state : FindAt) → IsFindAtIn env state
-      → LookMeans env mix port since Says (mem env mix words) G P state → Goes c state
+      → LookMeans env mix port seen since Says (mem env mix words) G P state → Goes c state
   find_comes c at.Opening within known = to_nowhere _ _ _
   find_comes c at.CurrentTable within known = to_tables _ _ _ _ (at_current refl, tt)
   find_comes c (at.Locating reach) within known =

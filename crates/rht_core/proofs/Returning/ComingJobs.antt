@@ -187,38 +187,38 @@ module _ (env : Env) (mix : ℕ → ℕ → ℕ → ℕ) (words : List ℕ) (G :
   -- What a look-up knows. The other calls know what their jobs say.
   abbrev pub KnowsLook : ℕ → (ℕ → Reply → Type 0) → Places → Job → Type 0
   KnowsLook since Says P (finds port state) = LookMeans env mix port since (Says port) (mem env mix words) G P state
-  KnowsLook since Says P _ = Unit {0}
+  KnowsLook seen since Says P _ = Unit {0}
 
   abbrev GoesTo : Job → Type 0
   GoesTo job =
       Comes env.geometry words (standing_of job) (standing_with (told (job_after mix env job (old_of words (job_plan env c job)))).0)
 
-  pub job_comes : (since : ℕ) (Says : ℕ → Reply → Type 0) (P : Places) (job : Job) → JobIn env mix c job
-      → JobKnows env mix c job (mem env mix words) G → KnowsLook since Says P job → GoesTo job
-  job_comes since Says P (finds port state) within knows look =
+  pub job_comes : (seen : ℕ → Bool) (since : ℕ) (Says : ℕ → Reply → Type 0) (P : Places) (job : Job) → JobIn env mix c job
+      → JobKnows env mix c job (mem env mix words) G → KnowsLook seen since Says P job → GoesTo job
+  job_comes seen since Says P (finds port state) within knows look =
       told-stands (finds port) plain_ending (Comes env.geometry words (standing_of_find state)) _
-      (find_comes env mix port since (Says port) words G P whole c state within look) (to_nowhere _ _ _)
-  job_comes since Says P (binds port owner once state) within knows look =
+      (find_comes env mix port seen since (Says port) words G P whole c state within look) (to_nowhere _ _ _)
+  job_comes seen since Says P (binds port owner once state) within knows look =
       told-stands (binds port owner once) plain_ending (Comes env.geometry words (standing_of_bind state)) _
       (bind_comes env mix port owner words G whole c once state within.at_in knows.knowing.means.table) (to_nowhere _ _ _)
-  job_comes since Says P (lists port room state) within knows look =
+  job_comes seen since Says P (lists port room state) within knows look =
       let after = all.room_after state room (old_of words (job_plan env c (lists port room state))) in
       told-stands (lists port after) (listing_ending after) (Comes env.geometry words (standing_of_all state)) _
       (all_comes env mix port 0 words G whole c state within.at_in
       (λ seek is. let known = subst (λ s. JobKnows env mix c (lists port room s) (mem env mix words) G) is knows in
       (None, known.knowing.means.table))) (to_nowhere _ _ _)
-  job_comes since Says P (releases port owner state) within knows look =
+  job_comes seen since Says P (releases port owner state) within knows look =
       told-stands (releases port owner) node_ending (Comes env.geometry words (standing_of_release state)) _
       (release_comes env mix port owner words G whole c state within
       (λ seek is. let known = subst (λ s. JobKnows env mix c (releases port owner s) (mem env mix words) G) is knows in
       (None, known.knowing.means.table))) (to_nowhere _ _ _)
-  job_comes since Says P (rebinds port owner new state) within knows look =
+  job_comes seen since Says P (rebinds port owner new state) within knows look =
       told-stands (rebinds port owner new) node_ending (Comes env.geometry words (standing_of_rebind state)) _
       (rebind_comes env mix port owner words G whole c state within.at_in
       (λ node seek is. let known = subst (λ s. JobKnows env mix c (rebinds port owner new s) (mem env mix words) G) is knows in
       (Some (own port owner new node), known.knowing.means.table))) (to_nowhere _ _ _)
-  job_comes since Says P (works state) within knows look =
+  job_comes seen since Says P (works state) within knows look =
       told-stands works plain_ending (Comes env.geometry words (standing_of_work state)) _
       (work_comes env mix words G whole c state within knows.knowing.means.work) (to_nowhere _ _ _)
-  job_comes since Says P (tidies batch state) within knows look = absurd within
-  job_comes since Says P counts within knows look = to_nowhere _ _ _
+  job_comes seen since Says P (tidies batch state) within knows look = absurd within
+  job_comes seen since Says P counts within knows look = to_nowhere _ _ _

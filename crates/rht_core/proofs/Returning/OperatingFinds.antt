@@ -1,5 +1,5 @@
 -- On what a look-up's operations are made.
-use Rattle.std.proofs.Common.{ℕ, ◌<◌, List, refl, inl, inr, subst}
+use Rattle.std.proofs.Common.{ℕ, ◌<◌, Bool, List, refl, inl, inr, subst}
 use Rattle.rht_words.specs.declared.env.Env.{Env}
 use Rattle.rht_words.specs.Places.{CurrentTable, Section, Slot, FutureWord, Node, KeyWord, ChainLink, OwnerWord}
 use Rattle.rht_model.specs.declared.history.Reply.{Reply}
@@ -19,14 +19,14 @@ use Rattle.rht_core.proofs.Finding.Places.{Places}
 use Rattle.rht_core.proofs.Returning.Operating.{Lies, reach_lies, page_lies}
 use Rattle.rht_core.proofs.Returning.OperatingWays.{home_page, way_entry}
 
-module _ (env : Env) (mix : ℕ → ℕ → ℕ → ℕ) (port since : ℕ) (Says : Reply → Type 0) (words : List ℕ) (G : Ghost) (P : Places)
+module _ (env : Env) (mix : ℕ → ℕ → ℕ → ℕ) (port : ℕ) (seen : ℕ → Bool) (since : ℕ) (Says : Reply → Type 0) (words : List ℕ) (G : Ghost) (P : Places)
     (whole : Whole env mix (mem env mix words) G) where
   -- a look-up has nothing of its own
   abbrev Is : ℕ → FindAt → Type 0
   Is c state = Lies env mix words G (held_of_find state) (standing_of_find state) (λ thing. ⊥) (plan_at env c state)
 
   pub find_lies : (c : ℕ) → c < 16 → (state : FindAt) → IsFindAtIn env state
-      → LookMeans env mix port since Says (mem env mix words) G P state → Is c state
+      → LookMeans env mix port seen since Says (mem env mix words) G P state → Is c state
   find_lies c low at.Opening within known = record { address = Section c; there = low; on = refl; may = tt }
   find_lies c low at.CurrentTable within known = record { address = CurrentTable; there = tt; on = refl; may = refl }
   find_lies c low (at.Locating reach) within known =

@@ -349,6 +349,7 @@ module _ (env : Env) (mix : ℕ → ℕ → ℕ → ℕ) (d port j m q p : ℕ) 
     locked = ap lock_bit found.holder;
     same = refl;
     one = refl;
+    member = in-middle q us vs;
     seatless = ap seat_of
         ((whole.owned.bound_to port m (us ++ q ∷ vs) found.bound_to).each q (in-middle q us vs));
     used = ap is_used ((whole.owned.bound_to port m (us ++ q ∷ vs) found.bound_to).each q

@@ -111,6 +111,7 @@ module _ (env : Env) (mix : ℕ → ℕ → ℕ → ℕ) where
     pub locked : lock_bit (G.bucket change.place).holder ≡ 1
     pub same : change.bucket ≡ G.bucket change.place
     pub one : change.one ≡ change.other
+    pub member : In change.other behind
     pub seatless : seat_of (G.node change.other) ≡ None
     pub used : is_used (G.node change.other) ≡ true
     pub gone : seat_of change.other_owner ≡ None

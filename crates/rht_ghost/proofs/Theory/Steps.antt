@@ -16,6 +16,7 @@ use Rattle.rht_words.specs.Members.{In}
 use Rattle.rht_words.proofs.Members.{count_below-same, in-middle}
 use Rattle.rht_words.proofs.Memory.{Memory}
 use Rattle.rht_model.specs.declared.history.Call.{Call}
+use Rattle.rht_model.specs.declared.history.Call.TheVariants.{Tidy}
 use Rattle.rht_model.specs.Multimap.{Multimap, Agree}
 use Rattle.rht_model.specs.Answers.{Answer, is_change}
 use Rattle.rht_arena.specs.Laws.{map_place, map_bit, IsTaking}
@@ -466,6 +467,7 @@ module _ (env : Env) (mix : ℕ → ℕ → ℕ → ℕ) where
   -- An operation of a caller in a call, which holds this before it and that after it, with what it knows afterwards.
   -- `early` is for a call that finds a page missing and answers as of its load of a future before, since which others may have bound the port:
   -- what it knows early was so at an event of the call, or the page is there (`There` says so before the operation, and `There'` after it).
+  -- A tidying alone gives back nodes that were taken out.
   pub record StepWhere (There There' : Type 0) (c : ℕ) (call : Call) (words : List ℕ) (G : Ghost) (op : Op)
       (h h' : Holding) (Knows : Memory → Ghost → Type 0) : Type 0 where
     pub move : Move
@@ -479,6 +481,7 @@ module _ (env : Env) (mix : ℕ → ℕ → ℕ → ℕ) where
     pub right : (answer : Answer) → h.answer ≡ None → h'.answer ≡ Some answer → IsRight call h.node answer
     pub in_time : HasNodeInTime h h'
     pub outs : with_returned move (outs env mix (ghost_after c move G) c + outs_of h.answer) ≡ outs env mix G c + outs_of h'.answer
+    pub returning : (n : ℕ) → move ≡ ReturnsNode n → call ≡ Tidy
     pub knows : Knows (mem (applied words op)) (ghost_after c move G)
 
   -- an operation of a call that nowhere misses a page
@@ -500,6 +503,7 @@ module _ (env : Env) (mix : ℕ → ℕ → ℕ → ℕ) where
     right = step.right;
     in_time = step.in_time;
     outs = step.outs;
+    returning = step.returning;
     knows = more (mem (applied words op)) (ghost_after c step.move G) step.made.whole step.knows;
   }
 
@@ -724,6 +728,7 @@ module _ (env : Env) (mix : ℕ → ℕ → ℕ → ℕ) where
             ∙ ap (λ o. o + outs_of h.answer) step.outs
             ∙ ap (λ o. outs env mix G c + o)
             (sym (told-outs kind c call h.node h.early There now h.answer answer tells));
+        returning = λ n is. absurd (subst LinksNone is step.binds_none);
         knows = step.knows;
       }
 
@@ -768,5 +773,6 @@ module _ (env : Env) (mix : ℕ → ℕ → ℕ → ℕ) where
         right = step.right;
         in_time = record { taken = step.in_time.taken; gone = step.in_time.gone };
         outs = step.outs;
+        returning = step.returning;
         knows = step.knows;
       }
