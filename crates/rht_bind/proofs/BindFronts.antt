@@ -291,7 +291,7 @@ module _ (env : Env) (mix : ℕ → ℕ → ℕ → ℕ) (c : ℕ) (port owner :
                   ap (λ o. o + 0)
                   (front_outs env mix c port bucket.place bucket.word list.first n list.before
                   M stored G whole is);
-              knows = returning = λ n is. absurd (cc);
+              returning = λ n is. absurd (cc);
               knows = knows front_left;
             }
 

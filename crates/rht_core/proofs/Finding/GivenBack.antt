@@ -64,10 +64,10 @@ module _ (env : Env) (mix : ℕ → ℕ → ℕ → ℕ) (now c n : ℕ) (M M' :
   kept_used m kept used =
       ap is_used (put-other G.node n Free m (λ e. not_kept (subst IsKept e kept))) ∙ used
 
-  sitting_kept : (m j : ℕ) → seat_of (G.node m) ≡ Some j → IsKept m
+  pub sitting_kept : (m j : ℕ) → seat_of (G.node m) ≡ Some j → IsKept m
   sitting_kept m j sits = or_right (met m) (is_some (seat_of (G.node m))) (ap is_some sits)
 
-  met_kept : (m : ℕ) → met m ≡ true → IsKept m
+  pub met_kept : (m : ℕ) → met m ≡ true → IsKept m
   met_kept m is = or_left (met m) (is_some (seat_of (G.node m))) is
 
   seatless_met : (m : ℕ) → IsKept m → seat_of (G.node m) ≡ None → met m ≡ true

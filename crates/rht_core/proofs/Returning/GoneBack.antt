@@ -73,7 +73,7 @@ module _ (env : Env) (mix : ℕ → ℕ → ℕ → ℕ) (c : ℕ) (M : Memory) 
   gives_back move ready free = absurd (not_free free)
 
 -- whether an operation gives one back
-pub returned : (move : Move) → (n : ℕ) × (move ≡ ReturnsNode n) ⊎ ((n : ℕ) → move ≡ ReturnsNode n → ⊥)
+pub returned : (move : Move) → ((n : ℕ) × (move ≡ ReturnsNode n)) ⊎ ((n : ℕ) → move ≡ ReturnsNode n → ⊥)
 returned (ReturnsNode n) = inl (n, refl)
 returned _ = inr (λ n is. absurd (cc))
 

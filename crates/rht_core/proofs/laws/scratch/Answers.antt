@@ -1,0 +1,11 @@
+use Rattle.std.proofs.Common.{refl}
+use Rattle.rht_core.proofs.Returning.GoneBack.{owners_stay}
+use Rattle.rht_core.proofs.Finding.GivenBack.{right_then}
+use Rattle.rht_core.proofs.Finding.PlacesSteps.{places_step}
+use Rattle.rht_core.proofs.Finding.Lookups.{look_stays}
+use Rattle.rht_core.proofs.Finding.LooksGiven.{look_given}
+use Rattle.rht_core.proofs.Finding.LookSteps.{spent_stays}
+use Rattle.rht_core.proofs.laws.scratch.Goals as goal
+
+pub returns : goal.returns
+returns g c n = refl
