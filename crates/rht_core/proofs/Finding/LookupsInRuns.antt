@@ -44,7 +44,7 @@ use Rattle.rht_ghost.proofs.Theory.Passed.{TablesGrow}
 use Rattle.rht_ghost.proofs.Theory.Steps.{mem, ghost_after}
 use Rattle.rht_core.proofs.Events.Worlds.{induct_by_last, beginning-some, planned-some, begin_none, begin_self, begin_other, step_none, step_self, step_other}
 use Rattle.rht_core.proofs.Events.SoundRuns.{has_place, made_in}
-use Rattle.rht_core.proofs.Events.JobsOfCallers.{is_no_job, first_rebind-so, first_job-machine, nothing-job, same_call, local_after-job, first-of}
+use Rattle.rht_core.proofs.Events.JobsOfCallers.{is_no_job, first_rebind-so, first_tidy-so, first_job-machine, nothing-job, same_call, local_after-job, first-of}
 use Rattle.rht_core.proofs.Events.Invariants.{step_of}
 use Rattle.rht_core.proofs.Events.InvariantRuns.{idle_at_opening}
 use Rattle.rht_core.proofs.Machines.JobSteps.{JobIn}
@@ -301,7 +301,8 @@ module _ (L : Type 0) (mix : ℕ → ℕ → ℕ → ℕ) (env : Env) where
     first-looks c (calls.Rebind port owner new) batch =
         first_rebind-so (λ job. JobLooks more core' placed' c (length events) 0 (Some job)) env port owner new tt
     first-looks c (calls.Walk from limit) batch = tt
-    first-looks c calls.Tidy batch = tt
+    first-looks c calls.Tidy batch =
+        first_tidy-so (λ job. JobLooks more core' placed' c (length events) 0 (Some job)) batch (λ own. tt)
     first-looks c _ batch = tt
 
     -- the same by the trace and the job that a caller is found with
