@@ -58,14 +58,27 @@ after_at-same g batch (tidy_at.Keeping caller) word = keeping-same g (with_word 
 after_at-same g batch (tidy_at.Asking caller) word = by_test batch _ _ _ refl (asking-same (with_word batch caller 0) (caller + 1))
 after_at-same g batch (tidy_at.Giving index) word = giving-same batch (index + 1)
 
--- and so does its beginning
-pub begun-same : (batch : BatchModel) → (begun batch).0.geometry ≡ batch.geometry
-begun-same batch = go (length batch.waiting == 0) (turned batch, tidy_at.Keeping 0) (batch, asked_at (first_odd batch.kept 0)) refl refl
+-- what is so of the batch that it begins with, and of that with its fresh nodes waiting, is so of the one that it has then
+begun-so : (So : BatchModel → Type 0) (batch : BatchModel) → So batch → So (turned batch) → So (begun batch).0
+begun-so So batch is turned_is =
+    go (length batch.waiting == 0) (turned batch, tidy_at.Keeping 0) (batch, asked_at (first_odd batch.kept 0)) turned_is is
   where
-    go : (none : Bool) (one other : BatchModel × TidyAt) → one.0.geometry ≡ batch.geometry → other.0.geometry ≡ batch.geometry
-        → (if none then one else other).0.geometry ≡ batch.geometry
-    go true one other is same = is
-    go false one other is same = same
+    go : (none : Bool) (one other : BatchModel × TidyAt) → So one.0 → So other.0 → So (if none then one else other).0
+    go true one other here there = here
+    go false one other here there = there
+
+-- so its beginning stays in its table, too
+pub begun-same : (batch : BatchModel) → (begun batch).0.geometry ≡ batch.geometry
+begun-same batch = begun-so (λ b. b.geometry ≡ batch.geometry) batch refl refl
+
+-- it has a word for each caller that it had
+pub begun-words : (batch : BatchModel) → length (begun batch).0.kept ≡ length batch.kept
+begun-words batch = begun-so (λ b. length b.kept ≡ length batch.kept) batch refl refl
+
+-- and its nodes stay below a number
+pub begun-low : (nodes : ℕ) (batch : BatchModel) → AreNodesIn nodes (Some batch) → AreNodesIn nodes (Some (begun batch).0)
+begun-low nodes batch low =
+    begun-so (λ b. AreNodesIn nodes (Some b)) batch low (AllByRecursion-cut (λ n. n < nodes) batch.fresh batch.waiting low).0
 
 -- it leaves a batch's nodes, and a sound one sound
 pub begun-sound : (batch : BatchModel) → IsSoundBatch (Some batch) → IsSoundBatch (Some (begun batch).0)

@@ -1,5 +1,5 @@
 -- The nodes that a caller's calls took out: they go into its batch, which a tidying has while it runs.
-use Rattle.std.specs.Prelude.{◌≡◌, ℕ, ◌<◌, ◌++◌, List, [], Option, Some, None}
+use Rattle.std.specs.Prelude.{◌≡◌, ℕ, ◌<◌, ◌++◌, List, [], drop, Option, Some, None}
 use Rattle.std.specs.List.{AllByRecursion}
 use Rattle.rht_words.specs.declared.env.Env.{Env}
 use Rattle.rht_words.specs.declared.machine.Next.{Next}
@@ -8,6 +8,8 @@ use Rattle.rht_words.specs.Members.{NotIn}
 use Rattle.rht_model.specs.declared.history.Reply.{Reply}
 use Rattle.rht_grace.specs.Batch.{BatchModel, IsBatch, with_fresh}
 use Rattle.rht_grace.specs.Tidy.{TidyModel, tidy_after}
+use Rattle.rht_grace.specs.declared.tidy.TidyAt.{TidyAt}
+use Rattle.rht_grace.specs.declared.tidy.TidyAt.TheVariants as at
 use Rattle.rht_release.specs.Release.{release_after}
 use Rattle.rht_release.specs.Rebind.{rebind_after}
 use Rattle.rht_callers.specs.declared.local.Doing.{Doing}
@@ -32,6 +34,12 @@ IsSoundBatch (Some batch) = IsBatch batch
 abbrev pub nodes_in : Option BatchModel → List ℕ
 nodes_in None = []
 nodes_in (Some batch) = batch.fresh ++ batch.waiting
+
+-- those that it has while a tidying is in this state: no more those that were given back
+abbrev pub nodes_left : BatchModel → TidyAt → List ℕ
+nodes_left batch (at.Keeping caller) = batch.fresh ++ batch.waiting
+nodes_left batch (at.Asking caller) = batch.fresh ++ batch.waiting
+nodes_left batch (at.Giving index) = batch.fresh ++ drop index batch.waiting
 
 -- the batch with the node that was taken out, where one was
 abbrev pub with_out : Option BatchModel → Option ℕ → Option BatchModel
@@ -79,6 +87,18 @@ module _ {M : Type 0} where
   batch_room (Working m) batch = batch
   batch_room (Counting m) batch = batch
   batch_room (Tidying m) batch = Some m.batch
+
+  -- its nodes, but for those that a tidying has given back
+  abbrev pub nodes_held : Doing M → Option BatchModel → List ℕ
+  nodes_held Idle batch = nodes_in batch
+  nodes_held (Finding m) batch = nodes_in batch
+  nodes_held (Binding m) batch = nodes_in batch
+  nodes_held (Listing m) batch = nodes_in batch
+  nodes_held (Releasing m) batch = nodes_in batch
+  nodes_held (Rebinding m) batch = nodes_in batch
+  nodes_held (Working m) batch = nodes_in batch
+  nodes_held (Counting m) batch = nodes_in batch
+  nodes_held (Tidying m) batch = nodes_left m.batch m.at
 
   -- the batch of its caller once it has begun
   abbrev pub batch_beside : Doing M → Option BatchModel → Option BatchModel

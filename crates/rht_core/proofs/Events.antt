@@ -16,6 +16,10 @@ pub mod JobsOfCallers
 pub mod OpenedStates
 -- what holds of a state because a run has reached it
 pub mod ReachedStates
+-- what a caller knows, and that its operation is a step
+pub mod StepsOfCallers
+-- a caller's batch has the nodes that its calls took out and haven't given back
+pub mod OwnBatches
 -- the invariant, and that each event keeps it
 pub mod Invariants
 -- a page that a job may miss stays once it is there
@@ -28,13 +32,13 @@ pub mod InvariantRuns
 pub mod TablesThere
 -- what each event keeps of callers and of the ghost
 pub mod KeptAtEvents
--- in every run each caller works at the call of its book, and its calls took out as many nodes as that says
+-- in every run each caller works at the call of its book, and its calls took out and gave back as many nodes as that says
 pub mod BooksInRuns
 -- the node that a call has taken out of a port's list, by its state
 pub mod TakenOut
 -- what a release or a rebind says of the node that it has taken out
 pub mod SaidOfNodes
--- in every run the nodes of a caller's batch were taken out by it, and none stands there twice
+-- in every run a node that is handed out may be put into a batch, and none stands there twice
 pub mod BatchesInRuns
 -- in every run a section word is odd just where its caller's call is in its section, and no other call changes it
 pub mod SectionsInRuns

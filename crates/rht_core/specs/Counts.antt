@@ -20,6 +20,9 @@ use Rattle.rht_core.specs.Alone.{IsQuiet, bindings_at}
 use Rattle.rht_core.specs.Traces.{Did, traced_of}
 use Rattle.rht_core.specs.Causes.{IsRaise, IsLowering}
 use Rattle.rht_core.specs.RunHistories.{bindings_behind}
+use Rattle.rht_model.specs.declared.history.Reply.{Reply}
+use Rattle.rht_model.specs.declared.history.Reply.TheVariants.{Bound, Exists, Found, Missing, Listed, Released, Absent, Rebound, TooBig, Again, Busy, NoTable, NoNode, Pending, Elsewhere, Walked, Moved, Idle, Clear}
+use Rattle.rht_model.specs.declared.history.Reply.TheVariants as replies
 pub use Rattle.rht_model.specs.Replies.{takes_out}
 
 -- the node's bit is set
@@ -87,6 +90,34 @@ abbrev pub taken_out : {M : Type 0} → World M → ℕ
 taken_out w =
     sum_by (λ c. count_by (λ done. takes_out done.reply) (w.books c).finished) (range_with_len 0 w.core.env.geometry.callers)
 
+-- how many nodes a call gave back that ended with this reply
+abbrev pub returned_by : Reply → ℕ
+returned_by (Bound kick) = 0
+returned_by (Exists owner) = 0
+returned_by (Found owner) = 0
+returned_by Missing = 0
+returned_by (Listed len) = 0
+returned_by (Released kick) = 0
+returned_by Absent = 0
+returned_by Rebound = 0
+returned_by (TooBig count) = 0
+returned_by (Again table) = 0
+returned_by (Busy root last) = 0
+returned_by (NoTable size) = 0
+returned_by NoNode = 0
+returned_by (Pending caller section) = 0
+returned_by Elsewhere = 0
+returned_by (Walked len next) = 0
+returned_by (Moved again) = 0
+returned_by Idle = 0
+returned_by (Clear returned) = returned
+returned_by (replies.Counted count) = 0
+
+-- how many the calls gave back that have ended
+abbrev pub given_back : {M : Type 0} → World M → ℕ
+given_back w =
+    sum_by (λ c. sum_by (λ done. returned_by done.reply) (w.books c).finished) (range_with_len 0 w.core.env.geometry.callers)
+
 -- the nodes in this caller's batch, wherever that lies, and those in anybody's
 abbrev pub in_batch : {M : Type 0} → Core M → ℕ → List ℕ
 in_batch core c = nodes_in (batch_room (local_of core c).doing (local_of core c).batch)
@@ -101,14 +132,16 @@ pub record AreBatched {M : Type 0} (env : Env) (core : Core M) : Type 0 where
   pub placed : (node : ℕ) → node < env.geometry.nodes → IsPlaced env.geometry core.words (in_batches env core) node
 
 -- No bucket of a table in force, or in a slot that isn't free, is locked, and the word of each bucket of a retired one is 0; as many
--- nodes are out as were taken out, and no others, and they are those in the callers' batches; in a table of one owner each no port's list has a second node; the count of ports is
+-- nodes are out as were taken out and not given back, and no others, and they are those in the callers' batches; in a table of one owner each no port's list has a second node; the count of ports is
 -- the number of those bound; no caller has the work lock, a slot or pages, or is in a read section; and each table that was left behind
 -- is retired
-pub record IsAtRest {M : Type 0} (env : Env) (core : Core M) (out : ℕ) : Type 0 where
+pub record IsAtRest {M : Type 0} (env : Env) (core : Core M) (taken given : ℕ) : Type 0 where
   pub unlocked : (slot place : ℕ) → HasTable env.geometry core.words slot → IsBucketOfSlot env.geometry core.words slot place
       → slice_index core.words place % 2 ≡ 0
   pub emptied : (slot place : ℕ) → slot < 8 → word_at env.geometry core.words (Slot slot StateWord) ≡ 2
       → IsBucketOfSlot env.geometry core.words slot place → slice_index core.words place ≡ 0
+  pub out : ℕ
+  pub still_out : out + given ≡ taken
   pub nodes : AreOut env.geometry core.words out
   pub batched : AreBatched env core
   pub single : env.config.kind ≡ Single → (port : ℕ) → length (nodes_of env.geometry core.words port) ≤ 1
@@ -179,4 +212,4 @@ module _ (M : Type 0) (mix : ℕ → ℕ → ℕ → ℕ) where
   abbrev pub AtRest : Type 0
   AtRest =
       (env : Env) (events : List Event) → IsAdmitted env.config.kind events → IsQuiet M mix env events
-      → let w : World M = run_of mix env events in IsAtRest env w.core (taken_out w)
+      → let w : World M = run_of mix env events in IsAtRest env w.core (taken_out w) (given_back w)

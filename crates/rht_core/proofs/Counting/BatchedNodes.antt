@@ -1,11 +1,11 @@
 -- While nobody is in a call the nodes that are out are those in the callers' batches, each in one.
-use Rattle.std.proofs.Common.{◌≡◌, ℕ, zero, suc, ◌+◌, ◌<◌, ◌≤◌, Bool, true, List, [], ◌∷◌, refl, ap, ◌∙◌, inl, inr, arith, Option, Some, None}
+use Rattle.std.proofs.Common.{◌≡◌, ℕ, zero, suc, ◌+◌, ◌<◌, ◌≤◌, Bool, true, List, [], ◌∷◌, length, refl, sym, ap, ◌∙◌, subst, inl, inr, arith, Option, Some, None}
 use Rattle.std.specs.List.{AllByRecursion, flat_map, range_with_len}
 use Rattle.rht_words.specs.declared.env.Env.{Env}
 use Rattle.rht_words.specs.Members.{In, IsDistinct}
 use Rattle.rht_words.proofs.EachElement.{AllByRecursion-append}
 use Rattle.rht_words.proofs.Members.{in_or_not, flat_map-In, In-flat_map, In-range_with_len, not_in_from, length-count_below}
-use Rattle.rht_callers.specs.Batches.{IsSoundBatch, AreNodesIn, nodes_in, batch_room}
+use Rattle.rht_callers.specs.Batches.{IsSoundBatch, AreNodesIn, nodes_in, nodes_held, batch_room}
 use Rattle.rht_grace.specs.Batch.{BatchModel}
 use Rattle.rht_callers.specs.Locals.{is_idle}
 use Rattle.std.proofs.lemmas.Bool.{eq-eqb}
@@ -13,7 +13,7 @@ use Rattle.rht_core.specs.Counts.{IsPlaced, ExactlyOne, in_batch, in_batches, Ar
 use Rattle.rht_core.specs.Runs.{Core, local_of}
 use Rattle.rht_ghost.proofs.Theory.Ghosts.{Owner, Taken, Ghost, is_taken_by}
 use Rattle.rht_ghost.proofs.Theory.Wholes.{IsBuilt}
-use Rattle.rht_core.proofs.Events.BatchesInRuns.{BatchRight}
+use Rattle.rht_core.proofs.Events.OwnBatches.{BatchRight, held-idle}
 use Rattle.rht_core.proofs.Events.SaidOfNodes.{outs-idle}
 use Rattle.rht_core.proofs.Counting.NodesOut.{is_out}
 use Rattle.rht_core.proofs.Meaning.ListableWords.{IsDistinct-flat_map}
@@ -62,6 +62,13 @@ module _ (env : Env) (mix : ℕ → ℕ → ℕ → ℕ) (M : Type 0) (core : Co
     (among : (c : ℕ) → AreNodesIn env.geometry.nodes (batch_room (local_of core c).doing (local_of core c).batch))
     (quiet : (c : ℕ) → is_idle (local_of core c) ≡ true)
   where
+    -- in no call it has all of them
+    held_is : (c : ℕ) → nodes_held (local_of core c).doing (local_of core c).batch ≡ in_batch core c
+    held_is c = held-idle M (local_of core c).doing (local_of core c).batch (quiet c)
+
+    taken_by : (c n : ℕ) → In n (in_batch core c) → G.node n ≡ Taken c
+    taken_by c n there = (right c).out n (subst (In n) (sym (held_is c)) there)
+
     -- all that the caller took out are in its batch
     all_in : (c n : ℕ) → n < env.geometry.nodes → G.node n ≡ Taken c → In n (in_batch core c)
     all_in c n l taken = elim (in_or_not n (in_batch core c)) [
@@ -72,11 +79,12 @@ module _ (env : Env) (mix : ℕ → ℕ → ℕ → ℕ) (M : Type 0) (core : Co
           (out, distinct_in env env.geometry.nodes _ (right c).sound) (l, below_in env.geometry.nodes _ (among c))
           (λ m there. elim there [
             | inl e ↦ ap mine e ∙ ap (is_taken_by c) taken ∙ eq-eqb c c refl
-            | inr i ↦ ap (is_taken_by c) ((right c).out m i) ∙ eq-eqb c c refl
+            | inr i ↦ ap (is_taken_by c) (taken_by c m i) ∙ eq-eqb c c refl
           ]) in
           let many = (right c).many in
+          let held = ap length (held_is c) in
           let idle = outs-idle (local_of core c).doing (quiet c) in
-          absurd (omega (arith, few, many, idle))
+          absurd (omega (arith, few, many, held, idle))
     ]
 
     abbrev all : List ℕ
@@ -94,13 +102,13 @@ module _ (env : Env) (mix : ℕ → ℕ → ℕ → ℕ) (M : Type 0) (core : Co
     in_out : (n : ℕ) → In n all → is_out (G.node n) ≡ true
     in_out n there =
         let from = flat_map-In (in_batch core) n (range_with_len 0 env.geometry.callers) there in
-        ap is_out ((right from.0).out n from.2)
+        ap is_out (taken_by from.0 n from.2)
 
     pub are_batched : (out : List ℕ) → ((n : ℕ) → n < env.geometry.nodes → is_out (G.node n) ≡ true → In n out)
         → ((n : ℕ) → In n out → is_out (G.node n) ≡ true)
         → ((n : ℕ) → n < env.geometry.nodes → IsPlaced env.geometry core.words out n) → AreBatched env core
     are_batched out out_of of_out placed = record {
-      distinct = IsDistinct-flat_map (in_batch core) (λ n. taker (G.node n)) (λ c n there. ap taker ((right c).out n there))
+      distinct = IsDistinct-flat_map (in_batch core) (λ n. taker (G.node n)) (λ c n there. ap taker (taken_by c n there))
           (λ c. distinct_in env env.geometry.nodes _ (right c).sound) (range_with_len 0 env.geometry.callers)
           (range-distinct 0 env.geometry.callers);
       among = all_flat (λ n. n < env.geometry.nodes) (in_batch core) (range_with_len 0 env.geometry.callers)

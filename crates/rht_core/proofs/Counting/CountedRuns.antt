@@ -15,7 +15,7 @@ use Rattle.rht_core.specs.Runs.{IsAdmitted, Core, World, local_of, view_of, run_
 use Rattle.rht_stands.specs.StandsFor.{in_force, nodes_of}
 use Rattle.rht_core.proofs.Counting.RaisingCallers.{is_raising, raising, IsCountedBy}
 use Rattle.rht_core.proofs.Counting.AheadCalls.{are_ahead}
-use Rattle.rht_core.specs.Counts.{IsListed, IsPlaced, IsPageFree, IsPageOfSlot, IsPageInSlot, AreNoneHeld, AreBatched, taken_out, Counted, AtRest}
+use Rattle.rht_core.specs.Counts.{IsListed, IsPlaced, IsPageFree, IsPageOfSlot, IsPageInSlot, AreNoneHeld, AreBatched, taken_out, given_back, Counted, AtRest}
 use Rattle.rht_core.specs.declared.event.Event.{Event}
 use Rattle.rht_core.specs.TablePages.{IsPageOfTable}
 use Rattle.rht_ghost.proofs.Theory.Ghosts.{Owner, Free, NodeHeld, First, Leaving, Behind, Taken, PageOwner, PageFree, PageHeld, PageOf, SlotOwner, SlotFree, SlotHeld, Live, Retired, Ghost, has_table, index_at, state_word, is_used, IsUsed, lock_bit, seat-used}
@@ -25,16 +25,15 @@ use Rattle.rht_ghost.proofs.Theory.Steps.{mem}
 use Rattle.rht_core.proofs.Machines.JobSteps.{KnowsNothing}
 use Rattle.rht_core.proofs.Events.Invariants.{Inv, idle_knows}
 use Rattle.rht_core.proofs.Events.InvariantRuns.{has_inv}
-use Rattle.rht_core.proofs.Events.BooksInRuns.{ended_outs, idle-says, has_books}
+use Rattle.rht_core.proofs.Events.BooksInRuns.{ended_outs, ended_given, idle-says, has_books}
 use Rattle.rht_core.specs.Alone.{IsQuiet}
-use Rattle.rht_core.proofs.Events.BatchesInRuns.{has_batches}
 use Rattle.rht_core.proofs.Counting.BatchedNodes.{are_batched}
 use Rattle.rht_core.proofs.Events.SectionsInRuns.{in_no_section}
 use Rattle.rht_core.proofs.Meaning.TablesInForce.{table_in_force}
 use Rattle.rht_core.proofs.Meaning.BoundPorts.{listed_bound}
 use Rattle.rht_core.proofs.Counting.CountedPorts.{firsts-AreAllBound}
 use Rattle.rht_core.proofs.Counting.CountedNodes.{count_few}
-use Rattle.rht_core.proofs.Counting.NodesOut.{is_out, out_nodes, out_nodes-distinct, out_nodes-among, out_nodes-many, out_nodes-in, out_nodes-out, sum_by-same, seat-is_out}
+use Rattle.rht_core.proofs.Counting.NodesOut.{is_out, out_nodes, out_nodes-distinct, out_nodes-among, out_nodes-many, out_nodes-in, out_nodes-out, sum_by-same, sum_by-plus, seat-is_out}
 use Rattle.rht_core.proofs.Counting.FullTables.{raises}
 use Rattle.rht_core.proofs.Counting.TablePages.{pages_in_words}
 use Rattle.rht_core.proofs.Counting.RestingBuckets.{state_has, bucket_unlocked, bucket_emptied}
@@ -250,13 +249,13 @@ module _ (M : Type 0) (mix : ℕ → ℕ → ℕ → ℕ) where
       → AreBatched env (run_of {M = M} mix env events).core
   batched_at env events admitted quiet =
       let core : Core M = (run_of mix env events).core in
-      let has = has_batches env mix M events admitted in
+      let has = has_inv env mix M events admitted in
       let G = has.ghost in
       let whole = has.inv.whole in
       let built = whole.arena.built in
       let knows : (c : ℕ) → KnowsNothing env mix c (mem env mix core.words) G =
       λ c. idle_knows env mix M c (local_of core c).doing (mem env mix core.words) G (quiet c) (has.inv.each c) in
-      are_batched env mix M core G built has.each (λ c. (has.all.locals c).among) quiet (out_nodes env mix G built)
+      are_batched env mix M core G built has.inv.batches (λ c. (has.all.locals c).among) quiet (out_nodes env mix G built)
       (out_nodes-in env mix G built) (out_nodes-out env mix G built)
       (λ n l. placed env mix core.words G whole n l (λ c held. let none = (knows c).only.nodes n held in absurd (cc)))
 
@@ -273,8 +272,11 @@ module _ (M : Type 0) (mix : ℕ → ℕ → ℕ → ℕ) where
       (let is = has.inv.whole.counted in omega (arith, is, none_raised)) in
       let built = has.inv.whole.arena.built in
       let w : World M = run_of mix env events in
-      let all_ended : sum_by (outs env mix G) (range_with_len 0 env.geometry.callers) ≡ taken_out w =
-      sum_by-same (outs env mix G) (λ c. ended_outs (w.books c))
+      let all_ended : sum_by (outs env mix G) (range_with_len 0 env.geometry.callers) + given_back w ≡ taken_out w =
+      ap (λ (e : Env). sum_by (outs env mix G) (range_with_len 0 env.geometry.callers)
+      + sum_by (λ c. ended_given (w.books c)) (range_with_len 0 e.geometry.callers)) has.inv.same_env
+      ∙ sym (sum_by-plus (outs env mix G) (λ c. ended_given (w.books c)) (range_with_len 0 env.geometry.callers))
+      ∙ sum_by-same (λ c. outs env mix G c + ended_given (w.books c)) (λ c. ended_outs (w.books c))
       (λ c. idle-says env mix M (view_of w c) (outs env mix G c) (quiet c) (has.says c))
       (range_with_len 0 env.geometry.callers)
       ∙ ap (λ (e : Env). sum_by (λ c. ended_outs (w.books c)) (range_with_len 0 e.geometry.callers))
@@ -286,11 +288,13 @@ module _ (M : Type 0) (mix : ℕ → ℕ → ℕ → ℕ) where
         unlocked = λ slot place there is. bucket_unlocked env mix core.words G has.inv.whole no_slot no_lock slot place there is;
         emptied = λ slot place low retired is.
             bucket_emptied env mix core.words G has.inv.whole no_slot no_lock slot place low retired is;
+        out = sum_by (outs env mix G) (range_with_len 0 env.geometry.callers);
+        still_out = all_ended;
         nodes = record {
           out = out_nodes env mix G built;
           distinct = out_nodes-distinct env mix G built;
           among = out_nodes-among env mix G built;
-          many = out_nodes-many env mix G built ∙ all_ended;
+          many = out_nodes-many env mix G built;
           placed = λ n l. placed env mix core.words G has.inv.whole n l
               (λ c held. let none = (knows c).only.nodes n held in absurd (cc));
         };

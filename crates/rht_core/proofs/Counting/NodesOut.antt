@@ -36,7 +36,7 @@ sum_by-same f g same (c ∷ callers) =
     let first = same c in let rest = sum_by-same f g same callers in
     sum_by-cons f c callers ∙ omega (arith, first, rest) ∙ sym (sum_by-cons g c callers)
 
-sum_by-plus : (f g : ℕ → ℕ) (callers : List ℕ) → sum_by (λ c. f c + g c) callers ≡ sum_by f
+pub sum_by-plus : (f g : ℕ → ℕ) (callers : List ℕ) → sum_by (λ c. f c + g c) callers ≡ sum_by f
     callers + sum_by g callers
 sum_by-plus f g [] = refl
 sum_by-plus f g (c ∷ callers) =

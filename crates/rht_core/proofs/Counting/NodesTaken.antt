@@ -34,7 +34,7 @@ use Rattle.rht_core.specs.Laws.{IsNoTake, IsTakeOf, TakesNone, TakesOne, IsTaken
 use Rattle.rht_core.specs.Refused.{IsTableWord}
 use Rattle.rht_ghost.proofs.Theory.Wholes.{place_at}
 use Rattle.rht_ghost.proofs.Theory.Answering.{TellsNode, TellsNode-same, known_so, unknown_before}
-use Rattle.rht_ghost.proofs.Theory.Steps.{bare, Holding, Move, Quiet, TakesNode, GivesNode, TakesLock, DropsLock, Raises, Links, Lowers, Rebinds, LinksBehind, Arms, TakesSlot, GivesSlot, TakesPages, GivesPages, Attaches, Enters, TakesWork, GivesWork, BeginsMoving, TakesSecond, Leaves, Arrives, CutsOff, Publishes, Retires, Opens, Closes, Does, IsAside, DoesQuiet}
+use Rattle.rht_ghost.proofs.Theory.Steps.{bare, Holding, Move, Quiet, TakesNode, GivesNode, TakesLock, DropsLock, Raises, Links, Lowers, Rebinds, LinksBehind, Arms, TakesSlot, GivesSlot, TakesPages, GivesPages, Attaches, Enters, TakesWork, GivesWork, BeginsMoving, TakesSecond, Leaves, Arrives, CutsOff, Publishes, Retires, Opens, Closes, ReturnsNode, Does, IsAside, DoesQuiet}
 use Rattle.rht_core.proofs.Events.JobsOfCallers.{same_call, first_unknown, first_without}
 use Rattle.rht_core.proofs.Tracing.TracedJobs.{Performs, LeadsOn, IsKeeping, jobs_keep}
 
@@ -164,6 +164,12 @@ took env mix (GivesNode n) did h h' does = inl record {
       subst (λ (op : Op). bit_at (word_after did.old op) bit ≡ 1) (sym does.giving)
       (set_keeps did.old (map_bit n) bit set));
   left = inr (ap (λ (h : Holding). h.node) does.holds);
+}
+took env mix (ReturnsNode n) did h h' does = inl record {
+  none = keeps_bits env.geometry did (λ bit l set.
+      subst (λ (op : Op). bit_at (word_after did.old op) bit ≡ 1) (sym does.giving)
+      (set_keeps did.old (map_bit n) bit set));
+  left = inl (ap (λ (h : Holding). h.node) does.holds);
 }
 took env mix (TakesLock j) did h h' does = inl record {
   none = on_bucket env mix did j does.on;

@@ -1,7 +1,8 @@
--- In every run each caller works at the call of its book, and its calls have taken as many nodes out of lists as its book says.
+-- In every run each caller works at the call of its book, and its calls have taken as many nodes out of lists, and given back, as its book
+-- says.
 -- This goes with the invariant event by event, since it speaks of the ghost.
 use Rattle.std.proofs.Common.{◌≡◌, ℕ, ◌+◌, List, ◌++◌, true, Option, Some, None, refl, sym, ap, ◌∙◌, subst, inl, inr, arith}
-use Rattle.std.specs.Prelude.{count_by, option_map}
+use Rattle.std.specs.Prelude.{count_by, sum_by, option_map}
 use Rattle.std.proofs.lemmas.Bool.{cases_eq}
 use Rattle.std.proofs.lemmas.List.Sums.{sum_by_push}
 use Rattle.rht_words.specs.declared.op.Op.{Op}
@@ -20,7 +21,7 @@ use Rattle.rht_core.specs.declared.event.Event.TheVariants.{Enroll, Begin}
 use Rattle.rht_core.specs.declared.event.Event.TheVariants as events
 use Rattle.rht_callers.specs.declared.local.Doing.{Doing}
 use Rattle.rht_callers.specs.declared.local.Local.{Local}
-use Rattle.rht_core.specs.Counts.{takes_out}
+use Rattle.rht_core.specs.Counts.{takes_out, returned_by}
 use Rattle.rht_core.specs.Jobs.{Job, call_of, job_after, job_of, told, held_of, held_next}
 use Rattle.rht_callers.specs.Locals.{is_idle, machine_of, local_after, ending_of}
 use Rattle.rht_core.specs.Runs.{World, View, view_of, local_of, beginning_in, planned_in, book_begun, book_after, finished_with, world_step, run_of, opening, IsAdmitted, IsAdmittedEvent}
@@ -33,17 +34,22 @@ use Rattle.rht_core.proofs.Events.SoundRuns.{has_place, made_in}
 use Rattle.rht_core.proofs.Events.RangesInRuns.{AllIn, event-all, opens-all}
 use Rattle.rht_core.proofs.Events.JobsOfCallers.{first_job-machine, first_unknown, same_call, left-job, nothing-job, is_no_job, doing_after-reply}
 use Rattle.rht_core.proofs.Events.Invariants.{Inv, StepOuts, kept, step_of}
+use Rattle.rht_core.proofs.Events.OwnBatches.{given_of, given_next, first_given}
 use Rattle.rht_core.proofs.Events.InvariantRuns.{opening_ghost, opening_inv, idle_at_opening}
 
 -- how many of a caller's calls that have ended took a node out of a list
 abbrev pub ended_outs : Book → ℕ
 ended_outs book = count_by (λ (done : Finished). takes_out done.reply) book.finished
 
--- the book has the call of the job, and so many nodes have been taken out by those that have ended and by that one
+-- and how many they gave back
+abbrev pub ended_given : Book → ℕ
+ended_given book = sum_by (λ (done : Finished). returned_by done.reply) book.finished
+
+-- the book has the call of the job, and so many nodes have been taken out and not given back by those that have ended and by that one
 abbrev pub BookSays : Option Job → Book → ℕ → Type 0
-BookSays None book many = (book.call ≡ None) × (many ≡ ended_outs book)
+BookSays None book many = (book.call ≡ None) × (many + ended_given book ≡ ended_outs book)
 BookSays (Some job) book many = (book.call ≡ Some (call_of job))
-    × (many ≡ ended_outs book + outs_of (held_of job).answer)
+    × (many + ended_given book + given_of job ≡ ended_outs book + outs_of (held_of job).answer)
 
 module _ (env : Env) (mix : ℕ → ℕ → ℕ → ℕ) (L : Type 0) where
   -- what a caller's view says of what its calls have taken out
@@ -60,12 +66,12 @@ module _ (env : Env) (mix : ℕ → ℕ → ℕ → ℕ) (L : Type 0) where
   -- ---- a call begins
 
   pub idle-says : (view : View L) (many : ℕ) → is_idle view.local ≡ true → ViewSays view many
-      → many ≡ ended_outs view.book
+      → many + ended_given view.book ≡ ended_outs view.book
   idle-says view many idle says = go (job_of view.local.doing) (sym (nothing-job view.local.doing)
       ∙ idle) says
     where
       go : (job : Option Job) → is_no_job job ≡ true → BookSays job view.book many
-          → many ≡ ended_outs view.book
+          → many + ended_given view.book ≡ ended_outs view.book
       go None none says = says.1
       go (Some job) none says = absurd (cc)
 
@@ -77,8 +83,9 @@ module _ (env : Env) (mix : ℕ → ℕ → ℕ → ℕ) (L : Type 0) where
       let so_far = idle-says view many idle says in
       let none : outs_of (held_of first.job).answer ≡ 0 = ap outs_of
       (first_unknown env call first.job first.first) in
+      let given : given_of first.job ≡ 0 = first_given env call first.job first.first in
       subst (λ (job : Option Job). BookSays job (book_begun call view.book) many) (sym first.does)
-      (ap Some (sym first.asked), omega (arith, so_far, none))
+      (ap Some (sym first.asked), omega (arith, so_far, none, given))
 
   -- ---- an operation
 
@@ -86,7 +93,7 @@ module _ (env : Env) (mix : ℕ → ℕ → ℕ → ℕ) (L : Type 0) where
       (reply : Option Reply) (many more : ℕ)
       → reply ≡ option_map (λ (e : Ending). e.answer.reply) (told next).1 → call_of next.0 ≡ call_of job
       → BookSays (Some job) book many
-      → more + outs_of (held_of job).answer ≡ many + outs_of (held_next next).answer
+      → more + given_next next + outs_of (held_of job).answer ≡ many + given_of job + outs_of (held_next next).answer
       → BookSays (told next).0 (book_after (ending_of local reply) book) more
   after-says job book (after, Go) local reply many more replied same says outs =
       let so_far = says.1 in
@@ -110,9 +117,18 @@ module _ (env : Env) (mix : ℕ → ℕ → ℕ → ℕ) (L : Type 0) where
       finished call is = rw is (sum_by_push (λ (done : Finished). one_if (takes_out done.reply))
           book.finished (ended_with (call_of job) kept_as))
 
-      ended : more ≡ count_by (λ (done : Finished). takes_out done.reply)
-          (book.finished ++ finished_with book.call kept_as)
-      ended = let all = finished book.call says.0 in let so_far = says.1 in omega (arith, so_far, outs, all)
+      given : (call : Option Call) → call ≡ Some (call_of job)
+          → sum_by (λ (done : Finished). returned_by done.reply) (book.finished ++ finished_with call kept_as)
+          ≡ ended_given book + returned_by ending.answer.reply
+      given call is = rw is (sum_by_push (λ (done : Finished). returned_by done.reply) book.finished (ended_with (call_of job) kept_as))
+
+      ended : more + sum_by (λ (done : Finished). returned_by done.reply) (book.finished ++ finished_with book.call kept_as)
+          ≡ count_by (λ (done : Finished). takes_out done.reply) (book.finished ++ finished_with book.call kept_as)
+      ended =
+          let all = finished book.call says.0 in
+          let back = given book.call says.0 in
+          let so_far = says.1 in
+          omega (arith, so_far, outs, all, back)
 
   stepped-says : (w : World L) (G G' : Ghost) (c : ℕ) (op : Op) → planned_in w.core c ≡ Some op
       → AllIn L mix env w.core
@@ -197,8 +213,7 @@ module _ (env : Env) (mix : ℕ → ℕ → ℕ → ℕ) (L : Type 0) where
   opening-says c =
       rw (idle_at_opening env mix L c) (
         refl,
-        count_below-none (λ n. is_taken_by c Free)
-            env.geometry.nodes (λ n l. refl),
+        (let none = count_below-none (λ n. is_taken_by c Free) env.geometry.nodes (λ n l. refl) in omega (arith, none)),
       )
 
   pub has_books : (events : List Event) → IsAdmitted env.config.kind events → HasBooks (run_of mix env events)

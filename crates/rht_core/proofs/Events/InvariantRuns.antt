@@ -3,6 +3,7 @@ use Rattle.std.proofs.Common.{◌≡◌, ℕ, ◌+◌, ◌*◌, ◌/◌, ◌<◌
 use Rattle.std.specs.Prelude.{Some, None}
 use Rattle.std.specs.Int.{bit_at}
 use Rattle.std.proofs.lemmas.Bool.{cases_eq, cases_lt, lt-ltb, le-ltb, ne_eqb}
+use Rattle.std.proofs.lemmas.List.{length-replicate}
 use Rattle.rht_words.specs.declared.env.Env.{Env}
 use Rattle.rht_words.specs.Places.{Address, CurrentTable, PortCount, Slot, ShapeWord, SeedWord, FutureWord, SerialWord, NodeMap, PageWord, IsAddress, WorkLock, StateWord, PageMap}
 use Rattle.rht_words.specs.declared.shape.Shape.{Shape}
@@ -17,7 +18,7 @@ use Rattle.rht_callers.specs.Locals.{fresh}
 use Rattle.rht_core.specs.Runs.{Core, World, local_in, opening, opening_core, run_of, IsAdmitted}
 use Rattle.rht_core.proofs.Events.Worlds.{run_keeps_admitted}
 use Rattle.rht_core.proofs.Events.RangesInRuns.{AllIn, opens-all, event-all}
-use Rattle.rht_ghost.proofs.Theory.Ghosts.{Free, Ghost, Table, PageOf, SlotFree, Live, is_first, has_table, put, put-same, put-other, blank_bucket, PageOwner, PageFree, PageHeld, SlotHeld, state_word, put-all, Row, is_entry, is_entry_of}
+use Rattle.rht_ghost.proofs.Theory.Ghosts.{Free, is_taken_by, Ghost, Table, PageOf, SlotFree, Live, is_first, has_table, put, put-same, put-other, blank_bucket, PageOwner, PageFree, PageHeld, SlotHeld, state_word, put-all, Row, is_entry, is_entry_of}
 use Rattle.rht_ghost.proofs.Theory.Wholes.{Whole, TableRight, PagesRight}
 use Rattle.rht_ghost.proofs.Theory.Steps.{mem}
 use Rattle.rht_core.proofs.Events.Invariants.{Inv, kept}
@@ -237,6 +238,13 @@ module _ (env : Env) (mix : ℕ → ℕ → ℕ → ℕ) where
           works = λ works. absurd (cc);
         };
         means = record { node = tt; table = tt; bucket = tt; making = tt; work = tt };
+      });
+      batches = λ c. rw (idle_at_opening c) (record {
+        out = λ n there. absurd there;
+        sound = record { among = tt; distinct = tt; callers = length-replicate env.geometry.callers 0 };
+        apart = λ n taken. absurd (cc);
+        many = count_below-none (λ n. is_taken_by c Free) env.geometry.nodes (λ n l. refl);
+        answered = tt;
       });
     }
 

@@ -173,6 +173,7 @@ module _ {M : Type 0} where
       })
       (record { job = _; first = (batch, refl); does = refl; asked = refl })
       (record { job = _; first = (batch, refl); does = refl; asked = refl })
+      (λ own has. record { job = _; first = (batch, ?); does = refl; asked = refl })
 
   -- ---- an operation
 

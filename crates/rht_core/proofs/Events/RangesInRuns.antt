@@ -59,7 +59,7 @@ use Rattle.rht_callers.proofs.NextDoings.{next_so}
 use Rattle.rht_callers.proofs.RoomsOfCallers.{idle-limit, begun-limit, owners_after-limit}
 use Rattle.rht_core.proofs.Events.Worlds.{beginning-some, planned-some, run_of-push, run_keeps_admitted}
 use Rattle.rht_callers.specs.Batches.{IsBatchIn, AreNodesIn, out_of}
-use Rattle.rht_callers.proofs.BatchesOfCallers.{idle-batch, begun-batch, batch_after-so, batch_after-in, AreNodesIn-out}
+use Rattle.rht_callers.proofs.BatchesOfCallers.{begun-same, begun-low, idle-batch, begun-batch, batch_after-so, batch_after-in, AreNodesIn-out}
 use Rattle.rht_core.proofs.Events.HandedOut.{out_in}
 use Rattle.rht_core.proofs.Events.JobsOfCallers.{first-so, plan-job}
 use Rattle.rht_core.proofs.Events.SoundRuns.{StaysIn, opens-in, stays-in, has_place, made_in, step-count}
@@ -148,6 +148,7 @@ module _ (M : Type 0) where
       })
       (λ admitted. record { same_env = refl; same_caller = refl; at_in = tt })
       (λ admitted. refl)
+      (λ own has admitted. ?)
 
   -- a caller that is told a word stays in range
   doing_after-in : (mix : ℕ → ℕ → ℕ → ℕ) (env : Env) (c : ℕ) (doing : Doing M) (old : ℕ)
@@ -300,11 +301,13 @@ module _ (M : Type 0) (mix : ℕ → ℕ → ℕ → ℕ) (env : Env) where
             (idle-limit M (local_of core c) env.geometry.nodes can.idle here.owners);
         pairs = here.pairs;
         batch =
-            begun-batch M (IsBatchIn env) env c (local_of core c).batch call machine made
-            (idle-batch M (IsBatchIn env) (local_of core c) can.idle here.batch);
+            let in_table = idle-batch M (IsBatchIn env) (local_of core c) can.idle here.batch in
+            begun-batch M (IsBatchIn env) env c (local_of core c).batch call machine made in_table
+            (λ own has. begun-same own ∙ subst (IsBatchIn env) has in_table);
         among =
-            begun-batch M (AreNodesIn env.geometry.nodes) env c (local_of core c).batch call machine made
-            (idle-batch M (AreNodesIn env.geometry.nodes) (local_of core c) can.idle here.among);
+            let low = idle-batch M (AreNodesIn env.geometry.nodes) (local_of core c) can.idle here.among in
+            begun-batch M (AreNodesIn env.geometry.nodes) env c (local_of core c).batch call machine made low
+            (λ own has. begun-low env.geometry.nodes own (subst (AreNodesIn env.geometry.nodes) has low));
       }
       all.locals k
 

@@ -32,7 +32,7 @@ use Rattle.rht_core.specs.Jobs.{Job, job_after, job_of, told, held_of, held_next
 use Rattle.rht_core.specs.Runs.{Core, World, core_step, with_step, with_machine, local_of, beginning_in, run_of, opening, planned_in, enrolling, IsAdmitted, IsAdmittedEvent}
 use Rattle.rht_core.specs.Sections.{IsInNoSection, Sections, AddsToOwn, OwnSections}
 use Rattle.rht_ghost.proofs.Theory.Ghosts.{Ghost}
-use Rattle.rht_ghost.proofs.Theory.Steps.{bare, Holding, mem, LeavesBits, IsAside, Move, Quiet, TakesNode, GivesNode, TakesLock, DropsLock, Raises, Links, Lowers, Rebinds, LinksBehind, Arms, TakesSlot, GivesSlot, TakesPages, GivesPages, TakesWork, GivesWork, BeginsMoving, TakesSecond, Leaves, Arrives, CutsOff, Publishes, Retires, Opens, Closes, ReadyFor, Does}
+use Rattle.rht_ghost.proofs.Theory.Steps.{bare, Holding, mem, LeavesBits, IsAside, Move, Quiet, TakesNode, GivesNode, TakesLock, DropsLock, Raises, Links, Lowers, Rebinds, LinksBehind, Arms, TakesSlot, GivesSlot, TakesPages, GivesPages, TakesWork, GivesWork, BeginsMoving, TakesSecond, Leaves, Arrives, CutsOff, Publishes, Retires, Opens, Closes, ReturnsNode, ReadyFor, Does}
 use Rattle.rht_ghost.proofs.Theory.Steps as moves
 use Rattle.rht_core.proofs.Events.Worlds.{beginning-some, planned-some, run_keeps_admitted}
 use Rattle.rht_core.proofs.Events.SoundRuns.{has_place, made_in}
@@ -106,6 +106,7 @@ module _ (env : Env) (mix : ℕ → ℕ → ℕ → ℕ) (c : ℕ) (M : Memory) 
   by_move (Arms j) ready does = keeps (aside g op old h does.leaves) does.holds refl
   by_move (TakesNode n) ready does = keeps (behind_slots g op old (n / 64) does.taking.clears.place) does.holds refl
   by_move (GivesNode n) ready does = keeps (behind_slots g op old (n / 64) (ap op_place does.giving)) does.holds refl
+  by_move (ReturnsNode n) ready does = keeps (behind_slots g op old (n / 64) (ap op_place does.giving)) does.holds refl
   by_move (TakesLock j) ready does = keeps (in_pages g op old j does.on) does.holds refl
   by_move (DropsLock j) ready does = keeps (in_pages g op old j does.on) does.holds refl
   by_move Raises ready does = keeps (first_word g op old 2 (omega arith) (ap op_place does.adds)) does.holds refl

@@ -36,7 +36,7 @@ use Rattle.rht_grace.specs.Batch.{BatchModel}
 use Rattle.rht_grace.specs.Tidy.{TidyModel, after_at, moved}
 use Rattle.rht_grace.specs.declared.tidy.TidyAt.{TidyAt}
 use Rattle.rht_callers.specs.Batches.{IsBatchIn}
-use Rattle.rht_callers.proofs.BatchesOfCallers.{idle-batch, begun-batch, batch_after-in}
+use Rattle.rht_callers.proofs.BatchesOfCallers.{begun-same, idle-batch, begun-batch, batch_after-in}
 use Rattle.rht_callers.proofs.RoomsOfCallers.{idle-limit, begun-limit, owners_after-limit}
 use Rattle.rht_core.proofs.Events.Worlds.{CanBegin, beginning-some, planned-some, run_keeps}
 
@@ -48,7 +48,7 @@ module _ (M : Type 0) where
       → IsDoingOf env machine
   begins-of env c batch =
       begins_so M env c batch (λ call machine. IsDoingOf env machine) (λ port. refl) (λ port owner once. refl)
-      (λ port. refl) (λ port owner. refl) (λ port owner new single. refl) refl refl
+      (λ port. refl) (λ port owner. refl) (λ port owner new single. refl) refl refl (λ own has. refl)
 
   -- a tidying stays in its table
   tidied-of : (env : Env) (m : TidyModel) (came : BatchModel × TidyAt × Next Reply) → IsDoingOf {M = M} env (Tidying m)
@@ -160,8 +160,9 @@ module _ (M : Type 0) (mix : ℕ → ℕ → ℕ → ℕ) (env : Env) where
             begun-limit M env c (local_of core c).batch call machine made (local_of core c).owners
             (idle-limit M (local_of core c) env.geometry.nodes can.idle (stays.locals_of c).owners);
         batch =
-            begun-batch M (IsBatchIn env) env c (local_of core c).batch call machine made
-            (idle-batch M (IsBatchIn env) (local_of core c) can.idle (stays.locals_of c).batch);
+            let in_table = idle-batch M (IsBatchIn env) (local_of core c) can.idle (stays.locals_of c).batch in
+            begun-batch M (IsBatchIn env) env c (local_of core c).batch call machine made in_table
+            (λ own has. begun-same own ∙ subst (IsBatchIn env) has in_table);
       })
 
   step-in : (core : Core M) (c : ℕ) (op : Option Op) → planned_in core c ≡ op → StaysIn core

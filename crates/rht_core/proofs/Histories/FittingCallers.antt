@@ -164,7 +164,7 @@ module _ (M : Type 0) (mix : ℕ → ℕ → ℕ → ℕ) (env : Env) where
       let words' = applied core.words (enrolling core.env) in
       let kept = enrolled env mix M core G has.all has.inv in
       let made : Made env mix 0 (mem env mix core.words) G (mem env mix words') G =
-      record { whole = kept.0; others = λ k ne. kept.1 k; stale = kept.2 } in
+      record { whole = kept.0; others = λ k ne. kept.1 k; stale = kept.2 _ } in
       ap (λ (b : Multimap). b p) (end-next events Enroll)
       ∙ stands_for_bound env mix words' G kept.0 p
       ∙ owners-stay env mix 0 (mem env mix core.words) (mem env mix words')

@@ -1,6 +1,7 @@
 -- What a caller in a call knows by its job, and that each of its operations leads from what it knows to what it knows next.
 -- The inductions over runs go through this one step, with no case of a machine.
-use Rattle.std.proofs.Common.{Option, None, ◌≡◌, ℕ, ◌^◌, ◌<◌, List, length, Bool, refl, inr}
+use Rattle.std.proofs.Common.{Option, None, ◌≡◌, ℕ, ◌^◌, ◌<◌, ◌++◌, List, length, Bool, refl, ap, ◌∙◌, inr}
+use Rattle.std.proofs.lemmas.Bool.{eq-eqb}
 use Rattle.rht_words.specs.declared.env.Env.{Env}
 use Rattle.rht_words.specs.declared.machine.Next.{Next}
 use Rattle.rht_words.specs.declared.machine.Next.TheVariants.{Go, Done}
@@ -8,7 +9,9 @@ use Rattle.rht_words.specs.Held as held
 use Rattle.rht_words.specs.declared.op.Op.{Op}
 use Rattle.rht_words.specs.Operations.{old_of, applied}
 use Rattle.rht_words.specs.Places.{words_in}
+use Rattle.rht_words.specs.Members.{In}
 use Rattle.rht_words.proofs.Memory.{Memory}
+use Rattle.rht_words.proofs.Members.{count_below-same}
 use Rattle.rht_model.specs.declared.history.Call.TheVariants.{Work}
 use Rattle.rht_model.specs.declared.history.Reply.{Reply}
 use Rattle.rht_model.specs.declared.history.Reply.TheVariants.{Counted}
@@ -36,8 +39,9 @@ use Rattle.rht_release.specs.declared.rebind.RebindAt.{RebindAt}
 use Rattle.rht_move.specs.Work.{IsWorkAtIn}
 use Rattle.rht_move.specs.Work as work_at
 use Rattle.rht_move.specs.declared.work.WorkAt.{WorkAt}
-use Rattle.rht_ghost.proofs.Theory.Ghosts.{Ghost}
-use Rattle.rht_ghost.proofs.Theory.Wholes.{Whole}
+use Rattle.rht_callers.specs.Batches.{nodes_left}
+use Rattle.rht_ghost.proofs.Theory.Ghosts.{Ghost, Taken, is_taken_by, taken_is}
+use Rattle.rht_ghost.proofs.Theory.Wholes.{Whole, outs}
 use Rattle.rht_ghost.proofs.Theory.Knowns.{Known}
 use Rattle.rht_ghost.proofs.Theory.Knowledge.{Knowing}
 use Rattle.rht_ghost.proofs.Theory.Reliance.{Rely}
@@ -110,31 +114,36 @@ pub record IsRebindingIn (env : Env) (new : ℕ) (state : RebindAt) : Type 0 whe
   pub new_in : new < 2 ^ 32
   pub at_in : IsRebindAtIn env state
 
+-- These nodes, and as many, were taken out by the caller's calls.
+pub record OwnsNodes (env : Env) (mix : ℕ → ℕ → ℕ → ℕ) (c : ℕ) (nodes : List ℕ) (G : Ghost) : Type 0 where
+  pub out : (n : ℕ) → In n nodes → G.node n ≡ Taken c
+  pub many : outs env mix G c ≡ length nodes
+
 -- What is said of a job by its machine: that it is one for tables of this kind, that all it names is the table's, and that what
--- its state keeps fits its port and its owner.
+-- its state keeps fits its port and its owner, or a tidying's its caller's nodes.
 pub record JobFacts : Type 1 where
   pub built : Type 0
   pub within : Type 0
-  pub fits : Type 0
+  pub fits : Ghost → Type 0
 
 module _ (env : Env) (mix : ℕ → ℕ → ℕ → ℕ) (c : ℕ) where
   -- a rebind is built for tables of one owner for each port alone, each other job for those of lists as well
   abbrev pub facts_of : Job → JobFacts
-  facts_of (finds port state) = record { built = Unit {0}; within = IsFindAtIn env state; fits = Unit {0} }
+  facts_of (finds port state) = record { built = Unit {0}; within = IsFindAtIn env state; fits = λ G. Unit {0} }
   facts_of (binds port owner once state) =
-      record { built = Unit {0}; within = IsBindingIn env port owner state; fits = fits_bind env mix c port owner once state }
+      record { built = Unit {0}; within = IsBindingIn env port owner state; fits = λ G. fits_bind env mix c port owner once state }
   facts_of (lists port room state) =
-      record { built = Unit {0}; within = IsListingIn env room state; fits = fits_all port room state }
+      record { built = Unit {0}; within = IsListingIn env room state; fits = λ G. fits_all port room state }
   facts_of (releases port owner state) =
-      record { built = Unit {0}; within = IsReleaseAtIn env state; fits = fits_release env mix c port owner state }
+      record { built = Unit {0}; within = IsReleaseAtIn env state; fits = λ G. fits_release env mix c port owner state }
   facts_of (rebinds port owner new state) = record {
     built = env.config.kind ≡ Single;
     within = IsRebindingIn env new state;
-    fits = fits_rebind env mix c port owner new state;
+    fits = λ G. fits_rebind env mix c port owner new state;
   }
-  facts_of (works state) = record { built = Unit {0}; within = IsWorkAtIn env state; fits = Unit {0} }
-  facts_of (tidies batch state) = record { built = Unit {0}; within = ⊥; fits = Unit {0} }
-  facts_of counts = record { built = Unit {0}; within = Unit {0}; fits = Unit {0} }
+  facts_of (works state) = record { built = Unit {0}; within = IsWorkAtIn env state; fits = λ G. Unit {0} }
+  facts_of (tidies batch state) = record { built = Unit {0}; within = ⊥; fits = OwnsNodes env mix c (nodes_left batch state) }
+  facts_of counts = record { built = Unit {0}; within = Unit {0}; fits = λ G. Unit {0} }
 
   abbrev pub JobIn : Job → Type 0
   JobIn job = (facts_of job).within
@@ -142,16 +151,32 @@ module _ (env : Env) (mix : ℕ → ℕ → ℕ → ℕ) (c : ℕ) where
   pub record JobKnows (job : Job) (M : Memory) (G : Ghost) : Type 0 where
     pub built : (facts_of job).built
     pub knowing : Knowing env mix c (held_of job) (known_of job) M G
-    pub fits : (facts_of job).fits
+    pub fits : (facts_of job).fits G
 
   -- a caller in no call has nothing
   abbrev pub KnowsNothing : Memory → Ghost → Type 0
   KnowsNothing M G = Knowing env mix c holds_no known_nothing M G
 
+  -- a tidying that ends leaves its caller these nodes
+  abbrev pub leaves_of : Job → Ghost → Type 0
+  leaves_of (finds port state) G = Unit {0}
+  leaves_of (binds port owner once state) G = Unit {0}
+  leaves_of (lists port room state) G = Unit {0}
+  leaves_of (releases port owner state) G = Unit {0}
+  leaves_of (rebinds port owner new state) G = Unit {0}
+  leaves_of (works state) G = Unit {0}
+  leaves_of (tidies batch state) G = OwnsNodes env mix c (batch.fresh ++ batch.waiting) G
+  leaves_of counts G = Unit {0}
+
+  -- what the caller knows of a call that has ended, of which this job is left
+  pub record JobLeft (job : Job) (ending : Ending) (M : Memory) (G : Ghost) : Type 0 where
+    pub knowing : Knowing env mix c (held.ended_with ending.answer) known_nothing M G
+    pub leaves : leaves_of job G
+
   -- what the caller knows after an operation
   abbrev pub JobNext : Job × Next Ending → Memory → Ghost → Type 0
   JobNext (job, Go) M G = JobKnows job M G
-  JobNext (job, Done ending) M G = Knowing env mix c (held.ended_with ending.answer) known_nothing M G
+  JobNext (job, Done ending) M G = JobLeft job ending M G
 
   -- an operation of a job, of which this is left
   abbrev pub JobStepOf : List ℕ → Ghost → Op → Job → Job × Next Ending → Type 0
@@ -159,13 +184,27 @@ module _ (env : Env) (mix : ℕ → ℕ → ℕ → ℕ) (c : ℕ) where
       StepWhere env mix (IsThere job (mem env mix words)) (IsThereNext r (mem env mix (applied words op)))
       c (call_of job) words G op (held_of job) (held_next r) (JobNext r)
 
+  -- the nodes of a caller stay its while others make operations
+  pub OwnsNodes-rely : (nodes : List ℕ) (M M' : Memory) (G G' : Ghost) → Rely env mix c M G M' G' → OwnsNodes env mix c nodes G
+      → OwnsNodes env mix c nodes G'
+  OwnsNodes-rely nodes M M' G G' rely owns = record {
+    out = λ n there. taken_is c (G'.node n) (rely.taken n ∙ ap (is_taken_by c) (owns.out n there) ∙ eq-eqb c c refl);
+    many =
+        count_below-same (λ n. is_taken_by c (G.node n)) (λ n. is_taken_by c (G'.node n)) env.geometry.nodes (λ n l. rely.taken n)
+        ∙ owns.many;
+  }
+
+  fits-rely : (job : Job) (M M' : Memory) (G G' : Ghost) → Rely env mix c M G M' G' → (facts_of job).fits G → (facts_of job).fits G'
+  fits-rely (tidies batch state) M M' G G' rely fits = OwnsNodes-rely (nodes_left batch state) M M' G G' rely fits
+  fits-rely _ M M' G G' rely fits = fits
+
   -- what it knows outlives a step of anybody else
   pub JobKnows-rely : (job : Job) (M M' : Memory) (G G' : Ghost) → Whole env mix M G → Rely env mix c M G M' G'
       → JobKnows job M G → JobKnows job M' G'
   JobKnows-rely job M M' G G' whole rely knows = record {
     built = knows.built;
     knowing = Knowing-rely env mix c M M' G G' (held_of job) (known_of job) whole rely knows.knowing;
-    fits = knows.fits;
+    fits = fits-rely job M M' G G' rely knows.fits;
   }
 
   module _ (low : c < env.geometry.callers) (words : List ℕ) (G : Ghost) (all : length words ≡ words_in env.geometry)
@@ -178,7 +217,8 @@ module _ (env : Env) (mix : ℕ → ℕ → ℕ → ℕ) (c : ℕ) where
         → JobStepOf words G (job_plan env c (finds port state)) (finds port state) (job_next (finds port) plain_ending r)
     finds_so port state (next, Go) step =
         step-map env mix (λ M G' w k. record { built = tt; knowing = k; fits = tt }) step
-    finds_so port state (next, Done reply) step = step
+    finds_so port state (next, Done reply) step =
+        step-map env mix (λ M G' w k. record { knowing = k; leaves = tt }) step
 
     binds_so : (port owner : ℕ) (once : Bool) (state : BindAt) (r : BindAt × Next Reply)
         → Step env mix c (call_of (binds port owner once state)) words G (bind_at.plan_at env c state) (held_of (binds port owner once state)) (bind_holds env mix c port owner once r) (BindNext env mix c port owner once r)
@@ -186,7 +226,8 @@ module _ (env : Env) (mix : ℕ → ℕ → ℕ → ℕ) (c : ℕ) where
         (job_next (binds port owner once) plain_ending r)
     binds_so port owner once state (next, Go) step =
         step-map env mix (λ M G' w k. record { built = tt; knowing = k.knowing; fits = k.fits }) step
-    binds_so port owner once state (next, Done reply) step = step
+    binds_so port owner once state (next, Done reply) step =
+        step-map env mix (λ M G' w k. record { knowing = k; leaves = tt }) step
 
     lists_so : (port : ℕ) (room : Kept ℕ) (roomy : room.limit ≡ env.geometry.nodes) (state : AllAt)
         (after : Kept ℕ) (r : AllAt × Next (Unit {0}))
@@ -195,7 +236,8 @@ module _ (env : Env) (mix : ℕ → ℕ → ℕ → ℕ) (c : ℕ) where
         (job_next (lists port after) (listing_ending after) r)
     lists_so port room roomy state after (next, Go) step =
         step-map env mix (λ M' G' w k. record { built = tt; knowing = k.knowing; fits = k.fits }) step
-    lists_so port room roomy state after (next, Done done) step = step
+    lists_so port room roomy state after (next, Done done) step =
+        step-map env mix (λ M' G' w k. record { knowing = k; leaves = tt }) step
 
     releases_so : (port owner : ℕ) (state : ReleaseAt) (r : ReleaseAt × Next (Reply × Option ℕ))
         → ReleaseMoved env mix c port owner words G state r
@@ -205,7 +247,7 @@ module _ (env : Env) (mix : ℕ → ℕ → ℕ → ℕ) (c : ℕ) where
         step-map env mix (λ M G' w k. record { built = tt; knowing = k.knowing; fits = k.fits }) step
     releases_so port owner state (next, Done end) step =
         let after = held.ended_with (plain end.0) in
-        step-map env mix (λ M G' w k. nothing_known env mix c after end.1 M G' k) step
+        step-map env mix (λ M G' w k. record { knowing = nothing_known env mix c after end.1 M G' k; leaves = tt }) step
 
     rebinds_so : env.config.kind ≡ Single → (port owner new : ℕ) (state : RebindAt)
         (r : RebindAt × Next (Reply × Option ℕ))
@@ -216,14 +258,15 @@ module _ (env : Env) (mix : ℕ → ℕ → ℕ → ℕ) (c : ℕ) where
         step-map env mix (λ M G' w k. record { built = single; knowing = k.knowing; fits = k.fits }) step
     rebinds_so single port owner new state (next, Done end) step =
         let after = held.ended_with (plain end.0) in
-        step-map env mix (λ M G' w k. nothing_known env mix c after end.1 M G' k) step
+        step-map env mix (λ M G' w k. record { knowing = nothing_known env mix c after end.1 M G' k; leaves = tt }) step
 
     works_so : (state : WorkAt) (r : WorkAt × Next Reply)
         → Step env mix c Work words G (work_at.plan_at env c state) (held_of (works state)) (work_holds r) (WorkNext env mix c r)
         → JobStepOf words G (job_plan env c (works state)) (works state) (job_next works plain_ending r)
     works_so state (next, Go) step =
         step-map env mix (λ M G' w k. record { built = tt; knowing = k; fits = tt }) step
-    works_so state (next, Done reply) step = step
+    works_so state (next, Done reply) step =
+        step-map env mix (λ M G' w k. record { knowing = k; leaves = tt }) step
 
     -- each operation of a job leads from what the caller knows to what it knows next
     pub job_step : (job : Job) → JobIn job → JobKnows job (mem env mix words) G → JobStep job
@@ -258,4 +301,4 @@ module _ (env : Env) (mix : ℕ → ℕ → ℕ → ℕ) (c : ℕ) where
           right = record { replied = record { reply = tt; owners = refl; pairs = refl }; tells = refl };
           takes_none = refl;
         }))
-        (record { only = knows.knowing.only; means = knows.knowing.means })
+        (record { knowing = record { only = knows.knowing.only; means = knows.knowing.means }; leaves = tt })

@@ -24,7 +24,7 @@ use Rattle.rht_ghost.proofs.Theory.Ghosts.{Ghost}
 use Rattle.rht_ghost.proofs.Theory.Wholes.{Whole}
 use Rattle.rht_ghost.proofs.Theory.Departures.{CanPublish, published, CanRetire}
 use Rattle.rht_ghost.proofs.Theory.Steps as steps
-use Rattle.rht_ghost.proofs.Theory.Steps.{mem, ghost_after, LeavesBits, DoesPublish, Holding, Does, ReadyFor, DoesQuiet, IsAside, Move, Quiet, TakesNode, GivesNode, TakesLock, DropsLock, Raises, Links, Lowers, Rebinds, LinksBehind, Arms, TakesSlot, GivesSlot, TakesPages, GivesPages, Enters, TakesWork, GivesWork, BeginsMoving, TakesSecond, Leaves, Arrives, CutsOff, Publishes, Retires, Opens, Closes, IsOnOwnSlot, DoesAttach, DoesTakeSlot, DoesGiveSlot, DoesRetire, DoesTakeWork, DoesGiveWork}
+use Rattle.rht_ghost.proofs.Theory.Steps.{mem, ghost_after, LeavesBits, DoesPublish, Holding, Does, ReadyFor, DoesQuiet, IsAside, Move, Quiet, TakesNode, GivesNode, TakesLock, DropsLock, Raises, Links, Lowers, Rebinds, LinksBehind, Arms, TakesSlot, GivesSlot, TakesPages, GivesPages, Enters, TakesWork, GivesWork, BeginsMoving, TakesSecond, Leaves, Arrives, CutsOff, Publishes, Retires, Opens, Closes, ReturnsNode, IsOnOwnSlot, DoesAttach, DoesTakeSlot, DoesGiveSlot, DoesRetire, DoesTakeWork, DoesGiveWork}
 use Rattle.rht_core.proofs.Meaning.TablesInForce.{current_slot, future-leads}
 use Rattle.rht_nest.specs.MakeLaws.{slot_taking, TakesSlot as TakesSlotNow}
 use Rattle.rht_ghost.proofs.Theory.Readiness.{IsAttaching}
@@ -134,6 +134,7 @@ module _ (env : Env) (mix : ℕ → ℕ → ℕ → ℕ) (c : ℕ) (M : Memory) 
   kind_of_move (Arms j) ready does = quiet (Arms j) does
   kind_of_move (TakesNode n) ready does = high _ _ does.taking.clears.place (omega arith)
   kind_of_move (GivesNode n) ready does = high _ _ (ap op_place does.giving) (omega arith)
+  kind_of_move (ReturnsNode n) ready does = high _ _ (ap op_place does.giving) (omega arith)
   kind_of_move (TakesLock j) ready does = pages _ j does.on
   kind_of_move (DropsLock j) ready does = pages _ j does.on
   kind_of_move Raises ready does = low _ 2 (ap op_place does.adds) (omega arith) (omega arith)

@@ -23,7 +23,7 @@ use Rattle.rht_ghost.proofs.Theory.Wholes.{place_at, Whole}
 use Rattle.rht_ghost.proofs.Theory.Passed.{held-no_entry}
 use Rattle.rht_ghost.proofs.Theory.Readiness.{Change, changed, linked, linked_bucket, IsRebinding, ArePagesOf, IsEntering}
 use Rattle.rht_ghost.proofs.Theory.Departures.{arrived, cut_off, cut_by}
-use Rattle.rht_ghost.proofs.Theory.Steps.{bare, Holding, mem, IsAside, DoesQuiet, DoesTakeLock, DoesDropLock, DoesTakeSecond, DoesTakeWork, DoesGiveWork, DoesRebind, DoesEnter, Does, ReadyFor, ghost_after, Move, Quiet, TakesNode, GivesNode, TakesLock, DropsLock, Raises, Links, Lowers, Rebinds, LinksBehind, Arms, TakesSlot, GivesSlot, TakesPages, GivesPages, Attaches, Enters, TakesWork, GivesWork, BeginsMoving, TakesSecond, Leaves, Arrives, CutsOff, Publishes, Retires, Opens, Closes}
+use Rattle.rht_ghost.proofs.Theory.Steps.{bare, Holding, mem, IsAside, DoesQuiet, DoesTakeLock, DoesDropLock, DoesTakeSecond, DoesTakeWork, DoesGiveWork, DoesRebind, DoesEnter, Does, ReadyFor, ghost_after, Move, Quiet, TakesNode, GivesNode, TakesLock, DropsLock, Raises, Links, Lowers, Rebinds, LinksBehind, Arms, TakesSlot, GivesSlot, TakesPages, GivesPages, Attaches, Enters, TakesWork, GivesWork, BeginsMoving, TakesSecond, Leaves, Arrives, CutsOff, Publishes, Retires, Opens, Closes, ReturnsNode}
 use Rattle.rht_ghost.proofs.Moves.Relinking.{last_in}
 use Rattle.rht_ghost.proofs.Pieces.Rebounds.{node_before_pages}
 use Rattle.rht_core.proofs.Undoing.TurnedBits.{one_bit, one_bit-here, one_bit-far, turned-far, turned-here, turned-none, turned-same, turned-one, sets_lowest, clears_lowest, locked_bit, work_bit}
@@ -363,6 +363,8 @@ module _ {env : Env} {mix : ℕ → ℕ → ℕ → ℕ} (step : Turning env mix
       inr (off (subst (IsOff g) (sym does.taking.clears.place) (node_map-off g n does.taking.within)) does.holds (λ p. refl) place is)
   turns_evenly (GivesNode n) ready then does place is =
       inr (off (subst (IsOff g) (sym (ap op_place does.giving)) (node_map-off g n (step.node_in n does.has))) does.holds (λ p. refl) place is)
+  turns_evenly (ReturnsNode n) ready then does place is =
+      inr (off (subst (IsOff g) (sym (ap op_place does.giving)) (node_map-off g n does.among)) does.holds (λ p. refl) place is)
   turns_evenly (TakesLock j) ready then does place is = inr (take_lock j does place)
   turns_evenly (DropsLock j) ready then does place is = inr (drop_lock j does place)
   turns_evenly Raises ready then does place is =

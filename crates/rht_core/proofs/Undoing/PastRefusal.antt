@@ -1,7 +1,8 @@
 -- The states behind which a call ends with no refusal any more, nor with another reply that says that nothing was changed. In such a state
 -- is a bind and a rebind that publish their node, a release that takes its node out, and a resizing that has made its table or finds one to
--- move; and each stays so while it closes its section. Look-ups, listings and readings of the count come to none.
-use Rattle.std.proofs.Common.{◌≡◌, ◌≢◌, ℕ, ◌+◌, ◌==◌, Bool, true, false, Option, Some, None, refl, nat_lt}
+-- move; and each stays so while it closes its section. So is a tidying that gives nodes back. Look-ups, listings and readings of the count
+-- come to none.
+use Rattle.std.proofs.Common.{◌≡◌, ◌≢◌, ℕ, ◌+◌, ◌==◌, Bool, true, false, Option, Some, None, refl, nat_lt, length}
 use Rattle.std.proofs.lemmas.Bool.{cond_both}
 use Rattle.rht_words.specs.declared.env.Env.{Env}
 use Rattle.rht_words.specs.declared.geometry.Geometry.{Geometry}
@@ -10,9 +11,9 @@ use Rattle.rht_words.specs.declared.machine.Next.TheVariants.{Go, Done}
 use Rattle.rht_words.specs.Links.{slot_of, node_of, head_of, unlocked}
 use Rattle.rht_words.specs.Shapes.{size_of, unpacked}
 use Rattle.rht_model.specs.declared.history.Call.{Call}
-use Rattle.rht_model.specs.declared.history.Call.TheVariants.{Bind, Release, Rebind, Work}
+use Rattle.rht_model.specs.declared.history.Call.TheVariants.{Bind, Release, Rebind, Work, Tidy}
 use Rattle.rht_model.specs.declared.history.Reply.{Reply}
-use Rattle.rht_model.specs.declared.history.Reply.TheVariants.{Released}
+use Rattle.rht_model.specs.declared.history.Reply.TheVariants.{Released, Clear}
 use Rattle.rht_nest.specs.Place.{PlaceModel, flat_place, nested_place, place_after}
 use Rattle.rht_nest.specs.declared.place.Bucket.{Bucket}
 use Rattle.rht_nest.specs.declared.place.Bucket.TheVariants.{At, Absent}
@@ -52,7 +53,11 @@ use Rattle.rht_move.specs.declared.work.ending.Ending.{Ending}
 use Rattle.rht_move.specs.declared.work.ending.Ending.TheVariants as endings
 use Rattle.rht_move.specs.declared.work.WorkAt.{WorkAt}
 use Rattle.rht_move.specs.declared.work.WorkAt.TheVariants as at
-use Rattle.rht_core.specs.Jobs.{Job, finds, binds, lists, releases, rebinds, works, tidies, counts}
+use Rattle.rht_grace.specs.Batch.{BatchModel, cleared}
+use Rattle.rht_grace.specs.Tidy as tidy
+use Rattle.rht_grace.specs.declared.tidy.TidyAt.{TidyAt}
+use Rattle.rht_grace.specs.declared.tidy.TidyAt.TheVariants as tidy_at
+use Rattle.rht_core.specs.Jobs.{Job, finds, binds, lists, releases, rebinds, works, tidies, counts, tidied}
 use Rattle.rht_core.specs.Refused.{changes_nothing}
 
 -- a bind is past it at the closing of its section where it has linked its node
@@ -171,6 +176,12 @@ work_is_past (at.Closing ending) = outcome_is_past (outcome_of ending)
 work_is_past (at.Retiring root again) = true
 work_is_past (at.LettingGo outcome) = outcome_is_past outcome
 
+-- a tidying is past it once it gives nodes back
+abbrev pub tidy_is_past : TidyAt → Bool
+tidy_is_past (tidy_at.Keeping caller) = false
+tidy_is_past (tidy_at.Asking caller) = false
+tidy_is_past (tidy_at.Giving index) = true
+
 abbrev pub is_past : Job → Bool
 is_past (finds port state) = false
 is_past (binds port owner once state) = bind_is_past state
@@ -178,7 +189,7 @@ is_past (lists port room state) = false
 is_past (releases port owner state) = release_is_past state
 is_past (rebinds port owner new state) = rebind_is_past state
 is_past (works state) = work_is_past state
-is_past (tidies batch state) = false
+is_past (tidies batch state) = tidy_is_past state
 is_past counts = false
 
 -- ---- it stays past that
@@ -406,3 +417,15 @@ work-past mix env (at.NewFuture rehash) old past some = retiring-past rehash (sl
 work-past mix env (at.Closing ending) old past some = closing-past ending past
 work-past mix env (at.LettingGo outcome) old past some = ended-past mix env outcome old past
 work-past mix env _ old past some = refl
+
+-- ---- a tidying
+
+-- where it gives nodes back it goes on so, or has given all back
+pub tidy-past : (g : Geometry) (batch : BatchModel) (state : TidyAt) (old : ℕ) → tidy_is_past state ≡ true
+    → StaysPast (λ (at : BatchModel × TidyAt). tidy_is_past at.1) same_reply Tidy (tidied (tidy.after_at g batch state old))
+tidy-past g batch (tidy_at.Keeping caller) old past = absurd (cc)
+tidy-past g batch (tidy_at.Asking caller) old past = absurd (cc)
+tidy-past g batch (tidy_at.Giving index) old past =
+    cond_both (nat_lt (index + 1) (length batch.waiting)) (batch, tidy_at.Giving (index + 1), Go)
+    (cleared batch, tidy_at.Keeping 0, Done (Clear (length batch.waiting)))
+    (λ came. StaysPast (λ (at : BatchModel × TidyAt). tidy_is_past at.1) same_reply Tidy (tidied came)) (λ t. refl) (λ f. refl)

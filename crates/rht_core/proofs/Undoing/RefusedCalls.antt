@@ -19,7 +19,7 @@ use Rattle.rht_words.specs.Operations.{old_of, applied}
 use Rattle.rht_words.specs.Places.{Slot, FutureWord}
 use Rattle.rht_words.proofs.EachElement.{AllByRecursion-push}
 use Rattle.rht_model.specs.declared.history.Call.{Call}
-use Rattle.rht_model.specs.declared.history.Call.TheVariants.{Rebind}
+use Rattle.rht_model.specs.declared.history.Call.TheVariants.{Rebind, Tidy}
 use Rattle.rht_model.specs.declared.history.Reply.{Reply}
 use Rattle.rht_model.specs.declared.history.Reply.TheVariants as replies
 use Rattle.rht_model.specs.Answers.{Answer, is_change}
@@ -36,7 +36,9 @@ use Rattle.rht_move.specs.declared.work.WorkAt.TheVariants as works_at
 use Rattle.rht_core.specs.declared.event.Event.{Event}
 use Rattle.rht_core.specs.declared.event.Event.TheVariants.{Step as Steps}
 use Rattle.rht_grace.specs.Batch.{BatchModel}
-use Rattle.rht_core.specs.Jobs.{Job, binds, releases, rebinds, works, call_of, first_job, job_plan, job_after, job_next, node_ending, held_of, held_next, IsFirstJob}
+use Rattle.rht_grace.specs.Tidy as tidy_at
+use Rattle.rht_grace.specs.declared.tidy.TidyAt.TheVariants as tidy_states
+use Rattle.rht_core.specs.Jobs.{Job, binds, releases, rebinds, works, tidies, tidying, tidied, call_of, first_job, job_plan, job_after, job_next, node_ending, held_of, held_next, IsFirstJob}
 use Rattle.rht_core.specs.Runs.{World, run_of, IsAdmitted}
 use Rattle.rht_core.specs.Traces.{Did, Past, traced_of}
 use Rattle.rht_core.specs.Seen.{words_before}
@@ -48,7 +50,7 @@ use Rattle.rht_ghost.proofs.Theory.Answering.{entry_of, same_reply, known_so, un
 use Rattle.rht_ghost.proofs.Theory.Knowns.{Onward, Rooted}
 use Rattle.rht_ghost.proofs.Theory.Knowledge.{WorkMeans}
 use Rattle.rht_ghost.proofs.Pieces.WorkLoads.{has_future}
-use Rattle.rht_ghost.proofs.Theory.Steps.{Holding, mem, ghost_after, Does, SaysChange}
+use Rattle.rht_ghost.proofs.Theory.Steps.{Holding, mem, ghost_after, Does, ReturnsNode, SaysChange}
 use Rattle.rht_core.proofs.Meaning.BoundPorts.{stands_for_bound}
 use Rattle.rht_core.proofs.Events.Worlds.{run_of-next, step_words}
 use Rattle.rht_core.proofs.Events.JobsOfCallers.{each_goes, first_holds, first_rebind-so, same_call, first-of}
@@ -61,7 +63,7 @@ use Rattle.rht_core.proofs.Tracing.TracesAtEvents.{at_events}
 use Rattle.rht_core.proofs.Undoing.UndoneSoFar.{Undoes, GoneWhereEntered, Undoes-push}
 use Rattle.rht_core.proofs.Undoing.GoingBack.{GoesBack}
 use Rattle.rht_core.proofs.Undoing.UndoneMoves.{kept_by}
-use Rattle.rht_core.proofs.Undoing.PastRefusal.{due_is_past, is_past, StaysPast, bind-past, release-past, rebind-past, work-past}
+use Rattle.rht_core.proofs.Undoing.PastRefusal.{due_is_past, is_past, StaysPast, bind-past, release-past, rebind-past, work-past, tidy-past}
 use Rattle.rht_core.proofs.Undoing.StoredShapes.{bind-stored}
 use Rattle.rht_core.proofs.Undoing.RefusableJobs.{refusable, mine, JobStored, attaches, enters, gone}
 use Rattle.rht_core.proofs.Undoing.LockedJobs.{locked-leaves}
@@ -180,6 +182,9 @@ module _ (M : Type 0) (mix : ℕ → ℕ → ℕ → ℕ) (env : Env) (events : 
         said-leads (works state) works plain_ending (work_at.after_at mix env state did.old)
         (work-past mix env state did.old past
         (λ root due is. due_some env mix root due did (subst (λ s. Performs mix env (works s) did) is performs)))
+    past-leads (tidies batch state) did performs past =
+        said-leads (tidies batch state) tidying plain_ending (tidied (tidy_at.after_at env.geometry batch state did.old))
+        (tidy-past env.geometry batch state did.old past)
     past-leads _ did performs past = absurd (cc)
 
     -- ---- behind an answer that says that bindings were changed
@@ -214,6 +219,15 @@ module _ (M : Type 0) (mix : ℕ → ℕ → ℕ → ℕ) (env : Env) (events : 
       let all = steps ++ did ∷ [] in
       each_goes (λ after. JobStored env after all) (λ ending. Unit {0}) (call_of job) (job_after mix env job did.old)
       (same_call mix env job did.old) (λ other same. other-stored other all (λ may. subst MayAttach same may)) (λ ending. tt)
+
+  -- a tidying that may be refused loads
+  returns_none : (c : ℕ) (job : Job) (did : Did) (h h' : Holding) (n : ℕ) → is_past job ≡ false → did.op ≡ job_plan env c job
+      → call_of job ≡ Tidy
+      → Does env mix (ReturnsNode n) did.op did.old h h' → ⊥
+  returns_none c (tidies batch (tidy_states.Keeping caller)) did h h' n may is asked does = let both = sym is ∙ does.giving in cc
+  returns_none c (tidies batch (tidy_states.Asking caller)) did h h' n may is asked does = let both = sym is ∙ does.giving in cc
+  returns_none c (tidies batch (tidy_states.Giving index)) did h h' n may is asked does = absurd (cc)
+  returns_none c _ did h h' n may is asked does = absurd (cc)
 
   -- a call that has ended holds nothing
   nothing_held : (n : ℕ) → (n + 0) % 2 ≡ 0 → n % 2 ≡ 0
@@ -333,8 +347,11 @@ module _ (M : Type 0) (mix : ℕ → ℕ → ℕ → ℕ) (env : Env) (events : 
                   };
             };
           } in
-          elim (kept_by goes_back step.move step.ready
-          (subst (λ old. Does env mix step.move did.op old (held_of job) after) (sym performs.found) step.does)) [
+          let does : Does env mix step.move did.op did.old (held_of job) after =
+          subst (λ old. Does env mix step.move did.op old (held_of job) after) (sym performs.found) step.does in
+          elim (kept_by goes_back step.move
+          (λ n returns. returns_none performs.caller job did (held_of job) after n may performs.planned (step.returning n returns)
+          (subst (λ m. Does env mix m did.op did.old (held_of job) after) returns does)) step.ready does) [
             | inl says ↦ inl says
             | inr keeps ↦ inr (
                 subst (λ k. Undoes g (words_before M mix env events) k (call_of job) after all) own

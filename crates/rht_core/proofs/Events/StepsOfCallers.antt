@@ -1,0 +1,169 @@
+-- What a caller knows by its job, and that the operation which it plans is its job's and a step, where the whole is true of the words and
+-- some ghost.
+use Rattle.std.proofs.Common.{◌≡◌, ◌≢◌, ℕ, zero, suc, ◌+◌, ◌<◌, ◌++◌, true, length, refl, sym, ap, ◌∙◌, subst, inl, inr, arith}
+use Rattle.std.specs.Prelude.{Option, Some, None}
+use Rattle.std.proofs.lemmas.Bool.{cases_eq}
+use Rattle.std.proofs.lemmas.List.{get_or-set_same, get_or-set_other}
+use Rattle.rht_words.specs.declared.op.Op.{Op}
+use Rattle.rht_words.specs.declared.env.Env.{Env}
+use Rattle.rht_words.specs.declared.machine.Next.{Next}
+use Rattle.rht_words.specs.declared.machine.Next.TheVariants.{Go, Done}
+use Rattle.rht_words.specs.Operations.{old_of, word_after, applied}
+use Rattle.rht_words.specs.Places.{EnrolledCallers, words_in, word_at}
+use Rattle.rht_words.proofs.Memory.{Memory, is_write}
+use Rattle.rht_words.proofs.EachElement.{each_set}
+use Rattle.rht_words.proofs.Members.{count_below-same}
+use Rattle.rht_model.specs.declared.history.Call.{Call}
+use Rattle.rht_model.specs.Endings.{Ending}
+use Rattle.rht_core.specs.declared.event.Event.{Event}
+use Rattle.rht_core.specs.declared.event.Event.TheVariants.{Enroll, Begin}
+use Rattle.rht_core.specs.declared.event.Event.TheVariants as events
+use Rattle.rht_callers.specs.declared.local.Doing.{Doing}
+use Rattle.rht_callers.specs.Locals.{fresh, does_nothing, machine_of, begin_with, local_after}
+use Rattle.rht_core.specs.Runs.{Core, local_of, beginning_in, planned_in, enrolling, core_step}
+use Rattle.rht_core.specs.Jobs.{Job, job_plan, job_after, job_of, told, held_of, held_next}
+use Rattle.rht_callers.proofs.CallBeginnings.{begins_so}
+use Rattle.rht_core.proofs.Events.Worlds.{beginning-some, planned-some}
+use Rattle.rht_core.proofs.Events.SoundRuns.{has_place, made_in}
+use Rattle.rht_core.proofs.Events.RangesInRuns.{AllIn, job-in}
+use Rattle.rht_core.proofs.Events.JobsOfCallers.{plan-job, left-job, nothing-job, is_no_job}
+use Rattle.rht_ghost.proofs.Theory.Ghosts.{Ghost, is_taken_by}
+use Rattle.rht_ghost.proofs.Theory.Wholes.{outs, Whole}
+use Rattle.rht_ghost.proofs.Theory.Answering.{outs_of}
+use Rattle.rht_ghost.proofs.Theory.Frames.{StaleStay, stale_write, same_owners}
+use Rattle.rht_ghost.proofs.Theory.Reliance.{Rely}
+use Rattle.rht_ghost.proofs.Theory.KnowledgeKept.{Knowing-rely}
+use Rattle.rht_ghost.proofs.Theory.Steps.{mem, ghost_after}
+use Rattle.rht_ghost.proofs.Moves.Quiet.{aside}
+use Rattle.rht_ghost.proofs.Theory.Knowns.{known_nothing}
+use Rattle.rht_core.proofs.Machines.JobSteps.{OwnsNodes, JobIn, JobKnows, JobKnows-rely, JobStepOf, KnowsNothing, JobNext, holds_no, job_step}
+use Rattle.std.proofs.lemmas.List.{nil_from_length, append-nil}
+use Rattle.rht_grace.specs.Batch.{BatchModel, first_odd}
+use Rattle.rht_grace.specs.Tidy.{begun, asked_at}
+use Rattle.rht_grace.specs.declared.tidy.TidyAt.{TidyAt}
+use Rattle.rht_grace.proofs.TidyRuns.{begun-some, begun-none}
+use Rattle.rht_callers.specs.Batches.{nodes_in, nodes_left}
+
+module _ (env : Env) (mix : ℕ → ℕ → ℕ → ℕ) where
+  -- a caller knows what its job says, and one in no call has nothing
+  abbrev pub Knows : ℕ → Option Job → Memory → Ghost → Type 0
+  Knows c None M G = KnowsNothing env mix c M G
+  Knows c (Some job) M G = JobKnows env mix c job M G
+
+  pub Knows-rely : (c : ℕ) (job : Option Job) (M M' : Memory) (G G' : Ghost) → Whole env mix M G
+      → Rely env mix c M G M' G'
+      → Knows c job M G → Knows c job M' G'
+  Knows-rely c None M M' G G' whole rely knows =
+      Knowing-rely env mix c M M' G G' holds_no known_nothing whole rely knows
+  Knows-rely c (Some job) M M' G G' whole rely knows = JobKnows-rely env mix c job M M' G G'
+      whole rely knows
+
+  -- what a caller knows after an operation is what the job that is left says
+  pub knows-told : (c : ℕ) (r : Job × Next Ending) (M : Memory) (G : Ghost) → JobNext env mix c r M G
+      → Knows c (told r).0 M G
+  knows-told c (job, Go) M G knows = knows
+  knows-told c (job, Done ending) M G knows = record { only = knows.knowing.only; means = knows.knowing.means }
+
+  module _ (L : Type 0) where
+    -- a tidying that begins has its caller's nodes
+    pub begun_owns : (c : ℕ) (batch : BatchModel) (G : Ghost) → OwnsNodes env mix c (batch.fresh ++ batch.waiting) G
+        → OwnsNodes env mix c (nodes_left (begun batch).0 (begun batch).1) G
+    begun_owns c batch G owns = go (length batch.waiting) refl
+      where
+        waits : (found : Option ℕ) → OwnsNodes env mix c (nodes_left batch (asked_at found)) G
+        waits None = owns
+        waits (Some caller) = owns
+
+        go : (count : ℕ) → length batch.waiting ≡ count → OwnsNodes env mix c (nodes_left (begun batch).0 (begun batch).1) G
+        go zero none =
+            let all : batch.fresh ++ batch.waiting ≡ batch.fresh =
+            ap (λ w. batch.fresh ++ w) (nil_from_length batch.waiting none) ∙ append-nil batch.fresh in
+            subst (λ (b : BatchModel × TidyAt). OwnsNodes env mix c (nodes_left b.0 b.1) G) (sym (begun-none batch none))
+            (subst (λ nodes. OwnsNodes env mix c nodes G) all owns)
+        go (suc count) some =
+            subst (λ (b : BatchModel × TidyAt). OwnsNodes env mix c (nodes_left b.0 b.1) G)
+            (sym (begun-some batch (omega (arith, some)))) (waits (first_odd batch.kept 0))
+
+    -- a caller that is given a call knows what the first state of its machine says
+    pub begun_knows : (c : ℕ) (batch : Option BatchModel) (call : Call) (machine : Doing L) (M : Memory) (G : Ghost)
+        → machine_of env c batch call ≡ Some machine → KnowsNothing env mix c M G → OwnsNodes env mix c (nodes_in batch) G
+        → Knows c (job_of machine) M G
+    begun_knows c batch call machine M G is knows owns =
+        begins_so L env c batch (λ asked first. Knows c (job_of first) M G)
+        (λ port. record { built = tt; knowing = record { only = knows.only; means = knows.means }; fits = tt })
+        (λ port owner once. record { built = tt; knowing = record { only = knows.only; means = knows.means }; fits = (refl, refl) })
+        (λ port. record { built = tt; knowing = record { only = knows.only; means = knows.means }; fits = refl })
+        (λ port owner. record { built = tt; knowing = record { only = knows.only; means = knows.means }; fits = tt })
+        (λ port owner new single. record {
+          built = single;
+          knowing = record { only = knows.only; means = knows.means };
+          fits = (refl, refl);
+        })
+        (record { built = tt; knowing = record { only = knows.only; means = knows.means }; fits = tt })
+        (record { built = tt; knowing = record { only = knows.only; means = knows.means }; fits = tt })
+        (λ own has. record {
+          built = tt;
+          knowing = record { only = knows.only; means = knows.means };
+          fits = begun_owns c own G (subst (λ b. OwnsNodes env mix c (nodes_in b) G) has owns);
+        })
+        call machine is
+
+    -- a caller in no call has nothing
+    pub idle_knows : (c : ℕ) (doing : Doing L) (M : Memory) (G : Ghost) → does_nothing doing ≡ true
+        → Knows c (job_of doing) M G → KnowsNothing env mix c M G
+    idle_knows c doing M G idle knows = go (job_of doing) (sym (nothing-job doing) ∙ idle) knows
+      where
+        go : (job : Option Job) → is_no_job job ≡ true → Knows c job M G → KnowsNothing env mix c M G
+        go None none knows = knows
+        go (Some job) none knows = absurd (cc)
+
+    -- ---- one operation of a caller
+
+    -- the operation that a caller plans is its job's, and is a step
+    pub record StepOf (core : Core L) (G : Ghost) (c : ℕ) (op : Op) : Type 0 where
+      pub job : Job
+      pub is : job_of (local_of core c).doing ≡ Some job
+      pub plan : op ≡ job_plan env c job
+      pub within : JobIn env mix c job
+      pub knows : JobKnows env mix c job (mem env mix core.words) G
+      pub low : c < env.geometry.callers
+      pub few : c < 16
+      pub all : length core.words ≡ words_in env.geometry
+      pub step :
+          let r = job_after mix env job (old_of core.words op) in
+          JobStepOf env mix c core.words G op job r
+
+    -- where the whole is true, and the caller knows what its job says
+    pub step_from : (core : Core L) (G : Ghost) (c : ℕ) (op : Op) → AllIn L mix env core → Whole env mix (mem env mix core.words) G
+        → Knows c (job_of (local_of core c).doing) (mem env mix core.words) G
+        → planned_in core c ≡ Some op
+        → StepOf core G c op
+    step_from core G c op sound whole each is =
+        let can = planned-some core.env core.enrolled core.locals c op is in
+        let doing = (local_of core c).doing in
+        let plans = plan-job env c doing op (sound.locals c).doing can.plan in
+        let job = plans.job in
+        let knows = subst (λ j. Knows c j (mem env mix core.words) G) plans.does each in
+        let low : c < env.geometry.callers = omega (arith, can.below, sound.stays.few_enrolled) in
+        let local = sound.locals c in
+        let within = job-in L env mix c doing job (local_of core c).owners plans.does local.doing local.owners in
+        record {
+          job = job;
+          is = plans.does;
+          plan = plans.plan;
+          within = within;
+          knows = knows;
+          low = low;
+          few = (let callers = env.geometry.within.callers_within in omega (arith, low, callers.1));
+          all = sound.stays.all_words;
+          step = subst (λ o. let r = job_after mix env job (old_of core.words o) in
+              JobStepOf env mix c core.words G o job r) (sym plans.plan)
+              (job_step env mix c low core.words G sound.stays.all_words whole job within knows);
+        }
+
+    -- others see no node taken out
+    pub others_outs : (k : ℕ) (M M' : Memory) (G G' : Ghost) → Rely env mix k M G M' G'
+        → outs env mix G' k ≡ outs env mix G k
+    others_outs k M M' G G' rely =
+        count_below-same (λ n. is_taken_by k (G.node n)) (λ n. is_taken_by k (G'.node n))
+        env.geometry.nodes (λ n l. rely.taken n)
