@@ -63,6 +63,7 @@ use Rattle.rht_core.proofs.Finding.Lookups.{LookMeans, look_says, look_leads}
 use Rattle.rht_core.proofs.Finding.LooksSeen.{look_seen}
 use Rattle.rht_core.proofs.Finding.LookSteps.{IsSpent, spent_leads, spent_stays}
 use Rattle.rht_core.proofs.Returning.Meeting.{MeetsRight}
+use Rattle.rht_core.proofs.Returning.MetBySome.{met_by, IsApart}
 use Rattle.rht_core.proofs.Returning.Readers.{Reader}
 
 module _ (L : Type 0) (mix : ℕ → ℕ → ℕ → ℕ) (env : Env) where
@@ -129,11 +130,34 @@ module _ (L : Type 0) (mix : ℕ → ℕ → ℕ → ℕ) (env : Env) where
 
   -- ---- one event more
 
-  module _ (events : List Event) (event : Event) (looking : AreLooking events (R events)) (met : ℕ → Bool) (Apart : ℕ → Type 0)
-      (makes : EventMakes env mix L events (R events).world.core (world_step mix (R events).world event).core looking.placed met Apart)
-      (then : ℕ → ℕ → Bool)
-      (sees : (c : ℕ) → c < env.geometry.callers
-      → SeesOn (R events).world.core (world_step mix (R events).world event).core met (looking.readers c).chains (then c) c) where
+  -- what some section has met, and which nodes none has met
+  abbrev pub met_now : {events : List Event} {r : Traced L} → AreLooking events r → ℕ → Bool
+  met_now looking = met_by looking.readers env.geometry.callers
+
+  abbrev pub ApartNow : {events : List Event} {r : Traced L} → AreLooking events r → ℕ → Type 0
+  ApartNow looking = IsApart env.geometry.callers looking.readers
+
+  -- what an event makes, and what sections have met behind it
+  pub record Turns (events : List Event) (event : Event) (looking : AreLooking events (R events)) : Type 0 where
+    pub makes : EventMakes env mix L events (R events).world.core (world_step mix (R events).world event).core looking.placed
+        (met_now looking) (ApartNow looking)
+    pub then : ℕ → ℕ → Bool
+    pub sees : (c : ℕ) → c < env.geometry.callers
+        → SeesOn (R events).world.core (world_step mix (R events).world event).core (met_now looking) (looking.readers c).chains (then c) c
+
+  module _ (events : List Event) (event : Event) (looking : AreLooking events (R events)) (turn : Turns events event looking) where
+    abbrev met : ℕ → Bool
+    met = met_now looking
+
+    abbrev Apart : ℕ → Type 0
+    Apart = ApartNow looking
+
+    abbrev makes : EventMakes env mix L events (R events).world.core (world_step mix (R events).world event).core looking.placed met Apart
+    makes = turn.makes
+
+    abbrev then : ℕ → ℕ → Bool
+    then = turn.then
+
     abbrev r : Traced L
     r = R events
 
@@ -152,7 +176,7 @@ module _ (L : Type 0) (mix : ℕ → ℕ → ℕ → ℕ) (env : Env) where
     abbrev stands : bindings_at L mix env events ≡ stands_for env.geometry core.words
     stands = end-is L mix env events
 
-    abbrev placed' : Placed env mix L more core'
+    abbrev pub placed' : Placed env mix L more core'
     placed' = next env mix L events event core core' (end-is L mix env events) placed met Apart makes
 
     abbrev pub LooksThen : ℕ → Trace → Option Job → Type 0
@@ -176,7 +200,7 @@ module _ (L : Type 0) (mix : ℕ → ℕ → ℕ → ℕ) (env : Env) where
         → Looks more core' placed' (then c) c port begin made state
     unfolding next
     outlives c port begin made low begun Says said state does known spent =
-        let see = sees c low in
+        let see = turn.sees c low in
         let is : standing core' c ≡ standing_of_find state = ap standing_with does in
         record {
           low = low;
@@ -228,15 +252,15 @@ module _ (L : Type 0) (mix : ℕ → ℕ → ℕ → ℕ) (env : Env) where
       abbrev old : ℕ
       old = old_of core.words (plan_at env c state)
 
-      known : LookMeans env mix port (seen c) (begin + 1) (SaysOf more c port begin) (mem env mix core.words) placed.ghost placed.places
+      pub known_next : LookMeans env mix port (seen c) (begin + 1) (SaysOf more c port begin) (mem env mix core.words) placed.ghost placed.places
           (goes mix env port state old)
-      known =
+      known_next =
           look_leads env mix port (seen c) (begin + 1) (SaysOf more c port begin) (length events) core.words placed.ghost placed.places
           placed.inv.whole placed.right placed.deaths
           (missing_said env mix L events event core stands placed c port begin looks.begun)
           (λ m late key. found_said env mix L events event core stands placed c port begin looks.begun m key late)
           c state within
-          (subst (λ at. AllByRecursion (λ n. seen c n ≡ true) at.nodes) (ap standing_with is) (sees c looks.low).stood)
+          (subst (λ at. AllByRecursion (λ n. seen c n ≡ true) at.nodes) (ap standing_with is) (turn.sees c looks.low).stood)
           (look_says env mix port (seen c) (begin + 1) (SaysOf events c port begin) (SaysOf more c port begin) (said-later c port begin)
           (mem env mix core.words) placed.ghost placed.places state looks.means)
 
@@ -244,7 +268,7 @@ module _ (L : Type 0) (mix : ℕ → ℕ → ℕ → ℕ) (env : Env) where
           → Looks more core' placed' (then c) c port begin (made + 1) (goes mix env port state old)
       goes_on still does =
           outlives c port begin (made + 1) looks.low looks.begun (SaysOf more c port begin) (λ reply said. said)
-          (goes mix env port state old) does known
+          (goes mix env port state old) does known_next
           (spent_leads env mix port (seen c) (begin + 1) (SaysOf events c port begin) core.words placed.ghost placed.places
           placed.inv.whole c made state still within looks.means looks.spent)
 

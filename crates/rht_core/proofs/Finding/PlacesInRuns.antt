@@ -18,6 +18,7 @@ use Rattle.rht_core.specs.Alone.{bindings_at}
 use Rattle.rht_core.specs.RunHistories.{bindings_behind}
 use Rattle.rht_core.proofs.Events.RangesInRuns.{AllIn, opens-all, event-all}
 use Rattle.rht_core.proofs.Events.Invariants.{Inv, Knows, StepOf, kept, enrolled}
+use Rattle.rht_core.proofs.Events.OwnBatches.{BatchRight}
 use Rattle.rht_core.proofs.Events.InvariantRuns.{opening_ghost, opening_inv}
 use Rattle.rht_ghost.proofs.Theory.Ghosts.{Ghost, IsUsed, seat_of, seat-used, some-same}
 use Rattle.rht_ghost.proofs.Theory.Wholes.{key_of, seated_at}
@@ -151,6 +152,7 @@ module _ (env : Env) (mix : ℕ → ℕ → ℕ → ℕ) (L : Type 0) where
         same_env = makes.inv.same_env;
         whole = made.whole;
         each = subst (λ K. (k : ℕ) → Knows env mix k (job_of (local_of core' k).doing) M' K) makes.same makes.inv.each;
+        batches = subst (λ K. (k : ℕ) → BatchRight env mix L K k (local_of core' k)) makes.same makes.inv.batches;
       };
       all = makes.all;
       places = next_places.places;

@@ -25,7 +25,8 @@ use Rattle.rht_stands.specs.StandsFor.{shape_of}
 use Rattle.rht_core.specs.TablePages.{IsPageOfTable}
 use Rattle.rht_core.proofs.Counting.TablePages.{pages_in_words}
 use Rattle.rht_core.proofs.Events.Invariants.{step_of}
-use Rattle.rht_core.proofs.Finding.LookupsInRuns.{JobLooks, Looks, SaysOf, has_looks}
+use Rattle.rht_core.proofs.Finding.LookupsAtEvents.{JobLooks, Looks, SaysOf}
+use Rattle.rht_core.proofs.Finding.LookupsInRuns.{has_looks}
 use Rattle.rht_core.proofs.Machines.JobSteps.{JobIn, JobKnows}
 use Rattle.rht_core.proofs.Tracing.TracedRuns.{world-traced_of}
 use Rattle.rht_ghost.proofs.Theory.Ghosts.{Ghost, Free, NodeHeld, SlotHeld, state_word}
@@ -141,12 +142,12 @@ module _ (env : Env) (mix : ℕ → ℕ → ℕ → ℕ) (L : Type 0) where
         let looking = has_looks L mix env events admitted in
         let placed = looking.placed in
         let trace = R.traces c in
-        let looks : Looks L mix env events R.world.core placed c port trace.begin (length trace.steps) state =
-        subst (JobLooks L mix env events R.world.core placed c trace.begin (length trace.steps)) does (looking.looks c).now in
+        let looks : Looks L mix env events R.world.core placed (looking.readers c).chains c port trace.begin (length trace.steps) state =
+        subst (JobLooks L mix env events R.world.core placed (looking.readers c).chains c trace.begin (length trace.steps)) does (looking.looks c).now in
         record {
           ghost = placed.ghost;
           whole = placed.inv.whole;
-          lies = find_lies env mix port (trace.begin + 1) (SaysOf L mix env events c port trace.begin) R.world.core.words placed.ghost placed.places placed.inv.whole c low state within looks.means;
+          lies = find_lies env mix port (looking.readers c).chains (trace.begin + 1) (SaysOf L mix env events c port trace.begin) R.world.core.words placed.ghost placed.places placed.inv.whole c low state within looks.means;
         }
 
     find_so : (c : ℕ) → c < 16 → FindsSo c (run_of mix env events)
