@@ -191,7 +191,7 @@ module _ (env : Env) (mix : ℕ → ℕ → ℕ → ℕ) where
 
   module _ (L : Type 0) where
     -- each section word is odd where its caller's section is open, and even where it isn't
-    abbrev AreRight : Core L → Type 0
+    abbrev pub AreRight : Core L → Type 0
     AreRight core =
         (c : ℕ) → c < 16
         → word_at env.geometry core.words (Section c) % 2 ≡ odd_by (in_section (job_of (local_of core c).doing))

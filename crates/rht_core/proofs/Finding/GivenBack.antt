@@ -50,7 +50,7 @@ module _ (env : Env) (mix : ℕ → ℕ → ℕ → ℕ) (now c n : ℕ) (M M' :
   pub same_seat : (m : ℕ) → seat_of (G'.node m) ≡ seat_of (G.node m)
   same_seat m = put-all (λ k o. seat_of o ≡ seat_of (G.node k)) G.node n Free (sym (ap seat_of mine)) (λ k ne. refl) m
 
-  was_used : (m : ℕ) → IsUsed (G'.node m) → IsUsed (G.node m)
+  pub was_used : (m : ℕ) → IsUsed (G'.node m) → IsUsed (G.node m)
   was_used m = put-all (λ k o. is_used o ≡ true → is_used (G.node k) ≡ true) G.node n Free (λ used. absurd (cc)) (λ k ne used. used) m
 
   -- the node itself is forgotten
@@ -179,7 +179,7 @@ module _ (env : Env) (mix : ℕ → ℕ → ℕ → ℕ) (now c n : ℕ) (M M' :
     among = died.among;
   })
 
-  deaths_then : DeathsRight env M G P now → DeathsRight env M' G' P' (now + 1)
+  pub deaths_then : DeathsRight env M G P now → DeathsRight env M' G' P' (now + 1)
   deaths_then deaths m t among used none is =
       let was = dead_was m t is in
       let seatless = sym (same_seat m) ∙ none in

@@ -17,7 +17,8 @@ use Rattle.rht_core.specs.Runs.{IsAdmitted}
 use Rattle.rht_core.specs.RunHistories.{bindings_behind}
 use Rattle.rht_core.specs.Traces.{Past, Traced, traced_of}
 use Rattle.rht_core.proofs.Finding.LookSteps.{spent_most}
-use Rattle.rht_core.proofs.Finding.LookupsInRuns.{AreLooking, JobLooks, SaysOf, PastLooks, has_looks}
+use Rattle.rht_core.proofs.Finding.LookupsAtEvents.{AreLooking, JobLooks, SaysOf, PastLooks}
+use Rattle.rht_core.proofs.Finding.LookupsInRuns.{has_looks}
 use Rattle.rht_core.proofs.Tracing.TracedJobs.{IsAtJob}
 use Rattle.rht_core.proofs.Tracing.RepliesInRuns.{Holds, Answered, runs-right}
 
@@ -56,12 +57,12 @@ module _ (L : Type 0) (mix : ℕ → ℕ → ℕ → ℕ) (env : Env) (events : 
 
   now_short : (job : Option Job) (call : Call)
       → IsAtJob L mix env (Holds L mix env) (Answered L mix env) job (r.world.books c) (r.traces c).steps
-      → JobLooks L mix env events r.world.core looking.placed c (r.traces c).begin (length (r.traces c).steps) job
+      → JobLooks L mix env events r.world.core looking.placed (looking.readers c).chains c (r.traces c).begin (length (r.traces c).steps) job
       → (r.world.books c).call ≡ Some call → IsShort env call (r.traces c).steps
   now_short None call at_job looks asked port is = absurd (let none = at_job.call in cc)
   now_short (Some (finds other state)) call at_job looks asked port is =
       let made = length (r.traces c).steps in
-      let most = spent_most env mix other ((r.traces c).begin + 1) (SaysOf L mix env events c other (r.traces c).begin)
+      let most = spent_most env mix other (looking.readers c).chains ((r.traces c).begin + 1) (SaysOf L mix env events c other (r.traces c).begin)
       r.world.core.words looking.placed.ghost looking.placed.places looking.placed.inv.whole made state looks.means looks.spent in
       below_bound made (find_bound env) (within_bound env made most)
   now_short (Some _) call at_job looks asked port is = absurd (let same = at_job.call in cc)

@@ -1,35 +1,35 @@
 -- In every run there are places that are right. And each node that is no port's first one any more was one,
 -- by what the words stood for, right before the event from which on it isn't.
-use Rattle.std.proofs.Common.{◌≡◌, ℕ, suc, ◌+◌, ◌<◌, List, [], ◌∷◌, ◌++◌, length, Option, Some, None, refl, sym, ◌∙◌, ap, subst, arith}
+use Rattle.std.proofs.Common.{◌≡◌, ◌⊎◌, ℕ, suc, ◌+◌, ◌/◌, ◌<◌, Bool, List, [], ◌∷◌, ◌++◌, length, Option, Some, None, refl, sym, ◌∙◌, ap, subst, inl, inr, arith}
 use Rattle.std.proofs.lemmas.List.{length_push}
 use Rattle.rht_words.specs.declared.op.Op.{Op}
 use Rattle.rht_words.specs.declared.env.Env.{Env}
-use Rattle.rht_words.specs.Operations.{applied}
+use Rattle.rht_words.specs.Operations.{op_place, old_of, applied}
 use Rattle.rht_words.specs.Ports.{owner_of}
-use Rattle.rht_words.specs.Places.{Node, OwnerWord}
-use Rattle.rht_words.proofs.Memory.{Memory}
-use Rattle.rht_words.proofs.EachElement.{AllByRecursion-cut}
+use Rattle.rht_words.specs.Places.{Node, NodeWord, NodeMap, OwnerWord}
+use Rattle.rht_words.proofs.Memory.{Memory, is_write}
 use Rattle.rht_model.specs.Multimap.{Multimap}
 use Rattle.rht_core.specs.declared.event.Event.{Event}
 use Rattle.rht_core.specs.declared.event.Event.TheVariants.{Enroll, Begin, Step}
-use Rattle.rht_core.specs.Jobs.{job_of}
-use Rattle.rht_core.specs.Runs.{Core, World, opening_core, core_step, with_step, world_step, run_of, local_of, planned_in, IsAdmitted, IsAdmittedEvent}
+use Rattle.rht_core.specs.Jobs.{job_of, job_after, held_of, held_next}
+use Rattle.rht_core.specs.Runs.{Core, World, opening_core, core_step, with_step, world_step, local_of, planned_in, IsAdmittedEvent}
 use Rattle.rht_stands.specs.StandsFor.{stands_for}
 use Rattle.rht_core.specs.Alone.{bindings_at}
 use Rattle.rht_core.specs.RunHistories.{bindings_behind}
-use Rattle.rht_core.proofs.Events.Worlds.{induct_by_last, run_of-push}
 use Rattle.rht_core.proofs.Events.RangesInRuns.{AllIn, opens-all, event-all}
-use Rattle.rht_core.proofs.Events.Invariants.{Inv, Knows, kept, enrolled}
+use Rattle.rht_core.proofs.Events.Invariants.{Inv, Knows, StepOf, kept, enrolled}
+use Rattle.rht_core.proofs.Events.OwnBatches.{BatchRight}
 use Rattle.rht_core.proofs.Events.InvariantRuns.{opening_ghost, opening_inv}
-use Rattle.rht_ghost.proofs.Theory.Ghosts.{Ghost, IsUsed, seat_of, some-same}
+use Rattle.rht_ghost.proofs.Theory.Ghosts.{Ghost, IsUsed, seat_of, seat-used, some-same}
 use Rattle.rht_ghost.proofs.Theory.Wholes.{key_of, seated_at}
 use Rattle.rht_ghost.proofs.Theory.Frames.{Made, still}
-use Rattle.rht_ghost.proofs.Theory.Steps.{Move, Quiet, mem, owners_in, ghost_after, ReadyFor}
+use Rattle.rht_ghost.proofs.Theory.Steps.{Move, Quiet, ReturnsNode, DoesReturnNode, Does, bare, mem, owners_in, ghost_after, ReadyFor}
 use Rattle.rht_core.proofs.Meaning.BoundPorts.{stands_for_bound}
 use Rattle.rht_core.proofs.Histories.Behind.{behind-all, behind-more}
 use Rattle.rht_core.proofs.Finding.Places.{Places, PlacesRight}
-use Rattle.rht_core.proofs.Finding.Deaths.{DeathsRight, deaths_after}
-use Rattle.rht_core.proofs.Finding.PlacesSteps.{PlacesNext, places_step}
+use Rattle.rht_core.proofs.Finding.Deaths.{DeathsRight}
+use Rattle.rht_core.proofs.Finding.GivenBack.{IsUnmet}
+use Rattle.rht_core.proofs.Finding.PlacesThen.{PlacesThen, IsGiven, DiesNow, HadDied, places_then}
 
 module _ (env : Env) (mix : ℕ → ℕ → ℕ → ℕ) (L : Type 0) where
   -- the words stood for it behind so many events that the node's port had the node's owner as its first
@@ -50,8 +50,9 @@ module _ (env : Env) (mix : ℕ → ℕ → ℕ → ℕ) (L : Type 0) where
 
   -- ---- one event more
 
-  -- what an event does: the move that it makes, and what holds behind it
-  pub record EventMakes (events : List Event) (core core' : Core L) (placed : Placed events core) : Type 0 where
+  -- What an event does: the move that it makes, and what holds behind it. A node that it gives back is none of those that were met, and is apart.
+  pub record EventMakes (events : List Event) (core core' : Core L) (placed : Placed events core) (met : ℕ → Bool) (Apart : ℕ → Type 0) :
+      Type 0 where
     pub caller : ℕ
     pub move : Move
     pub ready : ReadyFor env mix caller (mem env mix core.words) placed.ghost move
@@ -61,10 +62,12 @@ module _ (env : Env) (mix : ℕ → ℕ → ℕ → ℕ) (L : Type 0) where
     pub same : ghost ≡ ghost_after env mix caller move placed.ghost
     pub inv : Inv env mix L core' ghost
     pub all : AllIn L mix env core'
+    pub given : (n : ℕ) → move ≡ ReturnsNode n → IsGiven env (mem env mix core.words) (mem env mix core'.words) met n
+    pub apart : (n : ℕ) → move ≡ ReturnsNode n → Apart n
 
   module _ (events : List Event) (event : Event) (core core' : Core L)
       (stands : bindings_at L mix env events ≡ stands_for env.geometry core.words)
-      (placed : Placed events core) (makes : EventMakes events core core' placed) where
+      (placed : Placed events core) (met : ℕ → Bool) (Apart : ℕ → Type 0) (makes : EventMakes events core core' placed met Apart) where
     abbrev c : ℕ
     c = makes.caller
 
@@ -92,9 +95,9 @@ module _ (env : Env) (mix : ℕ → ℕ → ℕ → ℕ) (L : Type 0) where
     longer = sym (length_push events event)
 
     -- the places behind it
-    pub places_then : PlacesNext env mix (length events) M G placed.places M' G'
-    places_then = places_step env mix
-        (length events) c M G placed.places M' placed.inv.whole placed.right makes.move makes.ready made
+    pub next_places : PlacesThen env mix (length events) M G placed.places M' G' met
+    next_places = places_then env mix
+        (length events) c M G placed.places M' placed.inv.whole placed.right met makes.move makes.ready made makes.given
 
     -- what a first node's port stands for
     pub was_now : (n j : ℕ) → seat_of (G.node n) ≡ Some j → WasFirst more M n (length events)
@@ -110,28 +113,25 @@ module _ (env : Env) (mix : ℕ → ℕ → ℕ → ℕ) (L : Type 0) where
         }
 
     -- a node that has died was a first one right before that
-    pub was_first : (n t : ℕ) → n < env.geometry.nodes → IsUsed (G.node n) → seat_of (G'.node n) ≡ None
-        → places_then.places.dead n ≡ Some t → WasFirst more M n t
-    was_first n t among used none dead = go (seat_of (G.node n)) refl
-      where
-        go : (seat : Option ℕ) → seat_of (G.node n) ≡ seat → WasFirst more M n t
-        go (Some j) sits =
-            let both : ◌≡◌ {A = Option ℕ} (Some (length events)) (Some t) =
-            sym (places_then.deaths.died n j sits none) ∙ dead in
-            let now : length events ≡ t = cc in
-            subst (WasFirst more M n) now (was_now n j sits)
-        go None seatless =
-            let before = sym (places_then.deaths.kept n seatless) ∙ dead in
-            let was = placed.said n t among used seatless before in
-            let at = placed.deaths n among used seatless in
-            let same = some-same at.at t (sym at.is ∙ before) in
-            let early = at.early in
-            record {
-              others = was.others;
-              is = ap (λ (b : Multimap). b (key_of M n))
-                  (behind-more L mix env events event t (omega (arith, same, early)))
-                  ∙ was.is;
-            }
+    pub was_first : (n t : ℕ) → n < env.geometry.nodes → DiesNow (length events) G n t ⊎ HadDied G placed.places n t
+        → WasFirst more M n t
+    was_first n t among (inl dies) = subst (WasFirst more M n) dies.is_now (was_now n dies.bucket dies.seat)
+    was_first n t among (inr had) =
+        let was = placed.said n t among had.used had.none had.dead in
+        let at = placed.deaths n t among had.used had.none had.dead in
+        let same = some-same at.at t (sym at.is ∙ had.dead) in
+        let early = at.early in
+        record {
+          others = was.others;
+          is = ap (λ (b : Multimap). b (key_of M n))
+              (behind-more L mix env events event t (omega (arith, same, early)))
+              ∙ was.is;
+        }
+
+    -- it was used before
+    pub was_used : (n t : ℕ) → DiesNow (length events) G n t ⊎ HadDied G placed.places n t → IsUsed (G.node n)
+    was_used n t (inl dies) = seat-used (G.node n) dies.bucket dies.seat
+    was_used n t (inr had) = had.used
 
     -- and its words stay
     pub words_stay : (n t : ℕ) → n < env.geometry.nodes → IsUsed (G.node n) → WasFirst more M n t
@@ -152,17 +152,15 @@ module _ (env : Env) (mix : ℕ → ℕ → ℕ → ℕ) (L : Type 0) where
         same_env = makes.inv.same_env;
         whole = made.whole;
         each = subst (λ K. (k : ℕ) → Knows env mix k (job_of (local_of core' k).doing) M' K) makes.same makes.inv.each;
+        batches = subst (λ K. (k : ℕ) → BatchRight env mix L K k (local_of core' k)) makes.same makes.inv.batches;
       };
       all = makes.all;
-      places = places_then.places;
-      right = subst (PlacesRight env mix G' places_then.places M') longer places_then.right_now;
-      deaths = subst (DeathsRight env M' G' places_then.places) longer
-          (deaths_after env mix
-          (length events) M G placed.places M' G' places_then.places places_then.frame placed.inv.whole places_then.deaths
-          placed.deaths);
+      places = next_places.places;
+      right = subst (PlacesRight env mix G' next_places.places M') longer next_places.right_now;
+      deaths = subst (DeathsRight env M' G' next_places.places) longer (next_places.deaths_now placed.deaths);
       said = λ n t among used none dead.
-          let was_used = places_then.deaths.used n used none in
-          words_stay n t among was_used (was_first n t among was_used none dead);
+          let died = next_places.dead n t used none dead in
+          words_stay n t among (was_used n t died) (was_first n t among died);
     }
 
   -- ---- runs
@@ -182,19 +180,33 @@ module _ (env : Env) (mix : ℕ → ℕ → ℕ → ℕ) (L : Type 0) where
       of_port = λ port first behind n j i p bound. absurd (cc);
       leads = λ i n p none is. absurd (cc);
     };
-    deaths = λ n among used. absurd (cc);
+    deaths = λ n t among used none is. absurd (cc);
     said = λ n t among used. absurd (cc);
   }
 
   -- an event leads on from there
   module _ (events : List Event) (w : World L)
       (stands : bindings_at L mix env events ≡ stands_for env.geometry w.core.words)
-      (placed : Placed events w.core) where
+      (placed : Placed events w.core) (met : ℕ → Bool) (Apart : ℕ → Type 0)
+      (unmet : (c : ℕ) (op : Op) (of : StepOf env mix L w.core placed.ghost c op) (n : ℕ) → of.step.move ≡ ReturnsNode n
+      → IsUnmet env (mem env mix w.core.words) met n × Apart n) where
     abbrev core : Core L
     core = w.core
 
     abbrev Makes : Event → Type 0
-    Makes event = EventMakes events core (world_step mix w event).core placed
+    Makes event = EventMakes events core (world_step mix w event).core placed met Apart
+
+    -- an operation that gives a node back leaves the words of nodes
+    words_left : (c : ℕ) (op : Op) (of : StepOf env mix L w.core placed.ghost c op) (n : ℕ) → of.step.move ≡ ReturnsNode n
+        → (m : ℕ) (word : NodeWord) → m < env.geometry.nodes
+        → mem env mix (applied w.core.words op) (Node m word) ≡ mem env mix w.core.words (Node m word)
+    words_left c op of n is m word l =
+        let does : DoesReturnNode env.geometry n op (held_of of.job) (bare (held_next (job_after mix env of.job (old_of w.core.words op)))) =
+        subst (λ move. Does env mix move op (old_of w.core.words op) (held_of of.job)
+        (held_next (job_after mix env of.job (old_of w.core.words op)))) is of.step.does in
+        let among = does.among in
+        (is_write env.geometry w.core.words (NodeMap (n / 64)) op of.all (omega (arith, among)) (ap op_place does.giving)).others
+        (Node m word) l (λ e. cc)
 
     -- by what a caller plans, and by the event
     step_makes : (c : ℕ) (plan : Option Op) → planned_in w.core c ≡ plan
@@ -215,6 +227,8 @@ module _ (env : Env) (mix : ℕ → ℕ → ℕ → ℕ) (L : Type 0) where
           same = k.ghost_kept.none is;
           inv = k.inv;
           all = event-all L mix env w (Step c) may placed.all;
+          given = λ n is. absurd (cc);
+          apart = λ n is. absurd (cc);
         }
     step_makes c (Some op) is may =
         let k = kept env mix L w.core placed.ghost (Step c) placed.all placed.inv in
@@ -232,6 +246,12 @@ module _ (env : Env) (mix : ℕ → ℕ → ℕ → ℕ) (L : Type 0) where
           same = moves.1;
           inv = k.inv;
           all = event-all L mix env w (Step c) may placed.all;
+          given = λ n is. record {
+            unmet = (unmet c op of n is).0;
+            words = subst (λ words. (m : ℕ) (word : NodeWord) → m < env.geometry.nodes
+                → mem env mix words (Node m word) ≡ mem env mix w.core.words (Node m word)) (sym same) (words_left c op of n is);
+          };
+          apart = λ n is. (unmet c op of n is).1;
         }
 
     pub event_makes : (event : Event) → IsAdmittedEvent env.config.kind event → Makes event
@@ -242,11 +262,13 @@ module _ (env : Env) (mix : ℕ → ℕ → ℕ → ℕ) (L : Type 0) where
           caller = 0;
           move = Quiet;
           ready = tt;
-          made = record { whole = e.0; others = λ c ne. e.1 c; stale = e.2 };
+          made = record { whole = e.0; others = λ c ne. e.1 c; stale = e.2 0 };
           ghost = k.ghost;
           same = k.ghost_kept;
           inv = k.inv;
           all = event-all L mix env w Enroll may placed.all;
+          given = λ n is. absurd (cc);
+          apart = λ n is. absurd (cc);
         }
     event_makes (Begin c call) may =
         let k = kept env mix L w.core placed.ghost (Begin c call) placed.all placed.inv in
@@ -259,21 +281,7 @@ module _ (env : Env) (mix : ℕ → ℕ → ℕ → ℕ) (L : Type 0) where
           same = k.ghost_kept;
           inv = k.inv;
           all = event-all L mix env w (Begin c call) may placed.all;
+          given = λ n is. absurd (cc);
+          apart = λ n is. absurd (cc);
         }
     event_makes (Step c) may = step_makes c (planned_in w.core c) refl may
-
-    pub placed_event : (event : Event) → IsAdmittedEvent env.config.kind event
-        → Placed (events ++ event ∷ []) (world_step mix w event).core
-    placed_event event may = next events event w.core (world_step mix w event).core stands placed (event_makes event may)
-
-  -- so it holds in every run, over its events
-  pub has_places : (events : List Event) → IsAdmitted env.config.kind events
-      → Placed events (run_of {M = L} mix env events).core
-  has_places =
-      induct_by_last (λ events. IsAdmitted env.config.kind events
-      → Placed events (run_of {M = L} mix env events).core)
-      (λ none. placed_opening)
-      (λ events event each all.
-      let parts = AllByRecursion-cut (IsAdmittedEvent env.config.kind) events (event ∷ []) all in
-      subst (λ (w : World L). Placed (events ++ event ∷ []) w.core) (sym (run_of-push L mix env events event))
-      (placed_event events (run_of mix env events) refl (each parts.0) event parts.1.0))

@@ -185,8 +185,8 @@ first_stands env call job is =
 
 module _ (env : Env) (mix : ℕ → ℕ → ℕ → ℕ) (words : List ℕ) (G : Ghost) (whole : Whole env mix (mem env mix words) G) (c : ℕ) where
   -- What a look-up knows. The other calls know what their jobs say.
-  abbrev pub KnowsLook : ℕ → (ℕ → Reply → Type 0) → Places → Job → Type 0
-  KnowsLook since Says P (finds port state) = LookMeans env mix port since (Says port) (mem env mix words) G P state
+  abbrev pub KnowsLook : (ℕ → Bool) → ℕ → (ℕ → Reply → Type 0) → Places → Job → Type 0
+  KnowsLook seen since Says P (finds port state) = LookMeans env mix port seen since (Says port) (mem env mix words) G P state
   KnowsLook seen since Says P _ = Unit {0}
 
   abbrev GoesTo : Job → Type 0

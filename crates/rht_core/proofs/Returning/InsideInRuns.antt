@@ -1,12 +1,12 @@
 -- In every run an operation of a call is on what is its own, or on what its caller could reach in its section, and leads nowhere else.
-use Rattle.std.proofs.Common.{◌≡◌, ℕ, ◌+◌, ◌/◌, ◌<◌, ◌⊎◌, true, List, take, drop, length, Some, refl, sym, ◌∙◌, ap, subst, inl, inr, arith}
+use Rattle.std.proofs.Common.{◌≡◌, ℕ, ◌+◌, ◌/◌, ◌<◌, ◌⊎◌, true, List, get_or, take, drop, length, Some, refl, sym, ◌∙◌, ap, subst, inl, inr, arith}
 use Rattle.std.proofs.lemmas.List.{take-append-drop}
 use Rattle.rht_words.specs.declared.op.Op.{Op}
 use Rattle.rht_words.specs.declared.env.Env.{Env}
 use Rattle.rht_words.specs.declared.geometry.Geometry.{Geometry}
 use Rattle.rht_words.specs.Standing.{Standing}
 use Rattle.rht_words.specs.Operations.{op_place}
-use Rattle.rht_words.specs.Places.{Address, CurrentTable, PortCount, Slot, SlotWord, ShapeWord, SeedWord, FutureWord, SerialWord, StateWord, LoadedSection, IsSlotWord, Node, PageWord, IsAddress, place_of}
+use Rattle.rht_words.specs.Places.{Address, CurrentTable, PortCount, Slot, SlotWord, ShapeWord, SeedWord, FutureWord, SerialWord, StateWord, LoadedSection, IsSlotWord, NodeMap, Section, Node, PageWord, IsAddress, place_of}
 use Rattle.rht_words.specs.TableWords.{IsTableWord}
 use Rattle.rht_words.proofs.EachElement.{AllByRecursion-cut}
 use Rattle.rht_words.proofs.PlacesApart.{place_of-apart}
@@ -15,6 +15,13 @@ use Rattle.rht_find.specs.Find.{IsFindAtIn}
 use Rattle.rht_find.specs.FindHeld.{held_of_find}
 use Rattle.rht_find.specs.FindStanding.{standing_of_find}
 use Rattle.rht_find.specs.declared.find.FindAt.{FindAt}
+use Rattle.rht_grace.specs.Batch.{BatchModel}
+use Rattle.rht_grace.specs.Tidy as tidy
+use Rattle.rht_grace.specs.Tidy.{load_of}
+use Rattle.rht_grace.specs.declared.tidy.TidyAt.{TidyAt}
+use Rattle.rht_grace.specs.declared.tidy.TidyAt.TheVariants as tidy_at
+use Rattle.rht_core.specs.Tidyings.{IsTidyingIn}
+use Rattle.rht_core.proofs.Machines.TidyRanges.{waiting_low}
 use Rattle.rht_core.specs.declared.event.Event.{Event}
 use Rattle.rht_core.specs.Jobs.{Job, finds, binds, lists, releases, rebinds, works, tidies, counts, job_of, job_plan, held_of}
 use Rattle.rht_core.specs.Reach.{Thing, TableIn, PageAt, NodeAt, CouldReach, ReachesPage, at_table, at_node, at_listed, in_chain, IsReading, IsOwnNode, IsOwnSlot, IsWithin, Inside}
@@ -25,7 +32,8 @@ use Rattle.rht_stands.specs.StandsFor.{shape_of}
 use Rattle.rht_core.specs.TablePages.{IsPageOfTable}
 use Rattle.rht_core.proofs.Counting.TablePages.{pages_in_words}
 use Rattle.rht_core.proofs.Events.Invariants.{step_of}
-use Rattle.rht_core.proofs.Finding.LookupsInRuns.{JobLooks, Looks, SaysOf, has_looks}
+use Rattle.rht_core.proofs.Finding.LookupsAtEvents.{JobLooks, Looks, SaysOf}
+use Rattle.rht_core.proofs.Finding.LookupsInRuns.{has_looks}
 use Rattle.rht_core.proofs.Machines.JobSteps.{JobIn, JobKnows}
 use Rattle.rht_core.proofs.Tracing.TracedRuns.{world-traced_of}
 use Rattle.rht_ghost.proofs.Theory.Ghosts.{Ghost, Free, NodeHeld, SlotHeld, state_word}
@@ -141,12 +149,12 @@ module _ (env : Env) (mix : ℕ → ℕ → ℕ → ℕ) (L : Type 0) where
         let looking = has_looks L mix env events admitted in
         let placed = looking.placed in
         let trace = R.traces c in
-        let looks : Looks L mix env events R.world.core placed c port trace.begin (length trace.steps) state =
-        subst (JobLooks L mix env events R.world.core placed c trace.begin (length trace.steps)) does (looking.looks c).now in
+        let looks : Looks L mix env events R.world.core placed (looking.readers c).chains c port trace.begin (length trace.steps) state =
+        subst (JobLooks L mix env events R.world.core placed (looking.readers c).chains c trace.begin (length trace.steps)) does (looking.looks c).now in
         record {
           ghost = placed.ghost;
           whole = placed.inv.whole;
-          lies = find_lies env mix port (trace.begin + 1) (SaysOf L mix env events c port trace.begin) R.world.core.words placed.ghost placed.places placed.inv.whole c low state within looks.means;
+          lies = find_lies env mix port (looking.readers c).chains (trace.begin + 1) (SaysOf L mix env events c port trace.begin) R.world.core.words placed.ghost placed.places placed.inv.whole c low state within looks.means;
         }
 
     find_so : (c : ℕ) → c < 16 → FindsSo c (run_of mix env events)
@@ -190,6 +198,20 @@ module _ (env : Env) (mix : ℕ → ℕ → ℕ → ℕ) (L : Type 0) where
               apart = nobody env mix L events core met c (TableIn slot) own.1;
             })
 
+      section_asked : (caller : ℕ) → caller < env.geometry.callers → IsAsked core c (load_of caller)
+      section_asked caller there =
+          let callers = env.geometry.within.callers_within in
+          record { address = Section caller; there = omega (arith, there, callers.1); on = refl; asked = tt }
+
+      -- a tidying loads section words, and gives nodes back
+      tidy_asked : (batch : BatchModel) (state : TidyAt) → IsTidyingIn env.geometry batch state
+          → IsAsked core c (tidy.plan_at env.geometry batch state)
+      tidy_asked batch (tidy_at.Keeping caller) within = section_asked caller within.at_in
+      tidy_asked batch (tidy_at.Asking caller) within = section_asked caller within.at_in
+      tidy_asked batch (tidy_at.Giving index) within =
+          let there = waiting_low env.geometry batch (tidy_at.Giving index) index within in
+          record { address = NodeMap (get_or batch.waiting index 0 / 64); there = omega (arith, there); on = refl; asked = tt }
+
       job_asked : (job : Job) → job_of (local_of core c).doing ≡ Some job → JobIn env mix c job
           → JobKnows env mix c job (mem env mix core.words) G → tied_of env mix G job → IsAsked core c (job_plan env c job)
       job_asked (finds port state) does within knows tied =
@@ -210,7 +232,7 @@ module _ (env : Env) (mix : ℕ → ℕ → ℕ → ℕ) (L : Type 0) where
           (record { knowing = knows.knowing; fits = knows.fits }) tied)
       job_asked (works state) does within knows tied =
           with_own (works state) does _ (work_lies env mix core.words G whole c low state within knows.knowing)
-      job_asked (tidies batch state) does within knows tied = absurd within
+      job_asked (tidies batch state) does within knows tied = tidy_asked batch state within
       job_asked counts does within knows tied = record { address = PortCount; there = tt; on = refl; asked = tt }
 
 pub inside : (L : Type 0) (mix : ℕ → ℕ → ℕ → ℕ) → Inside L mix

@@ -1,7 +1,8 @@
 -- In every run nobody in a section could reach what an operation gives back: it is a caller's own until then, and what could be reached is
 -- some table's or was a port's.
-use Rattle.std.proofs.Common.{◌≡◌, ◌≢◌, ℕ, suc, ◌/◌, ◌%◌, ◌<◌, List, length, true, false, take, drop, slice_index, refl, sym, ◌∙◌, ap, subst, arith}
+use Rattle.std.proofs.Common.{◌≡◌, ◌≢◌, ◌⊎◌, ℕ, suc, ◌/◌, ◌%◌, ◌<◌, List, length, true, false, take, drop, slice_index, refl, sym, ◌∙◌, ap, subst, inl, inr, arith}
 use Rattle.std.specs.Int.{bit_at}
+use Rattle.std.proofs.lemmas.Bool.{both_ways}
 use Rattle.std.proofs.lemmas.List.{take-append-drop}
 use Rattle.rht_words.specs.declared.op.Op.{Op}
 use Rattle.rht_words.specs.declared.env.Env.{Env}
@@ -14,12 +15,14 @@ use Rattle.rht_core.specs.Reach.{Thing, TableIn, PageAt, NodeAt, CouldReach, IsF
 use Rattle.rht_core.specs.Runs.{Core, run_of, IsAdmitted, IsAdmittedEvent}
 use Rattle.rht_core.specs.Standings.{standing}
 use Rattle.rht_core.specs.Traces.{Did}
-use Rattle.rht_core.proofs.Events.Invariants.{step_of}
-use Rattle.rht_ghost.proofs.Theory.Frames.{Made}
+use Rattle.rht_core.proofs.Events.Invariants.{StepOf, step_of}
+use Rattle.rht_ghost.proofs.Theory.Frames.{Made, GoesBack}
 use Rattle.rht_ghost.proofs.Theory.Ghosts.{Ghost, Owner, Free, NodeHeld, First, Leaving, Behind, Taken, PageOwner, PageFree, PageHeld, PageOf, SlotOwner, SlotFree, SlotHeld, Live, Retired, IsUsed, is_used, has_table, state_word}
 use Rattle.rht_ghost.proofs.Theory.Passed.{TablesGrow}
 use Rattle.rht_ghost.proofs.Theory.Steps.{mem, ghost_after}
 use Rattle.rht_ghost.proofs.Theory.Wholes.{Whole}
+use Rattle.rht_core.proofs.Returning.GoneBack.{gives_back}
+use Rattle.rht_core.proofs.Returning.MetBySome.{IsApart}
 use Rattle.rht_core.proofs.Returning.MetInRuns.{Met, has_met}
 use Rattle.rht_words.specs.Standing.{Standing}
 use Rattle.rht_ghost.proofs.Theory.Entries.{page_within}
@@ -33,6 +36,12 @@ free_state (SlotHeld d) is = absurd (omega (arith, is))
 free_state (Live τ) is = absurd (omega (arith, is))
 free_state (Retired τ) is = absurd (omega (arith, is))
 
+-- a node that a caller's calls had taken out goes back
+abbrev pub IsBack : Env → (ℕ → ℕ → ℕ → ℕ) → ℕ → Ghost → Ghost → Thing → Type 0
+IsBack env mix c G G' (NodeAt node) = GoesBack env mix c G G' node
+IsBack env mix c G G' (PageAt page) = ⊥
+IsBack env mix c G G' (TableIn slot) = ⊥
+
 module _ (env : Env) (mix : ℕ → ℕ → ℕ → ℕ) (c : ℕ) (words : List ℕ) (G G' : Ghost) (op : Op)
     (whole : Whole env mix (mem env mix words) G) (made : Made env mix c (mem env mix words) G (mem env mix (applied words op)) G') where
   grow : TablesGrow env mix G G'
@@ -40,20 +49,23 @@ module _ (env : Env) (mix : ℕ → ℕ → ℕ → ℕ) (c : ℕ) (words : List
 
   -- ---- a caller has what becomes free
 
-  -- a node that is or was a port's stays so
-  freed_node : (n : ℕ) → G.node n ≢ Free → G'.node n ≡ Free → (d : ℕ) × (G.node n ≡ NodeHeld d)
+  -- a node that is or was a port's stays so, but for one that is given back for the call that took it out
+  freed_node : (n : ℕ) → G.node n ≢ Free → G'.node n ≡ Free → ((d : ℕ) × (G.node n ≡ NodeHeld d)) ⊎ GoesBack env mix c G G' n
   freed_node n taken frees = go (G.node n) refl
     where
-      still : IsUsed (G.node n) → ⊥
-      still used = let both : true ≡ false = sym (made.stale.owners.used n used) ∙ ap is_used frees in cc
+      back : IsUsed (G.node n) → GoesBack env mix c G G' n
+      back used = elim (made.stale.owners.used n used) [
+        | inl stays ↦ absurd (let both : true ≡ false = sym stays ∙ ap is_used frees in cc)
+        | inr is ↦ is
+      ]
 
-      go : (o : Owner) → G.node n ≡ o → (d : ℕ) × (G.node n ≡ NodeHeld d)
+      go : (o : Owner) → G.node n ≡ o → ((d : ℕ) × (G.node n ≡ NodeHeld d)) ⊎ GoesBack env mix c G G' n
       go Free is = absurd (taken is)
-      go (NodeHeld d) is = (d, is)
-      go (First j) is = absurd (still (ap is_used is))
-      go (Leaving j) is = absurd (still (ap is_used is))
-      go (Behind k) is = absurd (still (ap is_used is))
-      go (Taken d) is = absurd (still (ap is_used is))
+      go (NodeHeld d) is = inl (d, is)
+      go (First j) is = inr (back (ap is_used is))
+      go (Leaving j) is = inr (back (ap is_used is))
+      go (Behind k) is = inr (back (ap is_used is))
+      go (Taken d) is = inr (back (ap is_used is))
 
   -- a slot that has a table keeps it, and so does a page that is a table's
   freed_slot : (s : ℕ) → G.slot s ≢ SlotFree → G'.slot s ≡ SlotFree → (d : ℕ) × (G.slot s ≡ SlotHeld d)
@@ -89,7 +101,7 @@ module _ (env : Env) (mix : ℕ → ℕ → ℕ → ℕ) (c : ℕ) (words : List
         (is_write env.geometry words a op all there (ap op_place (sym same) ∙ on)).same
         ∙ ap (λ w. word_after w op) (word_found a on) ∙ ap (word_after did.old) (sym same)
 
-    pub given_taken : (thing : Thing) → GivesBack env.geometry did thing → (d : ℕ) × IsTakenBy G d thing
+    pub given_taken : (thing : Thing) → GivesBack env.geometry did thing → ((d : ℕ) × IsTakenBy G d thing) ⊎ IsBack env mix c G G' thing
     given_taken (NodeAt node) (l, gives) =
         let a = NodeMap (node / 64) in
         let was : bit_at (mem env mix words a) (node % 64) ≡ 0 = ap (λ w. bit_at w (node % 64)) (word_found a gives.on) ∙ gives.clear in
@@ -102,12 +114,12 @@ module _ (env : Env) (mix : ℕ → ℕ → ℕ → ℕ) (c : ℕ) (words : List
         let was : bit_at (mem env mix words a) (page % 64) ≡ 0 = ap (λ w. bit_at w (page % 64)) (word_found a gives.on) ∙ gives.clear in
         let is : bit_at (mem env mix (applied words op) a) (page % 64) ≡ 1 =
         ap (λ w. bit_at w (page % 64)) (word_left a (omega (arith, l)) gives.on) ∙ gives.set in
-        freed_page page (λ free. let one = (whole.pages.bits page l).1 free in absurd (omega (arith, was, one)))
-        ((made.whole.pages.bits page l).0 is)
+        inl (freed_page page (λ free. let one = (whole.pages.bits page l).1 free in absurd (omega (arith, was, one)))
+        ((made.whole.pages.bits page l).0 is))
     given_taken (TableIn slot) (l, gives) =
         let a = Slot slot StateWord in
-        freed_slot slot (λ free. gives.taken (sym (word_found a gives.on) ∙ whole.slots.states slot l ∙ ap state_word free))
-        (free_state (G'.slot slot) (sym (made.whole.slots.states slot l) ∙ word_left a (l, tt) gives.on ∙ gives.frees))
+        inl (freed_slot slot (λ free. gives.taken (sym (word_found a gives.on) ∙ whole.slots.states slot l ∙ ap state_word free))
+        (free_state (G'.slot slot) (sym (made.whole.slots.states slot l) ∙ word_left a (l, tt) gives.on ∙ gives.frees)))
 
 -- ---- what could be reached isn't free
 
@@ -140,8 +152,29 @@ module _ (env : Env) (mix : ℕ → ℕ → ℕ → ℕ) (L : Type 0) where
   nobody events core met d thing taken c low reads reached =
       let meets = met.each c low in
       let open_now = meets.right.odd.0 reads in
-      safe-taken env mix core.words met.placed.ghost met.placed.inv.whole c meets.reader meets.right open_now (standing core c)
+      safe-taken env mix core.words met.placed.ghost met.placed.inv.whole c (met.readers c) meets.right open_now (standing core c)
       (meets.stands open_now) d thing taken reached
+
+  -- nor a node that no section has met
+  pub nobody_back : (events : List Event) (core : Core L) (met : Met env mix L events core) (node : ℕ)
+      → IsApart env.geometry.callers met.readers node → NobodyReaches env.geometry core (NodeAt node)
+  nobody_back events core met node apart c low reads reached =
+      let meets = met.each c low in
+      let open_now = meets.right.odd.0 reads in
+      both_ways ((met.readers c).lists node) (apart c low)
+      (reaches-listed env mix core.words met.placed.ghost met.placed.inv.whole c (met.readers c) meets.right open_now (standing core c)
+      (meets.stands open_now) node reached)
+
+  -- so it is of one that goes back
+  comes_back : (events : List Event) (core : Core L) (met : Met env mix L events core) (c : ℕ) (op : Op)
+      → (of : StepOf env mix L core met.placed.ghost c op) (thing : Thing)
+      → IsBack env mix c met.placed.ghost (ghost_after env mix c of.step.move met.placed.ghost) thing
+      → NobodyReaches env.geometry core thing
+  comes_back events core met c op of (NodeAt node) back =
+      nobody_back events core met node (met.apart c op of node
+      (gives_back env mix c (mem env mix core.words) met.placed.ghost met.placed.inv.whole node back.was of.step.move of.step.ready back.now))
+  comes_back events core met c op of (PageAt page) back = absurd back
+  comes_back events core met c op of (TableIn slot) back = absurd back
 
 pub safe : (L : Type 0) (mix : ℕ → ℕ → ℕ → ℕ) → Safe L mix
 safe L mix env events c did thing admitted recorded gives =
@@ -154,7 +187,10 @@ safe L mix env events c did thing admitted recorded gives =
     let of = step_of env mix L core G c did.op met.placed.all met.placed.inv recorded.plan in
     let taken = given_taken env mix c core.words G (ghost_after env mix c of.step.move G) did.op met.placed.inv.whole of.step.made
     of.all did refl recorded.found thing gives in
-    nobody env mix L before core met taken.0 thing taken.1
+    elim taken [
+      | inl own ↦ nobody env mix L before core met own.0 thing own.1
+      | inr back ↦ comes_back env mix L before core met c did.op of thing back
+    ]
 
 pub never_free : (L : Type 0) (mix : ℕ → ℕ → ℕ → ℕ) → NeverFree L mix
 never_free L mix env events thing admitted free c low reads reached =
@@ -162,5 +198,5 @@ never_free L mix env events thing admitted free c low reads reached =
     let met = has_met env mix L events admitted in
     let meets = met.each c low in
     let open_now = meets.right.odd.0 reads in
-    not_free env mix core.words met.placed.ghost met.placed.inv.whole c meets.reader meets.right open_now (standing core c)
+    not_free env mix core.words met.placed.ghost met.placed.inv.whole c (met.readers c) meets.right open_now (standing core c)
     (meets.stands open_now) thing free reached

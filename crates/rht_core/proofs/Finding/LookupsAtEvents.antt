@@ -1,0 +1,386 @@
+-- What look-ups know behind an event, each of its own port: a look-up's own load leads on from what it knows; and what it knows then, as what
+-- it knows at an event of another caller or of none, outlives that event.
+use Rattle.std.proofs.Common.{◌≡◌, ◌≢◌, ◌⊎◌, ℕ, suc, ◌+◌, ◌<◌, ◌≤◌, Bool, true, false, List, [], ◌∷◌, ◌++◌, length, Option, Some, None, refl, sym, ◌∙◌, ap, subst, inl, inr, arith}
+use Rattle.std.specs.Prelude.{IfSome}
+use Rattle.std.specs.List.{AllByRecursion}
+use Rattle.std.proofs.lemmas.Bool.{cases_eq}
+use Rattle.std.proofs.lemmas.List.{length_push}
+use Rattle.rht_words.specs.declared.op.Op.{Op}
+use Rattle.rht_words.specs.declared.env.Env.{Env}
+use Rattle.rht_words.specs.declared.config.Kind.{Kind}
+use Rattle.rht_words.specs.declared.machine.Next.{Next}
+use Rattle.rht_words.specs.declared.machine.Next.TheVariants.{Go, Done}
+use Rattle.rht_words.specs.Operations.{old_of}
+use Rattle.rht_words.proofs.EachElement.{AllByRecursion-cut, AllByRecursion-push, AllByRecursion-weaker}
+use Rattle.rht_words.specs.Standing.{stands_nowhere}
+use Rattle.rht_words.proofs.Memory.{Memory}
+use Rattle.rht_model.specs.declared.history.Call.{Call}
+use Rattle.rht_model.specs.declared.history.Call.TheVariants as calls
+use Rattle.rht_model.specs.declared.history.Reply.{Reply}
+use Rattle.rht_model.specs.Answers.{Answer, plain}
+use Rattle.rht_model.specs.Endings.{Ending, ended_with, plain_ending}
+use Rattle.rht_model.specs.Multimap.{Multimap}
+use Rattle.rht_find.specs.Find.{plan_at, goes, says, after_at, IsFindAtIn}
+use Rattle.rht_find.specs.FindBound.{find_bound}
+use Rattle.rht_find.proofs.FindBounds.{within_bound}
+use Rattle.rht_find.specs.FindStanding.{standing_of_find}
+use Rattle.rht_find.specs.declared.find.FindAt.{FindAt}
+use Rattle.rht_find.specs.declared.find.FindAt.TheVariants as at
+use Rattle.rht_callers.specs.declared.local.Local.{Local}
+use Rattle.rht_callers.specs.declared.local.Doing.{Doing}
+use Rattle.rht_callers.specs.Locals.{local_after, ending_of}
+use Rattle.rht_core.specs.declared.event.Event.{Event}
+use Rattle.rht_core.specs.declared.event.Event.TheVariants.{Enroll, Begin, Step}
+use Rattle.rht_grace.specs.Batch.{BatchModel}
+use Rattle.rht_core.specs.Jobs.{Job, finds, first_job, job_of, job_plan, job_next, job_after, told, held_of, held_next, call_of}
+use Rattle.rht_core.specs.Runs.{Core, World, View, IsAdmitted, IsAdmittedEvent, local_of, beginning_in, planned_in, world_step}
+use Rattle.rht_core.specs.Standings.{standing, standing_with}
+use Rattle.rht_core.specs.Traces.{Did, Past, Trace, Traced, trace_begun, trace_did, traces_after, traced_step, traced_of, behind_call}
+use Rattle.rht_core.specs.RunHistories.{bindings_behind}
+use Rattle.rht_stands.specs.StandsFor.{stands_for}
+use Rattle.rht_core.specs.Alone.{bindings_at}
+use Rattle.rht_ghost.proofs.Theory.Ghosts.{Ghost}
+use Rattle.rht_ghost.proofs.Theory.Passed.{TablesGrow}
+use Rattle.rht_ghost.proofs.Theory.Steps.{mem, ghost_after}
+use Rattle.rht_core.proofs.Events.Worlds.{induct_by_last, beginning-some, planned-some, begin_none, begin_self, begin_other, step_none, step_self, step_other}
+use Rattle.rht_core.proofs.Events.SoundRuns.{has_place, made_in}
+use Rattle.rht_core.proofs.Events.JobsOfCallers.{is_no_job, first_rebind-so, first_tidy-so, first_job-machine, nothing-job, same_call, local_after-job, first-of}
+use Rattle.rht_core.proofs.Events.Invariants.{step_of}
+use Rattle.rht_core.proofs.Events.InvariantRuns.{idle_at_opening}
+use Rattle.rht_core.proofs.Machines.JobSteps.{JobIn}
+use Rattle.rht_ghost.proofs.Theory.Answering.{IsSaidOn, ClaimsAnswer}
+use Rattle.rht_core.proofs.Histories.Behind.{behind-more}
+use Rattle.rht_core.proofs.Histories.CallerEntries.{IsSaid, said-more}
+use Rattle.rht_core.proofs.Histories.FittingCallers.{end-is, end-next}
+use Rattle.rht_core.proofs.Tracing.TracedRuns.{count-traced_of, traced_of-push, trace_begin_none, trace_begin_self, trace_begin_other, trace_step_none, trace_step_self, trace_step_other}
+use Rattle.rht_core.proofs.Tracing.TracesAtEvents.{behind_steps-push}
+use Rattle.rht_core.proofs.Tracing.TracedJobs.{busy-none, IsAtJob}
+use Rattle.rht_core.proofs.Tracing.RepliesInRuns.{Holds, Answered, runs-right}
+use Rattle.rht_core.proofs.Finding.Places.{Places}
+use Rattle.rht_core.proofs.Finding.PlacesInRuns.{Placed, EventMakes, next, next_places}
+use Rattle.rht_core.proofs.Finding.FoundSaid.{missing_said, missing_after, found_said}
+use Rattle.rht_core.proofs.Finding.Lookups.{LookMeans, look_says, look_leads}
+use Rattle.rht_core.proofs.Finding.LooksSeen.{look_seen}
+use Rattle.rht_core.proofs.Finding.LookSteps.{IsSpent, spent_leads, spent_stays}
+use Rattle.rht_core.proofs.Returning.Meeting.{MeetsRight}
+use Rattle.rht_core.proofs.Returning.MetBySome.{met_by, IsApart}
+use Rattle.rht_core.proofs.Returning.Readers.{Reader}
+
+module _ (L : Type 0) (mix : ℕ → ℕ → ℕ → ℕ) (env : Env) where
+  abbrev R : List Event → Traced L
+  R events = traced_of mix env events
+
+  abbrev kind : Kind
+  kind = env.config.kind
+
+  -- this answer of a look-up was right at an event of its call
+  abbrev pub SaysOf : List Event → ℕ → ℕ → ℕ → Reply → Type 0
+  SaysOf events c port begin reply = IsSaid L mix env events c (calls.Find port) begin (plain reply)
+
+  -- A look-up that began there, has made so many operations, and whose section has met these nodes, knows what it needs.
+  pub record Looks (events : List Event) (core : Core L) (placed : Placed env mix L events core) (seen : ℕ → Bool) (c port begin made : ℕ)
+      (state : FindAt) : Type 0 where
+    pub low : c < env.geometry.callers
+    pub begun : begin < length events
+    pub means : LookMeans env mix port seen (begin + 1) (SaysOf events c port begin) (mem env mix core.words) placed.ghost placed.places state
+    pub spent : IsSpent env placed.ghost state made
+
+  -- one that has ended took no more operations than the bound, and its answer was right at an event of it
+  pub record HasLooked (events : List Event) (c port : ℕ) (past : Past) : Type 0 where
+    pub short : length past.steps ≤ find_bound env
+    pub at : ℕ
+    pub begun : past.begin ≤ at
+    pub before : at < behind_call past
+    pub so_far : at < length events
+    pub said : IsSaidOn kind c (calls.Find port) (bindings_behind L mix env events (at + 1)) (plain past.done.reply)
+
+  abbrev pub PastLooks : List Event → ℕ → Past → Type 0
+  PastLooks events c past = (port : ℕ) → past.done.call ≡ calls.Find port → HasLooked events c port past
+
+  module _ (events : List Event) (core : Core L) (placed : Placed env mix L events core) (seen : ℕ → Bool) (c : ℕ) where
+    abbrev pub JobLooks : ℕ → ℕ → Option Job → Type 0
+    JobLooks begin made (Some (finds port state)) = Looks events core placed seen c port begin made state
+    JobLooks begin made _ = Unit {0}
+
+    -- so it is of what the caller does, and of its calls that have ended
+    pub record CallerLooks (trace : Trace) (job : Option Job) : Type 0 where
+      pub past : AllByRecursion (PastLooks events c) trace.past
+      pub now : JobLooks trace.begin (length trace.steps) job
+
+  -- the call is a look-up
+  abbrev is_look : Call → Bool
+  is_look (calls.Find port) = true
+  is_look _ = false
+
+  -- and of each caller, with what its section has met
+  pub record AreLooking (events : List Event) (r : Traced L) : Type 0 where
+    pub placed : Placed env mix L events r.world.core
+    pub readers : ℕ → Reader
+    pub meets : (c : ℕ) → c < env.geometry.callers → MeetsRight env mix L r.world.core placed.ghost c (readers c)
+    pub looks : (c : ℕ) → CallerLooks events r.world.core placed (readers c).chains c (r.traces c)
+        (job_of (local_of r.world.core c).doing)
+
+  -- Where a caller stands before and behind an event its section has met the node; what it has met some section has met; and it has met that
+  -- still, or it stands nowhere.
+  pub record SeesOn (core core' : Core L) (met seen seen' : ℕ → Bool) (c : ℕ) : Type 0 where
+    pub met_too : (n : ℕ) → seen n ≡ true → met n ≡ true
+    pub stood : AllByRecursion (λ n. seen n ≡ true) (standing core c).nodes
+    pub stands : AllByRecursion (λ n. seen n ≡ true) (standing core' c).nodes
+    pub turns : (standing core' c ≡ stands_nowhere) ⊎ ((n : ℕ) → seen n ≡ true → seen' n ≡ true)
+
+  -- ---- one event more
+
+  -- what some section has met, and which nodes none has met
+  abbrev pub met_now : {events : List Event} {r : Traced L} → AreLooking events r → ℕ → Bool
+  met_now looking = met_by looking.readers env.geometry.callers
+
+  abbrev pub ApartNow : {events : List Event} {r : Traced L} → AreLooking events r → ℕ → Type 0
+  ApartNow looking = IsApart env.geometry.callers looking.readers
+
+  -- what an event makes, and what sections have met behind it
+  pub record Turns (events : List Event) (event : Event) (looking : AreLooking events (R events)) : Type 0 where
+    pub makes : EventMakes env mix L events (R events).world.core (world_step mix (R events).world event).core looking.placed
+        (met_now looking) (ApartNow looking)
+    pub then : ℕ → ℕ → Bool
+    pub sees : (c : ℕ) → c < env.geometry.callers
+        → SeesOn (R events).world.core (world_step mix (R events).world event).core (met_now looking) (looking.readers c).chains (then c) c
+
+  module _ (events : List Event) (event : Event) (looking : AreLooking events (R events)) (turn : Turns events event looking) where
+    abbrev met : ℕ → Bool
+    met = met_now looking
+
+    abbrev Apart : ℕ → Type 0
+    Apart = ApartNow looking
+
+    abbrev makes : EventMakes env mix L events (R events).world.core (world_step mix (R events).world event).core looking.placed met Apart
+    makes = turn.makes
+
+    abbrev then : ℕ → ℕ → Bool
+    then = turn.then
+
+    abbrev r : Traced L
+    r = R events
+
+    abbrev core : Core L
+    core = r.world.core
+
+    abbrev core' : Core L
+    core' = (world_step mix r.world event).core
+
+    abbrev more : List Event
+    more = events ++ event ∷ []
+
+    abbrev placed : Placed env mix L events core
+    placed = looking.placed
+
+    abbrev stands : bindings_at L mix env events ≡ stands_for env.geometry core.words
+    stands = end-is L mix env events
+
+    abbrev pub placed' : Placed env mix L more core'
+    placed' = next env mix L events event core core' (end-is L mix env events) placed met Apart makes
+
+    abbrev pub LooksThen : ℕ → Trace → Option Job → Type 0
+    LooksThen c trace job = CallerLooks more core' placed' (then c) c trace job
+
+    abbrev seen : ℕ → ℕ → Bool
+    seen c = (looking.readers c).chains
+
+    longer : length more ≡ length events + 1
+    longer = length_push events event
+
+    grow : TablesGrow env mix placed.ghost (ghost_after env mix makes.caller makes.move placed.ghost)
+    grow = (makes.made.others (suc makes.caller) (λ e. absurd (omega arith))).tables.grow
+
+    -- what a look-up knows behind the event, where it knew it before by answers as of the events with this one
+    outlives : (c port begin made : ℕ) → c < env.geometry.callers → begin < length events → (Says : Reply → Type 0)
+        → ((reply : Reply) → Says reply → SaysOf more c port begin reply) → (state : FindAt)
+        → job_of (local_of core' c).doing ≡ Some (finds port state)
+        → LookMeans env mix port (seen c) (begin + 1) Says (mem env mix core.words) placed.ghost placed.places state
+        → IsSpent env placed.ghost state made
+        → Looks more core' placed' (then c) c port begin made state
+    unfolding next
+    outlives c port begin made low begun Says said state does known spent =
+        let see = turn.sees c low in
+        let is : standing core' c ≡ standing_of_find state = ap standing_with does in
+        record {
+          low = low;
+          begun = omega (arith, longer, begun);
+          means = look_seen env mix port (seen c) (then c) (begin + 1) (mem env mix core'.words) placed'.ghost placed'.places
+              (SaysOf more c port begin) state
+              (subst (λ at. (at ≡ stands_nowhere) ⊎ ((n : ℕ) → seen c n ≡ true → then c n ≡ true)) is see.turns)
+              ((next_places env mix L events event core core' stands placed met Apart makes).looks port (seen c) (begin + 1)
+              (omega (arith, begun)) Says (SaysOf more c port begin) said
+              (missing_after env mix L events event core stands placed c port begin begun core'.words placed'.ghost makes.made.whole
+              (end-next L mix env events event))
+              see.met_too state (subst (λ at. AllByRecursion (λ n. seen c n ≡ true) at.nodes) is see.stands) known);
+          spent = spent_stays env mix port (seen c) (begin + 1) Says core.words placed.ghost placed.places placed.inv.whole placed'.ghost
+              grow made state known spent;
+        }
+
+    said-later : (c port begin : ℕ) (reply : Reply) → SaysOf events c port begin reply → SaysOf more c port begin reply
+    said-later c port begin reply said = said-more L mix env events event c (calls.Find port) begin (plain reply) said
+
+    -- what a call that has ended was, it still was
+    past-later : (c : ℕ) (past : Past) → PastLooks events c past → PastLooks more c past
+    past-later c past looked port is =
+        let had = looked port is in
+        record {
+          short = had.short;
+          at = had.at;
+          begun = had.begun;
+          before = had.before;
+          so_far = (let low = had.so_far in omega (arith, longer, low));
+          said = subst (λ (b : Multimap). IsSaidOn kind c (calls.Find port) b (plain past.done.reply))
+              (sym (behind-more L mix env events event (had.at + 1) (let low = had.so_far in omega (arith, low)))) had.said;
+        }
+
+    pub pasts-later : (c : ℕ) (pasts : List Past) → AllByRecursion (PastLooks events c) pasts
+        → AllByRecursion (PastLooks more c) pasts
+    pasts-later c pasts looked = AllByRecursion-weaker (PastLooks events c) (PastLooks more c) (past-later c) pasts looked
+
+    -- an event of another caller, or of none
+    stay : (c begin made : ℕ) (job : Option Job) → job_of (local_of core' c).doing ≡ job
+        → JobLooks events core placed (seen c) c begin made job → JobLooks more core' placed' (then c) c begin made job
+    stay c begin made (Some (finds port state)) does looks =
+        outlives c port begin made looks.low looks.begun (SaysOf events c port begin) (said-later c port begin) state does looks.means
+        looks.spent
+    stay c begin made _ does looks = tt
+
+    -- the look-up's own operation
+    module _ (c port begin made : ℕ) (state : FindAt) (looks : Looks events core placed (seen c) c port begin made state)
+        (within : IsFindAtIn env state) (is : job_of (local_of core c).doing ≡ Some (finds port state)) where
+      abbrev old : ℕ
+      old = old_of core.words (plan_at env c state)
+
+      pub known_next : LookMeans env mix port (seen c) (begin + 1) (SaysOf more c port begin) (mem env mix core.words) placed.ghost placed.places
+          (goes mix env port state old)
+      known_next =
+          look_leads env mix port (seen c) (begin + 1) (SaysOf more c port begin) (length events) core.words placed.ghost placed.places
+          placed.inv.whole placed.right placed.deaths
+          (missing_said env mix L events event core stands placed c port begin looks.begun)
+          (λ m late key. found_said env mix L events event core stands placed c port begin looks.begun m key late)
+          c state within
+          (subst (λ at. AllByRecursion (λ n. seen c n ≡ true) at.nodes) (ap standing_with is) (turn.sees c looks.low).stood)
+          (look_says env mix port (seen c) (begin + 1) (SaysOf events c port begin) (SaysOf more c port begin) (said-later c port begin)
+          (mem env mix core.words) placed.ghost placed.places state looks.means)
+
+      pub goes_on : says state ≡ Go → job_of (local_of core' c).doing ≡ Some (finds port (goes mix env port state old))
+          → Looks more core' placed' (then c) c port begin (made + 1) (goes mix env port state old)
+      goes_on still does =
+          outlives c port begin (made + 1) looks.low looks.begun (SaysOf more c port begin) (λ reply said. said)
+          (goes mix env port state old) does known_next
+          (spent_leads env mix port (seen c) (begin + 1) (SaysOf events c port begin) core.words placed.ghost placed.places
+          placed.inv.whole c made state still within looks.means looks.spent)
+
+    -- behind the last one it has ended
+    ends_with : (c port begin made : ℕ) (state : FindAt) (reply : Reply) → says state ≡ Done reply
+        → Looks events core placed (seen c) c port begin made state
+        → SaysOf events c port begin reply × (made + 1 ≤ find_bound env)
+    ends_with c port begin made (at.Closing told) reply is looks =
+        let same : told ≡ reply = cc in (subst (SaysOf events c port begin) same looks.means, within_bound env made looks.spent)
+    ends_with c port begin made _ reply is looks = absurd (cc)
+
+    -- a call that is no look-up goes on as none
+    other-looks : (c begin made : ℕ) (after : Job × Next Ending) → is_look (call_of after.0) ≡ false
+        → JobLooks more core' placed' (then c) c begin made (told after).0
+    other-looks c begin made (finds port state, Go) other = absurd (cc)
+    other-looks c begin made (_, Go) other = tt
+    other-looks c begin made (job, Done ending) other = tt
+
+    -- the operation of a caller, which was the next event
+    module _ (c : ℕ) (trace : Trace) (did : Did) (index : did.index ≡ length events) where
+      abbrev trace_then : Job → Job × Next Ending → Trace
+      trace_then job next = trace_did (Some (call_of job)) did (told next).1 trace
+
+      -- the calls of another kind
+      other-then : (job : Job) (after : Job × Next Ending) → is_look (call_of job) ≡ false → call_of after.0 ≡ call_of job
+          → AllByRecursion (PastLooks events c) trace.past → LooksThen c (trace_then job after) (told after).0
+      other-then job (next, Go) other same looked = record {
+        past = pasts-later c trace.past looked;
+        now = other-looks c trace.begin (length (trace.steps ++ did ∷ [])) (next, Go) (ap is_look same ∙ other);
+      }
+      other-then job (next, Done ending) other same looked = record {
+        past = AllByRecursion-push (PastLooks more c) trace.past _ (pasts-later c trace.past looked)
+            (λ port is. absurd (let both : false ≡ true = sym other ∙ ap is_look is in cc));
+        now = tt;
+      }
+
+      -- a look-up
+      find-then : (port : ℕ) (state : FindAt) (after : FindAt × Next Reply) → IsFindAtIn env state
+          → (looks : Looks events core placed (seen c) c port trace.begin (length trace.steps) state)
+          → (after.1 ≡ Go → Looks more core' placed' (then c) c port trace.begin (length trace.steps + 1) after.0)
+          → says state ≡ after.1 → AllByRecursion (PastLooks events c) trace.past
+          → LooksThen c (trace_then (finds port state) (job_next (finds port) plain_ending after))
+          (told (job_next (finds port) plain_ending after)).0
+      find-then port state (next, Go) within looks goes is looked = record {
+        past = pasts-later c trace.past looked;
+        now = subst (λ n. Looks more core' placed' (then c) c port trace.begin n next) (sym (length_push trace.steps did)) (goes refl);
+      }
+      find-then port state (next, Done reply) within looks goes is looked =
+          let ended = ends_with c port trace.begin (length trace.steps) state reply is looks in
+          let at = ended.0.at in
+          let early = ended.0.so_far in
+          record {
+            past = AllByRecursion-push (PastLooks more c) trace.past _ (pasts-later c trace.past looked) (λ asked same.
+                let port_is : port ≡ asked = cc in
+                subst (λ k. HasLooked more c k (record {
+                  done = ended_with (calls.Find port) (plain_ending reply);
+                  begin = trace.begin;
+                  steps = trace.steps ++ did ∷ [];
+                })) port_is (record {
+                  short = (let few = ended.1 in omega (arith, few, length_push trace.steps did));
+                  at = at;
+                  begun = ended.0.begun;
+                  before = omega (arith, early, index, behind_steps-push (trace.begin + 1) trace.steps did);
+                  so_far = omega (arith, longer, early);
+                  said = subst (λ (b : Multimap). IsSaidOn kind c (calls.Find port) b (plain reply))
+                      (sym (behind-more L mix env events event (at + 1) (omega (arith, early)))) ended.0.said;
+                }));
+            now = tt;
+          }
+
+      pub own : (job : Job) → job_of (local_of core c).doing ≡ Some job → JobIn env mix c job → AllByRecursion (PastLooks events c) trace.past
+          → JobLooks events core placed (seen c) c trace.begin (length trace.steps) (Some job)
+          → let after = job_after mix env job (old_of core.words (job_plan env c job)) in
+          job_of (local_of core' c).doing ≡ (told after).0
+          → LooksThen c (trace_then job after) (told after).0
+      own (finds port state) is within looked looks does =
+          let after = after_at mix env port state (old_of core.words (plan_at env c state)) in
+          find-then port state after within looks
+          (λ goes. goes_on c port trace.begin (length trace.steps) state looks within is goes
+          (does ∙ ap (λ next. (told (job_next (finds port) plain_ending (after.0, next))).0) goes)) refl looked
+      own job is within looked looks does =
+          let old = old_of core.words (job_plan env c job) in
+          other-then job (job_after mix env job old) refl (same_call mix env job old) looked
+
+    -- a call begins
+    pub first-looks : (c : ℕ) → c < env.geometry.callers → (call : Call) (batch : Option BatchModel)
+        → IfSome (first_job env batch call) (λ job. JobLooks more core' placed' (then c) c (length events) 0 (Some job))
+    first-looks c low (calls.Find port) batch = record { low = low; begun = omega (arith, longer); means = tt; spent = omega arith }
+    first-looks c low (calls.Rebind port owner new) batch =
+        first_rebind-so (λ job. JobLooks more core' placed' (then c) c (length events) 0 (Some job)) env port owner new tt
+    first-looks c low (calls.Walk from limit) batch = tt
+    first-looks c low calls.Tidy batch =
+        first_tidy-so (λ job. JobLooks more core' placed' (then c) c (length events) 0 (Some job)) batch (λ own. tt)
+    first-looks c low _ batch = tt
+
+    -- the same by the trace and the job that a caller is found with
+    pub found_with : (c : ℕ) (trace trace' : Trace) (job job' : Option Job) → trace' ≡ trace → job' ≡ job
+        → LooksThen c trace job → LooksThen c trace' job'
+    found_with c trace trace' job job' same does looks =
+        subst (λ t. LooksThen c t job') (sym same) (subst (LooksThen c trace) (sym does) looks)
+
+    -- who is as before knows it still
+    pub as_before : (c : ℕ) → job_of (local_of core' c).doing ≡ job_of (local_of core c).doing
+        → traces_after mix r event c ≡ r.traces c
+        → LooksThen c (traces_after mix r event c) (job_of (local_of core' c).doing)
+    as_before c does same =
+        let looks = looking.looks c in
+        found_with c (r.traces c) (traces_after mix r event c) (job_of (local_of core c).doing) (job_of (local_of core' c).doing)
+        same does (record {
+          past = pasts-later c (r.traces c).past looks.past;
+          now = stay c (r.traces c).begin (length (r.traces c).steps) (job_of (local_of core c).doing) does looks.now;
+        })
+
+    abbrev pub EachLooks : Type 0
+    EachLooks = (c : ℕ) → LooksThen c (traces_after mix r event c) (job_of (local_of core' c).doing)
