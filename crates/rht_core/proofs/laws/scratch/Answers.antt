@@ -10,6 +10,9 @@ use Rattle.rht_core.proofs.Finding.LooksSeen.{look_seen}
 use Rattle.rht_core.proofs.Returning.Meeting.{meets_then}
 use Rattle.rht_core.proofs.Returning.MetBySome.{apart-unmet}
 use Rattle.rht_core.proofs.Returning.SectionWords.{event_turns}
+use Rattle.rht_core.proofs.Returning.WaitingNodes.{given_unmet}
+use Rattle.rht_core.proofs.Returning.WaitingBatches.{waits_stay}
+use Rattle.rht_core.proofs.Returning.WaitingEvents.{given_apart}
 use Rattle.rht_core.proofs.Finding.LookupsAtEvents.{own}
 use Rattle.rht_core.proofs.Returning.InsideInRuns.{inside}
 use Rattle.rht_core.proofs.Returning.SafeInRuns.{safe}
