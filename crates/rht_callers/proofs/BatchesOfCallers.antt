@@ -18,7 +18,7 @@ use Rattle.rht_grace.proofs.TidyPlanned.{tidy_stays, begun_sound}
 use Rattle.rht_callers.specs.declared.local.Local.{Local}
 use Rattle.rht_callers.specs.declared.local.Doing.{Doing}
 use Rattle.rht_callers.specs.declared.local.Doing.TheVariants.{Idle, Finding, Binding, Listing, Releasing, Rebinding, Working, Counting, Tidying}
-use Rattle.rht_callers.specs.Batches.{IsBatchIn, AreNodesIn, IsSoundBatch, CanPut, with_out, node_out, out_of, batch_given, batch_room, batch_beside, batch_after}
+use Rattle.rht_callers.specs.Batches.{IsBatchIn, AreNodesIn, HasWords, IsSoundBatch, CanPut, with_out, node_out, out_of, batch_given, batch_room, batch_beside, batch_after}
 use Rattle.rht_callers.specs.Locals.{does_nothing, is_idle, machine_of, doing_after, doing_next, without_node}
 use Rattle.rht_find.specs.Find.{find_after}
 use Rattle.rht_bind.specs.Bind.{bind_after}
@@ -101,6 +101,12 @@ AreNodesIn-out nodes (Some batch) (Some node) low is =
     let parts = AllByRecursion-cut Below batch.fresh batch.waiting is in
     AllByRecursion-append Below (batch.fresh ++ node ∷ []) batch.waiting
     (AllByRecursion-append Below batch.fresh (node ∷ []) parts.0 (low node refl, tt)) parts.1
+
+pub HasWords-out : (callers : ℕ) (batch : Option BatchModel) (removed : Option ℕ) → HasWords callers batch
+    → HasWords callers (with_out batch removed)
+HasWords-out callers None removed is = is
+HasWords-out callers (Some batch) None is = is
+HasWords-out callers (Some batch) (Some node) is = is
 
 pub IsSoundBatch-out : (batch : Option BatchModel) (removed : Option ℕ) → CanPut batch removed → IsSoundBatch batch
     → IsSoundBatch (with_out batch removed)

@@ -1,5 +1,5 @@
 -- The nodes that a caller's calls took out: they go into its batch, which a tidying has while it runs.
-use Rattle.std.specs.Prelude.{◌≡◌, ℕ, ◌<◌, ◌++◌, List, [], drop, Option, Some, None}
+use Rattle.std.specs.Prelude.{◌≡◌, ℕ, ◌<◌, ◌++◌, List, [], length, drop, Option, Some, None}
 use Rattle.std.specs.List.{AllByRecursion}
 use Rattle.rht_words.specs.declared.env.Env.{Env}
 use Rattle.rht_words.specs.declared.machine.Next.{Next}
@@ -24,6 +24,11 @@ IsBatchIn env (Some batch) = batch.geometry ≡ env.geometry
 abbrev pub AreNodesIn : ℕ → Option BatchModel → Type 0
 AreNodesIn nodes None = ⊥
 AreNodesIn nodes (Some batch) = AllByRecursion (λ node. node < nodes) (batch.fresh ++ batch.waiting)
+
+-- it keeps a section word for each of so many callers
+abbrev pub HasWords : ℕ → Option BatchModel → Type 0
+HasWords callers None = ⊥
+HasWords callers (Some batch) = length batch.kept ≡ callers
 
 -- its nodes are the table's, and differ
 abbrev pub IsSoundBatch : Option BatchModel → Type 0

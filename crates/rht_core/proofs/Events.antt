@@ -18,6 +18,8 @@ pub mod OpenedStates
 pub mod ReachedStates
 -- what a caller knows, and that its operation is a step
 pub mod StepsOfCallers
+-- how many nodes a call has given back
+pub mod TidiedNodes
 -- a caller's batch has the nodes that its calls took out and haven't given back
 pub mod OwnBatches
 -- the invariant, and that each event keeps it

@@ -1,3 +1,6 @@
+-- a tidying, operation by operation
+pub mod TidyRanges
+pub mod TidySteps
 -- a job, operation by operation
 pub mod JobSteps
 -- what a job never holds, by its call

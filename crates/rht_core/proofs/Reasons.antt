@@ -64,6 +64,8 @@ pub mod WorkStepsSeen
 pub mod BindCauses
 -- and why each of the other calls
 pub mod ReplyCauses
+-- what the operations of a tidying have seen
+pub mod TidiesSeen
 -- in every run each call that has ended has a reply with its cause
 pub mod CausesInRuns
 -- and says rightly whether there is something to do for `work`

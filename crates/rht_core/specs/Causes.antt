@@ -12,7 +12,7 @@ use Rattle.rht_words.specs.Shapes.{unpacked, size_of}
 use Rattle.rht_policy.specs.Thresholds.{is_above_75}
 use Rattle.rht_policy.specs.Sizes.{most_ports}
 use Rattle.rht_model.specs.declared.history.Call.{Call}
-use Rattle.rht_model.specs.declared.history.Call.TheVariants.{Bind, Find, All, Release, Rebind, Work, Count}
+use Rattle.rht_model.specs.declared.history.Call.TheVariants.{Bind, Find, All, Release, Rebind, Work, Tidy, Count}
 use Rattle.rht_model.specs.declared.history.Reply.{Reply}
 use Rattle.rht_model.specs.declared.history.Reply.TheVariants.{Bound, Exists, Found, Missing, Listed, Released, Absent, Rebound, TooBig, Again, Busy, NoTable, NoNode, Elsewhere, Moved, Idle, Counted}
 use Rattle.rht_arena.specs.Laws.{SeesTaken}
@@ -24,6 +24,7 @@ use Rattle.rht_core.specs.Seen.{LastWalked, CountedAt, SawCount, words_before}
 use Rattle.rht_core.specs.ResizeCauses.{IsUnboundAt, AttachesSome, HasFollowed, SawBusy, SawNoTable, SawNoPage}
 pub use Rattle.rht_core.specs.RoomCauses.{IsRaise}
 use Rattle.rht_core.specs.RoomCauses.{HadRoom}
+use Rattle.rht_core.specs.TidyCauses.{SawForTidy}
 use Rattle.rht_core.specs.WorkCauses.{SawElsewhere, SawNoTableDue, SawNothingDue, SawMoved}
 
 -- why a look-up ended with this reply: it has nothing to show for its answers
@@ -146,6 +147,7 @@ module _ (M : Type 0) (mix : ℕ → ℕ → ℕ → ℕ) where
   CauseOf env events c past (Release port owner) reply = ReleaseCause env past reply
   CauseOf env events c past (Rebind port owner new) reply = RebindCause env past reply
   CauseOf env events c past Work reply = WorkCause env c (words_before M mix env events) past reply
+  CauseOf env events c past Tidy reply = SawForTidy env.geometry reply past.steps
   CauseOf env events c past Count reply = CountCause env events c past reply
   CauseOf env events c past _ reply = ⊥
 

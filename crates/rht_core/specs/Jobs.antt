@@ -70,10 +70,18 @@ call_of (works state) = Work
 call_of (tidies batch state) = Tidy
 call_of counts = Count
 
+-- a tidying's state is that of its batch and its machine
+abbrev pub tidying : BatchModel × TidyAt → Job
+tidying at = tidies at.0 at.1
+
 -- the job with which a call begins; none for a call of which there is no machine yet
 abbrev pub first_rebind : Env → ℕ → ℕ → ℕ → Kind → Option Job
 first_rebind env port owner new Single = Some (rebinds port owner new (rebind.first_state env port new))
 first_rebind env port owner new Listed = None
+
+abbrev pub first_tidy : Option BatchModel → Option Job
+first_tidy None = None
+first_tidy (Some batch) = Some (tidying (tidy.begun batch))
 
 -- it is that of a caller who has this batch
 abbrev pub first_job : Env → Option BatchModel → Call → Option Job
@@ -84,7 +92,7 @@ first_job env batch (Release port owner) = Some (releases port owner releasing.O
 first_job env batch (Rebind port owner new) = first_rebind env port owner new env.config.kind
 first_job env batch (Walk from limit) = None
 first_job env batch Work = Some (works works_at.WorkLock)
-first_job env batch Tidy = None
+first_job env batch Tidy = first_tidy batch
 first_job env batch Count = Some counts
 
 -- so the call may begin, with some batch
@@ -114,10 +122,6 @@ listing_ending room done = record { answer = listing_of room.items; pairs = [] }
 -- a release and a rebind end with their reply, without the node that was taken out
 abbrev pub node_ending : Reply × Option ℕ → Ending
 node_ending end = plain_ending end.0
-
--- a tidying's state is that of its batch and its machine
-abbrev pub tidying : BatchModel × TidyAt → Job
-tidying at = tidies at.0 at.1
 
 abbrev pub tidied : BatchModel × TidyAt × Next Reply → (BatchModel × TidyAt) × Next Reply
 tidied came = ((came.0, came.1), came.2)

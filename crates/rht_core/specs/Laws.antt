@@ -15,7 +15,7 @@ use Rattle.rht_release.specs.All.{IsAllIn}
 use Rattle.rht_release.specs.Release.{IsReleaseIn}
 use Rattle.rht_release.specs.Rebind.{IsRebindIn}
 use Rattle.rht_move.specs.Work.{IsWorkIn}
-use Rattle.rht_callers.specs.Batches.{IsBatchIn, AreNodesIn, IsSoundBatch, batch_room}
+use Rattle.rht_callers.specs.Batches.{IsBatchIn, AreNodesIn, HasWords, IsSoundBatch, batch_room}
 use Rattle.rht_model.specs.declared.history.Call.{Call}
 use Rattle.rht_model.specs.declared.history.Call.TheVariants.{Bind, Find, All, Release, Rebind, Walk, Work, Tidy, Count}
 use Rattle.rht_model.specs.declared.history.Reply.{Reply}
@@ -29,6 +29,7 @@ use Rattle.rht_callers.specs.declared.local.Doing.TheVariants.{Idle, Finding, Bi
 use Rattle.rht_callers.specs.Locals.{fresh, owners_room, begin_with, plan_of, local_after, ending_of}
 use Rattle.rht_core.specs.Runs.{Core, World, View, core_step, world_step, run_of, local_of, planned_in, view_of, new_book, book_begun, book_after, IsSound, IsAdmitted, IsAdmittedEvent}
 use Rattle.rht_core.specs.Replies.{AnswersIn}
+use Rattle.rht_core.specs.Tidyings.{IsTidyingOf}
 use Rattle.rht_core.specs.Traces.{Did, Past, Trace, Traced, traced_of, IsStepOfOne, behind_calls, IsRising, AreInOrder}
 
 -- ---- what one caller knows of itself, after an event of its own
@@ -47,7 +48,7 @@ module _ {M : Type 0} where
 -- ---- what a caller's state names
 
 module _ {M : Type 0} where
-  -- what this caller does is in range; no call is a tidying yet
+  -- what this caller does is in range
   abbrev pub IsDoingIn : Env → ℕ → Doing M → Type 0
   IsDoingIn env c Idle = Unit {0}
   IsDoingIn env c (Finding m) = IsFindIn env c m
@@ -57,15 +58,16 @@ module _ {M : Type 0} where
   IsDoingIn env c (Rebinding m) = IsRebindIn env c m
   IsDoingIn env c (Working m) = IsWorkIn env c m
   IsDoingIn env c (Counting m) = m.env ≡ env
-  IsDoingIn env c (Tidying m) = ⊥
+  IsDoingIn env c (Tidying m) = IsTidyingOf env m
 
-  -- and its rooms may have one item a node, and its batch is of the table's nodes
+  -- and its rooms may have one item a node, and its batch is of the table's nodes, with a section word for each caller
   pub record IsLocalIn (env : Env) (c : ℕ) (local : Local M) : Type 0 where
     pub doing : IsDoingIn env c local.doing
     pub owners : (owners_room local.doing local.owners).limit ≡ env.geometry.nodes
     pub pairs : local.pairs.limit ≡ env.geometry.nodes
     pub batch : IsBatchIn env (batch_room local.doing local.batch)
     pub among : AreNodesIn env.geometry.nodes (batch_room local.doing local.batch)
+    pub words : HasWords env.geometry.callers (batch_room local.doing local.batch)
 
 -- all words and callers are there, what each caller does is in range, and so is the operation that it plans; and no node stands in a
 -- caller's batch twice

@@ -6,6 +6,10 @@ pub use Rattle.rht_callers.specs.Locals
 pub use Rattle.rht_callers.specs.PortCounts
 -- what a caller does, said without its table
 pub mod Jobs
+-- why a tidying was answered as it was
+pub mod TidyCauses
+-- what a tidying names
+pub mod Tidyings
 -- what events make of words and callers
 pub mod Runs
 -- each call's operations, with the numbers of their events

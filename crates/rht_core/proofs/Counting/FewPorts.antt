@@ -28,7 +28,7 @@ use Rattle.rht_move.specs.declared.work.WorkAt.TheVariants as work_at
 use Rattle.rht_model.specs.Endings.{Ending, ending_in, plain_ending}
 use Rattle.rht_model.specs.declared.finished.Finished.{Finished}
 use Rattle.rht_model.specs.declared.history.Call.{Call}
-use Rattle.rht_model.specs.declared.history.Call.TheVariants.{Rebind}
+use Rattle.rht_model.specs.declared.history.Call.TheVariants.{Rebind, Tidy}
 use Rattle.rht_core.specs.declared.event.Event.{Event}
 use Rattle.rht_core.specs.declared.event.Event.TheVariants.{Enroll, Begin, Step}
 use Rattle.rht_core.specs.FewPorts.{IsNoTableMade, IsCallTaken, StaysWithFirst, FewPorts}
@@ -41,7 +41,7 @@ use Rattle.rht_core.proofs.Machines.JobSteps.{JobIn}
 use Rattle.rht_core.proofs.Machines.NeverHeld.{may_make}
 use Rattle.rht_core.proofs.Events.Invariants.{step_of}
 use Rattle.rht_core.proofs.Events.InvariantRuns.{has_inv}
-use Rattle.rht_core.proofs.Events.JobsOfCallers.{first_rebind-so, each_goes, same_call, first-of}
+use Rattle.rht_core.proofs.Events.JobsOfCallers.{first_rebind-so, first_tidy-so, each_goes, same_call, first-of}
 use Rattle.rht_core.proofs.Events.Worlds.{induct_by_last, take-push, take-push_all, run_of-push, step_none, step_words}
 use Rattle.rht_core.proofs.Tracing.TracedJobs.{Performs, LeadsOn, IsKeeping, IsAtJob, jobs_keep_own}
 use Rattle.rht_core.proofs.Tracing.TracedRuns.{world-traced_of}
@@ -199,6 +199,7 @@ module _ (M : Type 0) (mix : ℕ → ℕ → ℕ → ℕ) (env : Env) (roomy : I
 
     first-calm : (call : Call) (batch : Option BatchModel) → IfSome (first_job env batch call) (CalmJob env)
     first-calm (Rebind port owner new) batch = first_rebind-so (CalmJob env) env port owner new tt
+    first-calm Tidy batch = first_tidy-so (CalmJob env) batch (λ own. tt)
     first-calm _ batch = tt
 
     calls-calm : IsAdmitted env.config.kind events

@@ -26,7 +26,7 @@ use Rattle.rht_words.proofs.OpeningLaws.{opens_flat}
 use Rattle.rht_model.specs.Endings.{Ending, ended_with, plain_ending}
 use Rattle.rht_model.specs.declared.finished.Finished.{Finished}
 use Rattle.rht_model.specs.declared.history.Call.{Call}
-use Rattle.rht_model.specs.declared.history.Call.TheVariants.{Rebind}
+use Rattle.rht_model.specs.declared.history.Call.TheVariants.{Rebind, Tidy}
 use Rattle.rht_model.specs.declared.history.Reply.{Reply}
 use Rattle.rht_bind.specs.Bind.{after_at as bind_after_at}
 use Rattle.rht_nest.specs.Tables.{is_nested}
@@ -66,7 +66,7 @@ use Rattle.rht_core.proofs.Events.BooksInRuns.{BookSays, has_books}
 use Rattle.rht_core.proofs.Events.Invariants.{Inv, StepOf, step_of, kept}
 use Rattle.rht_core.proofs.Events.InvariantRuns.{opening_ghost, opening_inv, idle_at_opening}
 use Rattle.rht_core.proofs.Events.KeptAtEvents.{views_kept, ghosts_kept}
-use Rattle.rht_core.proofs.Events.JobsOfCallers.{first_rebind-so, each_goes, same_call, left-job, doing_after-reply, first-of}
+use Rattle.rht_core.proofs.Events.JobsOfCallers.{first_rebind-so, first_tidy-so, each_goes, same_call, left-job, doing_after-reply, first-of}
 use Rattle.rht_core.proofs.Events.RangesInRuns.{AllIn, opens-all, event-all}
 use Rattle.rht_core.proofs.Events.Worlds.{induct_by_last, run_of-push}
 use Rattle.rht_core.proofs.Tracing.TracedJobs.{Performs, IsAtJob, jobs_keep_own}
@@ -121,6 +121,7 @@ module _ (env : Env) where
 
     first-one : (call : Call) (batch : Option BatchModel) → IfSome (first_job env batch call) OneJob
     first-one (Rebind port owner new) batch = first_rebind-so OneJob env port owner new tt
+    first-one Tidy batch = first_tidy-so OneJob batch (λ own. tt)
     first-one _ batch = tt
 
     module _ (first : 16 ≤ first_size env.config) (mix : ℕ → ℕ → ℕ → ℕ) (words_at : ℕ → List ℕ)

@@ -52,6 +52,10 @@ use Rattle.rht_release.specs.declared.release.ReleaseAt.TheVariants as releases
 use Rattle.rht_release.specs.Rebind as rebind
 use Rattle.rht_release.specs.declared.rebind.RebindAt.{RebindAt}
 use Rattle.rht_release.specs.declared.rebind.RebindAt.TheVariants as rebinds
+use Rattle.rht_grace.specs.Batch.{BatchModel}
+use Rattle.rht_grace.specs.Tidy as tidy
+use Rattle.rht_grace.specs.declared.tidy.TidyAt.{TidyAt}
+use Rattle.rht_grace.specs.declared.tidy.TidyAt.TheVariants as tidy_at
 use Rattle.rht_core.specs.Jobs as jobs
 use Rattle.rht_core.specs.Jobs.{Job, call_of, job_plan}
 use Rattle.rht_ghost.proofs.Theory.Steps.{unchanged}
@@ -195,6 +199,12 @@ module _ (env : Env) (c : ℕ) where
   rebind-spares few (rebinds.Closing end) within = at_section few _ refl
   rebind-spares few (rebinds.Giving give) within = give_node-spares give
 
+-- a tidying loads, or gives a node back
+tidy-spares : (g : Geometry) (batch : BatchModel) (state : TidyAt) → SparesSlots (tidy.plan_at g batch state)
+tidy-spares g batch (tidy_at.Keeping caller) = by_load _ _ refl
+tidy-spares g batch (tidy_at.Asking caller) = by_load _ _ refl
+tidy-spares g batch (tidy_at.Giving index) = give_node-spares (record { geometry = g; node = get_or batch.waiting index 0 })
+
 -- nor has any job of a call that makes no table
 pub other-spares : (env : Env) (mix : ℕ → ℕ → ℕ → ℕ) (c : ℕ) → c < 16 → (job : Job) → JobIn env mix c job
     → may_make (call_of job) ≡ false → SparesSlots (job_plan env c job)
@@ -204,7 +214,7 @@ other-spares env mix c few (jobs.lists port room state) within none = all-spares
 other-spares env mix c few (jobs.releases port owner state) within none = release-spares env c few state within
 other-spares env mix c few (jobs.rebinds port owner new state) within none = rebind-spares env c few state within.at_in
 other-spares env mix c few (jobs.works state) within none = absurd (cc)
-other-spares env mix c few (jobs.tidies batch state) within none = absurd within
+other-spares env mix c few (jobs.tidies batch state) within none = tidy-spares env.geometry batch state
 other-spares env mix c few _ within none = by_load _ _ refl
 
 -- an operation that leaves the words of slots attaches no table

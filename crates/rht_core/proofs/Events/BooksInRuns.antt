@@ -34,7 +34,7 @@ use Rattle.rht_core.proofs.Events.SoundRuns.{has_place, made_in}
 use Rattle.rht_core.proofs.Events.RangesInRuns.{AllIn, event-all, opens-all}
 use Rattle.rht_core.proofs.Events.JobsOfCallers.{first_job-machine, first_unknown, same_call, left-job, nothing-job, is_no_job, doing_after-reply}
 use Rattle.rht_core.proofs.Events.Invariants.{Inv, StepOuts, kept, step_of}
-use Rattle.rht_core.proofs.Events.OwnBatches.{given_of, given_next, first_given}
+use Rattle.rht_core.proofs.Events.TidiedNodes.{given_of, given_next, first_given}
 use Rattle.rht_core.proofs.Events.InvariantRuns.{opening_ghost, opening_inv, idle_at_opening}
 
 -- how many of a caller's calls that have ended took a node out of a list

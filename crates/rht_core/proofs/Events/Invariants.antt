@@ -38,7 +38,8 @@ use Rattle.rht_ghost.proofs.Theory.KnowledgeKept.{Knowing-rely}
 use Rattle.rht_ghost.proofs.Theory.Steps.{mem, ghost_after}
 use Rattle.rht_ghost.proofs.Moves.Quiet.{aside}
 use Rattle.rht_ghost.proofs.Theory.Knowns.{known_nothing}
-use Rattle.rht_core.proofs.Events.OwnBatches.{BatchRight, given_of, given_next, idle-owns, begun-right, stepped-right, stepped-given, others-right}
+use Rattle.rht_core.proofs.Events.TidiedNodes.{given_of, given_next}
+use Rattle.rht_core.proofs.Events.OwnBatches.{BatchRight, idle-owns, begun-right, stepped-right, stepped-given, others-right}
 use Rattle.rht_core.proofs.Events.StepsOfCallers.{Knows-rely, knows-told, begun_knows, step_from}
 pub use Rattle.rht_core.proofs.Events.StepsOfCallers.{Knows, StepOf, idle_knows, others_outs}
 

@@ -31,7 +31,7 @@ use Rattle.rht_callers.specs.declared.local.Doing.{Doing}
 use Rattle.rht_callers.specs.declared.local.Doing.TheVariants.{Idle, Finding, Binding, Releasing, Rebinding, Listing, Working, Counting, Tidying}
 use Rattle.rht_callers.specs.Locals.{fresh, does_nothing, machine_of, doing_plan, doing_after, owners_after, room_given, local_after, ending_of, doing_next, without_node, IsDoingOf, IsLocalOf}
 use Rattle.rht_core.specs.Laws.{IsDoingIn}
-use Rattle.rht_core.specs.Jobs.{listing_ending, node_ending, Job, finds, binds, releases, rebinds, lists, works, tidies, tidying, tidied, counts, call_of, first_job, first_rebind, job_plan, job_after, job_next, job_of, told, held_of, IsFirstJob}
+use Rattle.rht_core.specs.Jobs.{listing_ending, node_ending, Job, finds, binds, releases, rebinds, lists, works, tidies, tidying, tidied, counts, call_of, first_job, first_rebind, first_tidy, job_plan, job_after, job_next, job_of, told, held_of, IsFirstJob}
 use Rattle.rht_words.specs.declared.config.Kind.{Kind}
 use Rattle.rht_words.specs.declared.config.Kind.TheVariants.{Single, Listed}
 use Rattle.rht_release.specs.Release as release
@@ -118,6 +118,12 @@ first_rebind-so Now env port owner new so = go env.config.kind
     go Single = so
     go Listed = tt
 
+-- and a tidying with its caller's batch
+pub first_tidy-so : (Now : Job → Type 0) (batch : Option BatchModel) → ((own : BatchModel) → Now (tidying (tidy.begun own)))
+    → IfSome (first_tidy batch) Now
+first_tidy-so Now None so = tt
+first_tidy-so Now (Some own) so = so own
+
 -- a call holds nothing at its beginning
 abbrev HoldsNothing : Job → Type 0
 HoldsNothing job = held_of job ≡ held.holds_nothing
@@ -125,7 +131,7 @@ HoldsNothing job = held_of job ≡ held.holds_nothing
 first_job-holds : (env : Env) (call : Call) (batch : Option BatchModel) → IfSome (first_job env batch call) HoldsNothing
 first_job-holds env (Rebind port owner new) batch = first_rebind-so HoldsNothing env port owner new refl
 first_job-holds env (Walk from limit) batch = tt
-first_job-holds env Tidy batch = tt
+first_job-holds env Tidy batch = first_tidy-so HoldsNothing batch (λ own. refl)
 first_job-holds env _ batch = refl
 
 pub first_holds : (env : Env) (call : Call) (job : Job) → IsFirstJob env call job
@@ -173,7 +179,7 @@ module _ {M : Type 0} where
       })
       (record { job = _; first = (batch, refl); does = refl; asked = refl })
       (record { job = _; first = (batch, refl); does = refl; asked = refl })
-      (λ own has. record { job = _; first = (batch, ?); does = refl; asked = refl })
+      (λ own has. record { job = _; first = (batch, ap first_tidy has); does = refl; asked = refl })
 
   -- ---- an operation
 
@@ -207,7 +213,9 @@ module _ {M : Type 0} where
       within.same_env within.same_caller plan
   plan-job env c (Working m) op within plan =
       plans-so env c (Working m) op (works m.at) m.env m.caller refl refl within.same_env within.same_caller plan
-  plan-job env c (Tidying m) op within plan = absurd within
+  plan-job env c (Tidying m) op within plan =
+      let here : op ≡ tidy.plan_at m.geometry m.batch m.at = let both = sym plan in cc in
+      record { job = tidies m.batch m.at; does = refl; plan = here ∙ ap (λ g. tidy.plan_at g m.batch m.at) within.same_geometry }
   plan-job env c (Counting m) op within plan = plans-so env c (Counting m) op counts m.env c refl refl within refl plan
 
   module _ (local : Local M) (none : HasNoLists local) where

@@ -7,37 +7,36 @@ use Rattle.std.proofs.Common.{◌≡◌, ◌≢◌, ◌⊎◌, ℕ, zero, ◌+�
 use Rattle.rht_words.specs.declared.op.Op.{Op}
 use Rattle.rht_words.specs.declared.env.Env.{Env}
 use Rattle.rht_words.specs.declared.geometry.Geometry.{Geometry}
-use Rattle.rht_words.specs.Members.{In, NotIn}
-use Rattle.rht_words.specs.Operations.{old_of}
+use Rattle.rht_words.specs.Members.{In, NotIn, IsDistinct}
+use Rattle.rht_words.specs.Operations.{old_of, applied}
 use Rattle.rht_words.specs.declared.machine.Next.{Next}
 use Rattle.rht_words.specs.declared.machine.Next.TheVariants.{Go, Done}
 use Rattle.rht_words.proofs.Members.{not_in_from}
 use Rattle.rht_model.specs.declared.history.Call.{Call}
-use Rattle.rht_model.specs.declared.history.Call.TheVariants.{Rebind, Walk, Tidy}
+use Rattle.rht_model.specs.declared.history.Call.TheVariants.{Tidy}
 use Rattle.rht_model.specs.declared.history.Reply.{Reply}
-use Rattle.rht_model.specs.declared.history.Reply.TheVariants.{Clear}
 use Rattle.rht_model.specs.Answers.{Answer}
-use Rattle.rht_model.specs.Endings.{Ending}
-use Rattle.rht_model.specs.Replies.{IsReplyTo}
+use Rattle.rht_model.specs.Endings.{Ending, plain_ending}
 use Rattle.rht_grace.specs.Batch.{BatchModel}
-use Rattle.rht_grace.specs.Tidy.{TidyModel, asked_at}
-use Rattle.rht_grace.specs.declared.tidy.TidyAt.{TidyAt}
-use Rattle.rht_grace.specs.declared.tidy.TidyAt.TheVariants as tidy_at
+use Rattle.rht_grace.specs.Tidy.{TidyModel, IsTidyAtIn, after_at, moved}
 use Rattle.rht_callers.specs.declared.local.Local.{Local}
 use Rattle.rht_callers.specs.declared.local.Doing.{Doing}
 use Rattle.rht_callers.specs.declared.local.Doing.TheVariants.{Tidying}
-use Rattle.rht_callers.specs.Batches.{nodes_in, nodes_held, IsBatchIn, IsSoundBatch, CanPut, with_out, out_of, batch_room, batch_beside, batch_after}
-use Rattle.rht_callers.specs.Locals.{does_nothing, is_idle, machine_of, begin_with, doing_after, local_after}
+use Rattle.rht_callers.specs.Batches.{nodes_in, nodes_held, IsBatchIn, IsSoundBatch, CanPut, with_out, out_of, batch_room, batch_beside, batch_given, batch_after}
+use Rattle.rht_callers.specs.Locals.{does_nothing, is_idle, machine_of, begin_with, doing_next, doing_after, local_after}
 use Rattle.rht_callers.proofs.CallBeginnings.{begins_so}
-use Rattle.rht_callers.proofs.BatchesOfCallers.{idle-batch, begun-batch, begun-sound, batch_after-so, batch_after-out, IsSoundBatch-out}
-use Rattle.rht_core.specs.Counts.{returned_by}
-use Rattle.rht_core.specs.Jobs.{Job, finds, binds, lists, releases, rebinds, works, tidies, counts, call_of, first_job, job_of, job_after, told, held_of, held_next, IsFirstJob}
+use Rattle.rht_callers.proofs.BatchesOfCallers.{idle-batch, begun-batch, begun-sound, batch_after-out, batch_after-sound, IsSoundBatch-out}
+use Rattle.rht_core.specs.Jobs.{Job, tidies, tidying, tidied, call_of, job_of, job_next, job_after, told, held_of, held_next}
 use Rattle.rht_core.specs.Laws.{IsDoingIn}
+use Rattle.rht_core.specs.Tidyings.{IsTidyingOf}
+use Rattle.rht_core.proofs.Machines.JobSteps.{JobNext}
+use Rattle.rht_core.proofs.Machines.TidyRanges.{Came, tidy_at_in}
+use Rattle.rht_core.proofs.Events.TidiedNodes.{given_of, given_next, given-none, returned-none, left_now, given_now, same_nodes}
 use Rattle.rht_core.specs.Runs.{Core, local_of, beginning_in}
-use Rattle.rht_core.proofs.Machines.JobSteps.{OwnsNodes}
+use Rattle.rht_core.proofs.Machines.TidySteps.{OwnsNodes}
 use Rattle.rht_core.proofs.Events.HandedOut.{out_in}
 use Rattle.rht_core.proofs.Events.StepsOfCallers.{StepOf, begun_owns, others_outs}
-use Rattle.rht_core.proofs.Events.JobsOfCallers.{first_rebind-so, first-of, first_job-machine, first_unknown, same_call, left-job, nothing-job, is_no_job, doing_after-reply}
+use Rattle.rht_core.proofs.Events.JobsOfCallers.{first_job-machine, first_unknown, same_call, left-job, nothing-job, is_no_job, doing_after-reply}
 use Rattle.rht_core.proofs.Events.RangesInRuns.{AllIn}
 use Rattle.rht_core.proofs.Events.SoundRuns.{made_in}
 use Rattle.rht_core.proofs.Events.SaidOfNodes.{outs_with, many_of, SaysTaken, AnsweredWith, left-says, ended_says, longer, first-says, outs-idle, untaken-idle}
@@ -72,6 +71,21 @@ can_put (Some batch) None env is may = tt
 can_put (Some batch) (Some node) env is may =
     let this = may node refl in (subst (λ (g : Geometry). node < g.nodes) (sym is) this.0, this.1)
 
+-- no node stands twice in a sound batch
+sound-distinct : (batch : Option BatchModel) → IsSoundBatch batch → IsDistinct (nodes_in batch)
+sound-distinct None sound = absurd sound
+sound-distinct (Some batch) sound = sound.distinct
+
+-- where no node is handed out there is none to be put in
+put-none : (batch : Option BatchModel) → CanPut batch None
+put-none None = tt
+put-none (Some batch) = tt
+
+-- a caller is at a tidying, or isn't
+is_tidying : (L : Type 0) (doing : Doing L) → ((m : TidyModel) × (doing ≡ Tidying m)) ⊎ ((m : TidyModel) → doing ≡ Tidying m → ⊥)
+is_tidying L (Tidying m) = inl (m, refl)
+is_tidying L _ = inr (λ m is. cc)
+
 -- who isn't tidying has its batch
 with_caller : (L : Type 0) (doing : Doing L) (batch : Option BatchModel) → ((m : TidyModel) → doing ≡ Tidying m → ⊥)
     → batch_room doing batch ≡ batch
@@ -89,60 +103,11 @@ pub held-idle : (L : Type 0) (doing : Doing L) (batch : Option BatchModel) → d
 held-idle L doing batch idle = held-caller L doing batch (λ m is. let busy : does_nothing {M = L} (Tidying m) ≡ true = ap does_nothing (sym is) ∙ idle in cc)
 
 -- who does a tidying is at one
-tidying-of : (L : Type 0) (doing : Doing L) (job : Job) → job_of doing ≡ Some job → call_of job ≡ Tidy → (m : TidyModel) × (doing ≡ Tidying m)
+pub tidying-of : (L : Type 0) (doing : Doing L) (job : Job) → job_of doing ≡ Some job → call_of job ≡ Tidy → (m : TidyModel) × (doing ≡ Tidying m)
 tidying-of L (Tidying m) job is asked = (m, refl)
 tidying-of L doing job is asked = absurd (cc)
 
--- ---- how many nodes a call has given back
-
--- a tidying that gives back has given back those before its place
-abbrev pub given_at : TidyAt → ℕ
-given_at (tidy_at.Keeping caller) = 0
-given_at (tidy_at.Asking caller) = 0
-given_at (tidy_at.Giving index) = index
-
--- and a call in progress
-abbrev pub given_of : Job → ℕ
-given_of (finds port state) = 0
-given_of (binds port owner once state) = 0
-given_of (lists port room state) = 0
-given_of (releases port owner state) = 0
-given_of (rebinds port owner new state) = 0
-given_of (works state) = 0
-given_of (tidies batch state) = given_at state
-given_of counts = 0
-
--- behind an operation, by its reply where it has ended
-abbrev pub given_next : Job × Next Ending → ℕ
-given_next (job, Go) = given_of job
-given_next (job, Done ending) = returned_by ending.answer.reply
-
--- none at its beginning
-asked-none : (found : Option ℕ) → given_at (asked_at found) ≡ 0
-asked-none None = refl
-asked-none (Some caller) = refl
-
-first-given : (env : Env) (call : Call) (batch : Option BatchModel) → IfSome (first_job env batch call) (λ job. given_of job ≡ 0)
-first-given env (Rebind port owner new) batch = first_rebind-so (λ job. given_of job ≡ 0) env port owner new refl
-first-given env (Walk from limit) batch = tt
-first-given env Tidy batch = tt
-first-given env _ batch = refl
-
-pub first_given : (env : Env) (call : Call) (job : Job) → IsFirstJob env call job → given_of job ≡ 0
-first_given env call job is = first-of (λ j. given_of j ≡ 0) env call job (first-given env call) is
-
--- no other call gives any back
-given-none : (job : Job) → (call_of job ≡ Tidy → ⊥) → given_of job ≡ 0
-given-none (tidies batch state) not = absurd (not refl)
-given-none _ not = refl
-
-clear-for : (call : Call) (n : ℕ) → IsReplyTo call (Clear n) → call ≡ Tidy
-clear-for Tidy n is = refl
-clear-for _ n is = absurd is
-
-returned-none : (call : Call) (reply : Reply) → (call ≡ Tidy → ⊥) → IsReplyTo call reply → returned_by reply ≡ 0
-returned-none call (Clear n) not is = absurd (not (clear-for call n is))
-returned-none call _ not is = refl
+-- ---- an operation's move
 
 -- a move that gives none back counts none
 unreturned : (move : Move) (many : ℕ) → ((n : ℕ) → move ≡ ReturnsNode n → ⊥) → with_returned move many ≡ many
@@ -179,6 +144,7 @@ module _ (env : Env) (mix : ℕ → ℕ → ℕ → ℕ) (L : Type 0) where
       let same = ap length held in
       record {
         out = λ n there. right.out n (subst (In n) (sym held) there);
+        distinct = sound-distinct local.batch (idle-batch L IsSoundBatch local idle right.sound);
         many = omega (arith, none, many, same);
       }
 
@@ -400,20 +366,118 @@ module _ (env : Env) (mix : ℕ → ℕ → ℕ → ℕ) (L : Type 0) where
           go (after, Go) same replied = given-none after (λ asked. other_call (sym same ∙ asked))
           go (after, Done ending) same replied = returned-none (call_of of.job) ending.answer.reply other_call replied.reply
 
-    -- no call is a tidying yet
-    not_tidying : (m : TidyModel) → local.doing ≡ Tidying m → ⊥
-    not_tidying m same = subst (IsDoingIn env c) same (all.locals c).doing
+    -- ---- a tidying
+
+    module _ (m : TidyModel) (same : local.doing ≡ Tidying m) where
+      within : IsTidyingOf env m
+      within = subst (IsDoingIn env c) same (all.locals c).doing
+
+      job_is : of.job ≡ tidies m.batch m.at
+      job_is = let both = sym of.is ∙ ap job_of same in cc
+
+      abbrev came : Came
+      came = after_at env.geometry m.batch m.at old
+
+      came_knows : JobNext env mix c (job_next tidying plain_ending (tidied came)) (mem env mix (applied core.words op)) G'
+      came_knows = subst (λ job. JobNext env mix c (job_after mix env job old) (mem env mix (applied core.words op)) G') job_is of.step.knows
+
+      -- what it has behind its operation
+      left-owns : (next : Came) → JobNext env mix c (job_next tidying plain_ending (tidied next)) (mem env mix (applied core.words op)) G'
+          → OwnsNodes env mix c (left_now next) G'
+      left-owns (batch, state, Go) knows = knows.fits
+      left-owns (batch, state, Done reply) knows = knows.leaves
+
+      left_held : (next : Came) (batch : Option BatchModel)
+          → nodes_held (doing_next {M = L} Tidying (moved m next)).0 (batch_given (moved m next) batch) ≡ left_now next
+      left_held (batch, state, Go) own = refl
+      left_held (batch, state, Done reply) own = refl
+
+      held_after : nodes_held (doing_after mix local.doing old).0 (batch_after mix local.doing local.batch old) ≡ left_now came
+      held_after =
+          ap (λ d. nodes_held (doing_after mix d old).0 (batch_after mix d local.batch old)) same
+          ∙ left_held (after_at m.geometry m.batch m.at old) local.batch
+          ∙ ap (λ g. left_now (after_at g m.batch m.at old)) within.same_geometry
+
+      owns_after : OwnsNodes env mix c (left_now came) G'
+      owns_after = left-owns came came_knows
+
+      told_is : told next_job ≡ told (job_next tidying plain_ending (tidied came))
+      told_is = ap (λ job. told (job_after mix env job old)) job_is
+
+      untaken : (next : Came) → taken_with (told (job_next tidying plain_ending (tidied next))).0 ≡ None
+      untaken (batch, state, Go) = refl
+      untaken (batch, state, Done reply) = refl
+
+      no_outs : (next : Came) → outs_with (told (job_next tidying plain_ending (tidied next))).0 ≡ 0
+      no_outs (batch, state, Go) = refl
+      no_outs (batch, state, Done reply) = refl
+
+      none_out : out_of mix local.doing old ≡ None
+      none_out = ap (λ d. out_of mix d old) same
+
+      tidied-right : BatchRight G' c (local_after mix local old).0
+      tidied-right = record {
+        out = λ n there. owns_after.out n (subst (In n) held_after there);
+        sound =
+            batch_after-sound L mix local.doing local.batch old
+            (λ other is.
+            let one : m ≡ other = let both = sym same ∙ is in cc in
+            subst (λ (n : TidyModel). (n.batch.geometry ≡ n.geometry) × IsTidyAtIn n.batch n.at) one (
+              within.at_in.same_geometry ∙ sym within.same_geometry,
+              tidy_at_in env.geometry m.batch m.at within.at_in (subst (λ d. IsSoundBatch (batch_room d local.batch)) same right.sound),
+            ))
+            (subst (CanPut local.batch) (sym none_out) (put-none local.batch)) right.sound;
+        apart = λ n taken.
+            let none = ap taken_with (left_is ∙ ap (λ t. t.0) told_is) ∙ untaken came in
+            absurd (let both : None ≡ Some n = sym none ∙ taken in cc);
+        many =
+            let many = owns_after.many in
+            let held = ap length held_after in
+            let none = ap outs_with (left_is ∙ ap (λ t. t.0) told_is) ∙ no_outs came in
+            omega (arith, many, held, none);
+        answered = subst AnsweredWith (sym left_is) answered_now;
+      }
+
+      given_is : (next : Came) → given_next (job_next tidying plain_ending (tidied next)) ≡ given_now next
+      given_is (batch, state, Go) = refl
+      given_is (batch, state, Done reply) = refl
+
+      answer_none : outs_of (held_next next_job).answer ≡ 0
+      answer_none =
+          let hands = hands_or_has in
+          let none = ap many_of none_out in
+          let left = ap outs_with (ap (λ t. t.0) told_is) ∙ no_outs came in
+          omega (arith, hands, none, left)
+
+      tidied-given : outs env mix G' c + given_next next_job + outs_of (held_of of.job).answer
+          ≡ outs env mix G c + given_of of.job + outs_of (held_next next_job).answer
+      tidied-given =
+          let had = right.many ∙ ap (λ d. length (nodes_held d local.batch) + outs_with (job_of d)) same in
+          let has = owns_after.many in
+          let both = same_nodes env.geometry m.batch m.at old within.at_in.at_in in
+          let before = ap given_of job_is in
+          let after = ap (λ job. given_next (job_after mix env job old)) job_is ∙ given_is came in
+          let none = ap (λ job. outs_of (held_of job).answer) job_is in
+          let silent = answer_none in
+          omega (arith, had, has, both, before, after, none, silent)
+
+    -- ---- any call
+
+    by_doing : {A : Type 0} → (((m : TidyModel) → local.doing ≡ Tidying m → ⊥) → A) → ((m : TidyModel) → local.doing ≡ Tidying m → A) → A
+    by_doing {A} other tidies_so = elim (is_tidying L local.doing) [ inl m ↦ tidies_so m.0 m.1 | inr not ↦ other not ]
 
     pub put_by : CanPut local.batch (out_of mix local.doing old)
-    put_by = puts (with_caller L local.doing local.batch not_tidying)
+    put_by =
+        by_doing (λ not. puts (with_caller L local.doing local.batch not))
+        (λ m same. subst (CanPut local.batch) (sym (none_out m same)) (put-none local.batch))
 
     pub stepped-right : BatchRight G' c (local_after mix local old).0
-    stepped-right = other-right not_tidying
+    stepped-right = by_doing other-right tidied-right
 
     -- it has taken out what its answer says, and what it has given back is out no more
     pub stepped-given : outs env mix G' c + given_next next_job + outs_of (held_of of.job).answer
         ≡ outs env mix G c + given_of of.job + outs_of (held_next next_job).answer
-    stepped-given = other-given not_tidying
+    stepped-given = by_doing other-given tidied-given
 
   -- another caller's nodes stay its
   pub others-right : (core : Core L) (G : Ghost) (c : ℕ) (op : Op) (of : StepOf env mix L core G c op) (k : ℕ) (other : Local L) → k ≢ c

@@ -8,7 +8,7 @@ use Rattle.std.specs.Prelude.{Option, Some, None, ◌==◌}
 use Rattle.std.specs.List.{AllByRecursion}
 use Rattle.std.proofs.Math.Pow.{pow_mono}
 use Rattle.std.proofs.lemmas.Bool.{cases_lt, cond_both}
-use Rattle.std.proofs.lemmas.List.{get_or_past}
+use Rattle.std.proofs.lemmas.List.{get_or_past, length-replicate}
 use Rattle.std.proofs.lemmas.Nat.{trailing_le}
 use Rattle.rht_words.specs.declared.op.Op.{Op}
 use Rattle.rht_words.specs.declared.env.Env.{Env}
@@ -45,21 +45,28 @@ use Rattle.rht_move.proofs.WorkPlanned.{planned_work}
 use Rattle.rht_core.specs.declared.event.Event.{Event}
 use Rattle.rht_core.specs.declared.event.Event.TheVariants.{Enroll, Begin, Step}
 use Rattle.rht_grace.specs.Batch.{BatchModel}
+use Rattle.rht_grace.specs.Tidy.{TidyModel, after_at, moved}
+use Rattle.rht_grace.specs.declared.tidy.TidyAt.{TidyAt}
+use Rattle.rht_words.specs.declared.machine.Next.{Next}
+use Rattle.rht_words.specs.declared.machine.Next.TheVariants.{Go, Done}
+use Rattle.rht_model.specs.declared.history.Reply.{Reply}
 use Rattle.rht_callers.specs.PortCounts.{count_plan_in}
 use Rattle.rht_callers.specs.declared.local.Local.{Local}
 use Rattle.rht_callers.specs.declared.local.Doing.{Doing}
 use Rattle.rht_callers.specs.declared.local.Doing.TheVariants.{Idle, Finding, Binding, Releasing, Rebinding, Listing, Working, Counting, Tidying}
-use Rattle.rht_callers.specs.Locals.{fresh, machine_of, begin_with, plan_of, doing_after, local_after, owners_room, without_node}
+use Rattle.rht_callers.specs.Locals.{fresh, machine_of, begin_with, plan_of, doing_next, doing_after, local_after, owners_room, without_node}
 use Rattle.rht_core.specs.Runs.{Core, World, local_of, beginning_in, with_machine, planned_in, with_step, enrolling, world_step, run_of, opening, IsAdmitted, IsAdmittedCall, IsAdmittedEvent}
 use Rattle.rht_core.specs.Laws.{IsDoingIn, IsLocalIn, WordsFit, IsOfCaller, IsEnrolledKept, Enrolled}
 use Rattle.rht_core.specs.Jobs.{Job, finds, binds, lists, releases, rebinds, works, tidies, counts, job_plan, job_of}
+use Rattle.rht_core.specs.Tidyings.{IsTidyingIn, IsTidyingOf}
 use Rattle.rht_core.proofs.Machines.JobSteps.{JobIn}
+use Rattle.rht_core.proofs.Machines.TidyRanges.{tidying_stays, tidying_begins, planned_tidying}
 use Rattle.rht_callers.proofs.CallBeginnings.{begins_so}
 use Rattle.rht_callers.proofs.NextDoings.{next_so}
 use Rattle.rht_callers.proofs.RoomsOfCallers.{idle-limit, begun-limit, owners_after-limit}
 use Rattle.rht_core.proofs.Events.Worlds.{beginning-some, planned-some, run_of-push, run_keeps_admitted}
-use Rattle.rht_callers.specs.Batches.{IsBatchIn, AreNodesIn, out_of}
-use Rattle.rht_callers.proofs.BatchesOfCallers.{begun-same, begun-low, idle-batch, begun-batch, batch_after-so, batch_after-in, AreNodesIn-out}
+use Rattle.rht_callers.specs.Batches.{IsBatchIn, AreNodesIn, HasWords, out_of}
+use Rattle.rht_callers.proofs.BatchesOfCallers.{begun-same, begun-low, begun-words, HasWords-out, idle-batch, begun-batch, batch_after-so, batch_after-in, AreNodesIn-out}
 use Rattle.rht_core.proofs.Events.HandedOut.{out_in}
 use Rattle.rht_core.proofs.Events.JobsOfCallers.{first-so, plan-job}
 use Rattle.rht_core.proofs.Events.SoundRuns.{StaysIn, opens-in, stays-in, has_place, made_in, step-count}
@@ -102,15 +109,16 @@ planned_job env mix c (lists port room state) few within = planned_all env c sta
 planned_job env mix c (releases port owner state) few within = planned_release env c state few within
 planned_job env mix c (rebinds port owner new state) few within = planned_rebind env c state few within.at_in
 planned_job env mix c (works state) few within = planned_work env c state few within
-planned_job env mix c (tidies batch state) few within = absurd within
+planned_job env mix c (tidies batch state) few within = planned_tidying env.geometry batch state within
 planned_job env mix c counts few within = planned_count env
 
 module _ (M : Type 0) where
   -- a caller that begins an admitted call begins in range
-  begins-in : (env : Env) (c : ℕ) (batch : Option BatchModel) (call : Call) (machine : Doing M)
-      → machine_of env c batch call ≡ Some machine
+  begins-in : (env : Env) (c : ℕ) (batch : Option BatchModel) → IsBatchIn env batch → AreNodesIn env.geometry.nodes batch
+      → HasWords env.geometry.callers batch
+      → (call : Call) (machine : Doing M) → machine_of env c batch call ≡ Some machine
       → IsAdmittedCall call → IsDoingIn env c machine
-  begins-in env c batch =
+  begins-in env c batch same among words =
       begins_so M env c batch (λ call machine. IsAdmittedCall call → IsDoingIn env c machine)
       (λ port admitted. record { same_env = refl; same_caller = refl; port_in = admitted; at_in = tt })
       (λ port owner once admitted. record {
@@ -148,7 +156,25 @@ module _ (M : Type 0) where
       })
       (λ admitted. record { same_env = refl; same_caller = refl; at_in = tt })
       (λ admitted. refl)
-      (λ own has admitted. ?)
+      (λ own has admitted. record {
+        same_geometry = refl;
+        at_in =
+            tidying_begins env.geometry own (subst (IsBatchIn env) has same) (subst (AreNodesIn env.geometry.nodes) has among)
+            (subst (HasWords env.geometry.callers) has words);
+      })
+
+  -- a tidying that goes on is in range still
+  tidied-in : (env : Env) (c : ℕ) (m : TidyModel) (came : BatchModel × TidyAt × Next Reply) → m.geometry ≡ env.geometry
+      → IsTidyingIn env.geometry came.0 came.1
+      → IsDoingIn {M = M} env c (doing_next Tidying (moved m came)).0
+  tidied-in env c m (batch, state, Go) same within = record { same_geometry = same; at_in = within }
+  tidied-in env c m (batch, state, Done reply) same within = tt
+
+  tidied-right : (env : Env) (m : TidyModel) (old : ℕ) → IsTidyingOf env m
+      → let came = after_at m.geometry m.batch m.at old in IsTidyingIn env.geometry came.0 came.1
+  tidied-right env m old within =
+      subst (λ g. let came = after_at g m.batch m.at old in IsTidyingIn env.geometry came.0 came.1) (sym within.same_geometry)
+      (tidying_stays env.geometry m.batch m.at old within.at_in)
 
   -- a caller that is told a word stays in range
   doing_after-in : (mix : ℕ → ℕ → ℕ → ℕ) (env : Env) (c : ℕ) (doing : Doing M) (old : ℕ)
@@ -213,7 +239,8 @@ module _ (M : Type 0) where
         same_caller = within.same_caller;
         at_in = subst (λ (e : Env). IsWorkAtIn e (work_after mix m old).0.at) within.same_env next;
       }
-  doing_after-in mix env c (Tidying m) old within told = absurd within
+  doing_after-in mix env c (Tidying m) old within told =
+      tidied-in env c m (after_at m.geometry m.batch m.at old) within.same_geometry (tidied-right env m old within)
   doing_after-in mix env c (Counting m) old within told = tt
 
   module _ (env : Env) (mix : ℕ → ℕ → ℕ → ℕ) (c : ℕ) where
@@ -232,7 +259,7 @@ module _ (M : Type 0) where
         first-so (JobIn env mix c) (Some (rebinds m.port m.owner m.new_owner m.at)) job
         (record { new_in = within.new_owner_in; at_in = within.at_in }) is
     job-in (Working m) job room is within roomy = first-so (JobIn env mix c) (Some (works m.at)) job within.at_in is
-    job-in (Tidying m) job room is within roomy = absurd within
+    job-in (Tidying m) job room is within roomy = first-so (JobIn env mix c) (Some (tidies m.batch m.at)) job within.at_in is
     job-in (Counting m) job room is within roomy = first-so (JobIn env mix c) (Some counts) job tt is
 
     -- so the operation that it plans is on a word
@@ -278,7 +305,14 @@ module _ (M : Type 0) (mix : ℕ → ℕ → ℕ → ℕ) (env : Env) where
         AllByRecursion-map IsWord (λ place. opening_word env (address_at env.geometry place))
         (λ place. opening_word-fits env (address_at env.geometry place)) _;
     locals = λ c. each_replicate (IsLocalIn env c) env.geometry.callers c (fresh env)
-        record { doing = tt; owners = refl; pairs = refl; batch = refl; among = tt };
+        record {
+          doing = tt;
+          owners = refl;
+          pairs = refl;
+          batch = refl;
+          among = tt;
+          words = length-replicate env.geometry.callers 0;
+        };
   }
 
   begin-all : (core : Core M) (c : ℕ) (call : Call) (machine : Option (Doing M)) → IsAdmittedCall call
@@ -292,22 +326,26 @@ module _ (M : Type 0) (mix : ℕ → ℕ → ℕ → ℕ) (env : Env) where
       let can = beginning-some core.env core.enrolled core.locals c call machine is in
       let made = made_in M mix env core c call machine all.stays can in
       let here = all.locals c in
+      let in_table = idle-batch M (IsBatchIn env) (local_of core c) can.idle here.batch in
+      let low = idle-batch M (AreNodesIn env.geometry.nodes) (local_of core c) can.idle here.among in
+      let words = idle-batch M (HasWords env.geometry.callers) (local_of core c) can.idle here.words in
       each_set (IsLocalIn env) (fresh core.env) core.locals c (begin_with (local_of core c) machine)
       (has_place M mix env core c all.stays can.below)
       record {
-        doing = begins-in M env c (local_of core c).batch call machine made admitted;
+        doing = begins-in M env c (local_of core c).batch in_table low words call machine made admitted;
         owners =
             begun-limit M env c (local_of core c).batch call machine made (local_of core c).owners
             (idle-limit M (local_of core c) env.geometry.nodes can.idle here.owners);
         pairs = here.pairs;
         batch =
-            let in_table = idle-batch M (IsBatchIn env) (local_of core c) can.idle here.batch in
             begun-batch M (IsBatchIn env) env c (local_of core c).batch call machine made in_table
             (λ own has. begun-same own ∙ subst (IsBatchIn env) has in_table);
         among =
-            let low = idle-batch M (AreNodesIn env.geometry.nodes) (local_of core c) can.idle here.among in
             begun-batch M (AreNodesIn env.geometry.nodes) env c (local_of core c).batch call machine made low
             (λ own has. begun-low env.geometry.nodes own (subst (AreNodesIn env.geometry.nodes) has low));
+        words =
+            begun-batch M (HasWords env.geometry.callers) env c (local_of core c).batch call machine made words
+            (λ own has. begun-words own ∙ subst (HasWords env.geometry.callers) has words);
       }
       all.locals k
 
@@ -343,7 +381,13 @@ module _ (M : Type 0) (mix : ℕ → ℕ → ℕ → ℕ) (env : Env) where
                   (λ beside. AreNodesIn-out env.geometry.nodes (local_of core c).batch (out_of mix (local_of core c).doing old)
                   (λ node is. out_in mix env c (local_of core c).doing old node here.doing is)
                   (subst (AreNodesIn env.geometry.nodes) beside here.among))
-                  (λ m same. absurd (subst (IsDoingIn env c) same here.doing));
+                  (λ m same. let now = tidied-right M env m old (subst (IsDoingIn env c) same here.doing) in now.among);
+              words =
+                  batch_after-so M (HasWords env.geometry.callers) mix (local_of core c).doing (local_of core c).batch old
+                  here.words
+                  (λ beside. HasWords-out env.geometry.callers (local_of core c).batch (out_of mix (local_of core c).doing old)
+                  (subst (HasWords env.geometry.callers) beside here.words))
+                  (λ m same. let now = tidied-right M env m old (subst (IsDoingIn env c) same here.doing) in now.words);
             }
             all.locals;
       }

@@ -12,7 +12,7 @@ use Rattle.rht_words.proofs.Members.{one_if}
 use Rattle.rht_arena.specs.NewNode.{NewNodeModel, new_node_after}
 use Rattle.rht_chain.specs.Relink.{RelinkModel, relink_after}
 use Rattle.rht_model.specs.declared.history.Call.{Call}
-use Rattle.rht_model.specs.declared.history.Call.TheVariants.{Release, Rebind}
+use Rattle.rht_model.specs.declared.history.Call.TheVariants.{Release, Rebind, Tidy}
 use Rattle.rht_model.specs.declared.history.Reply.{Reply}
 use Rattle.rht_model.specs.declared.history.Reply.TheVariants.{Released, Rebound, Absent, NoNode}
 use Rattle.rht_model.specs.Endings.{Ending, plain_ending}
@@ -32,7 +32,7 @@ use Rattle.rht_callers.specs.declared.local.Doing.TheVariants.{Idle, Finding, Bi
 use Rattle.rht_callers.specs.Batches.{nodes_in, node_out, IsBatchIn, with_out, out_of}
 use Rattle.rht_callers.specs.Locals.{fresh, does_nothing}
 use Rattle.rht_core.specs.Jobs.{Job, finds, binds, lists, releases, rebinds, works, tidies, counts, call_of, first_job, job_of, job_next, job_after, node_ending, told, held_of, IsFirstJob}
-use Rattle.rht_core.proofs.Events.JobsOfCallers.{first_rebind-so, same_call, first-of}
+use Rattle.rht_core.proofs.Events.JobsOfCallers.{first_rebind-so, first_tidy-so, same_call, first-of}
 use Rattle.rht_core.proofs.Events.TakenOut.{taken_with}
 use Rattle.rht_ghost.proofs.Theory.Answering.{outs_of, IsReplied}
 
@@ -246,6 +246,7 @@ longer env (Some batch) (Some node) is =
 -- a call says nothing of a node at its beginning
 first_says : (env : Env) (call : Call) (batch : Option BatchModel) → IfSome (first_job env batch call) SaysTaken
 first_says env (Rebind port owner new) batch = first_rebind-so SaysTaken env port owner new tt
+first_says env Tidy batch = first_tidy-so SaysTaken batch (λ own. tt)
 first_says env _ batch = tt
 
 pub first-says : (env : Env) (call : Call) (job : Job) → IsFirstJob env call job → SaysTaken job

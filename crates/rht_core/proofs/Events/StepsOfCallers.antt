@@ -36,7 +36,8 @@ use Rattle.rht_ghost.proofs.Theory.KnowledgeKept.{Knowing-rely}
 use Rattle.rht_ghost.proofs.Theory.Steps.{mem, ghost_after}
 use Rattle.rht_ghost.proofs.Moves.Quiet.{aside}
 use Rattle.rht_ghost.proofs.Theory.Knowns.{known_nothing}
-use Rattle.rht_core.proofs.Machines.JobSteps.{OwnsNodes, JobIn, JobKnows, JobKnows-rely, JobStepOf, KnowsNothing, JobNext, holds_no, job_step}
+use Rattle.rht_core.proofs.Machines.TidySteps.{OwnsNodes}
+use Rattle.rht_core.proofs.Machines.JobSteps.{JobIn, JobKnows, JobKnows-rely, JobStepOf, KnowsNothing, JobNext, holds_no, job_step}
 use Rattle.std.proofs.lemmas.List.{nil_from_length, append-nil}
 use Rattle.rht_grace.specs.Batch.{BatchModel, first_odd}
 use Rattle.rht_grace.specs.Tidy.{begun, asked_at}

@@ -44,7 +44,7 @@ use Rattle.rht_ghost.proofs.Theory.Passed.{TablesGrow}
 use Rattle.rht_ghost.proofs.Theory.Steps.{mem, ghost_after}
 use Rattle.rht_core.proofs.Events.Worlds.{induct_by_last, beginning-some, planned-some, begin_none, begin_self, begin_other, step_none, step_self, step_other}
 use Rattle.rht_core.proofs.Events.SoundRuns.{has_place, made_in}
-use Rattle.rht_core.proofs.Events.JobsOfCallers.{is_no_job, first_rebind-so, first_job-machine, nothing-job, same_call, local_after-job, first-of}
+use Rattle.rht_core.proofs.Events.JobsOfCallers.{is_no_job, first_rebind-so, first_tidy-so, first_job-machine, nothing-job, same_call, local_after-job, first-of}
 use Rattle.rht_core.proofs.Events.Invariants.{step_of}
 use Rattle.rht_core.proofs.Events.InvariantRuns.{idle_at_opening}
 use Rattle.rht_core.proofs.Machines.JobSteps.{JobIn}
@@ -65,6 +65,7 @@ use Rattle.rht_core.proofs.Finding.LookSteps.{IsSpent, spent_leads, spent_stays}
 use Rattle.rht_core.proofs.Returning.Meeting.{MeetsRight}
 use Rattle.rht_core.proofs.Returning.MetBySome.{met_by, IsApart}
 use Rattle.rht_core.proofs.Returning.Readers.{Reader}
+use Rattle.rht_core.proofs.Returning.WaitingEvents.{AllWait}
 
 module _ (L : Type 0) (mix : ℕ → ℕ → ℕ → ℕ) (env : Env) where
   abbrev R : List Event → Traced L
@@ -112,13 +113,14 @@ module _ (L : Type 0) (mix : ℕ → ℕ → ℕ → ℕ) (env : Env) where
   is_look (calls.Find port) = true
   is_look _ = false
 
-  -- and of each caller, with what its section has met
+  -- and of each caller, with what its section has met, and what is kept for the nodes that wait in its batch
   pub record AreLooking (events : List Event) (r : Traced L) : Type 0 where
     pub placed : Placed env mix L events r.world.core
     pub readers : ℕ → Reader
     pub meets : (c : ℕ) → c < env.geometry.callers → MeetsRight env mix L r.world.core placed.ghost c (readers c)
     pub looks : (c : ℕ) → CallerLooks events r.world.core placed (readers c).chains c (r.traces c)
         (job_of (local_of r.world.core c).doing)
+    pub waits : AllWait env mix L r.world.core readers r.world.core
 
   -- Where a caller stands before and behind an event its section has met the node; what it has met some section has met; and it has met that
   -- still, or it stands nowhere.
@@ -360,7 +362,8 @@ module _ (L : Type 0) (mix : ℕ → ℕ → ℕ → ℕ) (env : Env) where
     first-looks c low (calls.Rebind port owner new) batch =
         first_rebind-so (λ job. JobLooks more core' placed' (then c) c (length events) 0 (Some job)) env port owner new tt
     first-looks c low (calls.Walk from limit) batch = tt
-    first-looks c low calls.Tidy batch = tt
+    first-looks c low calls.Tidy batch =
+        first_tidy-so (λ job. JobLooks more core' placed' (then c) c (length events) 0 (Some job)) batch (λ own. tt)
     first-looks c low _ batch = tt
 
     -- the same by the trace and the job that a caller is found with

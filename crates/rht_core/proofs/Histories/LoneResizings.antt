@@ -2,7 +2,7 @@
 --
 -- Whatever others do, what its operations show is kept while it is made; and beside it what it knows in each state where the words of
 -- tables have always stayed, from one of its operations to the next, as that one left them. In a call that is alone they have.
-use Rattle.std.proofs.Common.{◌≡◌, ℕ, Bool, true, false, List, [], ◌∷◌, ◌++◌, append_assoc, refl, sym, ap, ◌∙◌, subst}
+use Rattle.std.proofs.Common.{◌≡◌, ℕ, Bool, true, false, List, [], ◌∷◌, ◌++◌, append_assoc, refl, sym, ap, ◌∙◌, subst, Option, None}
 use Rattle.std.specs.Prelude.{Some}
 use Rattle.std.specs.List.{AllByRecursion, Contains}
 use Rattle.std.proofs.lemmas.List.Elements.{All-contains, All-from_recursion}
@@ -23,7 +23,8 @@ use Rattle.rht_move.specs.Work as work
 use Rattle.rht_move.specs.declared.work.WorkAt.{WorkAt}
 use Rattle.rht_move.specs.declared.work.WorkAt.TheVariants as works_at
 use Rattle.rht_core.specs.declared.event.Event.{Event}
-use Rattle.rht_core.specs.Jobs.{call_of, Job, works, first_rebind, job_next, job_after, IsFirstJob}
+use Rattle.rht_grace.specs.Batch.{BatchModel}
+use Rattle.rht_core.specs.Jobs.{call_of, Job, works, first_rebind, first_tidy, job_next, job_after, IsFirstJob}
 use Rattle.rht_core.specs.Runs.{IsAdmitted}
 use Rattle.rht_core.specs.Seen.{words_before}
 use Rattle.rht_core.specs.Traces.{Did, Past, traced_of, behind_call}
@@ -74,11 +75,16 @@ module _ (M : Type 0) (mix : ℕ → ℕ → ℕ → ℕ) (env : Env) (events : 
   no_work port owner new Single state is = cc
   no_work port owner new Listed state is = cc
 
+  no_tidy : (batch : Option BatchModel) (state : WorkAt) → first_tidy batch ≡ Some (works state) → ⊥
+  no_tidy None state is = cc
+  no_tidy (Some own) state is = cc
+
   work-begins : (call : Call) (state : WorkAt) → IsFirstJob env call (works state) → Now (works state) []
   work-begins (Rebind port owner new) state (batch, is) = absurd (no_work port owner new env.config.kind state is)
   work-begins Work state (batch, is) =
       let here : works_at.WorkLock ≡ state = cc in
       subst (λ s. Now (works s) []) here (refl, λ now still. tt)
+  work-begins Tidy state (batch, is) = absurd (no_tidy batch state is)
   work-begins _ state (batch, is) = absurd (cc)
 
   begins : (call : Call) (job : Job) → IsFirstJob env call job → Now job []

@@ -1,7 +1,6 @@
 -- What a caller in a call knows by its job, and that each of its operations leads from what it knows to what it knows next.
 -- The inductions over runs go through this one step, with no case of a machine.
-use Rattle.std.proofs.Common.{Option, None, ◌≡◌, ℕ, ◌^◌, ◌<◌, ◌++◌, List, length, Bool, refl, ap, ◌∙◌, inr}
-use Rattle.std.proofs.lemmas.Bool.{eq-eqb}
+use Rattle.std.proofs.Common.{Option, None, ◌≡◌, ℕ, ◌^◌, ◌<◌, ◌++◌, List, length, Bool, refl, inr}
 use Rattle.rht_words.specs.declared.env.Env.{Env}
 use Rattle.rht_words.specs.declared.machine.Next.{Next}
 use Rattle.rht_words.specs.declared.machine.Next.TheVariants.{Go, Done}
@@ -9,9 +8,7 @@ use Rattle.rht_words.specs.Held as held
 use Rattle.rht_words.specs.declared.op.Op.{Op}
 use Rattle.rht_words.specs.Operations.{old_of, applied}
 use Rattle.rht_words.specs.Places.{words_in}
-use Rattle.rht_words.specs.Members.{In}
 use Rattle.rht_words.proofs.Memory.{Memory}
-use Rattle.rht_words.proofs.Members.{count_below-same}
 use Rattle.rht_model.specs.declared.history.Call.TheVariants.{Work}
 use Rattle.rht_model.specs.declared.history.Reply.{Reply}
 use Rattle.rht_model.specs.declared.history.Reply.TheVariants.{Counted}
@@ -28,7 +25,7 @@ use Rattle.rht_release.specs.All.{IsAllAtIn}
 use Rattle.rht_release.specs.All as all_at
 use Rattle.rht_release.specs.declared.all.AllAt.{AllAt}
 use Rattle.rht_callers.specs.PortCounts.{count_plan_in}
-use Rattle.rht_core.specs.Jobs.{listing_ending, node_ending, Job, finds, binds, releases, rebinds, lists, works, tidies, counts, call_of, job_plan, job_next, job_after, held_of, held_next}
+use Rattle.rht_core.specs.Jobs.{listing_ending, node_ending, Job, finds, binds, releases, rebinds, lists, works, tidies, tidying, tidied, counts, call_of, job_plan, job_next, job_after, held_of, held_next}
 use Rattle.rht_words.specs.declared.config.Kind.TheVariants.{Single}
 use Rattle.rht_release.specs.Release.{IsReleaseAtIn}
 use Rattle.rht_release.specs.Release as release_at
@@ -39,9 +36,15 @@ use Rattle.rht_release.specs.declared.rebind.RebindAt.{RebindAt}
 use Rattle.rht_move.specs.Work.{IsWorkAtIn}
 use Rattle.rht_move.specs.Work as work_at
 use Rattle.rht_move.specs.declared.work.WorkAt.{WorkAt}
+use Rattle.rht_grace.specs.Batch.{BatchModel}
+use Rattle.rht_grace.specs.Tidy as tidy_at
+use Rattle.rht_grace.specs.declared.tidy.TidyAt.{TidyAt}
 use Rattle.rht_callers.specs.Batches.{nodes_left}
-use Rattle.rht_ghost.proofs.Theory.Ghosts.{Ghost, Taken, is_taken_by, taken_is}
-use Rattle.rht_ghost.proofs.Theory.Wholes.{Whole, outs}
+use Rattle.rht_core.specs.Tidyings.{IsTidyingIn}
+use Rattle.rht_core.proofs.Machines.TidyRanges.{Came}
+use Rattle.rht_core.proofs.Machines.TidySteps.{OwnsNodes, OwnsNodes-rely, TidyMoved, tidy_step}
+use Rattle.rht_ghost.proofs.Theory.Ghosts.{Ghost}
+use Rattle.rht_ghost.proofs.Theory.Wholes.{Whole}
 use Rattle.rht_ghost.proofs.Theory.Knowns.{Known}
 use Rattle.rht_ghost.proofs.Theory.Knowledge.{Knowing}
 use Rattle.rht_ghost.proofs.Theory.Reliance.{Rely}
@@ -114,11 +117,6 @@ pub record IsRebindingIn (env : Env) (new : ℕ) (state : RebindAt) : Type 0 whe
   pub new_in : new < 2 ^ 32
   pub at_in : IsRebindAtIn env state
 
--- These nodes, and as many, were taken out by the caller's calls.
-pub record OwnsNodes (env : Env) (mix : ℕ → ℕ → ℕ → ℕ) (c : ℕ) (nodes : List ℕ) (G : Ghost) : Type 0 where
-  pub out : (n : ℕ) → In n nodes → G.node n ≡ Taken c
-  pub many : outs env mix G c ≡ length nodes
-
 -- What is said of a job by its machine: that it is one for tables of this kind, that all it names is the table's, and that what
 -- its state keeps fits its port and its owner, or a tidying's its caller's nodes.
 pub record JobFacts : Type 1 where
@@ -142,7 +140,7 @@ module _ (env : Env) (mix : ℕ → ℕ → ℕ → ℕ) (c : ℕ) where
     fits = λ G. fits_rebind env mix c port owner new state;
   }
   facts_of (works state) = record { built = Unit {0}; within = IsWorkAtIn env state; fits = λ G. Unit {0} }
-  facts_of (tidies batch state) = record { built = Unit {0}; within = ⊥; fits = OwnsNodes env mix c (nodes_left batch state) }
+  facts_of (tidies batch state) = record { built = Unit {0}; within = IsTidyingIn env.geometry batch state; fits = OwnsNodes env mix c (nodes_left batch state) }
   facts_of counts = record { built = Unit {0}; within = Unit {0}; fits = λ G. Unit {0} }
 
   abbrev pub JobIn : Job → Type 0
@@ -184,18 +182,8 @@ module _ (env : Env) (mix : ℕ → ℕ → ℕ → ℕ) (c : ℕ) where
       StepWhere env mix (IsThere job (mem env mix words)) (IsThereNext r (mem env mix (applied words op)))
       c (call_of job) words G op (held_of job) (held_next r) (JobNext r)
 
-  -- the nodes of a caller stay its while others make operations
-  pub OwnsNodes-rely : (nodes : List ℕ) (M M' : Memory) (G G' : Ghost) → Rely env mix c M G M' G' → OwnsNodes env mix c nodes G
-      → OwnsNodes env mix c nodes G'
-  OwnsNodes-rely nodes M M' G G' rely owns = record {
-    out = λ n there. taken_is c (G'.node n) (rely.taken n ∙ ap (is_taken_by c) (owns.out n there) ∙ eq-eqb c c refl);
-    many =
-        count_below-same (λ n. is_taken_by c (G.node n)) (λ n. is_taken_by c (G'.node n)) env.geometry.nodes (λ n l. rely.taken n)
-        ∙ owns.many;
-  }
-
   fits-rely : (job : Job) (M M' : Memory) (G G' : Ghost) → Rely env mix c M G M' G' → (facts_of job).fits G → (facts_of job).fits G'
-  fits-rely (tidies batch state) M M' G G' rely fits = OwnsNodes-rely (nodes_left batch state) M M' G G' rely fits
+  fits-rely (tidies batch state) M M' G G' rely fits = OwnsNodes-rely env mix c (nodes_left batch state) M M' G G' rely fits
   fits-rely _ M M' G G' rely fits = fits
 
   -- what it knows outlives a step of anybody else
@@ -268,6 +256,13 @@ module _ (env : Env) (mix : ℕ → ℕ → ℕ → ℕ) (c : ℕ) where
     works_so state (next, Done reply) step =
         step-map env mix (λ M G' w k. record { knowing = k; leaves = tt }) step
 
+    tidies_so : (batch : BatchModel) (state : TidyAt) (came : Came) → TidyMoved env mix c words G (tidy_at.plan_at env.geometry batch state) came
+        → JobStepOf words G (job_plan env c (tidies batch state)) (tidies batch state) (job_next tidying plain_ending (tidied came))
+    tidies_so batch state (next, after, Go) step =
+        step-map env mix (λ M G' w k. record { built = tt; knowing = k.knowing; fits = k.owns }) step
+    tidies_so batch state (next, after, Done reply) step =
+        step-map env mix (λ M G' w k. record { knowing = k.knowing; leaves = k.owns }) step
+
     -- each operation of a job leads from what the caller knows to what it knows next
     pub job_step : (job : Job) → JobIn job → JobKnows job (mem env mix words) G → JobStep job
     job_step (finds port state) within knows =
@@ -293,7 +288,9 @@ module _ (env : Env) (mix : ℕ → ℕ → ℕ → ℕ) (c : ℕ) where
     job_step (works state) within knows =
         works_so state (work_at.after_at mix env state (old_of words (work_at.plan_at env c state)))
         (work_step env mix c low words G all whole state within knows.knowing)
-    job_step (tidies batch state) within knows = absurd within
+    job_step (tidies batch state) within knows =
+        tidies_so batch state (tidy_at.after_at env.geometry batch state (old_of words (tidy_at.plan_at env.geometry batch state)))
+        (tidy_step env mix c words G all whole batch state within knows.knowing knows.fits)
     job_step counts within knows =
         let old = old_of words (count_plan_in env) in
         reads env mix whole refl refl (inr (record {

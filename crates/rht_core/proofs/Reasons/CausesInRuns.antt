@@ -20,19 +20,22 @@ use Rattle.rht_bind.specs.Bind.{after_at}
 use Rattle.rht_release.specs.All as all
 use Rattle.rht_core.specs.declared.event.Event.{Event}
 use Rattle.rht_grace.specs.Batch.{BatchModel}
-use Rattle.rht_core.specs.Jobs.{listing_ending, node_ending, call_of, Job, finds, binds, releases, rebinds, lists, works, tidies, counts, first_job, job_next, job_after, IsFirstJob}
+use Rattle.rht_core.specs.Jobs.{listing_ending, node_ending, call_of, Job, finds, binds, releases, rebinds, lists, works, tidies, tidying, tidied, counts, first_job, job_next, job_after, IsFirstJob}
 use Rattle.rht_core.specs.Replies.{IsReplyTo}
 use Rattle.rht_core.specs.Traces.{Did, Past, traced_of, behind_call, IsRising, AreInOrder}
 use Rattle.rht_core.specs.Runs.{IsAdmitted}
 use Rattle.rht_core.specs.Laws.{IsRecorded, IsPastCall}
 use Rattle.rht_core.specs.Seen.{words_before}
+use Rattle.rht_core.specs.TidyCauses.{SawForTidy}
+use Rattle.rht_grace.specs.Tidy as tidy
+use Rattle.rht_core.proofs.Reasons.TidiesSeen.{SawAtTidy, tidy-saw, first_tidy-saw}
 use Rattle.rht_core.specs.Causes.{CauseOf, HasCause, Causes}
 use Rattle.rht_release.specs.Release as release
 use Rattle.rht_release.specs.Rebind as rebind
 use Rattle.rht_words.specs.Machines.{GoesOrEnds}
 use Rattle.rht_core.proofs.Tracing.RepliesInRuns.{Holds, Answered, runs-right}
 use Rattle.rht_core.proofs.Tracing.TracesAtEvents.{at_events}
-use Rattle.rht_core.proofs.Events.JobsOfCallers.{first_rebind-so, first-of}
+use Rattle.rht_core.proofs.Events.JobsOfCallers.{first_rebind-so, first_tidy-so, first-of}
 use Rattle.rht_core.proofs.Tracing.TracedJobs.{Performs, StandsIn, LeadsOn, IsEndedSo, jobs_keep_own}
 use Rattle.rht_move.specs.Work as work
 use Rattle.rht_core.proofs.Reasons.WorksSeen.{SawForWork, SawAtWork}
@@ -59,7 +62,7 @@ module _ (env : Env) (c : ℕ) (words_at : ℕ → List ℕ) (mix : ℕ → ℕ 
   SawOf (Rebind port owner new) reply steps = SawForRebind env reply steps
   SawOf (Walk from limit) reply steps = ⊥
   SawOf Work reply steps = SawForWork env c words_at reply steps
-  SawOf Tidy reply steps = ⊥
+  SawOf Tidy reply steps = SawForTidy env.geometry reply steps
   SawOf Count reply steps = SawForCount env reply steps
 
   -- of a look-up and a listing nothing is kept, nor of a reading of the count before it ends
@@ -71,7 +74,7 @@ module _ (env : Env) (c : ℕ) (words_at : ℕ → List ℕ) (mix : ℕ → ℕ 
   JobSaw (releases port owner state) steps = SawRelease env state steps
   JobSaw (rebinds port owner new state) steps = SawAtRebind env state steps
   JobSaw (works state) steps = SawAtWork env c words_at state steps
-  JobSaw (tidies batch state) steps = Unit {0}
+  JobSaw (tidies batch state) steps = SawAtTidy env.geometry batch state steps
   JobSaw counts steps = Unit {0}
 
 -- ---- runs
@@ -130,7 +133,9 @@ module _ (M : Type 0) (mix : ℕ → ℕ → ℕ → ℕ) (env : Env) (events : 
   job-leads (works state) steps did performs own now saw =
       next-leads (works state) works plain_ending (steps ++ did ∷ []) (work.after_at mix env state did.old)
       (work-saw env c words_at mix state steps did performs own now.now saw)
-  job-leads (tidies batch state) steps did performs own now saw = absurd performs.within
+  job-leads (tidies batch state) steps did performs own now saw =
+      next-leads (tidies batch state) tidying plain_ending (steps ++ did ∷ []) (tidied (tidy.after_at env.geometry batch state did.old))
+      (tidy-saw env.geometry batch state steps did performs.within performs.planned saw)
   job-leads counts steps did performs own now saw =
       Any-push (LoadedCount env did.old) steps did (record { loaded = performs.planned; found = refl })
 
@@ -141,6 +146,7 @@ module _ (M : Type 0) (mix : ℕ → ℕ → ℕ → ℕ) (env : Env) (events : 
   first-saw (Rebind port owner new) batch =
       first_rebind-so (λ job. JobSaw env c words_at mix job []) env port owner new (λ node l. absurd (omega arith))
   first-saw Work batch = refl
+  first-saw Tidy batch = first_tidy-so (λ job. JobSaw env c words_at mix job []) batch (first_tidy-saw env.geometry)
   first-saw _ batch = tt
 
   pub first_job-saw : (call : Call) (job : Job) → IsFirstJob env call job
@@ -169,6 +175,7 @@ module _ (M : Type 0) (mix : ℕ → ℕ → ℕ → ℕ) (env : Env) (events : 
         release-cause M mix env events c admitted past reply saw right recorded
     cause_of past (Rebind port owner new) reply saw right recorded rising = rebind-cause env past reply saw right
     cause_of past Work reply saw right recorded rising = work-cause env c words_at past reply saw right
+    cause_of past Tidy reply saw right recorded rising = saw
     cause_of past Count reply saw right recorded rising =
         count-cause M mix env events c admitted past reply saw recorded
     cause_of past _ reply saw right recorded rising = absurd saw

@@ -52,7 +52,7 @@ use Rattle.rht_core.specs.Standings.{standing_of, standing_with}
 use Rattle.rht_ghost.proofs.Theory.Ghosts.{Ghost}
 use Rattle.rht_ghost.proofs.Theory.Steps.{mem}
 use Rattle.rht_ghost.proofs.Theory.Wholes.{Whole}
-use Rattle.rht_core.proofs.Events.JobsOfCallers.{first_rebind-so, first-of}
+use Rattle.rht_core.proofs.Events.JobsOfCallers.{first_rebind-so, first_tidy-so, first-of}
 use Rattle.rht_core.proofs.Finding.Lookups.{LookMeans}
 use Rattle.rht_core.proofs.Finding.Places.{Places}
 use Rattle.rht_core.proofs.Machines.JobSteps.{JobIn, JobKnows}
@@ -174,7 +174,7 @@ job_outside mix env counts out = record { before = refl; behind = λ old. refl }
 first-nowhere : (env : Env) (call : Call) (batch : Option BatchModel) → IfSome (first_job env batch call) (λ job. standing_of job ≡ stands_nowhere)
 first-nowhere env (Rebind port owner new) batch = first_rebind-so (λ job. standing_of job ≡ stands_nowhere) env port owner new refl
 first-nowhere env (Walk from limit) batch = tt
-first-nowhere env Tidy batch = tt
+first-nowhere env Tidy batch = first_tidy-so (λ job. standing_of job ≡ stands_nowhere) batch (λ own. refl)
 first-nowhere env _ batch = refl
 
 pub first_stands : (env : Env) (call : Call) (job : Job) → IsFirstJob env call job → standing_of job ≡ stands_nowhere
@@ -220,5 +220,6 @@ module _ (env : Env) (mix : ℕ → ℕ → ℕ → ℕ) (words : List ℕ) (G :
   job_comes seen since Says P (works state) within knows look =
       told-stands works plain_ending (Comes env.geometry words (standing_of_work state)) _
       (work_comes env mix words G whole c state within knows.knowing.means.work) (to_nowhere _ _ _)
-  job_comes seen since Says P (tidies batch state) within knows look = absurd within
+  job_comes seen since Says P (tidies batch state) within knows look =
+      told-stands tidying plain_ending (Comes env.geometry words stands_nowhere) _ (to_nowhere _ _ _) (to_nowhere _ _ _)
   job_comes seen since Says P counts within knows look = to_nowhere _ _ _

@@ -20,7 +20,7 @@ use Rattle.rht_release.specs.declared.seek.SeekAt.{SeekAt}
 use Rattle.rht_release.specs.declared.seek.SeekAt.TheVariants as seeks
 use Rattle.rht_grace.specs.Batch.{BatchModel}
 use Rattle.rht_core.specs.Jobs.{Job, finds, binds, lists, releases, rebinds, works, tidies, tidying, counts, first_job, listing_ending, node_ending, job_next, job_after, told, IsFirstJob}
-use Rattle.rht_core.proofs.Events.JobsOfCallers.{first_rebind-so, first-of}
+use Rattle.rht_core.proofs.Events.JobsOfCallers.{first_rebind-so, first_tidy-so, first-of}
 use Rattle.rht_core.proofs.Machines.JobSteps.{JobIn, JobKnows}
 use Rattle.rht_core.proofs.Returning.TiedBuckets.{IsTied, tied_of_seek, tied_of_all, tied_of_release, tied_of_rebind, tied_of_bind, all_ties, release_ties, rebind_ties, bind_ties}
 use Rattle.rht_ghost.proofs.Theory.Ghosts.{Ghost, PageOf}
@@ -47,7 +47,7 @@ module _ (env : Env) (mix : ℕ → ℕ → ℕ → ℕ) where
   first-tied : (G : Ghost) (call : Call) (batch : Option BatchModel) → IfSome (first_job env batch call) (tied_of G)
   first-tied G (Rebind port owner new) batch = first_rebind-so (tied_of G) env port owner new tt
   first-tied G (Walk from limit) batch = tt
-  first-tied G Tidy batch = tt
+  first-tied G Tidy batch = first_tidy-so (tied_of G) batch (λ own. tt)
   first-tied G _ batch = tt
 
   pub first_ties : (G : Ghost) (call : Call) (job : Job) → IsFirstJob env call job → tied_of G job

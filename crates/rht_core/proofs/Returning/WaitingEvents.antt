@@ -79,41 +79,42 @@ module _ (env : Env) (mix : ℕ → ℕ → ℕ → ℕ) (L : Type 0) where
       planned state is = let same : plan_at m.geometry m.batch m.at ≡ op = cc in sym same ∙ ap (plan_at m.geometry m.batch) is
   loaded-of words readers doing op plan = tt
 
+  -- of each caller, by the words of the first of these and the calls of the second
+  abbrev pub Waits : Core L → (ℕ → Reader) → ℕ → Local L → Type 0
+  Waits core readers c local = c < env.geometry.callers → waits_of env mix L (mem env mix core.words) readers local.doing local.batch
+
+  abbrev pub AllWait : Core L → (ℕ → Reader) → Core L → Type 0
+  AllWait core readers core' = (c : ℕ) → Waits core readers c (local_of core' c)
+
   module _ (core : Core L) (all : AllIn L mix env core) (readers : ℕ → Reader) where
     abbrev M : Memory
     M = mem env mix core.words
 
-    abbrev Waits : ℕ → Local L → Type 0
-    Waits c local = c < env.geometry.callers → waits_of env mix L M readers local.doing local.batch
-
-    abbrev pub AllWait : Core L → Type 0
-    AllWait core' = (c : ℕ) → Waits c (local_of core' c)
-
-    begin_waits : (c : ℕ) (call : Call) (machine : Option (Doing L)) → beginning_in core c call ≡ machine → AllWait core
-        → AllWait (record core { locals = with_machine core.env core.locals c machine })
+    begin_waits : (c : ℕ) (call : Call) (machine : Option (Doing L)) → beginning_in core c call ≡ machine → AllWait core readers core
+        → AllWait core readers (record core { locals = with_machine core.env core.locals c machine })
     begin_waits c call None is waits = waits
     begin_waits c call (Some machine) is waits =
         let can = beginning-some core.env core.enrolled core.locals c call machine is in
         let place = has_place L mix env core c all.stays can.below in
         let local = local_of core c in
-        each_set Waits (fresh core.env) core.locals c (begin_with local machine) place
+        each_set (Waits core readers) (fresh core.env) core.locals c (begin_with local machine) place
         (λ low. begun_of env mix L M readers c local.batch call machine (made_in L mix env core c call machine all.stays can)
         (idle-own M readers local.doing local.batch can.idle (waits c low)))
         waits
 
-    step_waits : (c : ℕ) (plan : Option Op) → planned_in core c ≡ plan → AllWait core → AllWait (with_step mix core c plan).0
+    step_waits : (c : ℕ) (plan : Option Op) → planned_in core c ≡ plan → AllWait core readers core → AllWait core readers (with_step mix core c plan).0
     step_waits c None is waits = waits
     step_waits c (Some op) is waits =
         let can = planned-some core.env core.enrolled core.locals c op is in
         let place = has_place L mix env core c all.stays can.below in
         let local = local_of core c in
         let old = old_of core.words op in
-        each_set Waits (fresh core.env) core.locals c (local_after mix local old).0 place
+        each_set (Waits core readers) (fresh core.env) core.locals c (local_after mix local old).0 place
         (λ low. after_of env mix L M readers local.doing local.batch old (tidies-of c local.doing (all.locals c).doing)
         (loaded-of core.words readers local.doing op can.plan) (waits c low))
         waits
 
-    pub event_waits : (event : Event) → AllWait core → AllWait (core_step mix core event).0
+    pub event_waits : (event : Event) → AllWait core readers core → AllWait core readers (core_step mix core event).0
     event_waits Enroll waits = waits
     event_waits (Begin c call) waits = begin_waits c call (beginning_in core c call) refl waits
     event_waits (Step c) waits = step_waits c (planned_in core c) refl waits
@@ -139,7 +140,7 @@ module _ (env : Env) (mix : ℕ → ℕ → ℕ → ℕ) (L : Type 0) where
           let same : node ≡ n = same_node env.geometry node n (ap op_place both) (ap op_value both) in
           subst (λ k. (readers d).lists k ≡ false) same (given_unmet env mix M readers G batch index place right waits d low)
 
-      pub given_apart : AllWait core → IsApart env.geometry.callers readers n
+      pub given_apart : AllWait core readers core → IsApart env.geometry.callers readers n
       given_apart waits =
           let local = local_of core c in
           let can = planned-some core.env core.enrolled core.locals c op planned in

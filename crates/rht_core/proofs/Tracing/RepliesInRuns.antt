@@ -78,7 +78,7 @@ module _ (M : Type 0) (mix : ℕ → ℕ → ℕ → ℕ) (env : Env) where
       → IsAtJob M mix env Holds Answered (job_of doing) book steps
       → IsBookOf env c doing book
   book-of c Idle book steps within at = at
-  book-of c (Tidying m) book steps within at = absurd within
+  book-of c (Tidying m) book steps within at = record { same_geometry = within.same_geometry; call = at.call }
   book-of c (Counting m) book steps within at = record { same_env = within; call = at.call }
   book-of c _ book steps within at =
       record { same_env = within.same_env; same_caller = within.same_caller; call = at.call }

@@ -53,7 +53,7 @@ use Rattle.rht_ghost.proofs.Pieces.WorkLoads.{has_future}
 use Rattle.rht_ghost.proofs.Theory.Steps.{Holding, mem, ghost_after, Does, ReturnsNode, SaysChange}
 use Rattle.rht_core.proofs.Meaning.BoundPorts.{stands_for_bound}
 use Rattle.rht_core.proofs.Events.Worlds.{run_of-next, step_words}
-use Rattle.rht_core.proofs.Events.JobsOfCallers.{each_goes, first_holds, first_rebind-so, same_call, first-of}
+use Rattle.rht_core.proofs.Events.JobsOfCallers.{each_goes, first_holds, first_rebind-so, first_tidy-so, same_call, first-of}
 use Rattle.rht_core.proofs.Tracing.TracedJobs.{Performs, LeadsOn, IsEndedSo}
 use Rattle.rht_core.proofs.Tracing.JobsBeside.{kept_beside}
 use Rattle.rht_core.proofs.Tracing.BehindCalls.{section_left}
@@ -382,6 +382,7 @@ module _ (M : Type 0) (mix : ℕ → ℕ → ℕ → ℕ) (env : Env) (events : 
 
   first-stored : (call : Call) (batch : Option BatchModel) → IfSome (first_job env batch call) (λ job. JobStored env job [])
   first-stored (Rebind port owner new) batch = first_rebind-so (λ job. JobStored env job []) env port owner new tt
+  first-stored Tidy batch = first_tidy-so (λ job. JobStored env job []) batch (λ own. tt)
   first-stored _ batch = tt
 
   -- at first nothing is held, and nothing was turned
