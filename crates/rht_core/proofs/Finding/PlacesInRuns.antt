@@ -263,7 +263,7 @@ module _ (env : Env) (mix : ℕ → ℕ → ℕ → ℕ) (L : Type 0) where
           caller = 0;
           move = Quiet;
           ready = tt;
-          made = record { whole = e.0; others = λ c ne. e.1 c; stale = e.2 };
+          made = record { whole = e.0; others = λ c ne. e.1 c; stale = e.2 0 };
           ghost = k.ghost;
           same = k.ghost_kept;
           inv = k.inv;

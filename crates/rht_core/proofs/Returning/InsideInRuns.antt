@@ -1,15 +1,21 @@
 -- In every run an operation of a call is on what is its own, or on what its caller could reach in its section, and leads nowhere else.
-use Rattle.std.proofs.Common.{◌≡◌, ℕ, ◌+◌, ◌/◌, ◌<◌, ◌⊎◌, true, List, take, drop, length, Some, refl, sym, ◌∙◌, ap, subst, inl, inr, arith}
+use Rattle.std.proofs.Common.{◌≡◌, ℕ, ◌+◌, ◌/◌, ◌<◌, ◌⊎◌, true, List, take, drop, length, slice_index, Some, refl, sym, ◌∙◌, ap, subst, inl, inr, arith}
 use Rattle.std.proofs.lemmas.List.{take-append-drop}
 use Rattle.rht_words.specs.declared.op.Op.{Op}
 use Rattle.rht_words.specs.declared.env.Env.{Env}
 use Rattle.rht_words.specs.declared.geometry.Geometry.{Geometry}
 use Rattle.rht_words.specs.Standing.{Standing}
 use Rattle.rht_words.specs.Operations.{op_place}
-use Rattle.rht_words.specs.Places.{Address, CurrentTable, PortCount, Slot, SlotWord, ShapeWord, SeedWord, FutureWord, SerialWord, StateWord, LoadedSection, IsSlotWord, Node, PageWord, IsAddress, place_of}
+use Rattle.rht_words.specs.Places.{Address, CurrentTable, PortCount, Slot, SlotWord, ShapeWord, SeedWord, FutureWord, SerialWord, StateWord, LoadedSection, IsSlotWord, Node, PageWord, Section, NodeMap, IsAddress, place_of}
 use Rattle.rht_words.specs.TableWords.{IsTableWord}
 use Rattle.rht_words.proofs.EachElement.{AllByRecursion-cut}
 use Rattle.rht_words.proofs.PlacesApart.{place_of-apart}
+use Rattle.rht_grace.specs.Batch.{BatchModel}
+use Rattle.rht_grace.specs.Tidy as tidy
+use Rattle.rht_grace.specs.declared.tidy.TidyAt.{TidyAt}
+use Rattle.rht_grace.specs.declared.tidy.TidyAt.TheVariants as tidy_at
+use Rattle.rht_core.specs.Tidyings.{IsTidyingIn}
+use Rattle.rht_core.proofs.Machines.TidyRanges.{waiting_low}
 use Rattle.rht_find.specs.Find as find
 use Rattle.rht_find.specs.Find.{IsFindAtIn}
 use Rattle.rht_find.specs.FindHeld.{held_of_find}
@@ -191,6 +197,19 @@ module _ (env : Env) (mix : ℕ → ℕ → ℕ → ℕ) (L : Type 0) where
               apart = nobody env mix L events core met c (TableIn slot) own.1;
             })
 
+      few_callers : (caller : ℕ) → caller < g.callers → caller < 16
+      few_callers caller there = let callers = g.within.callers_within in omega (arith, there, callers.1)
+
+      -- a tidying loads section words, and gives nodes back
+      tidy_asked : (batch : BatchModel) (state : TidyAt) → IsTidyingIn g batch state → IsAsked core c (tidy.plan_at g batch state)
+      tidy_asked batch (tidy_at.Keeping caller) within =
+          record { address = Section caller; there = few_callers caller within.at_in; on = refl; asked = tt }
+      tidy_asked batch (tidy_at.Asking caller) within =
+          record { address = Section caller; there = few_callers caller within.at_in; on = refl; asked = tt }
+      tidy_asked batch (tidy_at.Giving index) within =
+          let low = waiting_low g batch (tidy_at.Giving index) index within in
+          record { address = NodeMap (slice_index batch.waiting index / 64); there = omega (arith, low); on = refl; asked = tt }
+
       job_asked : (job : Job) → job_of (local_of core c).doing ≡ Some job → JobIn env mix c job
           → JobKnows env mix c job (mem env mix core.words) G → tied_of env mix G job → IsAsked core c (job_plan env c job)
       job_asked (finds port state) does within knows tied =
@@ -211,7 +230,7 @@ module _ (env : Env) (mix : ℕ → ℕ → ℕ → ℕ) (L : Type 0) where
           (record { knowing = knows.knowing; fits = knows.fits }) tied)
       job_asked (works state) does within knows tied =
           with_own (works state) does _ (work_lies env mix core.words G whole c low state within knows.knowing)
-      job_asked (tidies batch state) does within knows tied = absurd within
+      job_asked (tidies batch state) does within knows tied = tidy_asked batch state within
       job_asked counts does within knows tied = record { address = PortCount; there = tt; on = refl; asked = tt }
 
 pub inside : (L : Type 0) (mix : ℕ → ℕ → ℕ → ℕ) → Inside L mix
