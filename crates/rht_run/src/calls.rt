@@ -15,7 +15,7 @@ ghost use Rattle.rht_run.specs.Caused.{IsCaused, HasLookedUp};
 use crate::finding::looked_up;
 use crate::pass::Pass;
 use crate::releasing::released;
-use crate::ride::clear_rooms;
+use crate::ride::{clear_rooms, keep_node};
 use crate::table::Table;
 use rht_model::{Call, Reply};
 use rht_policy::Mix;
@@ -138,7 +138,15 @@ impl<M: Mix> Table<M> {
         ensures cause { IsCaused M.mix_of self.now (Release port owner) result pass.old pass.new }
     {
         clear_rooms(&mut pass.local);
-        released(self.drive_release::<R, Brand>(rt, &mut pass.seat, pass.number, port, owner))
+        let (kick, removed) = self.drive_release::<R, Brand>(
+            rt,
+            &mut pass.seat,
+            pass.number,
+            port,
+            owner,
+        );
+        keep_node(&mut pass.local, removed);
+        released(kick)
     }
 
     /// Puts a new owner in the only one's place, in a table of one owner each: `Rebound`, `Absent`
@@ -160,7 +168,16 @@ impl<M: Mix> Table<M> {
         ensures cause { IsCaused M.mix_of self.now (Rebind port owner new) result pass.old pass.new }
     {
         clear_rooms(&mut pass.local);
-        self.drive_rebind::<R, Brand>(rt, &mut pass.seat, pass.number, port, owner, new)
+        let (reply, removed) = self.drive_rebind::<R, Brand>(
+            rt,
+            &mut pass.seat,
+            pass.number,
+            port,
+            owner,
+            new,
+        );
+        keep_node(&mut pass.local, removed);
+        reply
     }
 
     /// Lists the owners of a port: `Listed`, for which it has nothing further to show, and they stand in
