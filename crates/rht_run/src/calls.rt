@@ -123,8 +123,8 @@ impl<M: Mix> Table<M> {
         self.drive_bind::<R, Brand>(rt, &mut pass.seat, pass.number, port, owner, once)
     }
 
-    /// Takes one binding of a port to this owner out: `Released`, or `Absent` where there is none.
-    /// The kernel's counterpart is `rhashtable_remove_fast`.
+    /// Takes one binding of a port to this owner out: `Released`, or `Absent` where there is none. Its node
+    /// goes into the pass's batch. The kernel's counterpart is `rhashtable_remove_fast`.
     ///
     /// `Released` comes with a kick exactly where this call, behind the last table that it walked, lowered
     /// the count of ports, shrinking is on, and by this that table has fewer ports than three tenths of
@@ -151,7 +151,8 @@ impl<M: Mix> Table<M> {
 
     /// Puts a new owner in the only one's place, in a table of one owner each: `Rebound`, `Absent`
     /// where the port isn't bound to this owner, or `NoNode` where it found the bit of each node clear,
-    /// each at some operation of its own. The kernel's counterpart is `rhashtable_replace_fast`.
+    /// each at some operation of its own. The node of the old owner goes into the pass's batch. The
+    /// kernel's counterpart is `rhashtable_replace_fast`.
     pub fn rebind<R: Wait>(
         &self,
         rt: &R,
