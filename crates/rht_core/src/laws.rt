@@ -1,6 +1,5 @@
 //! The laws of every run. Each function is empty, and its clause is the law.
 
-ghost use Rattle.std.specs.Prelude.{◌≡◌, ℕ};
 ghost use Rattle.rht_core.specs.Alone.{Alone};
 ghost use Rattle.rht_core.specs.Attached.{Attached};
 ghost use Rattle.rht_core.specs.Causes.{Causes};
@@ -456,9 +455,4 @@ pub fn told<M: Mix>()
 pub fn never_refused<M: Mix>()
     ensures workers { RoomyTakesAll M M.mix_of }
     ensures one_worker { OneWorkerAsModel M M.mix_of }
-{}
-
-/// A place to check lemma files from.
-pub fn scratch<M: Mix>()
-    ensures { (n : ℕ) → n ≡ n }
 {}

@@ -25,7 +25,7 @@ use Rattle.rht_run.specs.declared.pass.Pass.{Pass}
 use Rattle.rht_run.specs.Rule.{MayBegin, CanGo, book_then, local_then}
 use Rattle.rht_run.specs.declared.seats.SeatView.{SeatView}
 use Rattle.rht_run.specs.Passes.{IsPassOf, IsSamePass, HasGone, HasCalled, Turned, book_of}
-use Rattle.rht_run.specs.Rides.{Riding, riding_pass, HasEnded, looked_up, owner_in, released, kick_in}
+use Rattle.rht_run.specs.Rides.{Riding, riding_pass, handed, HasEndedWith, looked_up, owner_in, released, kick_in}
 use Rattle.rht_run.proofs.Performed.{busy_then, of_run}
 
 -- the last of some calls, each of which was answered
@@ -109,13 +109,14 @@ module _ {M : Type 0} where
       record { call = call; reply = reply; owners = now.local.owners.items; pairs = now.local.pairs.items }
       (subst (AllByRecursion IsRightlyAnswered) has.finished (answers mix t now has.pass).finished)
 
-  -- and so was a call that was driven
-  pub drive_answered : (mix : ℕ → ℕ → ℕ → ℕ) (t : Table M) (r : Riding) (reply : Reply) (seat : Seat (Unit {0}) (SeatView M))
-      → HasEnded mix t r reply seat
+  -- and so was a call that was driven, whether or not it took a node out
+  pub drive_answered : (mix : ℕ → ℕ → ℕ → ℕ) (t : Table M) (r : Riding) (reply : Reply) (removed : Option ℕ)
+      (seat : Seat (Unit {0}) (SeatView M))
+      → HasEndedWith mix t r reply removed seat
       → IsRightlyAnswered record { call = r.call; reply = reply; owners = r.owners.items; pairs = r.pairs.items }
-  drive_answered mix t r reply seat ended =
+  drive_answered mix t r reply removed seat ended =
       last_answered r.finished record { call = r.call; reply = reply; owners = r.owners.items; pairs = r.pairs.items }
-      (subst (AllByRecursion IsRightlyAnswered) ended.finished (answers mix t (riding_pass r Idle seat) ended.pass).finished)
+      (subst (AllByRecursion IsRightlyAnswered) ended.finished (answers mix t (riding_pass (handed r removed) Idle seat) ended.pass).finished)
 
   -- the owners in the room of a pass in no call are those of its last finished call
   pub last_owners : (mix : ℕ → ℕ → ℕ → ℕ) (t : Table M) (p : Pass M) → IsPassOf mix t p → is_idle p.local ≡ true

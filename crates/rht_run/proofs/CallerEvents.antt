@@ -23,7 +23,8 @@ use Rattle.rht_core.specs.Runs.{World, View, view_of, local_of, beginning_in, pl
 use Rattle.rht_core.specs.Laws.{view_begun, view_stepped, IsOfCaller}
 use Rattle.rht_core.proofs.Events.Worlds.{run_of-push, begin_self, begin_other, step_self, step_other, step_words}
 use Rattle.rht_core.proofs.Events.SoundRuns.{has_place, runs-in}
-use Rattle.rht_core.proofs.Events.RangesInRuns.{in_range, enrolled}
+use Rattle.rht_core.proofs.Events.BatchesInRuns.{all_in_range}
+use Rattle.rht_core.proofs.Events.RangesInRuns.{enrolled}
 use Rattle.rht_run.specs.declared.seats.Held.{Held}
 use Rattle.rht_run.specs.declared.seats.SeatView.{SeatView}
 use Rattle.rht_run.specs.Layout.{physical_place, IsLaidOut}
@@ -82,9 +83,10 @@ module _ (M : Type 0) (mix : ℕ → ℕ → ℕ → ℕ) (env : Env) where
         ap (λ (x : View M). is_idle x.local) shows.shown ∙ can.idle in
         let same_env : world.core.env ≡ env = (runs-in M mix env events).same_env in
         let begins : beginning_in world.core c call ≡ Some can.machine =
-        ap (λ b. cond b (machine_of world.core.env c call) None)
+        ap (λ b. cond b (machine_of world.core.env c (local_of world.core c).batch call) None)
         (both_true (lt-ltb c world.core.enrolled shows.enrolled) idle)
-        ∙ ap (λ (e : Env). machine_of e c call) same_env ∙ can.machine_is in
+        ∙ ap (λ (e : Env). machine_of e c (local_of world.core c).batch call) same_env
+        ∙ ap (λ (x : View M). machine_of env c x.local.batch call) shows.shown ∙ can.machine_is in
         begin_self M mix world c call can.machine begins has_local
         ∙ ap (view_begun call can.machine) shows.shown
         ∙ ap (λ (m : Option (Doing M)). view_with call m) (sym can.machine_is)
@@ -207,7 +209,7 @@ module _ (M : Type 0) (mix : ℕ → ℕ → ℕ → ℕ) (env : Env) where
           let steps : planned_in Wo.core c ≡ Some op =
           ap (λ b. cond b (plan_of (local_of Wo.core c)) None) (lt-ltb c Wo.core.enrolled mine.shows.enrolled)
           ∙ plans in
-          let within = (in_range M mix env r.events r.admitted).plans c op plans in
+          let within = (all_in_range M mix env r.events r.admitted).plans c op plans in
           let all = (runs-in M mix env r.events).all_words in
           let below : op_place op < length Wo.core.words = omega (arith, within.within, all) in
           let same : old ≡ old_of Wo.core.words op = r.words.at (op_place op) below in

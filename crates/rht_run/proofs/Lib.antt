@@ -8,6 +8,8 @@ pub mod CallerEvents
 pub mod SeatMoves
 -- what one operation of a pass asks of its table, and leaves
 pub mod Performed
+-- a node that a call takes out may go into its caller's batch
+pub mod KeptNodes
 -- from one operation to a call, and what a finished call was answered
 pub mod CallSteps
 -- why a finished call was answered as it was

@@ -23,7 +23,7 @@ use Rattle.rht_core.specs.Runs.{World, View, local_of, run_of, IsAdmitted}
 use Rattle.rht_core.specs.Laws.{view_stepped, IsLocalIn}
 use Rattle.rht_core.proofs.Events.Worlds.{run_of-push}
 use Rattle.rht_core.proofs.Events.BusyCallers.{busy_plans, begun_busy}
-use Rattle.rht_core.proofs.Events.RangesInRuns.{in_range}
+use Rattle.rht_core.proofs.Events.BatchesInRuns.{all_in_range}
 use Rattle.rht_callers.proofs.RoomsOfCallers.{idle-limit}
 use Rattle.rht_run.specs.declared.seats.Held.{Held}
 use Rattle.rht_run.specs.declared.seats.SeatView.{SeatView}
@@ -72,7 +72,7 @@ module _ {M : Type 0} where
   busy_then env c None local can = can
   busy_then env c (Some call) local can =
       subst (λ (m : Option (Doing M)). is_idle (begun_with local m) ≡ false) (sym can.machine_is)
-      (begun_busy M env c call can.machine can.machine_is)
+      (begun_busy M env c local.batch call can.machine can.machine_is)
 
   module _ (mix : ℕ → ℕ → ℕ → ℕ) (t : Table M) (p : Pass M) (is : IsPassOf mix t p) where
     abbrev env : Env
@@ -105,7 +105,7 @@ module _ {M : Type 0} where
     -- its rooms are there
     pub local_in : IsLocalIn t.env p.number p.local
     local_in = of_run (λ e c local book. IsLocalIn e c local)
-        (λ e events c admitted. (in_range M mix e events admitted).locals c)
+        (λ e events c admitted. (all_in_range M mix e events admitted).locals c)
 
     pub room_for : (begins : Option Call) → CanGo t.env p.number begins p.local → HasRoom t.env begins p.local
     room_for None can = tt
@@ -126,14 +126,14 @@ module _ {M : Type 0} where
         go : (begins : Option Call) → CanGo t.env p.number begins p.local
             → plan_of (local_then t.env p.number begins p.local) ≡ Some op → IsPlannedIn t.env.geometry op
         go None can plan =
-            (in_range M mix t.env is.in_run.events admitted).plans p.number op
+            (all_in_range M mix t.env is.in_run.events admitted).plans p.number op
             (ap (λ (v : View M). plan_of v.local) shows.shown ∙ plan)
         go (Some call) can plan =
             let events = is.in_run.events in
             let event : Event = Begin p.number call in
             let more = admitted_more M mix t.env events event admitted
             (begin_admitted M mix t.env events held shows call can) in
-            (in_range M mix t.env (events ++ event ∷ []) more).plans p.number op
+            (all_in_range M mix t.env (events ++ event ∷ []) more).plans p.number op
             (ap (λ (w : World M). plan_of (local_of w.core p.number)) (run_of-push M mix t.env events event)
             ∙ ap (λ (v : View M). plan_of v.local) (begin_shown M mix t.env events held shows call can) ∙ plan)
 

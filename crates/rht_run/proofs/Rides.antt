@@ -6,14 +6,24 @@ use Rattle.atomic_table.specs.declared.shared.Seat.{Seat}
 use Rattle.rht_words.specs.declared.op.Op.{Op}
 use Rattle.rht_words.specs.declared.env.Env.{Env}
 use Rattle.rht_words.specs.declared.machine.Next.{Next}
+use Rattle.rht_words.specs.declared.machine.Next.TheVariants.{Go, Done}
 use Rattle.rht_model.specs.declared.history.Call.{Call}
 use Rattle.rht_model.specs.declared.history.Reply.{Reply}
 use Rattle.rht_model.specs.Rooms.{Kept, emptied}
 use Rattle.rht_core.specs.declared.book.Book.{Book}
 use Rattle.rht_callers.specs.declared.local.Local.{Local}
 use Rattle.rht_callers.specs.declared.local.Doing.{Doing}
-use Rattle.rht_callers.specs.declared.local.Doing.TheVariants.{Idle, Finding, Binding, Listing, Releasing, Rebinding, Working, Counting}
-use Rattle.rht_core.specs.Locals.{does_nothing, is_idle, machine_of, doing_plan, plan_of, doing_after, owners_beside, owners_after, begun_with, local_after, ending_of}
+use Rattle.rht_callers.specs.declared.local.Doing.TheVariants.{Idle, Finding, Binding, Listing, Releasing, Rebinding, Working, Counting, Tidying}
+use Rattle.rht_callers.specs.Batches.{with_out, node_out, batch_beside, batch_after}
+use Rattle.rht_callers.specs.PortCounts.{count_after}
+use Rattle.rht_grace.specs.Batch.{BatchModel}
+use Rattle.rht_find.specs.Find.{find_after}
+use Rattle.rht_bind.specs.Bind.{bind_after}
+use Rattle.rht_release.specs.All.{all_after}
+use Rattle.rht_release.specs.Release.{release_after}
+use Rattle.rht_release.specs.Rebind.{rebind_after}
+use Rattle.rht_move.specs.Work.{work_after}
+use Rattle.rht_core.specs.Locals.{does_nothing, is_idle, machine_of, doing_plan, plan_of, doing_after, doing_next, without_node, owners_beside, owners_after, begun_with, local_after, ending_of}
 use Rattle.rht_core.specs.Runs.{book_begun, book_after, finished_with, IsAdmittedCall, IsBuiltFor}
 use Rattle.rht_core.specs.Laws.{IsDoingIn}
 use Rattle.rht_run.specs.declared.seats.Held.{Held}
@@ -22,8 +32,23 @@ use Rattle.rht_run.specs.declared.table.Table.{Table}
 use Rattle.rht_run.specs.declared.pass.Pass.{Pass}
 use Rattle.rht_run.specs.Rule.{Went, book_then, local_then, held_then, held_stepped}
 use Rattle.rht_run.specs.Passes.{CanPerform, IsSameSeat, IsPassOf, HasCalled, book_in, book_of}
-use Rattle.rht_run.specs.Rides.{Riding, riding_of, riding_local, riding_pass, owners_in, pairs_in, IsBefore, IsRiding, HasEnded, Stepped, HasCounted, piece_next}
+use Rattle.rht_run.specs.Rides.{Riding, riding_of, riding_local, riding_pass, owners_in, pairs_in, batch_in, batch_with, handed, IsBefore, IsRiding, HasEnded, HasEndedWith, Stepped, HasCounted, piece_next, ended, replied, driven}
 use Rattle.rht_run.proofs.Performed.{local_in, number_few, ready, still}
+
+-- how a call has ended, where it has: its reply, and the node that it took out
+abbrev reply_in : Option (Reply × Option ℕ) → Option Reply
+reply_in None = None
+reply_in (Some end) = Some end.0
+
+abbrev removed_in : Option (Reply × Option ℕ) → Option ℕ
+removed_in None = None
+removed_in (Some end) = end.1
+
+-- a batch behind a call is as its caller's
+with-out : (batch : Option BatchModel) (removed : Option ℕ) → batch_with batch removed ≡ with_out batch removed
+with-out None None = refl
+with-out (Some batch) None = refl
+with-out batch (Some node) = refl
 
 module _ {M : Type 0} where
   -- who is in no call does nothing
@@ -36,6 +61,43 @@ module _ {M : Type 0} where
   nothing_done (Rebinding m) idle = absurd (cc)
   nothing_done (Working m) idle = absurd (cc)
   nothing_done (Counting m) idle = absurd (cc)
+  nothing_done (Tidying m) idle = absurd (cc)
+
+  -- ---- what is driven goes as a caller does
+
+  -- the caller does the same behind it, the reply is the same, and so is its batch
+  record GoesAs (next : Doing M × Option (Reply × Option ℕ)) (after : Doing M × Option Reply) (old new : Option BatchModel)
+      : Type 0 where
+    pub doing : next.0 ≡ after.0
+    pub reply : reply_in next.1 ≡ after.1
+    pub batch : batch_with old (removed_in next.1) ≡ new
+
+  -- a machine that ends with a reply alone leaves the batch
+  goes-replied : {A : Type 0} (doing : A → Doing M) (batch : Option BatchModel) (next : A × Next Reply)
+      → GoesAs (piece_next doing replied next) (doing_next doing next) batch batch
+  goes-replied doing batch (m, Go) = record { doing = refl; reply = refl; batch = refl }
+  goes-replied doing batch (m, Done reply) = record { doing = refl; reply = refl; batch = refl }
+
+  -- one that may have taken a node out puts it in
+  goes-ended : {A : Type 0} (doing : A → Doing M) (batch : Option BatchModel) (next : A × Next (Reply × Option ℕ))
+      → GoesAs (piece_next doing ended next) (doing_next doing (next.0, without_node next.1)) batch
+      (with_out batch (node_out next.1))
+  goes-ended doing batch (m, Go) = record { doing = refl; reply = refl; batch = with-out batch None }
+  goes-ended doing batch (m, Done end) = record { doing = refl; reply = refl; batch = with-out batch end.1 }
+
+  -- a tidying isn't driven, since its caller's batch isn't beside it
+  goes-as : (mix : ℕ → ℕ → ℕ → ℕ) (doing : Doing M) (batch : Option BatchModel) (old : ℕ)
+      → ((b : Option BatchModel) → batch_beside doing b ≡ b)
+      → GoesAs (driven mix doing old) (doing_after mix doing old) batch (batch_after mix doing batch old)
+  goes-as mix Idle batch old beside = record { doing = refl; reply = refl; batch = refl }
+  goes-as mix (Finding m) batch old beside = goes-replied Finding batch (find_after mix m old)
+  goes-as mix (Binding m) batch old beside = goes-replied Binding batch (bind_after mix m old)
+  goes-as mix (Listing m) batch old beside = goes-replied Listing batch (all_after mix m old)
+  goes-as mix (Releasing m) batch old beside = goes-ended Releasing batch (release_after mix m old)
+  goes-as mix (Rebinding m) batch old beside = goes-ended Rebinding batch (rebind_after mix m old)
+  goes-as mix (Working m) batch old beside = goes-replied Working batch (work_after mix m old)
+  goes-as mix (Counting m) batch old beside = goes-replied Counting batch (count_after m old)
+  goes-as mix (Tidying m) batch old beside = absurd (let none : None ≡ Some m.batch = beside (Some m.batch) in cc)
 
 module _ {M : Type 0} (mix : ℕ → ℕ → ℕ → ℕ) (t : Table M) (r : Riding) where
   riding_range : (doing : Doing M) (seat : Seat (Unit {0}) (SeatView M)) → IsPassOf mix t (riding_pass r doing seat)
@@ -50,9 +112,10 @@ module _ {M : Type 0} (mix : ℕ → ℕ → ℕ → ℕ) (t : Table M) (r : Rid
   before_few seat is = number_few mix t record { seat = seat; number = r.number; local = is.local } is.pass
 
   -- what is said of the seat behind an operation, by what the pass would be that had its caller, and by the book
-  said : (seat : Seat (Unit {0}) (SeatView M)) (next : Doing M × Option Reply) (book : Book)
-      → IsPassOf mix t (riding_pass r next.0 seat)
-      → book_in seat.me.0.held ≡ book_after (ending_of (riding_local r next.0) next.1) book
+  said : (seat : Seat (Unit {0}) (SeatView M)) (next : Doing M × Option (Reply × Option ℕ)) (book : Book)
+      → let left : Riding = handed r (removed_in next.1) in
+      IsPassOf mix t (riding_pass left next.0 seat)
+      → book_in seat.me.0.held ≡ book_after (ending_of (riding_local left next.0) (reply_in next.1)) book
       → book.call ≡ Some r.call → book.finished ≡ r.finished → Stepped mix t r next seat
   said seat (doing, None) book is same call finished = record {
     pass = is;
@@ -60,10 +123,10 @@ module _ {M : Type 0} (mix : ℕ → ℕ → ℕ → ℕ) (t : Table M) (r : Rid
     finished = ap (λ (b : Book). b.finished) same ∙ finished;
     in_range = riding_range doing seat is;
   }
-  said seat (doing, Some reply) book is same call finished = record {
+  said seat (doing, Some end) book is same call finished = record {
     pass = is;
     finished = ap (λ (b : Book). b.finished) same
-        ∙ (λ i. finished i ++ finished_with (call i) record { answer = record { reply = reply; owners = r.owners.items }; pairs = r.pairs.items });
+        ∙ (λ i. finished i ++ finished_with (call i) record { answer = record { reply = end.0; owners = r.owners.items }; pairs = r.pairs.items });
   }
 
   -- the book behind an operation of a pass, with the call that begins before it, if one does
@@ -94,12 +157,18 @@ module _ {M : Type 0} (mix : ℕ → ℕ → ℕ → ℕ) (t : Table M) (r : Rid
 
     pub has_stepped : (seat' : Seat (Unit {0}) (SeatView M)) (old : ℕ) → IsRiding mix t r doing seat
         → ((room : Kept ℕ) → owners_after mix doing room old ≡ room)
-        → IsSameSeat seat seat' → Went mix None seat.me.0 old seat'.me.0 → Stepped mix t r (doing_after mix doing old) seat'
-    has_stepped seat' old is keeps same went =
-        let next : Doing M × Option Reply = doing_after mix doing old in
-        let leads : (riding_local r next.0, next.1) ≡ local_after mix (riding_local r doing) old =
-        λ i. (record { doing = next.0; owners = sym (keeps r.owners) i; pairs = r.pairs }, next.1) in
-        let all = still mix t (riding_pass r doing seat) (riding_pass r next.0 seat') None old next.1 is.pass same went refl leads in
+        → ((batch : Option BatchModel) → batch_beside doing batch ≡ batch)
+        → IsSameSeat seat seat' → Went mix None seat.me.0 old seat'.me.0 → Stepped mix t r (driven mix doing old) seat'
+    has_stepped seat' old is keeps beside same went =
+        let next : Doing M × Option (Reply × Option ℕ) = driven mix doing old in
+        let like = goes-as mix doing r.batch old beside in
+        let left : Riding = handed r (removed_in next.1) in
+        let leads : (riding_local left next.0, reply_in next.1) ≡ local_after mix (riding_local r doing) old =
+        λ i. (
+          record { doing = like.doing i; owners = sym (keeps r.owners) i; pairs = r.pairs; batch = like.batch i },
+          like.reply i,
+        ) in
+        let all = still mix t (riding_pass r doing seat) (riding_pass left next.0 seat') None old (reply_in next.1) is.pass same went refl leads in
         said seat' next (book_in seat.me.0.held) all.0 (
         book_now (riding_pass r doing seat) None seat' old is.pass went
         ∙ ap (λ (n : Local M × Option Reply). book_after (ending_of n.0 n.1) (book_in seat.me.0.held)) (sym leads)
@@ -113,31 +182,47 @@ module _ {M : Type 0} (mix : ℕ → ℕ → ℕ → ℕ) (t : Table M) (r : Rid
 
     -- ---- the first operation of a call
 
-    pub may_begin : (op : Op) → IsBefore mix t r seat → machine_of t.env r.number r.call ≡ Some doing
+    -- the machine is that of the caller's own batch
+    begins-own : (is : IsBefore mix t r seat) → machine_of t.env r.number r.batch r.call ≡ Some doing
+        → machine_of t.env r.number is.local.batch r.call ≡ Some doing
+    begins-own is begins = ap (λ (batch : Option BatchModel). machine_of t.env r.number batch r.call) is.batch ∙ begins
+
+    pub may_begin : (op : Op) → IsBefore mix t r seat → machine_of t.env r.number r.batch r.call ≡ Some doing
         → IsAdmittedCall r.call → IsBuiltFor t.env.config.kind r.call → doing_plan doing ≡ Some op
         → CanPerform (Some r.call) t seat op
     may_begin op is begins admitted built plan =
         ready mix t record { seat = seat; number = r.number; local = is.local } (Some r.call) op is.pass
-        record { idle = is.idle; admitted = admitted; built = built; machine = doing; machine_is = begins }
-        (ap (λ (m : Option (Doing M)). plan_of (begun_with is.local m)) begins ∙ plan)
+        record { idle = is.idle; admitted = admitted; built = built; machine = doing; machine_is = begins-own is begins }
+        (ap (λ (m : Option (Doing M)). plan_of (begun_with is.local m)) (begins-own is begins) ∙ plan)
 
     pub has_begun : (seat' : Seat (Unit {0}) (SeatView M)) (old : ℕ) → IsBefore mix t r seat
-        → machine_of t.env r.number r.call ≡ Some doing → ((room : Kept ℕ) → owners_beside doing room ≡ emptied room)
+        → machine_of t.env r.number r.batch r.call ≡ Some doing → ((room : Kept ℕ) → owners_beside doing room ≡ emptied room)
         → ((room : Kept ℕ) → owners_after mix doing room old ≡ room)
+        → ((batch : Option BatchModel) → batch_beside doing batch ≡ batch)
         → IsSameSeat seat seat' → Went mix (Some r.call) seat.me.0 old seat'.me.0
-        → Stepped mix t r (doing_after mix doing old) seat'
-    has_begun seat' old is begins empties keeps same went =
-        let next : Doing M × Option Reply = doing_after mix doing old in
+        → Stepped mix t r (driven mix doing old) seat'
+    has_begun seat' old is begins empties keeps beside same went =
+        let next : Doing M × Option (Reply × Option ℕ) = driven mix doing old in
+        let like = goes-as mix doing r.batch old beside in
+        let left : Riding = handed r (removed_in next.1) in
         let book : Book = book_begun r.call (book_in seat.me.0.held) in
-        let begun : begun_with is.local (machine_of t.env r.number r.call) ≡ riding_local r doing =
-        ap (begun_with is.local) begins
-        ∙ (λ i. record { doing = doing; owners = (empties is.local.owners ∙ is.owners) i; pairs = is.pairs i }) in
-        let leads : (riding_local r next.0, next.1)
-        ≡ local_after mix (begun_with is.local (machine_of t.env r.number r.call)) old =
-        (λ i. (record { doing = next.0; owners = sym (keeps r.owners) i; pairs = r.pairs }, next.1))
+        let begun : begun_with is.local (machine_of t.env r.number is.local.batch r.call) ≡ riding_local r doing =
+        ap (begun_with is.local) (begins-own is begins)
+        ∙ (λ i. record {
+          doing = doing;
+          owners = (empties is.local.owners ∙ is.owners) i;
+          pairs = is.pairs i;
+          batch = (beside is.local.batch ∙ is.batch) i;
+        }) in
+        let leads : (riding_local left next.0, reply_in next.1)
+        ≡ local_after mix (begun_with is.local (machine_of t.env r.number is.local.batch r.call)) old =
+        (λ i. (
+          record { doing = like.doing i; owners = sym (keeps r.owners) i; pairs = r.pairs; batch = like.batch i },
+          like.reply i,
+        ))
         ∙ ap (λ (l : Local M). local_after mix l old) (sym begun) in
-        let all = still mix t record { seat = seat; number = r.number; local = is.local } (riding_pass r next.0 seat') (Some r.call)
-        old next.1 is.pass same went refl leads in
+        let all = still mix t record { seat = seat; number = r.number; local = is.local } (riding_pass left next.0 seat') (Some r.call)
+        old (reply_in next.1) is.pass same went refl leads in
         said seat' next book all.0 (
         book_now record { seat = seat; number = r.number; local = is.local } (Some r.call) seat' old is.pass went
         ∙ ap (λ (n : Local M × Option Reply). book_after (ending_of n.0 n.1) book) (sym leads)
@@ -145,17 +230,22 @@ module _ {M : Type 0} (mix : ℕ → ℕ → ℕ → ℕ) (t : Table M) (r : Rid
 
   -- ---- an operation of a piece
 
-  pub of_piece : {P A : Type 0} (holding : P → Doing M) (behind : A → Doing M × Option Reply)
-      (next : Doing M × Option Reply) (piece : P × Next A) (seat : Seat (Unit {0}) (SeatView M))
+  pub of_piece : {P A : Type 0} (holding : P → Doing M) (behind : A → Doing M × Option (Reply × Option ℕ))
+      (next : Doing M × Option (Reply × Option ℕ)) (piece : P × Next A) (seat : Seat (Unit {0}) (SeatView M))
       → next ≡ piece_next holding behind piece → Stepped mix t r next seat
       → Stepped mix t r (piece_next holding behind piece) seat
-  of_piece holding behind next piece seat same is = subst (λ (n : Doing M × Option Reply). Stepped mix t r n seat) same is
+  of_piece holding behind next piece seat same is =
+      subst (λ (n : Doing M × Option (Reply × Option ℕ)). Stepped mix t r n seat) same is
 
 -- ---- the whole call
 
 module _ {M : Type 0} (mix : ℕ → ℕ → ℕ → ℕ) (t : Table M) (p : Pass M) (call : Call) (is : IsPassOf mix t p)
     (idle : is_idle p.local ≡ true)
   where
+    -- the batch of the pass is the one that stays
+    pub own_batch : p.local.batch ≡ (riding_of p.number call p.seat).batch
+    own_batch = ap (λ (hs : List (Held M)). batch_in hs) (sym is.held)
+
     pub before : IsBefore mix t (riding_of p.number call p.seat) p.seat
     before = record {
       local = p.local;
@@ -163,20 +253,31 @@ module _ {M : Type 0} (mix : ℕ → ℕ → ℕ → ℕ) (t : Table M) (p : Pas
       idle = idle;
       owners = ap (λ (hs : List (Held M)). emptied (owners_in hs)) (sym is.held);
       pairs = ap (λ (hs : List (Held M)). emptied (pairs_in hs)) (sym is.held);
+      batch = own_batch;
       finished = refl;
     }
 
-    -- the pass is in no call again, its finished calls are those before and this one, and its rooms are empty
-    pub called : (after : Pass M) (reply : Reply) → after.number ≡ p.number
-        → after.local ≡ record p.local { owners = emptied p.local.owners; pairs = emptied p.local.pairs }
-        → HasEnded mix t (riding_of p.number call p.seat) reply after.seat → HasCalled mix t call reply p after
-    called after reply number local ended =
-        let r : Riding = riding_of p.number call p.seat in
-        let rooms : record p.local { owners = emptied p.local.owners; pairs = emptied p.local.pairs } ≡ riding_local r Idle =
+    -- what the pass has behind the call: its rooms are empty, and its batch has the node that the call took out
+    abbrev pub local_behind : Option ℕ → Local M
+    local_behind removed = record p.local {
+      owners = emptied p.local.owners;
+      pairs = emptied p.local.pairs;
+      batch = batch_with p.local.batch removed;
+    }
+
+    -- so it is in no call again, and its finished calls are those before and this one
+    pub called_with : (after : Pass M) (reply : Reply) (removed : Option ℕ) → after.number ≡ p.number
+        → after.local ≡ local_behind removed
+        → HasEndedWith mix t (riding_of p.number call p.seat) reply removed after.seat → HasCalled mix t call reply p after
+    called_with after reply removed number local ended =
+        let before : Riding = riding_of p.number call p.seat in
+        let r : Riding = handed before removed in
+        let rooms : local_behind removed ≡ riding_local r Idle =
         λ i. record {
           doing = nothing_done p.local.doing idle i;
           owners = ap (λ (hs : List (Held M)). emptied (owners_in hs)) (sym is.held) i;
           pairs = ap (λ (hs : List (Held M)). emptied (pairs_in hs)) (sym is.held) i;
+          batch = ap (λ (hs : List (Held M)). batch_with (batch_in hs) removed) (sym is.held) i;
         } in
         let here : after.local ≡ riding_local r Idle = local ∙ rooms in
         let same : riding_pass r Idle after.seat ≡ after =
@@ -188,3 +289,9 @@ module _ {M : Type 0} (mix : ℕ → ℕ → ℕ → ℕ) (t : Table M) (p : Pas
           finished = ended.finished
               ∙ ap (λ (l : Local M). r.finished ++ record { call = call; reply = reply; owners = l.owners.items; pairs = l.pairs.items } ∷ []) (sym here);
         }
+
+    -- most calls take no node out
+    pub called : (after : Pass M) (reply : Reply) → after.number ≡ p.number
+        → after.local ≡ record p.local { owners = emptied p.local.owners; pairs = emptied p.local.pairs }
+        → HasEnded mix t (riding_of p.number call p.seat) reply after.seat → HasCalled mix t call reply p after
+    called after reply = called_with after reply None

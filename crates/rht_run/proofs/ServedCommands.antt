@@ -17,6 +17,7 @@ use Rattle.rht_model.specs.declared.history.Cursor.{Cursor}
 use Rattle.rht_model.specs.declared.finished.Finished.{Finished}
 use Rattle.rht_model.specs.Endings.{ended_with, replied}
 use Rattle.rht_callers.specs.declared.local.Local.{Local}
+use Rattle.rht_grace.specs.Batch.{BatchModel}
 use Rattle.rht_core.specs.Locals.{is_idle, machine_of, rebinding_of}
 use Rattle.rht_core.specs.Runs.{IsAdmittedCall, IsBuiltFor}
 use Rattle.rht_core.specs.Replies.{IsFindReply, IsWorkReply, AreOwnersWith, ArePairsWith}
@@ -86,17 +87,17 @@ rebind-machine M env c port owner new Single single = refl
 rebind-machine M env c port owner new Listed single = absurd (single refl)
 
 -- by cases of the call
-made-machine : (M : Type 0) (env : Env) (c : ℕ) (call : Call) → IsBuiltFor env.config.kind call → IsMadeCall call
-    → is_some (machine_of {M = M} env c call) ≡ true
-made-machine M env c (Bind port owner once) kind made = refl
-made-machine M env c (Find port) kind made = refl
-made-machine M env c (All port) kind made = refl
-made-machine M env c (Release port owner) kind made = refl
-made-machine M env c (Rebind port owner new) kind made = rebind-machine M env c port owner new env.config.kind kind
-made-machine M env c (Walk from limit) kind made = absurd made
-made-machine M env c Work kind made = refl
-made-machine M env c Tidy kind made = absurd made
-made-machine M env c Count kind made = refl
+made-machine : (M : Type 0) (env : Env) (c : ℕ) (batch : Option BatchModel) (call : Call) → IsBuiltFor env.config.kind call → IsMadeCall call
+    → is_some (machine_of {M = M} env c batch call) ≡ true
+made-machine M env c batch (Bind port owner once) kind made = refl
+made-machine M env c batch (Find port) kind made = refl
+made-machine M env c batch (All port) kind made = refl
+made-machine M env c batch (Release port owner) kind made = refl
+made-machine M env c batch (Rebind port owner new) kind made = rebind-machine M env c port owner new env.config.kind kind
+made-machine M env c batch (Walk from limit) kind made = absurd made
+made-machine M env c batch Work kind made = refl
+made-machine M env c batch Tidy kind made = absurd made
+made-machine M env c batch Count kind made = refl
 
 -- where there is something it is some thing
 some-thing : {A : Type 0} (o : Option A) → is_some o ≡ true → (a : A) × (o ≡ Some a)
@@ -107,7 +108,7 @@ some-thing (Some a) some = (a, refl)
 pub MayBegin-made : {M : Type 0} (env : Env) (c : ℕ) (call : Call) (local : Local M) → is_idle local ≡ true → IsAdmittedCall call
     → IsBuiltFor env.config.kind call → IsMadeCall call → MayBegin env c call local
 MayBegin-made {M} env c call local idle admitted kind made =
-    let machine = some-thing (machine_of {M = M} env c call) (made-machine M env c call kind made) in
+    let machine = some-thing (machine_of {M = M} env c local.batch call) (made-machine M env c local.batch call kind made) in
     record { idle = idle; admitted = admitted; built = kind; machine = machine.0; machine_is = machine.1 }
 
 -- ---- the work behind a call

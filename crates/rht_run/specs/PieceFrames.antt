@@ -25,11 +25,10 @@ use Rattle.rht_find.specs.declared.find.FindAt.{FindAt}
 use Rattle.rht_model.specs.declared.history.Reply.{Reply}
 use Rattle.rht_model.specs.declared.history.Reply.TheVariants.{NoNode}
 use Rattle.rht_callers.specs.declared.local.Doing.{Doing}
-use Rattle.rht_callers.specs.declared.local.Doing.TheVariants.{Idle, Binding, Finding}
-use Rattle.rht_core.specs.Locals.{doing_next}
+use Rattle.rht_callers.specs.declared.local.Doing.TheVariants.{Binding, Finding}
 use Rattle.rht_run.specs.declared.pieces.PortLocate.{PortLocate}
 use Rattle.rht_run.specs.declared.pieces.PortLocated.{PortLocated}
-use Rattle.rht_run.specs.Rides.{piece_next}
+use Rattle.rht_run.specs.Rides.{piece_next, replied}
 use Rattle.rht_run.specs.Pieces.{locate_told, locked_of, probe_told, probe_locks, probe_locked}
 
 -- it holds a bucket into which its node doesn't go, for this reason, and unlocks it next
@@ -39,14 +38,8 @@ full_at node table shape place word why =
     unlocking_full claimed why
 
 module _ {M : Type 0} where
-  -- a machine whose reply ends its call is a piece of it, behind which nothing is done
-  pub doing_piece : {A : Type 0} (doing : A → Doing M) (next : A × Next Reply)
-      → doing_next doing next ≡ piece_next doing (λ reply. (Idle, Some reply)) next
-  doing_piece doing (m, Go) = refl
-  doing_piece doing (m, Done reply) = refl
-
   -- the lock of a bucket is a piece of its probe: where it was taken the walk begins
-  pub probe_locking : (holding : ProbeModel → Doing M) (behind : Probed → Doing M × Option Reply) (probe : ProbeModel)
+  pub probe_locking : (holding : ProbeModel → Doing M) (behind : Probed → Doing M × Option (Reply × Option ℕ)) (probe : ProbeModel)
       (next : LockModel × Next ℕ)
       → piece_next holding behind (probe_told probe (lock_taken probe.geometry probe.key next.0 next.1))
       ≡ piece_next (λ lock. holding (probe_locks probe lock))
@@ -74,25 +67,25 @@ module _ {M : Type 0} where
       Binding (record { env = env; caller = caller; port = port; owner = owner; once = once; at = at })
 
   -- and has taken this node, or found none
-  abbrev pub bind_filled : Env → ℕ → ℕ → ℕ → Bool → Option ℕ → Doing M × Option Reply
-  bind_filled env caller port owner once None = (Idle, Some NoNode)
+  abbrev pub bind_filled : Env → ℕ → ℕ → ℕ → Bool → Option ℕ → Doing M × Option (Reply × Option ℕ)
+  bind_filled env caller port owner once None = replied NoNode
   bind_filled env caller port owner once (Some node) =
       (bind_at env caller port owner once (binds.Opening (first_attempt node)), None)
 
   pub bind_filling : (env : Env) (caller port owner : ℕ) (once : Bool) (next : NewNodeModel × Next (Option ℕ))
-      → doing_next Binding (moved (record { env = env; caller = caller; port = port; owner = owner; once = once; at = binds.Filling next.0 }) (filled next.0 next.1))
+      → piece_next Binding replied (moved (record { env = env; caller = caller; port = port; owner = owner; once = once; at = binds.Filling next.0 }) (filled next.0 next.1))
       ≡ piece_next (λ p. bind_at env caller port owner once (binds.Filling p)) (λ node. bind_filled env caller port owner once node) next
   bind_filling env caller port owner once (new, Go) = refl
   bind_filling env caller port owner once (new, Done None) = refl
   bind_filling env caller port owner once (new, Done (Some node)) = refl
 
   -- and has found that the port's bucket in this table is here
-  abbrev pub bind_located : Env → ℕ → ℕ → ℕ → Bool → Attempt → ℕ → Located → Doing M × Option Reply
+  abbrev pub bind_located : Env → ℕ → ℕ → ℕ → Bool → Attempt → ℕ → Located → Doing M × Option (Reply × Option ℕ)
   bind_located env caller port owner once attempt table found =
       (bind_at env caller port owner once (at_bucket env port attempt table found.shape found.bucket), None)
 
   pub bind_locating : (env : Env) (caller port owner : ℕ) (once : Bool) (attempt : Attempt) (next : LocateModel × Next Located)
-      → ◌≡◌ {A = Doing M × Option Reply} (bind_at env caller port owner once (bind_located_at env port attempt next.0 next.1), None)
+      → ◌≡◌ {A = Doing M × Option (Reply × Option ℕ)} (bind_at env caller port owner once (bind_located_at env port attempt next.0 next.1), None)
       (piece_next (λ (p : PortLocate). bind_at env caller p.port owner once (binds.Locating attempt p.locate))
       (λ (there : PortLocated). bind_located env caller there.port owner once attempt there.table there.found)
       (locate_told port next))
@@ -100,14 +93,14 @@ module _ {M : Type 0} where
   bind_locating env caller port owner once attempt (locate, Done found) = refl
 
   -- and has seen this in the port's bucket
-  abbrev pub bind_probed : Env → ℕ → ℕ → ℕ → Bool → Attempt → ℕ → ℕ → Probed → Doing M × Option Reply
+  abbrev pub bind_probed : Env → ℕ → ℕ → ℕ → Bool → Attempt → ℕ → ℕ → Probed → Doing M × Option (Reply × Option ℕ)
   bind_probed env caller port owner once attempt table shape end =
       let claimed : Claimed = record { attempt = attempt; table = table; shape = shape; bucket = end.bucket } in
       (bind_at env caller port owner once (found_or_future env.config.kind claimed end.seen.found end.seen.before end.seen.length), None)
 
   pub bind_probing : (env : Env) (caller port owner : ℕ) (once : Bool) (attempt : Attempt) (table shape : ℕ)
       (next : ProbeModel × Next Probed)
-      → ◌≡◌ {A = Doing M × Option Reply} (bind_at env caller port owner once (bind_probed_at env.config.kind attempt table shape next.0 next.1), None)
+      → ◌≡◌ {A = Doing M × Option (Reply × Option ℕ)} (bind_at env caller port owner once (bind_probed_at env.config.kind attempt table shape next.0 next.1), None)
       (piece_next (λ p. bind_at env caller port owner once (binds.Probing attempt table shape p)) (λ end. bind_probed env caller port owner once attempt table shape end) next)
   bind_probing env caller port owner once attempt table shape (probe, Go) = refl
   bind_probing env caller port owner once attempt table shape (probe, Done end) = refl

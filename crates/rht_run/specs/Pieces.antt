@@ -50,8 +50,8 @@ abbrev pub new_node_told : NewNodeModel → NewNodeAt × Next (Option ℕ) → N
 new_node_told new next = (record new { at = next.0 }, next.1)
 
 -- a node that was taken gets its key next; where none was free the piece has answered
-abbrev pub node_then : {M : Type 0} → (NewNodeModel → Doing M) → (Option ℕ → Doing M × Option Reply) → NewNodeModel
-    → Option ℕ → Doing M × Option Reply
+abbrev pub node_then : {M : Type 0} → (NewNodeModel → Doing M) → (Option ℕ → Doing M × Option (Reply × Option ℕ)) → NewNodeModel
+    → Option ℕ → Doing M × Option (Reply × Option ℕ)
 node_then holding behind new None = behind None
 node_then holding behind new (Some node) = (holding (record new { at = news.Key node }), None)
 
@@ -76,8 +76,8 @@ nested_locate g table shape bucket =
     record (locate_new g table) { at = locates.Early shape (nested_place g shape bucket) }
 
 -- in a flat table the bucket is found by then
-abbrev pub way_then : {M : Type 0} → (PortLocate → Doing M) → (PortLocated → Doing M × Option Reply) → Geometry → ℕ → ℕ
-    → Way → Doing M × Option Reply
+abbrev pub way_then : {M : Type 0} → (PortLocate → Doing M) → (PortLocated → Doing M × Option (Reply × Option ℕ)) → Geometry → ℕ → ℕ
+    → Way → Doing M × Option (Reply × Option ℕ)
 way_then holding behind g port table (ways.Flat shape place) =
     behind (record { port = port; table = table; found = record { shape = shape; bucket = buckets.At place } })
 way_then holding behind g port table (ways.Nested shape bucket) =

@@ -75,7 +75,7 @@ pub record MayBegin {M : Type 0} (env : Env) (c : ℕ) (call : Call) (local : Lo
   pub admitted : IsAdmittedCall call
   pub built : IsBuiltFor env.config.kind call
   pub machine : Doing M
-  pub machine_is : machine_of env c call ≡ Some machine
+  pub machine_is : machine_of env c local.batch call ≡ Some machine
 
 -- the book where this call begins, if one does
 abbrev pub book_then : Option Call → Book → Book
@@ -108,7 +108,7 @@ module _ {M : Type 0} where
   -- the caller where this call begins, if one does
   abbrev pub local_then : Env → ℕ → Option Call → Local M → Local M
   local_then env c None local = local
-  local_then env c (Some call) local = begun_with local (machine_of env c call)
+  local_then env c (Some call) local = begun_with local (machine_of env c local.batch call)
 
   abbrev pub view_then : Env → ℕ → Option Call → View M → View M
   view_then env c begins view =

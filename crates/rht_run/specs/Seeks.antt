@@ -13,10 +13,10 @@ use Rattle.rht_chain.specs.Probe.{ProbeModel, probe_new}
 use Rattle.rht_chain.specs.declared.probe.Probed.{Probed}
 use Rattle.rht_arena.specs.NewNode.{NewNodeModel}
 use Rattle.rht_release.specs.Seek.{SeekModel, seek_after, locating, bucket_or_early, located, port_at, found_or_future, probed}
-use Rattle.rht_release.specs.Release.{ReleaseModel, release_after, closing, sought as release_sought_at}
+use Rattle.rht_release.specs.Release.{closing, sought as release_sought_at}
 use Rattle.rht_release.specs.declared.release.ReleaseAt.{ReleaseAt}
 use Rattle.rht_release.specs.declared.release.ReleaseAt.TheVariants as releases
-use Rattle.rht_release.specs.Rebind.{RebindModel, rebind_after, filled, absent, moved as rebind_moved, sought as rebind_sought_at}
+use Rattle.rht_release.specs.Rebind.{filled, absent, moved as rebind_moved, sought as rebind_sought_at}
 use Rattle.rht_release.specs.declared.rebind.RebindAt.{RebindAt}
 use Rattle.rht_release.specs.declared.rebind.RebindAt.TheVariants as rebinds
 use Rattle.rht_release.specs.declared.found_port.FoundPort.{FoundPort}
@@ -25,12 +25,11 @@ use Rattle.rht_release.specs.declared.seek.SeekAt.TheVariants as seeks
 use Rattle.rht_model.specs.declared.history.Reply.{Reply}
 use Rattle.rht_model.specs.declared.history.Reply.TheVariants.{Absent, NoNode}
 use Rattle.rht_callers.specs.declared.local.Doing.{Doing}
-use Rattle.rht_callers.specs.declared.local.Doing.TheVariants.{Idle, Releasing, Rebinding}
-use Rattle.rht_core.specs.Locals.{doing_next, without_node}
+use Rattle.rht_callers.specs.declared.local.Doing.TheVariants.{Releasing, Rebinding}
 use Rattle.rht_run.specs.declared.pieces.PortLocate.{PortLocate}
 use Rattle.rht_run.specs.declared.pieces.PortLocated.{PortLocated}
 use Rattle.rht_run.specs.declared.seeks.PortSeek.{PortSeek}
-use Rattle.rht_run.specs.Rides.{piece_next}
+use Rattle.rht_run.specs.Rides.{piece_next, ended, replied}
 use Rattle.rht_run.specs.declared.seeking.Sought.{Sought}
 use Rattle.rht_run.specs.declared.seeking.Sought.TheVariants as sought
 use Rattle.rht_run.specs.Pieces.{locate_told, nested_locate}
@@ -44,8 +43,8 @@ abbrev pub nested_seek : Geometry → ℕ → ℕ → ℕ → SeekModel
 nested_seek g table shape bucket = record { geometry = g; at = seeks.Locating (nested_locate g table shape bucket) }
 
 -- the way has come to this
-abbrev pub sought_then : {M : Type 0} → (PortSeek → Doing M) → (ℕ × Option FoundPort → Doing M × Option Reply) → Geometry → ℕ
-    → Sought → Doing M × Option Reply
+abbrev pub sought_then : {M : Type 0} → (PortSeek → Doing M) → (ℕ × Option FoundPort → Doing M × Option (Reply × Option ℕ)) → Geometry → ℕ
+    → Sought → Doing M × Option (Reply × Option ℕ)
 sought_then holding behind g port (sought.Found found) = behind (port, Some found)
 sought_then holding behind g port sought.Nowhere = behind (port, None)
 sought_then holding behind g port (sought.Nested table shape bucket) =
@@ -63,12 +62,12 @@ abbrev pub port_seek_after : (ℕ → ℕ → ℕ → ℕ) → PortSeek → ℕ 
 port_seek_after mix p word =
     let next = seek_after mix p.port p.seek word in (record { port = p.port; seek = next.0 }, sought_of p.port next.1)
 
-module _ {M : Type 0} (holding : PortSeek → Doing M) (behind : ℕ × Option FoundPort → Doing M × Option Reply)
+module _ {M : Type 0} (holding : PortSeek → Doing M) (behind : ℕ × Option FoundPort → Doing M × Option (Reply × Option ℕ))
     (g : Geometry)
   where
     -- The port's bucket in this table was found to be here. Behind a missing one the way goes on in the table that was behind, and
     -- where none was it has ended.
-    abbrev pub seek_located : ℕ → ℕ → ℕ → LocatedBucket → Doing M × Option Reply
+    abbrev pub seek_located : ℕ → ℕ → ℕ → LocatedBucket → Doing M × Option (Reply × Option ℕ)
     seek_located port table shape (buckets.At place) =
         (holding (port_seek g port (seeks.Probing table shape (probe_new g place (word_of port)))), None)
     seek_located port table shape (buckets.Missing place None) = behind (port, None)
@@ -89,16 +88,16 @@ module _ {M : Type 0} (holding : PortSeek → Doing M) (behind : ℕ × Option F
         found_so (buckets.Missing place None) = refl
         found_so (buckets.Missing place (Some next)) = refl
 
-module _ {M : Type 0} (holding : PortSeek → Doing M) (behind : ℕ × Option FoundPort → Doing M × Option Reply)
+module _ {M : Type 0} (holding : PortSeek → Doing M) (behind : ℕ × Option FoundPort → Doing M × Option (Reply × Option ℕ))
     (g : Geometry)
     (port table shape : ℕ)
   where
     -- where this node was seen to have the port the way has ended, and else the table's future comes next
-    abbrev pub seek_seen : Probed → Option ℕ → Doing M × Option Reply
+    abbrev pub seek_seen : Probed → Option ℕ → Doing M × Option (Reply × Option ℕ)
     seek_seen end None = (holding (port_seek g port (seeks.Future table end.bucket)), None)
     seek_seen end (Some node) = behind (port, Some (port_at table shape end node))
 
-    abbrev pub seek_probed : Probed → Doing M × Option Reply
+    abbrev pub seek_probed : Probed → Doing M × Option (Reply × Option ℕ)
     seek_probed end = seek_seen end end.seen.found
 
     seen_so : (probe : ProbeModel) (end : Probed) (found : Option ℕ)
@@ -121,13 +120,13 @@ module _ {M : Type 0} where
       Releasing (record { env = env; caller = caller; port = port; owner = owner; at = at })
 
   -- and has found the port, or found that no table binds it
-  abbrev pub release_sought : Env → ℕ → ℕ → ℕ → Option FoundPort → Doing M × Option Reply
+  abbrev pub release_sought : Env → ℕ → ℕ → ℕ → Option FoundPort → Doing M × Option (Reply × Option ℕ)
   release_sought env caller port owner None = (release_at env caller port owner (closing Absent None), None)
   release_sought env caller port owner (Some found) =
       (release_at env caller port owner (releases.Owner found found.node None), None)
 
   pub release_seeking : (env : Env) (caller port owner : ℕ) (next : SeekModel × Next (Option FoundPort))
-      → ◌≡◌ {A = Doing M × Option Reply} (release_at env caller port owner (release_sought_at next.0 next.1), None)
+      → ◌≡◌ {A = Doing M × Option (Reply × Option ℕ)} (release_at env caller port owner (release_sought_at next.0 next.1), None)
       (piece_next (λ (p : PortSeek). release_at env caller p.port owner (releases.Seeking p.seek))
       (λ found. release_sought env caller found.0 owner found.1)
       (record { port = port; seek = next.0 }, sought_of port next.1))
@@ -143,16 +142,14 @@ module _ {M : Type 0} where
       Rebinding (record { env = env; caller = caller; port = port; owner = owner; new_owner = new; at = at })
 
   -- and has taken this node, or found none
-  abbrev pub rebind_filled : Env → ℕ → ℕ → ℕ → ℕ → Option ℕ → Doing M × Option Reply
-  rebind_filled env caller port owner new None = (Idle, Some NoNode)
+  abbrev pub rebind_filled : Env → ℕ → ℕ → ℕ → ℕ → Option ℕ → Doing M × Option (Reply × Option ℕ)
+  rebind_filled env caller port owner new None = replied NoNode
   rebind_filled env caller port owner new (Some node) =
       (rebind_at env caller port owner new (rebinds.Opening node), None)
 
   pub rebind_filling : (env : Env) (caller port owner new : ℕ) (next : NewNodeModel × Next (Option ℕ))
-      → doing_next Rebinding (
-        (rebind_moved (record { env = env; caller = caller; port = port; owner = owner; new_owner = new; at = rebinds.Filling next.0 }) (filled next.0 next.1)).0,
-        without_node (rebind_moved (record { env = env; caller = caller; port = port; owner = owner; new_owner = new; at = rebinds.Filling next.0 }) (filled next.0 next.1)).1,
-      )
+      → piece_next Rebinding ended
+      (rebind_moved (record { env = env; caller = caller; port = port; owner = owner; new_owner = new; at = rebinds.Filling next.0 }) (filled next.0 next.1))
       ≡ piece_next (λ p. rebind_at env caller port owner new (rebinds.Filling p))
       (λ node. rebind_filled env caller port owner new node) next
   rebind_filling env caller port owner new (node, Go) = refl
@@ -160,24 +157,17 @@ module _ {M : Type 0} where
   rebind_filling env caller port owner new (node, Done (Some found)) = refl
 
   -- and has found the port with this node, or found that no table binds it
-  abbrev pub rebind_sought : Env → ℕ → ℕ → ℕ → ℕ → ℕ → Option FoundPort → Doing M × Option Reply
+  abbrev pub rebind_sought : Env → ℕ → ℕ → ℕ → ℕ → ℕ → Option FoundPort → Doing M × Option (Reply × Option ℕ)
   rebind_sought env caller port owner new node None =
       (rebind_at env caller port owner new (absent node), None)
   rebind_sought env caller port owner new node (Some found) =
       (rebind_at env caller port owner new (rebinds.Owner node found), None)
 
   pub rebind_seeking : (env : Env) (caller port owner new node : ℕ) (next : SeekModel × Next (Option FoundPort))
-      → ◌≡◌ {A = Doing M × Option Reply} (rebind_at env caller port owner new (rebind_sought_at node next.0 next.1), None)
+      → ◌≡◌ {A = Doing M × Option (Reply × Option ℕ)} (rebind_at env caller port owner new (rebind_sought_at node next.0 next.1), None)
       (piece_next (λ (p : PortSeek). rebind_at env caller p.port owner new (rebinds.Seeking node p.seek))
       (λ found. rebind_sought env caller found.0 owner new node found.1)
       (record { port = port; seek = next.0 }, sought_of port next.1))
   rebind_seeking env caller port owner new node (seek, Go) = refl
   rebind_seeking env caller port owner new node (seek, Done None) = refl
   rebind_seeking env caller port owner new node (seek, Done (Some found)) = refl
-
--- what the two say, without the node that was taken out
-abbrev pub release_told : (ℕ → ℕ → ℕ → ℕ) → ReleaseModel → ℕ → ReleaseModel × Next Reply
-release_told mix m word = let next = release_after mix m word in (next.0, without_node next.1)
-
-abbrev pub rebind_told : (ℕ → ℕ → ℕ → ℕ) → RebindModel → ℕ → RebindModel × Next Reply
-rebind_told mix m word = let next = rebind_after mix m word in (next.0, without_node next.1)

@@ -68,29 +68,29 @@ module _ {M : Type 0} where
   work_at env caller at = Working (record { env = env; caller = caller; at = at })
 
   -- and goes on
-  abbrev pub work_on : Env → ℕ → WorkAt → Doing M × Option Reply
+  abbrev pub work_on : Env → ℕ → WorkAt → Doing M × Option (Reply × Option ℕ)
   work_on env caller at = (work_at env caller at, None)
 
   pub work_seeking : (env : Env) (caller root : ℕ) (next : LastTableModel × Next Last)
-      → ◌≡◌ {A = Doing M × Option Reply} (work_on env caller (last_seen root next.0 next.1))
+      → ◌≡◌ {A = Doing M × Option (Reply × Option ℕ)} (work_on env caller (last_seen root next.0 next.1))
       (piece_next (λ seek. work_at env caller (works.LastTable root seek)) (λ last. work_on env caller (works.Count root last)) next)
   work_seeking env caller root (seek, Go) = refl
   work_seeking env caller root (seek, Done last) = refl
 
   pub entry_seeking : (env : Env) (caller : ℕ) (emptying : Emptying) (next : LastTableModel × Next Last)
-      → ◌≡◌ {A = Doing M × Option Reply} (work_on env caller (entry_table_seen emptying next.0 next.1))
+      → ◌≡◌ {A = Doing M × Option (Reply × Option ℕ)} (work_on env caller (entry_table_seen emptying next.0 next.1))
       (piece_next (λ seek. work_at env caller (works.EntryTable emptying seek)) (λ last. work_on env caller (entry_sought emptying last)) next)
   entry_seeking env caller emptying (seek, Go) = refl
   entry_seeking env caller emptying (seek, Done last) = refl
 
   pub bucket_locking : (env : Env) (caller : ℕ) (rehash : Rehash) (number : ℕ) (next : LockModel × Next ℕ)
-      → ◌≡◌ {A = Doing M × Option Reply} (work_on env caller (locked env.geometry rehash number next.0 next.1))
+      → ◌≡◌ {A = Doing M × Option (Reply × Option ℕ)} (work_on env caller (locked env.geometry rehash number next.0 next.1))
       (piece_next (λ lock. work_at env caller (works.Locking rehash number lock)) (λ bucket. work_on env caller (bucket_locked env rehash number bucket)) (locked_of next))
   bucket_locking env caller rehash number (lock, Go) = refl
   bucket_locking env caller rehash number (lock, Done word) = refl
 
   pub second_locking : (env : Env) (caller : ℕ) (emptying : Emptying) (entry : Entry) (table : ℕ) (next : LockModel × Next ℕ)
-      → ◌≡◌ {A = Doing M × Option Reply} (work_on env caller (second_locked emptying entry table next.0 next.1))
+      → ◌≡◌ {A = Doing M × Option (Reply × Option ℕ)} (work_on env caller (second_locked emptying entry table next.0 next.1))
       (piece_next (λ lock. work_at env caller (works.LockingSecond emptying entry table lock)) (λ bucket. work_on env caller (entry_linked emptying entry table bucket)) (locked_of next))
   second_locking env caller emptying entry table (lock, Go) = refl
   second_locking env caller emptying entry table (lock, Done word) = refl

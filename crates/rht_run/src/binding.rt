@@ -8,9 +8,8 @@ ghost use Rattle.rht_bind.specs.Endings.{answering};
 ghost use Rattle.rht_bind.specs.declared.bind.BindAt.TheVariants.{Locating, ListLink, Closing};
 ghost use Rattle.rht_bind.specs.declared.bind.ending.Ending.TheVariants.{Bound};
 ghost use Rattle.rht_run.specs.Pieces.{nested_locate};
-ghost use Rattle.rht_core.specs.Locals.{doing_after};
 ghost use Rattle.rht_run.specs.Layout.{physical_place};
-ghost use Rattle.rht_run.specs.Rides.{IsBefore, IsRiding, HasEnded, Stepped};
+ghost use Rattle.rht_run.specs.Rides.{IsBefore, IsRiding, HasEnded, Stepped, driven};
 ghost use Rattle.rht_run.specs.PieceFrames.{bind_at, full_at};
 
 use crate::layout::section;
@@ -381,7 +380,7 @@ impl<M: Mix> Table<M> {
         ensures { HasEnded M.mix_of self.now K.riding result seat.new }
     {
         let bind = Bind::<M>::new(self.env, number, port, owner, once).with(at);
-        self.run_whole::<R, K, Bind<M>, Whole>(rt, seat, &Whole, bind)
+        self.run_whole::<R, K, Reply, Bind<M>, Whole>(rt, seat, &Whole, bind)
     }
 
     /// The operation of the bind in this state.
@@ -397,7 +396,7 @@ impl<M: Mix> Table<M> {
         at: BindAt,
     ) -> u64
         requires { IsRiding M.mix_of self.now K.riding (bind_at env number port owner once at) seat.old }
-        ensures { Stepped M.mix_of self.now K.riding (doing_after M.mix_of (bind_at env number port owner once at) result) seat.new }
+        ensures { Stepped M.mix_of self.now K.riding (driven M.mix_of (bind_at env number port owner once at) result) seat.new }
     {
         let bind = Bind::<M>::new(env, number, port, owner, once).with(at);
         self.operate::<K, Reply, Bind<M>, Whole>(seat, &Whole, &bind)
@@ -418,7 +417,7 @@ impl<M: Mix> Table<M> {
     ) -> u64
         requires riding { IsRiding M.mix_of self.now K.riding (bind_at env number port owner once at) seat.old }
         requires place { place ≡ physical_place (plan_at env number at) }
-        ensures { Stepped M.mix_of self.now K.riding (doing_after M.mix_of (bind_at env number port owner once at) result) seat.new }
+        ensures { Stepped M.mix_of self.now K.riding (driven M.mix_of (bind_at env number port owner once at) result) seat.new }
     {
         let bind = Bind::<M>::new(env, number, port, owner, once).with(at);
         self.operate_at::<K, Reply, Bind<M>, Whole>(seat, &Whole, &bind, place)

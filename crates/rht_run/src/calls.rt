@@ -15,7 +15,7 @@ ghost use Rattle.rht_run.specs.Caused.{IsCaused, HasLookedUp};
 use crate::finding::looked_up;
 use crate::pass::Pass;
 use crate::releasing::released;
-use crate::ride::clear_rooms;
+use crate::ride::{clear_rooms, keep_node};
 use crate::table::Table;
 use rht_model::{Call, Reply};
 use rht_policy::Mix;
@@ -123,8 +123,8 @@ impl<M: Mix> Table<M> {
         self.drive_bind::<R, Brand>(rt, &mut pass.seat, pass.number, port, owner, once)
     }
 
-    /// Takes one binding of a port to this owner out: `Released`, or `Absent` where there is none.
-    /// The kernel's counterpart is `rhashtable_remove_fast`.
+    /// Takes one binding of a port to this owner out: `Released`, or `Absent` where there is none. Its node
+    /// goes into the pass's batch. The kernel's counterpart is `rhashtable_remove_fast`.
     ///
     /// `Released` comes with a kick exactly where this call, behind the last table that it walked, lowered
     /// the count of ports, shrinking is on, and by this that table has fewer ports than three tenths of
@@ -138,12 +138,21 @@ impl<M: Mix> Table<M> {
         ensures cause { IsCaused M.mix_of self.now (Release port owner) result pass.old pass.new }
     {
         clear_rooms(&mut pass.local);
-        released(self.drive_release::<R, Brand>(rt, &mut pass.seat, pass.number, port, owner))
+        let (kick, removed) = self.drive_release::<R, Brand>(
+            rt,
+            &mut pass.seat,
+            pass.number,
+            port,
+            owner,
+        );
+        keep_node(&mut pass.local, removed);
+        released(kick)
     }
 
     /// Puts a new owner in the only one's place, in a table of one owner each: `Rebound`, `Absent`
     /// where the port isn't bound to this owner, or `NoNode` where it found the bit of each node clear,
-    /// each at some operation of its own. The kernel's counterpart is `rhashtable_replace_fast`.
+    /// each at some operation of its own. The node of the old owner goes into the pass's batch. The
+    /// kernel's counterpart is `rhashtable_replace_fast`.
     pub fn rebind<R: Wait>(
         &self,
         rt: &R,
@@ -160,7 +169,16 @@ impl<M: Mix> Table<M> {
         ensures cause { IsCaused M.mix_of self.now (Rebind port owner new) result pass.old pass.new }
     {
         clear_rooms(&mut pass.local);
-        self.drive_rebind::<R, Brand>(rt, &mut pass.seat, pass.number, port, owner, new)
+        let (reply, removed) = self.drive_rebind::<R, Brand>(
+            rt,
+            &mut pass.seat,
+            pass.number,
+            port,
+            owner,
+            new,
+        );
+        keep_node(&mut pass.local, removed);
+        reply
     }
 
     /// Lists the owners of a port: `Listed`, for which it has nothing further to show, and they stand in

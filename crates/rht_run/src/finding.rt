@@ -12,7 +12,7 @@ ghost use Rattle.rht_find.specs.declared.find.FindAt.TheVariants.{Closing, Headi
 ghost use Rattle.rht_run.specs.Layout.{physical_place};
 ghost use Rattle.rht_run.specs.Looking.{nested_reach, way_on, walked, bucket_begun, bucket_walked};
 ghost use Rattle.rht_run.specs.PieceFrames.{find_at};
-ghost use Rattle.rht_run.specs.Rides.{IsBefore, IsRiding, HasEnded, Stepped, HasCounted, steps_in, looked_up, owner_in};
+ghost use Rattle.rht_run.specs.Rides.{IsBefore, IsRiding, HasEnded, Stepped, HasCounted, steps_in, looked_up, owner_in, driven};
 
 use crate::layout::section;
 use crate::locating::Way;
@@ -254,7 +254,7 @@ impl<M: Mix> Table<M> {
         at: FindAt,
     ) -> u64
         requires { IsRiding M.mix_of self.now K.riding (find_at env number port at) seat.old }
-        ensures doing { Stepped M.mix_of self.now K.riding (doing_after M.mix_of (find_at env number port at) result) seat.new }
+        ensures doing { Stepped M.mix_of self.now K.riding (driven M.mix_of (find_at env number port at) result) seat.new }
         ensures counted { HasCounted seat.old (doing_after {M = M} M.mix_of (find_at env number port at) result).1 seat.new }
     {
         let find = Find::<M>::new(env, number, port).with(at);
@@ -274,7 +274,7 @@ impl<M: Mix> Table<M> {
     ) -> u64
         requires riding { IsRiding M.mix_of self.now K.riding (find_at env number port at) seat.old }
         requires place { place ≡ physical_place (plan_at env number at) }
-        ensures doing { Stepped M.mix_of self.now K.riding (doing_after M.mix_of (find_at env number port at) result) seat.new }
+        ensures doing { Stepped M.mix_of self.now K.riding (driven M.mix_of (find_at env number port at) result) seat.new }
         ensures counted { HasCounted seat.old (doing_after {M = M} M.mix_of (find_at env number port at) result).1 seat.new }
     {
         let find = Find::<M>::new(env, number, port).with(at);

@@ -3,14 +3,13 @@
 
 ghost use Rattle.std.specs.Prelude.{◌≡◌, false, IfSome};
 ghost use Rattle.rht_chain.specs.Lock.{lock_new};
-ghost use Rattle.rht_core.specs.Locals.{doing_after};
 ghost use Rattle.rht_move.specs.LastTable.{last_table_new};
 ghost use Rattle.rht_move.specs.LastEntry.{last_entry_new};
 ghost use Rattle.rht_move.specs.Work.{bucket_of_root, entry_table, unlocked_bucket, unlocking};
 ghost use Rattle.rht_move.specs.declared.work.WorkAt.TheVariants as works;
 ghost use Rattle.rht_nest.specs.Tables.{is_nested};
 ghost use Rattle.rht_nest.specs.Place.{flat_place};
-ghost use Rattle.rht_run.specs.Rides.{IsRiding, Stepped};
+ghost use Rattle.rht_run.specs.Rides.{IsRiding, Stepped, driven};
 ghost use Rattle.rht_run.specs.WorkPieces.{work_at, bucket_locked, entry_sought, move_ended};
 
 use crate::pieces::{Frame, Whole};
@@ -363,7 +362,7 @@ impl<M: Mix> Table<M> {
         at: WorkAt,
     ) -> u64
         requires { IsRiding M.mix_of self.now K.riding (work_at env caller at) seat.old }
-        ensures { Stepped M.mix_of self.now K.riding (doing_after M.mix_of (work_at env caller at) result) seat.new }
+        ensures { Stepped M.mix_of self.now K.riding (driven M.mix_of (work_at env caller at) result) seat.new }
     {
         let work = Work::<M>::new(env, caller).with(at);
         self.operate::<K, Reply, Work<M>, Whole>(seat, &Whole, &work)

@@ -34,7 +34,7 @@ impl<M: Mix> Table<M> {
         owner: u32,
     ) -> Option<Option<u32>>
         requires before { IsBefore M.mix_of self.now K.riding seat.old }
-        requires begins { machine_of self.now.env K.riding.number K.riding.call ≡ Some (F.holding frame.now (new_node_new starts.geometry (word_of port) owner)) }
+        requires begins { machine_of self.now.env K.riding.number K.riding.batch K.riding.call ≡ Some (F.holding frame.now (new_node_new starts.geometry (word_of port) owner)) }
         requires admitted { IsAdmittedCall K.riding.call }
         requires built { IsBuiltFor self.now.env.config.kind K.riding.call }
         ensures { IfSome result (λ taken. Stepped M.mix_of self.now K.riding (F.behind frame.now taken) seat.new) }

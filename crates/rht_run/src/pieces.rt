@@ -14,12 +14,14 @@ ghost use Rattle.rht_model.specs.Rooms.{Kept, emptied};
 ghost use Rattle.rht_nest.specs.Locate.{locate_plan, locate_after, IsLocateIn};
 ghost use Rattle.rht_model.specs.declared.history.Reply.{Reply as ReplyOf};
 ghost use Rattle.rht_callers.specs.declared.local.Doing.{Doing};
-ghost use Rattle.rht_callers.specs.declared.local.Doing.TheVariants.{Idle, Binding, Finding};
-ghost use Rattle.rht_core.specs.Locals.{does_nothing, doing_plan, doing_after, owners_beside, owners_after};
+ghost use Rattle.rht_grace.specs.Batch.{BatchModel};
+ghost use Rattle.rht_callers.specs.Batches.{batch_beside};
+ghost use Rattle.rht_callers.specs.declared.local.Doing.TheVariants.{Binding, Finding};
+ghost use Rattle.rht_core.specs.Locals.{does_nothing, doing_plan, owners_beside, owners_after};
 ghost use Rattle.rht_core.specs.Laws.{IsDoingIn};
-ghost use Rattle.rht_run.specs.Rides.{piece_next};
+ghost use Rattle.rht_run.specs.Rides.{piece_next, replied, driven};
 ghost use Rattle.rht_run.specs.Pieces.{bucket_lock_after, probe_locks, probe_locked, port_locate_after};
-ghost use Rattle.rht_run.specs.PieceFrames.{doing_piece, probe_locking, bind_at, bind_filling, bind_filled, bind_locating, bind_located, bind_probing, bind_probed};
+ghost use Rattle.rht_run.specs.PieceFrames.{probe_locking, bind_at, bind_filling, bind_filled, bind_locating, bind_located, bind_probing, bind_probed};
 
 use rht_arena::NewNode;
 use rht_bind::{Attempt, Bind};
@@ -53,18 +55,20 @@ pub trait Frame<M: Mix, P: Piece<M, A>, A> {
     // what the caller does while the piece runs
     ghost holding: { Self → P → Doing M };
 
-    // and once it has answered, with the reply where that ends the call
-    ghost behind: { Self → A → Doing M × Option ReplyOf };
+    // and once it has answered, with the reply where that ends the call, and the node that the call took out
+    ghost behind: { Self → A → Doing M × Option (ReplyOf × Option ℕ) };
 
     ghost busy: { (f : Self) (p : P) → does_nothing (holding f p) ≡ false };
 
     ghost empties: { (f : Self) (p : P) (room : Kept ℕ) → owners_beside (holding f p) room ≡ emptied room };
 
+    ghost beside: { (f : Self) (p : P) (batch : Option BatchModel) → batch_beside (holding f p) batch ≡ batch };
+
     ghost plans: { (f : Self) (p : P) → doing_plan (holding f p) ≡ Some (P.plan_of p) };
 
     ghost within: { (env : Env) (c : ℕ) (f : Self) (p : P) → IsDoingIn env c (holding f p) → P.is_in env p };
 
-    ghost goes: { (f : Self) (p : P) (old : ℕ) → doing_after M.mix_of (holding f p) old ≡ piece_next (λ q. holding f q) (λ a. behind f a) (P.after_of p old) };
+    ghost goes: { (f : Self) (p : P) (old : ℕ) → driven M.mix_of (holding f p) old ≡ piece_next (λ q. holding f q) (λ a. behind f a) (P.after_of p old) };
 
     ghost keeps: { (f : Self) (p : P) (room : Kept ℕ) (old : ℕ) → owners_after M.mix_of (holding f p) room old ≡ room };
 }
@@ -136,6 +140,8 @@ impl<'a, M: Mix, F: Frame<M, Probe, Probed>> Frame<M, Lock, Locked> for ProbeLoc
     ghost busy = { λ f lock. F.busy f.frame.now (probe_locks f.probe.now lock) };
 
     ghost empties = { λ f lock room. F.empties f.frame.now (probe_locks f.probe.now lock) room };
+
+    ghost beside = { λ f lock batch. F.beside f.frame.now (probe_locks f.probe.now lock) batch };
 
     ghost plans = { λ f lock. F.plans f.frame.now (probe_locks f.probe.now lock) };
 
@@ -213,17 +219,19 @@ impl<M: Mix> Frame<M, Find<M>, Reply> for Whole {
 
     ghost holding = { λ f m. Finding m };
 
-    ghost behind = { λ f reply. (Idle, Some reply) };
+    ghost behind = { λ f reply. replied reply };
 
     ghost busy = { λ f m. refl };
 
     ghost empties = { λ f m room. refl };
 
+    ghost beside = { λ f m batch. refl };
+
     ghost plans = { λ f m. refl };
 
     ghost within = { λ env c f m is. is.at_in };
 
-    ghost goes = { λ f m old. doing_piece Finding (find_after M.mix_of m old) };
+    ghost goes = { λ f m old. refl };
 
     ghost keeps = { λ f m room old. refl };
 }
@@ -271,17 +279,19 @@ impl<M: Mix> Frame<M, Bind<M>, Reply> for Whole {
 
     ghost holding = { λ f m. Binding m };
 
-    ghost behind = { λ f reply. (Idle, Some reply) };
+    ghost behind = { λ f reply. replied reply };
 
     ghost busy = { λ f m. refl };
 
     ghost empties = { λ f m room. refl };
 
+    ghost beside = { λ f m batch. refl };
+
     ghost plans = { λ f m. refl };
 
     ghost within = { λ env c f m is. is.at_in };
 
-    ghost goes = { λ f m old. doing_piece Binding (bind_after M.mix_of m old) };
+    ghost goes = { λ f m old. refl };
 
     ghost keeps = { λ f m room old. refl };
 }
@@ -306,6 +316,8 @@ impl<M: Mix> Frame<M, NewNode, Option<u32>> for BindFilling {
     ghost busy = { λ f p. refl };
 
     ghost empties = { λ f p room. refl };
+
+    ghost beside = { λ f p batch. refl };
 
     ghost plans = { λ f p. refl };
 
@@ -336,6 +348,8 @@ impl<M: Mix> Frame<M, PortLocate, PortLocated> for BindLocating {
     ghost busy = { λ f p. refl };
 
     ghost empties = { λ f p room. refl };
+
+    ghost beside = { λ f p batch. refl };
 
     ghost plans = { λ f p. refl };
 
@@ -369,6 +383,8 @@ impl<M: Mix> Frame<M, Probe, Probed> for BindProbing {
     ghost busy = { λ f p. refl };
 
     ghost empties = { λ f p room. refl };
+
+    ghost beside = { λ f p batch. refl };
 
     ghost plans = { λ f p. refl };
 

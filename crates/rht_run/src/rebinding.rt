@@ -3,10 +3,9 @@
 ghost use Rattle.std.specs.Prelude.{◌≡◌};
 ghost use Rattle.rht_words.specs.declared.config.Kind.TheVariants.{Single};
 ghost use Rattle.rht_model.specs.declared.history.Call.TheVariants.{Rebind as RebindCall};
-ghost use Rattle.rht_core.specs.Locals.{doing_after};
 ghost use Rattle.rht_release.specs.Rebind.{plan_at, absent, replacing};
 ghost use Rattle.rht_run.specs.Layout.{physical_place};
-ghost use Rattle.rht_run.specs.Rides.{IsBefore, IsRiding, HasEnded, Stepped};
+ghost use Rattle.rht_run.specs.Rides.{IsBefore, IsRiding, HasEndedWith, Stepped, driven};
 ghost use Rattle.rht_run.specs.Seeks.{rebind_at, nested_seek};
 ghost use Rattle.rht_release.specs.declared.rebind.RebindAt.TheVariants.{Seeking, Closing};
 ghost use Rattle.rht_release.specs.declared.rebind.RebindEnd.TheVariants.{Rebound};
@@ -27,7 +26,8 @@ use rht_words::{Env, Port, link_of, owner_of, table_of};
 use std::sync::Wait;
 
 impl<M: Mix> Table<M> {
-    /// Puts the new owner in the old one's place, from the first operation to the reply.
+    /// Puts the new owner in the old one's place, from the first operation to the reply. It answers the
+    /// reply, and the node that was taken out.
     #[inline(always)]
     pub(crate) fn drive_rebind<R: Wait, K: Ride>(
         &self,
@@ -37,12 +37,12 @@ impl<M: Mix> Table<M> {
         port: Port,
         owner: u32,
         new: u32,
-    ) -> Reply
+    ) -> (Reply, Option<u32>)
         requires before { IsBefore M.mix_of self.now K.riding seat.old }
         requires number { K.riding.number ≡ number }
         requires call { K.riding.call ≡ RebindCall port owner new }
         requires single { self.now.env.config.kind ≡ Single }
-        ensures { HasEnded M.mix_of self.now K.riding result seat.new }
+        ensures { HasEndedWith M.mix_of self.now K.riding result.0 result.1 seat.new }
     {
         let env = self.env;
         let frame = RebindFilling {
@@ -60,7 +60,7 @@ impl<M: Mix> Table<M> {
             unreachable!()
         };
         let Some(node) = taken else {
-            return Reply::NoNode;
+            return (Reply::NoNode, None);
         };
         let at = RebindAt::Opening { node };
         let section = section(number);
@@ -113,7 +113,7 @@ impl<M: Mix> Table<M> {
         let end = RebindEnd::Rebound { removed };
         let at = RebindAt::Closing { end };
         self.rebinding_at::<K>(seat, env, number, port, owner, new, at, section);
-        Reply::Rebound
+        (Reply::Rebound, Some(removed))
     }
 
     /// Closes the read section and gives the new node back: the port isn't bound to the old owner.
@@ -127,15 +127,15 @@ impl<M: Mix> Table<M> {
         owner: u32,
         new: u32,
         node: u32,
-    ) -> Reply
+    ) -> (Reply, Option<u32>)
         requires { IsRiding M.mix_of self.now K.riding (rebind_at env number port owner new (absent node)) seat.old }
-        ensures { HasEnded M.mix_of self.now K.riding result seat.new }
+        ensures { HasEndedWith M.mix_of self.now K.riding result.0 result.1 seat.new }
     {
         let at = absent(node);
         self.rebinding_at::<K>(seat, env, number, port, owner, new, at, section(number));
         let at = giving(env.geometry, node);
         self.rebinding::<K>(seat, env, number, port, owner, new, at);
-        Reply::Absent
+        (Reply::Absent, None)
     }
 
     /// Puts the new node in the old one's place, and unlocks the bucket.
@@ -188,14 +188,14 @@ impl<M: Mix> Table<M> {
         table: u32,
         shape: u64,
         bucket: u32,
-    ) -> Reply
+    ) -> (Reply, Option<u32>)
         requires { IsRiding M.mix_of self.now K.riding (rebind_at self.now.env number port owner new (Seeking node (nested_seek self.now.env.geometry table shape bucket))) seat.old }
-        ensures { HasEnded M.mix_of self.now K.riding result seat.new }
+        ensures { HasEndedWith M.mix_of self.now K.riding result.0 result.1 seat.new }
     {
         let seek = nested_seek(self.env.geometry, table, shape, bucket);
         let at = RebindAt::Seeking { node, seek };
         let rebind = Rebind::<M>::new(self.env, number, port, owner, new).with(at);
-        self.run_whole::<R, K, Rebind<M>, Whole>(rt, seat, &Whole, rebind)
+        self.run_whole::<R, K, (Reply, Option<u32>), Rebind<M>, Whole>(rt, seat, &Whole, rebind)
     }
 
     /// The operation of the rebind in this state.
@@ -211,10 +211,10 @@ impl<M: Mix> Table<M> {
         at: RebindAt,
     ) -> u64
         requires { IsRiding M.mix_of self.now K.riding (rebind_at env number port owner new at) seat.old }
-        ensures { Stepped M.mix_of self.now K.riding (doing_after M.mix_of (rebind_at env number port owner new at) result) seat.new }
+        ensures { Stepped M.mix_of self.now K.riding (driven M.mix_of (rebind_at env number port owner new at) result) seat.new }
     {
         let rebind = Rebind::<M>::new(env, number, port, owner, new).with(at);
-        self.operate::<K, Reply, Rebind<M>, Whole>(seat, &Whole, &rebind)
+        self.operate::<K, (Reply, Option<u32>), Rebind<M>, Whole>(seat, &Whole, &rebind)
     }
 
     /// The same, where its physical place is known.
@@ -232,9 +232,9 @@ impl<M: Mix> Table<M> {
     ) -> u64
         requires riding { IsRiding M.mix_of self.now K.riding (rebind_at env number port owner new at) seat.old }
         requires place { place ≡ physical_place (plan_at env number at) }
-        ensures { Stepped M.mix_of self.now K.riding (doing_after M.mix_of (rebind_at env number port owner new at) result) seat.new }
+        ensures { Stepped M.mix_of self.now K.riding (driven M.mix_of (rebind_at env number port owner new at) result) seat.new }
     {
         let rebind = Rebind::<M>::new(env, number, port, owner, new).with(at);
-        self.operate_at::<K, Reply, Rebind<M>, Whole>(seat, &Whole, &rebind, place)
+        self.operate_at::<K, (Reply, Option<u32>), Rebind<M>, Whole>(seat, &Whole, &rebind, place)
     }
 }

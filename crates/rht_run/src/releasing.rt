@@ -3,12 +3,11 @@
 ghost use Rattle.std.specs.Prelude.{◌≡◌, false, Some};
 ghost use Rattle.rht_model.specs.declared.history.Call.TheVariants.{Release as ReleaseCall};
 ghost use Rattle.rht_model.specs.declared.history.Reply.TheVariants.{Released};
-ghost use Rattle.rht_core.specs.Locals.{doing_after};
 ghost use Rattle.rht_release.specs.FoundPort.{relink_of};
 ghost use Rattle.rht_release.specs.declared.release.ReleaseAt.TheVariants.{Seeking, LinkBehind, Unlinking, Lowering, Closing};
 ghost use Rattle.rht_release.specs.Release.{plan_at, promoting};
 ghost use Rattle.rht_run.specs.Layout.{physical_place};
-ghost use Rattle.rht_run.specs.Rides.{IsBefore, IsRiding, HasEnded, Stepped, released, kick_in};
+ghost use Rattle.rht_run.specs.Rides.{IsBefore, IsRiding, HasEndedWith, Stepped, released, kick_in, driven};
 ghost use Rattle.rht_run.specs.Seeks.{release_at, nested_seek};
 
 use crate::layout::section;
@@ -29,8 +28,8 @@ use std::sync::Wait;
 
 impl<M: Mix> Table<M> {
     /// Takes the binding out, from the first operation to the reply. It answers whether `work` has something
-    /// to do, or that there is no such binding: that goes back in registers where a reply would go through
-    /// memory.
+    /// to do, or that there is no such binding, and the node that was taken out: that goes back in registers
+    /// where a reply would go through memory.
     #[inline(never)]
     pub(crate) fn drive_release<R: Wait, K: Ride>(
         &self,
@@ -39,15 +38,20 @@ impl<M: Mix> Table<M> {
         number: u32,
         port: Port,
         owner: u32,
-    ) -> Option<bool>
+    ) -> (Option<bool>, Option<u32>)
         requires before { IsBefore M.mix_of self.now K.riding seat.old }
         requires number { K.riding.number ≡ number }
         requires call { K.riding.call ≡ ReleaseCall port owner }
-        ensures { HasEnded M.mix_of self.now K.riding (released result) seat.new }
+        ensures { HasEndedWith M.mix_of self.now K.riding (released result.0) result.1 seat.new }
     {
         let env = self.env;
         let release = Release::<M>::new(env, number, port, owner);
-        self.begin::<K, Reply, Release<M>, Whole>(seat, &Whole, &release, section(number));
+        self.begin::<K, (Reply, Option<u32>), Release<M>, Whole>(
+            seat,
+            &Whole,
+            &release,
+            section(number),
+        );
         let frame = ReleaseSeeking {
             env,
             caller: number,
@@ -119,10 +123,10 @@ impl<M: Mix> Table<M> {
         found: FoundPort,
         node: u32,
         before: Option<u32>,
-    ) -> Option<bool>
+    ) -> (Option<bool>, Option<u32>)
         requires starts { starts.geometry ≡ env.geometry }
         requires riding { IsRiding M.mix_of self.now K.riding (release_at env number port owner (LinkBehind found node before)) seat.old }
-        ensures { HasEnded M.mix_of self.now K.riding (released result) seat.new }
+        ensures { HasEndedWith M.mix_of self.now K.riding (released result.0) result.1 seat.new }
     {
         let at = ReleaseAt::LinkBehind {
             found,
@@ -179,13 +183,13 @@ impl<M: Mix> Table<M> {
         owner: u32,
         kick: Option<bool>,
         removed: Option<u32>,
-    ) -> Option<bool>
+    ) -> (Option<bool>, Option<u32>)
         requires { IsRiding M.mix_of self.now K.riding (release_at env number port owner (Closing (released kick) removed)) seat.old }
-        ensures { HasEnded M.mix_of self.now K.riding (released result) seat.new }
+        ensures { HasEndedWith M.mix_of self.now K.riding (released result.0) result.1 seat.new }
     {
         let at = closing(released(kick), removed);
         self.releasing_at::<K>(seat, env, number, port, owner, at, section(number));
-        kick
+        (kick, removed)
     }
 
     /// Puts the list's second node in the first one's place, and unlocks the bucket.
@@ -253,15 +257,18 @@ impl<M: Mix> Table<M> {
         table: u32,
         shape: u64,
         bucket: u32,
-    ) -> Option<bool>
+    ) -> (Option<bool>, Option<u32>)
         requires call { K.riding.call ≡ ReleaseCall port owner }
         requires riding { IsRiding M.mix_of self.now K.riding (release_at self.now.env number port owner (Seeking (nested_seek self.now.env.geometry table shape bucket))) seat.old }
-        ensures { HasEnded M.mix_of self.now K.riding (released result) seat.new }
+        ensures { HasEndedWith M.mix_of self.now K.riding (released result.0) result.1 seat.new }
     {
         let seek = nested_seek(self.env.geometry, table, shape, bucket);
         let at = ReleaseAt::Seeking { seek };
         let release = Release::<M>::new(self.env, number, port, owner).with(at);
-        kick_in(self.run_whole::<R, K, Release<M>, Whole>(rt, seat, &Whole, release))
+        let (reply, removed) = self.run_whole::<R, K, (Reply, Option<u32>), Release<M>, Whole>(
+            rt, seat, &Whole, release,
+        );
+        (kick_in(reply), removed)
     }
 
     /// The operation of the release in this state.
@@ -276,10 +283,10 @@ impl<M: Mix> Table<M> {
         at: ReleaseAt,
     ) -> u64
         requires { IsRiding M.mix_of self.now K.riding (release_at env number port owner at) seat.old }
-        ensures { Stepped M.mix_of self.now K.riding (doing_after M.mix_of (release_at env number port owner at) result) seat.new }
+        ensures { Stepped M.mix_of self.now K.riding (driven M.mix_of (release_at env number port owner at) result) seat.new }
     {
         let release = Release::<M>::new(env, number, port, owner).with(at);
-        self.operate::<K, Reply, Release<M>, Whole>(seat, &Whole, &release)
+        self.operate::<K, (Reply, Option<u32>), Release<M>, Whole>(seat, &Whole, &release)
     }
 
     /// The same, where its physical place is known.
@@ -296,10 +303,10 @@ impl<M: Mix> Table<M> {
     ) -> u64
         requires riding { IsRiding M.mix_of self.now K.riding (release_at env number port owner at) seat.old }
         requires place { place ≡ physical_place (plan_at env number at) }
-        ensures { Stepped M.mix_of self.now K.riding (doing_after M.mix_of (release_at env number port owner at) result) seat.new }
+        ensures { Stepped M.mix_of self.now K.riding (driven M.mix_of (release_at env number port owner at) result) seat.new }
     {
         let release = Release::<M>::new(env, number, port, owner).with(at);
-        self.operate_at::<K, Reply, Release<M>, Whole>(seat, &Whole, &release, place)
+        self.operate_at::<K, (Reply, Option<u32>), Release<M>, Whole>(seat, &Whole, &release, place)
     }
 }
 

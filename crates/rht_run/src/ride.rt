@@ -4,14 +4,13 @@
 //! code: each line makes one operation, and knows in which state the machine is. So no machine is kept while the program runs.
 //! The seat's view has it, for the proofs alone.
 
-ghost use Rattle.std.specs.Prelude.{◌≡◌, Option, None, Some};
+ghost use Rattle.std.specs.Prelude.{◌≡◌, Some};
 ghost use Rattle.rht_model.specs.Rooms.{emptied};
-ghost use Rattle.rht_model.specs.declared.history.Reply.{Reply as ReplyOf};
-ghost use Rattle.rht_callers.specs.declared.local.Doing.TheVariants.{Idle};
+ghost use Rattle.rht_callers.specs.Batches.{CanPut};
 ghost use Rattle.rht_core.specs.Locals.{machine_of, doing_after};
 ghost use Rattle.rht_core.specs.Runs.{IsAdmittedCall, IsBuiltFor};
 ghost use Rattle.rht_run.specs.Layout.{physical_place};
-ghost use Rattle.rht_run.specs.Rides.{Riding, any_riding, IsBefore, IsRiding, HasEnded, Stepped, HasCounted, piece_next};
+ghost use Rattle.rht_run.specs.Rides.{Riding, any_riding, IsBefore, IsRiding, Stepped, HasCounted, piece_next, driven, batch_with};
 
 use crate::layout::physical;
 use crate::pieces::{Frame, Piece};
@@ -19,14 +18,13 @@ use crate::seats::SeatView;
 use crate::table::Table;
 use atomic_table::Seat;
 use rht_core::Local;
-use rht_model::Reply;
 use rht_policy::Mix;
 use rht_words::{Next, Op};
 use std::marker::Brand;
 use std::sync::Wait;
 
-/// What stays as it is while a call is driven: the caller's number, the call, the calls before it and
-/// the caller's rooms.
+/// What stays as it is while a call is driven: the caller's number, the call, the calls before it, the
+/// caller's rooms and its batch.
 ///
 /// The clauses along a call's way speak of them, and no value of the program has them. So each function
 /// there takes a type `K: Ride`, which has that one ghost member and no bytes. `Brand` is the library's
@@ -51,11 +49,11 @@ impl<M: Mix> Table<M> {
         at: usize,
     ) -> u64
         requires before { IsBefore M.mix_of self.now K.riding seat.old }
-        requires begins { machine_of self.now.env K.riding.number K.riding.call ≡ Some (F.holding frame.now piece.now) }
+        requires begins { machine_of self.now.env K.riding.number K.riding.batch K.riding.call ≡ Some (F.holding frame.now piece.now) }
         requires admitted { IsAdmittedCall K.riding.call }
         requires built { IsBuiltFor self.now.env.config.kind K.riding.call }
         requires place { at ≡ physical_place (P.plan_of piece.now) }
-        ensures doing { Stepped M.mix_of self.now K.riding (doing_after M.mix_of (F.holding frame.now piece.now) result) seat.new }
+        ensures doing { Stepped M.mix_of self.now K.riding (driven M.mix_of (F.holding frame.now piece.now) result) seat.new }
         ensures piece { Stepped M.mix_of self.now K.riding (piece_next (λ p. F.holding frame.now p) (λ a. F.behind frame.now a) (P.after_of piece.now result)) seat.new }
     {
         let op = piece.planned();
@@ -71,7 +69,7 @@ impl<M: Mix> Table<M> {
         piece: &P,
     ) -> u64
         requires { IsRiding M.mix_of self.now K.riding (F.holding frame.now piece.now) seat.old }
-        ensures doing { Stepped M.mix_of self.now K.riding (doing_after M.mix_of (F.holding frame.now piece.now) result) seat.new }
+        ensures doing { Stepped M.mix_of self.now K.riding (driven M.mix_of (F.holding frame.now piece.now) result) seat.new }
         ensures piece { Stepped M.mix_of self.now K.riding (piece_next (λ p. F.holding frame.now p) (λ a. F.behind frame.now a) (P.after_of piece.now result)) seat.new }
         ensures counted { HasCounted seat.old (doing_after M.mix_of (F.holding frame.now piece.now) result).1 seat.new }
     {
@@ -91,7 +89,7 @@ impl<M: Mix> Table<M> {
     ) -> u64
         requires riding { IsRiding M.mix_of self.now K.riding (F.holding frame.now piece.now) seat.old }
         requires place { at ≡ physical_place (P.plan_of piece.now) }
-        ensures doing { Stepped M.mix_of self.now K.riding (doing_after M.mix_of (F.holding frame.now piece.now) result) seat.new }
+        ensures doing { Stepped M.mix_of self.now K.riding (driven M.mix_of (F.holding frame.now piece.now) result) seat.new }
         ensures piece { Stepped M.mix_of self.now K.riding (piece_next (λ p. F.holding frame.now p) (λ a. F.behind frame.now a) (P.after_of piece.now result)) seat.new }
         ensures counted { HasCounted seat.old (doing_after M.mix_of (F.holding frame.now piece.now) result).1 seat.new }
     {
@@ -113,33 +111,32 @@ impl<M: Mix> Table<M> {
         requires riding { IsRiding M.mix_of self.now K.riding (F.holding frame.now piece.now) seat.old }
         requires planned { op ≡ P.plan_of piece.now }
         requires place { at ≡ physical_place op }
-        ensures doing { Stepped M.mix_of self.now K.riding (doing_after M.mix_of (F.holding frame.now piece.now) result) seat.new }
+        ensures doing { Stepped M.mix_of self.now K.riding (driven M.mix_of (F.holding frame.now piece.now) result) seat.new }
         ensures piece { Stepped M.mix_of self.now K.riding (piece_next (λ p. F.holding frame.now p) (λ a. F.behind frame.now a) (P.after_of piece.now result)) seat.new }
         ensures counted { HasCounted seat.old (doing_after M.mix_of (F.holding frame.now piece.now) result).1 seat.new }
     {
         self.perform::<Brand>(seat, op, at)
     }
 
-    /// Runs a machine from where it stands to its reply, one operation after another. It is for the
+    /// Runs a machine from where it stands to its answer, one operation after another. It is for the
     /// ways that are seldom taken.
     #[cold]
     #[inline(never)]
-    pub(crate) fn run_whole<R: Wait, K: Ride, P: Piece<M, Reply> + Drop, F: Frame<M, P, Reply>>(
+    pub(crate) fn run_whole<R: Wait, K: Ride, A, P: Piece<M, A> + Drop, F: Frame<M, P, A>>(
         &self,
         rt: &R,
         seat: &mut Seat<(), SeatView<M>>,
         frame: &F,
         machine: P,
-    ) -> Reply
-        requires riding { IsRiding M.mix_of self.now K.riding (F.holding frame.now machine) seat.old }
-        requires ends { (reply : ReplyOf) → F.behind frame.now reply ≡ (Idle, Some reply) }
-        ensures { HasEnded M.mix_of self.now K.riding result seat.new }
+    ) -> A
+        requires { IsRiding M.mix_of self.now K.riding (F.holding frame.now machine) seat.old }
+        ensures { Stepped M.mix_of self.now K.riding (F.behind frame.now result) seat.new }
     {
         let mut machine = machine;
         for _ in rt.forever() {
-            let old = self.operate::<K, Reply, P, F>(seat, frame, &machine);
-            if let Next::Done(reply) = machine.told(old) {
-                return reply;
+            let old = self.operate::<K, A, P, F>(seat, frame, &machine);
+            if let Next::Done(answer) = machine.told(old) {
+                return answer;
             }
         }
         unreachable!()
@@ -153,6 +150,20 @@ pub(crate) fn clear_rooms<M: Mix>(local: &mut Local<M>)
 {
     local.owners.clear();
     local.pairs.clear();
+}
+
+/// The node that a call took out, where it took one out, goes into its caller's batch. It takes no memory.
+#[inline(always)]
+pub(crate) fn keep_node<M: Mix>(local: &mut Local<M>, removed: Option<u32>)
+    requires { CanPut local.old.batch removed }
+    ensures { local.new ≡ record local.old { batch = batch_with local.old.batch removed } }
+{
+    let Some(node) = removed else {
+        return;
+    };
+    if let Some(batch) = &mut local.batch {
+        batch.put(node);
+    }
 }
 
 /// Behind a loop of 2^64 - 1 rounds, which no run uses up: it waits for ever. `rt.forever()` in that

@@ -1,19 +1,18 @@
 //! The way to a port as a piece, and the bucket in which it probes.
 
-ghost use Rattle.std.specs.Prelude.{◌≡◌, ℕ, Some};
+ghost use Rattle.std.specs.Prelude.{◌≡◌, ℕ};
 ghost use Rattle.rht_arena.specs.NewNode.{new_node_after};
 ghost use Rattle.rht_chain.specs.Probe.{probe_after};
 ghost use Rattle.rht_nest.specs.Locate.{locate_after};
 ghost use Rattle.rht_release.specs.Seek.{seek_plan, seek_after, IsSeekIn};
-ghost use Rattle.rht_release.specs.Release.{release_plan, IsReleaseAtIn};
+ghost use Rattle.rht_release.specs.Release.{release_plan, release_after, IsReleaseAtIn};
 ghost use Rattle.rht_release.specs.declared.release.ReleaseAt.TheVariants as releases;
-ghost use Rattle.rht_release.specs.Rebind.{rebind_plan, IsRebindAtIn};
+ghost use Rattle.rht_release.specs.Rebind.{rebind_plan, rebind_after, IsRebindAtIn};
 ghost use Rattle.rht_release.specs.declared.rebind.RebindAt.TheVariants as rebinds;
-ghost use Rattle.rht_callers.specs.declared.local.Doing.TheVariants.{Idle, Releasing, Rebinding};
-ghost use Rattle.rht_core.specs.Locals.{without_node};
-ghost use Rattle.rht_run.specs.PieceFrames.{doing_piece};
+ghost use Rattle.rht_callers.specs.declared.local.Doing.TheVariants.{Releasing, Rebinding};
+ghost use Rattle.rht_run.specs.Rides.{ended};
 ghost use Rattle.rht_release.specs.declared.seek.SeekAt.TheVariants as seeks;
-ghost use Rattle.rht_run.specs.Seeks.{port_seek, port_seek_after, seek_located, seek_locating, seek_probed, seek_probing, release_at, release_told, release_sought, release_seeking, rebind_at, rebind_told, rebind_filled, rebind_filling, rebind_sought, rebind_seeking};
+ghost use Rattle.rht_run.specs.Seeks.{port_seek, port_seek_after, seek_located, seek_locating, seek_probed, seek_probing, release_at, release_sought, release_seeking, rebind_at, rebind_filled, rebind_filling, rebind_sought, rebind_seeking};
 
 use crate::pieces::{Frame, Piece, PortLocate, PortLocated, Whole};
 use rht_arena::NewNode;
@@ -72,6 +71,8 @@ impl<M: Mix, F: Frame<M, PortSeek, (Port, Option<FoundPort>)>> Frame<M, PortLoca
 
     ghost empties = { λ f p room. F.empties f.frame (port_seek f.geometry p.port (seeks.Locating p.locate)) room };
 
+    ghost beside = { λ f p batch. F.beside f.frame (port_seek f.geometry p.port (seeks.Locating p.locate)) batch };
+
     ghost plans = { λ f p. F.plans f.frame (port_seek f.geometry p.port (seeks.Locating p.locate)) };
 
     ghost within = { λ env c f p is. (F.within env c f.frame (port_seek f.geometry p.port (seeks.Locating p.locate)) is).at_in };
@@ -104,6 +105,8 @@ impl<M: Mix, F: Frame<M, PortSeek, (Port, Option<FoundPort>)>> Frame<M, Probe, P
 
     ghost empties = { λ f p room. F.empties f.frame (port_seek f.geometry f.port (seeks.Probing f.table f.shape p)) room };
 
+    ghost beside = { λ f p batch. F.beside f.frame (port_seek f.geometry f.port (seeks.Probing f.table f.shape p)) batch };
+
     ghost plans = { λ f p. F.plans f.frame (port_seek f.geometry f.port (seeks.Probing f.table f.shape p)) };
 
     ghost within = { λ env c f p is. (F.within env c f.frame (port_seek f.geometry f.port (seeks.Probing f.table f.shape p)) is).at_in.probe_in };
@@ -115,10 +118,10 @@ impl<M: Mix, F: Frame<M, PortSeek, (Port, Option<FoundPort>)>> Frame<M, Probe, P
 
 // ---- the release
 
-impl<M: Mix> Piece<M, Reply> for Release<M> {
+impl<M: Mix> Piece<M, (Reply, Option<u32>)> for Release<M> {
     ghost plan_of = { release_plan };
 
-    ghost after_of = { release_told M.mix_of };
+    ghost after_of = { release_after M.mix_of };
 
     ghost is_in = { λ env m. IsReleaseAtIn env m.at };
 
@@ -128,27 +131,29 @@ impl<M: Mix> Piece<M, Reply> for Release<M> {
     }
 
     #[inline(always)]
-    fn told(&mut self, old: u64) -> Next<Reply> {
-        without_node(self.take(old))
+    fn told(&mut self, old: u64) -> Next<(Reply, Option<u32>)> {
+        self.take(old)
     }
 }
 
-impl<M: Mix> Frame<M, Release<M>, Reply> for Whole {
+impl<M: Mix> Frame<M, Release<M>, (Reply, Option<u32>)> for Whole {
     ghost use Rattle.std.specs.Prelude.{refl};
 
     ghost holding = { λ f m. Releasing m };
 
-    ghost behind = { λ f reply. (Idle, Some reply) };
+    ghost behind = { λ f end. ended end };
 
     ghost busy = { λ f m. refl };
 
     ghost empties = { λ f m room. refl };
 
+    ghost beside = { λ f m batch. refl };
+
     ghost plans = { λ f m. refl };
 
     ghost within = { λ env c f m is. is.at_in };
 
-    ghost goes = { λ f m old. doing_piece Releasing (release_told M.mix_of m old) };
+    ghost goes = { λ f m old. refl };
 
     ghost keeps = { λ f m room old. refl };
 }
@@ -172,6 +177,8 @@ impl<M: Mix> Frame<M, PortSeek, (Port, Option<FoundPort>)> for ReleaseSeeking {
 
     ghost empties = { λ f p room. refl };
 
+    ghost beside = { λ f p batch. refl };
+
     ghost plans = { λ f p. refl };
 
     ghost within = { λ env c f p is. is.at_in };
@@ -183,10 +190,10 @@ impl<M: Mix> Frame<M, PortSeek, (Port, Option<FoundPort>)> for ReleaseSeeking {
 
 // ---- the rebind
 
-impl<M: Mix> Piece<M, Reply> for Rebind<M> {
+impl<M: Mix> Piece<M, (Reply, Option<u32>)> for Rebind<M> {
     ghost plan_of = { rebind_plan };
 
-    ghost after_of = { rebind_told M.mix_of };
+    ghost after_of = { rebind_after M.mix_of };
 
     ghost is_in = { λ env m. IsRebindAtIn env m.at };
 
@@ -196,27 +203,29 @@ impl<M: Mix> Piece<M, Reply> for Rebind<M> {
     }
 
     #[inline(always)]
-    fn told(&mut self, old: u64) -> Next<Reply> {
-        without_node(self.take(old))
+    fn told(&mut self, old: u64) -> Next<(Reply, Option<u32>)> {
+        self.take(old)
     }
 }
 
-impl<M: Mix> Frame<M, Rebind<M>, Reply> for Whole {
+impl<M: Mix> Frame<M, Rebind<M>, (Reply, Option<u32>)> for Whole {
     ghost use Rattle.std.specs.Prelude.{refl};
 
     ghost holding = { λ f m. Rebinding m };
 
-    ghost behind = { λ f reply. (Idle, Some reply) };
+    ghost behind = { λ f end. ended end };
 
     ghost busy = { λ f m. refl };
 
     ghost empties = { λ f m room. refl };
 
+    ghost beside = { λ f m batch. refl };
+
     ghost plans = { λ f m. refl };
 
     ghost within = { λ env c f m is. is.at_in };
 
-    ghost goes = { λ f m old. doing_piece Rebinding (rebind_told M.mix_of m old) };
+    ghost goes = { λ f m old. refl };
 
     ghost keeps = { λ f m room old. refl };
 }
@@ -241,6 +250,8 @@ impl<M: Mix> Frame<M, NewNode, Option<u32>> for RebindFilling {
     ghost busy = { λ f p. refl };
 
     ghost empties = { λ f p room. refl };
+
+    ghost beside = { λ f p batch. refl };
 
     ghost plans = { λ f p. refl };
 
@@ -272,6 +283,8 @@ impl<M: Mix> Frame<M, PortSeek, (Port, Option<FoundPort>)> for RebindSeeking {
 
     ghost empties = { λ f p room. refl };
 
+    ghost beside = { λ f p batch. refl };
+
     ghost plans = { λ f p. refl };
 
     ghost within = { λ env c f p is. is.at_in.seek_in };
@@ -279,15 +292,4 @@ impl<M: Mix> Frame<M, PortSeek, (Port, Option<FoundPort>)> for RebindSeeking {
     ghost goes = { λ f p old. rebind_seeking f.env f.caller p.port f.owner f.new f.node (seek_after M.mix_of p.port p.seek old) };
 
     ghost keeps = { λ f p room old. refl };
-}
-
-/// The reply, without the node that was taken out.
-#[inline(always)]
-fn without_node(next: Next<(Reply, Option<u32>)>) -> Next<Reply>
-    ensures { result ≡ without_node next }
-{
-    match next {
-        Next::Go => Next::Go,
-        Next::Done((reply, _)) => Next::Done(reply),
-    }
 }

@@ -1,13 +1,13 @@
 //! The pieces of a resizing, and the states of its machine that hold them: the search for the last
 //! table, which it makes for itself and for each entry, and the locks of its two buckets.
 
-ghost use Rattle.std.specs.Prelude.{◌≡◌, ℕ, Some};
-ghost use Rattle.rht_callers.specs.declared.local.Doing.TheVariants.{Idle, Working};
+ghost use Rattle.std.specs.Prelude.{◌≡◌, ℕ};
+ghost use Rattle.rht_callers.specs.declared.local.Doing.TheVariants.{Working};
 ghost use Rattle.rht_chain.specs.Lock.{lock_after};
 ghost use Rattle.rht_move.specs.LastTable.{last_table_plan, last_table_after, IsLastTableIn};
 ghost use Rattle.rht_move.specs.Work.{work_plan, work_after, IsWorkAtIn};
 ghost use Rattle.rht_move.specs.declared.work.WorkAt.TheVariants as works;
-ghost use Rattle.rht_run.specs.PieceFrames.{doing_piece};
+ghost use Rattle.rht_run.specs.Rides.{replied};
 ghost use Rattle.rht_run.specs.WorkPieces.{work_at, work_on, work_seeking, entry_sought, entry_seeking, bucket_locked, bucket_locking, entry_linked, second_locking};
 
 use crate::pieces::{Frame, Piece, Whole};
@@ -40,17 +40,19 @@ impl<M: Mix> Frame<M, Work<M>, Reply> for Whole {
 
     ghost holding = { λ f m. Working m };
 
-    ghost behind = { λ f reply. (Idle, Some reply) };
+    ghost behind = { λ f reply. replied reply };
 
     ghost busy = { λ f m. refl };
 
     ghost empties = { λ f m room. refl };
 
+    ghost beside = { λ f m batch. refl };
+
     ghost plans = { λ f m. refl };
 
     ghost within = { λ env c f m is. is.at_in };
 
-    ghost goes = { λ f m old. doing_piece Working (work_after M.mix_of m old) };
+    ghost goes = { λ f m old. refl };
 
     ghost keeps = { λ f m room old. refl };
 }
@@ -94,6 +96,8 @@ impl<M: Mix> Frame<M, LastTable, Last> for WorkSeeking {
 
     ghost empties = { λ f p room. refl };
 
+    ghost beside = { λ f p batch. refl };
+
     ghost plans = { λ f p. refl };
 
     ghost within = { λ env c f p is. is.at_in.seek_in };
@@ -121,6 +125,8 @@ impl<M: Mix> Frame<M, LastTable, Last> for EntrySeeking {
     ghost busy = { λ f p. refl };
 
     ghost empties = { λ f p room. refl };
+
+    ghost beside = { λ f p batch. refl };
 
     ghost plans = { λ f p. refl };
 
@@ -153,6 +159,8 @@ impl<M: Mix> Frame<M, Lock, Locked> for BucketLocking {
 
     ghost empties = { λ f p room. refl };
 
+    ghost beside = { λ f p batch. refl };
+
     ghost plans = { λ f p. refl };
 
     ghost within = { λ env c f p is. is.at_in.lock_in };
@@ -182,6 +190,8 @@ impl<M: Mix> Frame<M, Lock, Locked> for SecondLocking {
     ghost busy = { λ f p. refl };
 
     ghost empties = { λ f p room. refl };
+
+    ghost beside = { λ f p batch. refl };
 
     ghost plans = { λ f p. refl };
 

@@ -246,7 +246,7 @@ impl<M: Mix> Table<M> {
         };
         let at = bucket_of_root(self.env.geometry, rehash, 0);
         let work = Work::<M>::new(self.env, caller).with(at);
-        self.run_whole::<R, K, Work<M>, Whole>(rt, seat, &Whole, work)
+        self.run_whole::<R, K, Reply, Work<M>, Whole>(rt, seat, &Whole, work)
     }
 
     /// Makes the future table the current one, and retires the table before, which is empty.

@@ -103,7 +103,7 @@ pub held-idle : (L : Type 0) (doing : Doing L) (batch : Option BatchModel) → d
 held-idle L doing batch idle = held-caller L doing batch (λ m is. let busy : does_nothing {M = L} (Tidying m) ≡ true = ap does_nothing (sym is) ∙ idle in cc)
 
 -- who does a tidying is at one
-tidying-of : (L : Type 0) (doing : Doing L) (job : Job) → job_of doing ≡ Some job → call_of job ≡ Tidy → (m : TidyModel) × (doing ≡ Tidying m)
+pub tidying-of : (L : Type 0) (doing : Doing L) (job : Job) → job_of doing ≡ Some job → call_of job ≡ Tidy → (m : TidyModel) × (doing ≡ Tidying m)
 tidying-of L (Tidying m) job is asked = (m, refl)
 tidying-of L doing job is asked = absurd (cc)
 

@@ -65,6 +65,7 @@ use Rattle.rht_core.proofs.Finding.LookSteps.{IsSpent, spent_leads, spent_stays}
 use Rattle.rht_core.proofs.Returning.Meeting.{MeetsRight}
 use Rattle.rht_core.proofs.Returning.MetBySome.{met_by, IsApart}
 use Rattle.rht_core.proofs.Returning.Readers.{Reader}
+use Rattle.rht_core.proofs.Returning.WaitingEvents.{AllWait}
 
 module _ (L : Type 0) (mix : ℕ → ℕ → ℕ → ℕ) (env : Env) where
   abbrev R : List Event → Traced L
@@ -112,13 +113,14 @@ module _ (L : Type 0) (mix : ℕ → ℕ → ℕ → ℕ) (env : Env) where
   is_look (calls.Find port) = true
   is_look _ = false
 
-  -- and of each caller, with what its section has met
+  -- and of each caller, with what its section has met, and what is kept for the nodes that wait in its batch
   pub record AreLooking (events : List Event) (r : Traced L) : Type 0 where
     pub placed : Placed env mix L events r.world.core
     pub readers : ℕ → Reader
     pub meets : (c : ℕ) → c < env.geometry.callers → MeetsRight env mix L r.world.core placed.ghost c (readers c)
     pub looks : (c : ℕ) → CallerLooks events r.world.core placed (readers c).chains c (r.traces c)
         (job_of (local_of r.world.core c).doing)
+    pub waits : AllWait env mix L r.world.core readers r.world.core
 
   -- Where a caller stands before and behind an event its section has met the node; what it has met some section has met; and it has met that
   -- still, or it stands nowhere.

@@ -31,11 +31,12 @@ use Rattle.rht_find.specs.declared.find.FindAt.{FindAt}
 use Rattle.rht_find.specs.declared.find.FindAt.TheVariants as at
 use Rattle.rht_callers.specs.declared.local.Local.{Local}
 use Rattle.rht_callers.specs.declared.local.Doing.{Doing}
+use Rattle.rht_callers.specs.Batches.{nodes_held}
 use Rattle.rht_callers.specs.Locals.{local_after, ending_of}
 use Rattle.rht_core.specs.declared.event.Event.{Event}
 use Rattle.rht_core.specs.declared.event.Event.TheVariants.{Enroll, Begin, Step}
 use Rattle.rht_grace.specs.Batch.{BatchModel}
-use Rattle.rht_core.specs.Jobs.{Job, finds, tidies, first_job, job_of, job_plan, job_next, job_after, told, held_of, held_next, call_of}
+use Rattle.rht_core.specs.Jobs.{Job, finds, first_job, job_of, job_plan, job_next, job_after, told, held_of, held_next, call_of}
 use Rattle.rht_core.specs.Runs.{Core, World, View, IsAdmitted, IsAdmittedEvent, local_of, beginning_in, planned_in, world_step}
 use Rattle.rht_core.specs.Reach.{ComesTo}
 use Rattle.rht_core.specs.Standings.{standing, standing_with}
@@ -73,8 +74,12 @@ use Rattle.rht_core.proofs.Finding.LookSteps.{IsSpent, spent_leads, spent_stays}
 use Rattle.rht_core.proofs.Returning.ComingJobs.{KnowsLook, job_comes}
 use Rattle.rht_core.proofs.Returning.GoneBack.{gives_back}
 use Rattle.rht_core.proofs.Returning.Meeting.{Leads, MeetsRight, stands_next, next_job, event_leads, stands_outside, reader_then, meets_then, stood, will_stand, turns}
-use Rattle.rht_core.proofs.Returning.MetBySome.{met-of}
-use Rattle.rht_core.proofs.Returning.Readers.{Reader, reads_nothing, reader-leaves}
+use Rattle.rht_core.proofs.Returning.Batches.{AreOut}
+use Rattle.rht_core.proofs.Returning.MetBySome.{met-of, apart-unmet}
+use Rattle.rht_core.proofs.Returning.SectionWords.{event_turns}
+use Rattle.rht_core.proofs.Returning.WaitingBatches.{waits_stay}
+use Rattle.rht_core.proofs.Returning.WaitingEvents.{Waits, AllWait, tidies-of, event_waits, given_apart}
+use Rattle.rht_core.proofs.Returning.Readers.{Reader, ReaderRight, reads_nothing, reader-leaves}
 use Rattle.rht_core.proofs.Returning.TiedJobs.{tied_with}
 
 module _ (L : Type 0) (mix : ℕ → ℕ → ℕ → ℕ) (env : Env) where
@@ -224,13 +229,14 @@ module _ (L : Type 0) (mix : ℕ → ℕ → ℕ → ℕ) (env : Env) where
         (standing_with (told (job_after mix env of.job (old_of core.words (job_plan env c of.job)))).0)) (sym (ap standing_with of.is)) goes)
 
     -- a node that is given back no section has met
-    never_tidies : (c : ℕ) (job : Job) → JobIn env mix c job → call_of job ≡ calls.Tidy → ⊥
-    never_tidies c (tidies batch state) within is = ?
-    never_tidies c _ within is = cc
-
-    pub unmet : (c : ℕ) (op : Op) (of : StepOf env mix L core G c op) (n : ℕ) → of.step.move ≡ ReturnsNode n
+    pub unmet : (c : ℕ) (op : Op) (of : StepOf env mix L core G c op) (n : ℕ) → planned_in core c ≡ Some op
+        → of.step.move ≡ ReturnsNode n
         → IsUnmet env (mem env mix core.words) (met_now L mix env looking) n × ApartNow L mix env looking n
-    unmet c op of n is = absurd (never_tidies c of.job of.within (of.step.returning n is))
+    unmet c op of n planned is =
+        let right : (d : ℕ) → d < env.geometry.callers → ReaderRight env mix (mem env mix core.words) G d (looking.readers d) =
+        λ d low. (looking.meets d low).right in
+        let apart = given_apart env mix L core placed.all looking.readers G right c op of planned n is looking.waits in
+        (apart-unmet env mix (mem env mix core.words) G env.geometry.callers looking.readers right n apart, apart)
 
     -- ---- behind it
 
@@ -285,6 +291,15 @@ module _ (L : Type 0) (mix : ℕ → ℕ → ℕ → ℕ) (env : Env) where
               (looking.readers c) (looking.meets c low) (leads c low) not_met (stands_outside env mix L core' parity' c (few c low));
         }
 
+      -- what is kept for waiting nodes
+      pub waits_next : AllWait env mix L core' readers' core'
+      waits_next c low =
+          waits_stay env mix L (mem env mix core.words) (mem env mix core'.words) looking.readers readers' G' c
+          (λ d below. event_turns env mix L core G event placed.all makes.all placed.inv d (few d below)) (λ d. refl)
+          (local_of core' c).doing (local_of core' c).batch (tidies-of env mix L c (local_of core' c).doing (makes.all.locals c).doing)
+          (subst (λ K. AreOut c K (nodes_held (local_of core' c).doing (local_of core' c).batch)) makes.same (makes.inv.batches c).out)
+          (event_waits env mix L core placed.all looking.readers event looking.waits c low)
+
       pub turn_at : Turns L mix env events event looking
       turn_at = record { makes = makes; then = λ c. (readers' c).chains; sees = sees_on }
 
@@ -298,6 +313,7 @@ module _ (L : Type 0) (mix : ℕ → ℕ → ℕ → ℕ) (env : Env) where
     readers = readers' events admitted looking event may;
     meets = λ c low. meets_next events admitted looking event may c low;
     looks = each event (turn_at events admitted looking event may);
+    waits = waits_next events admitted looking event may;
   }
     where
       each : (event : Event) → (turn : Turns L mix env events event looking) → EachLooks L mix env events event looking turn
@@ -321,6 +337,8 @@ module _ (L : Type 0) (mix : ℕ → ℕ → ℕ → ℕ) (env : Env) where
       now = subst (λ (local : Local L). JobLooks L mix env [] (R []).world.core (placed_opening env mix L) (λ n. false) c 0 0
           (job_of local.doing)) (sym (idle_at_opening env mix L c)) tt;
     };
+    waits = λ c. subst (Waits env mix L (R []).world.core (λ d. reads_nothing) c) (sym (idle_at_opening env mix L c))
+        (λ low d below n there. absurd there);
   }
 
   pub has_looks : (events : List Event) → IsAdmitted kind events → AreLooking L mix env events (R events)

@@ -188,7 +188,8 @@ module _ (env : Env) (mix : ℕ → ℕ → ℕ → ℕ) (L : Type 0) where
   module _ (events : List Event) (w : World L)
       (stands : bindings_at L mix env events ≡ stands_for env.geometry w.core.words)
       (placed : Placed events w.core) (met : ℕ → Bool) (Apart : ℕ → Type 0)
-      (unmet : (c : ℕ) (op : Op) (of : StepOf env mix L w.core placed.ghost c op) (n : ℕ) → of.step.move ≡ ReturnsNode n
+      (unmet : (c : ℕ) (op : Op) (of : StepOf env mix L w.core placed.ghost c op) (n : ℕ) → planned_in w.core c ≡ Some op
+      → of.step.move ≡ ReturnsNode n
       → IsUnmet env (mem env mix w.core.words) met n × Apart n) where
     abbrev core : Core L
     core = w.core
@@ -230,12 +231,12 @@ module _ (env : Env) (mix : ℕ → ℕ → ℕ → ℕ) (L : Type 0) where
           given = λ n is. absurd (cc);
           apart = λ n is. absurd (cc);
         }
-    step_makes c (Some op) is may =
+    step_makes c (Some op) plans may =
         let k = kept env mix L w.core placed.ghost (Step c) placed.all placed.inv in
-        let moves = k.ghost_kept.some op is in
+        let moves = k.ghost_kept.some op plans in
         let of = moves.0 in
         let same : (core_step mix w.core (Step c)).0.words ≡ applied w.core.words op =
-        ap (λ o. (with_step mix w.core c o).0.words) is in
+        ap (λ o. (with_step mix w.core c o).0.words) plans in
         record {
           caller = c;
           move = of.step.move;
@@ -247,11 +248,11 @@ module _ (env : Env) (mix : ℕ → ℕ → ℕ → ℕ) (L : Type 0) where
           inv = k.inv;
           all = event-all L mix env w (Step c) may placed.all;
           given = λ n is. record {
-            unmet = (unmet c op of n is).0;
+            unmet = (unmet c op of n plans is).0;
             words = subst (λ words. (m : ℕ) (word : NodeWord) → m < env.geometry.nodes
                 → mem env mix words (Node m word) ≡ mem env mix w.core.words (Node m word)) (sym same) (words_left c op of n is);
           };
-          apart = λ n is. (unmet c op of n is).1;
+          apart = λ n is. (unmet c op of n plans is).1;
         }
 
     pub event_makes : (event : Event) → IsAdmittedEvent env.config.kind event → Makes event

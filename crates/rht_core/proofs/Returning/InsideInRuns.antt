@@ -1,27 +1,26 @@
 -- In every run an operation of a call is on what is its own, or on what its caller could reach in its section, and leads nowhere else.
-use Rattle.std.proofs.Common.{◌≡◌, ℕ, ◌+◌, ◌/◌, ◌<◌, ◌⊎◌, true, List, get_or, take, drop, length, Some, refl, sym, ◌∙◌, ap, subst, inl, inr, arith}
+use Rattle.std.proofs.Common.{◌≡◌, ℕ, ◌+◌, ◌/◌, ◌<◌, ◌⊎◌, true, List, take, drop, length, slice_index, Some, refl, sym, ◌∙◌, ap, subst, inl, inr, arith}
 use Rattle.std.proofs.lemmas.List.{take-append-drop}
 use Rattle.rht_words.specs.declared.op.Op.{Op}
 use Rattle.rht_words.specs.declared.env.Env.{Env}
 use Rattle.rht_words.specs.declared.geometry.Geometry.{Geometry}
 use Rattle.rht_words.specs.Standing.{Standing}
 use Rattle.rht_words.specs.Operations.{op_place}
-use Rattle.rht_words.specs.Places.{Address, CurrentTable, PortCount, Slot, SlotWord, ShapeWord, SeedWord, FutureWord, SerialWord, StateWord, LoadedSection, IsSlotWord, NodeMap, Section, Node, PageWord, IsAddress, place_of}
+use Rattle.rht_words.specs.Places.{Address, CurrentTable, PortCount, Slot, SlotWord, ShapeWord, SeedWord, FutureWord, SerialWord, StateWord, LoadedSection, IsSlotWord, Node, PageWord, Section, NodeMap, IsAddress, place_of}
 use Rattle.rht_words.specs.TableWords.{IsTableWord}
 use Rattle.rht_words.proofs.EachElement.{AllByRecursion-cut}
 use Rattle.rht_words.proofs.PlacesApart.{place_of-apart}
+use Rattle.rht_grace.specs.Batch.{BatchModel}
+use Rattle.rht_grace.specs.Tidy as tidy
+use Rattle.rht_grace.specs.declared.tidy.TidyAt.{TidyAt}
+use Rattle.rht_grace.specs.declared.tidy.TidyAt.TheVariants as tidy_at
+use Rattle.rht_core.specs.Tidyings.{IsTidyingIn}
+use Rattle.rht_core.proofs.Machines.TidyRanges.{waiting_low}
 use Rattle.rht_find.specs.Find as find
 use Rattle.rht_find.specs.Find.{IsFindAtIn}
 use Rattle.rht_find.specs.FindHeld.{held_of_find}
 use Rattle.rht_find.specs.FindStanding.{standing_of_find}
 use Rattle.rht_find.specs.declared.find.FindAt.{FindAt}
-use Rattle.rht_grace.specs.Batch.{BatchModel}
-use Rattle.rht_grace.specs.Tidy as tidy
-use Rattle.rht_grace.specs.Tidy.{load_of}
-use Rattle.rht_grace.specs.declared.tidy.TidyAt.{TidyAt}
-use Rattle.rht_grace.specs.declared.tidy.TidyAt.TheVariants as tidy_at
-use Rattle.rht_core.specs.Tidyings.{IsTidyingIn}
-use Rattle.rht_core.proofs.Machines.TidyRanges.{waiting_low}
 use Rattle.rht_core.specs.declared.event.Event.{Event}
 use Rattle.rht_core.specs.Jobs.{Job, finds, binds, lists, releases, rebinds, works, tidies, counts, job_of, job_plan, held_of}
 use Rattle.rht_core.specs.Reach.{Thing, TableIn, PageAt, NodeAt, CouldReach, ReachesPage, at_table, at_node, at_listed, in_chain, IsReading, IsOwnNode, IsOwnSlot, IsWithin, Inside}
@@ -198,19 +197,18 @@ module _ (env : Env) (mix : ℕ → ℕ → ℕ → ℕ) (L : Type 0) where
               apart = nobody env mix L events core met c (TableIn slot) own.1;
             })
 
-      section_asked : (caller : ℕ) → caller < env.geometry.callers → IsAsked core c (load_of caller)
-      section_asked caller there =
-          let callers = env.geometry.within.callers_within in
-          record { address = Section caller; there = omega (arith, there, callers.1); on = refl; asked = tt }
+      few_callers : (caller : ℕ) → caller < g.callers → caller < 16
+      few_callers caller there = let callers = g.within.callers_within in omega (arith, there, callers.1)
 
       -- a tidying loads section words, and gives nodes back
-      tidy_asked : (batch : BatchModel) (state : TidyAt) → IsTidyingIn env.geometry batch state
-          → IsAsked core c (tidy.plan_at env.geometry batch state)
-      tidy_asked batch (tidy_at.Keeping caller) within = section_asked caller within.at_in
-      tidy_asked batch (tidy_at.Asking caller) within = section_asked caller within.at_in
+      tidy_asked : (batch : BatchModel) (state : TidyAt) → IsTidyingIn g batch state → IsAsked core c (tidy.plan_at g batch state)
+      tidy_asked batch (tidy_at.Keeping caller) within =
+          record { address = Section caller; there = few_callers caller within.at_in; on = refl; asked = tt }
+      tidy_asked batch (tidy_at.Asking caller) within =
+          record { address = Section caller; there = few_callers caller within.at_in; on = refl; asked = tt }
       tidy_asked batch (tidy_at.Giving index) within =
-          let there = waiting_low env.geometry batch (tidy_at.Giving index) index within in
-          record { address = NodeMap (get_or batch.waiting index 0 / 64); there = omega (arith, there); on = refl; asked = tt }
+          let low = waiting_low g batch (tidy_at.Giving index) index within in
+          record { address = NodeMap (slice_index batch.waiting index / 64); there = omega (arith, low); on = refl; asked = tt }
 
       job_asked : (job : Job) → job_of (local_of core c).doing ≡ Some job → JobIn env mix c job
           → JobKnows env mix c job (mem env mix core.words) G → tied_of env mix G job → IsAsked core c (job_plan env c job)

@@ -31,8 +31,8 @@ module _ (env : Env) (mix : ℕ → ℕ → ℕ → ℕ) (L : Type 0) where
     pub readers : ℕ → Reader
     pub each : (c : ℕ) → c < env.geometry.callers → MeetsRight env mix L core placed.ghost c (readers c)
     -- a node that is given back no section has met
-    pub apart : (c : ℕ) (op : Op) (of : StepOf env mix L core placed.ghost c op) (n : ℕ) → of.step.move ≡ ReturnsNode n
-        → IsApart env.geometry.callers readers n
+    pub apart : (c : ℕ) (op : Op) (of : StepOf env mix L core placed.ghost c op) (n : ℕ) → planned_in core c ≡ Some op
+        → of.step.move ≡ ReturnsNode n → IsApart env.geometry.callers readers n
 
   module _ (events : List Event) (admitted : IsAdmitted env.config.kind events) where
     abbrev core : Core L
@@ -46,7 +46,7 @@ module _ (env : Env) (mix : ℕ → ℕ → ℕ → ℕ) (L : Type 0) where
           placed = looking.placed;
           readers = looking.readers;
           each = looking.meets;
-          apart = λ c op of n is. (unmet L mix env events admitted looking c op of n is).1;
+          apart = λ c op of n planned is. (unmet L mix env events admitted looking c op of n planned is).1;
         })
 
     pub open_now : (c : ℕ) → c < 16 → (job : Job) → job_of (local_of core c).doing ≡ Some job → (held_of job).section ≡ true

@@ -1,6 +1,6 @@
 -- In every run nobody in a section could reach what an operation gives back: it is a caller's own until then, and what could be reached is
 -- some table's or was a port's.
-use Rattle.std.proofs.Common.{◌≡◌, ◌≢◌, ◌⊎◌, ℕ, suc, ◌/◌, ◌%◌, ◌<◌, List, length, true, false, take, drop, slice_index, refl, sym, ◌∙◌, ap, subst, inl, inr, arith}
+use Rattle.std.proofs.Common.{◌≡◌, ◌≢◌, ◌⊎◌, ℕ, suc, ◌/◌, ◌%◌, ◌<◌, List, length, Some, true, false, take, drop, slice_index, refl, sym, ◌∙◌, ap, subst, inl, inr, arith}
 use Rattle.std.specs.Int.{bit_at}
 use Rattle.std.proofs.lemmas.Bool.{both_ways}
 use Rattle.std.proofs.lemmas.List.{take-append-drop}
@@ -12,7 +12,7 @@ use Rattle.rht_words.proofs.EachElement.{AllByRecursion-cut}
 use Rattle.rht_words.proofs.Memory.{is_write}
 use Rattle.rht_core.specs.declared.event.Event.{Event}
 use Rattle.rht_core.specs.Reach.{Thing, TableIn, PageAt, NodeAt, CouldReach, IsFreeThing, GivesBack, NobodyReaches, Safe, NeverFree}
-use Rattle.rht_core.specs.Runs.{Core, run_of, IsAdmitted, IsAdmittedEvent}
+use Rattle.rht_core.specs.Runs.{Core, run_of, planned_in, IsAdmitted, IsAdmittedEvent}
 use Rattle.rht_core.specs.Standings.{standing}
 use Rattle.rht_core.specs.Traces.{Did}
 use Rattle.rht_core.proofs.Events.Invariants.{StepOf, step_of}
@@ -167,14 +167,14 @@ module _ (env : Env) (mix : ℕ → ℕ → ℕ → ℕ) (L : Type 0) where
 
   -- so it is of one that goes back
   comes_back : (events : List Event) (core : Core L) (met : Met env mix L events core) (c : ℕ) (op : Op)
-      → (of : StepOf env mix L core met.placed.ghost c op) (thing : Thing)
+      → (of : StepOf env mix L core met.placed.ghost c op) → planned_in core c ≡ Some op → (thing : Thing)
       → IsBack env mix c met.placed.ghost (ghost_after env mix c of.step.move met.placed.ghost) thing
       → NobodyReaches env.geometry core thing
-  comes_back events core met c op of (NodeAt node) back =
-      nobody_back events core met node (met.apart c op of node
+  comes_back events core met c op of planned (NodeAt node) back =
+      nobody_back events core met node (met.apart c op of node planned
       (gives_back env mix c (mem env mix core.words) met.placed.ghost met.placed.inv.whole node back.was of.step.move of.step.ready back.now))
-  comes_back events core met c op of (PageAt page) back = absurd back
-  comes_back events core met c op of (TableIn slot) back = absurd back
+  comes_back events core met c op of planned (PageAt page) back = absurd back
+  comes_back events core met c op of planned (TableIn slot) back = absurd back
 
 pub safe : (L : Type 0) (mix : ℕ → ℕ → ℕ → ℕ) → Safe L mix
 safe L mix env events c did thing admitted recorded gives =
@@ -189,7 +189,7 @@ safe L mix env events c did thing admitted recorded gives =
     of.all did refl recorded.found thing gives in
     elim taken [
       | inl own ↦ nobody env mix L before core met own.0 thing own.1
-      | inr back ↦ comes_back env mix L before core met c did.op of thing back
+      | inr back ↦ comes_back env mix L before core met c did.op of recorded.plan thing back
     ]
 
 pub never_free : (L : Type 0) (mix : ℕ → ℕ → ℕ → ℕ) → NeverFree L mix

@@ -14,6 +14,7 @@ returns-clause-doing g c =
     has_stepped g.M.Mix.mix_of c.args.self.now g.K.Ride.riding c.args.seat.now
     (g.F.Frame.holding c.args.frame.now c.args.piece.now) c.perform.new.seat c.perform.result c.requires.riding
     (λ room. g.met.F.Frame.keeps c.args.frame.now c.args.piece.now room c.perform.result)
+    (λ batch. g.F.Frame.beside c.args.frame.now c.args.piece.now batch)
     c.perform.ensures.seat c.perform.ensures.went
 
 pub returns-clause-piece : goal.returns-clause-piece
@@ -24,6 +25,7 @@ returns-clause-piece g c =
     (has_stepped g.M.Mix.mix_of c.args.self.now g.K.Ride.riding c.args.seat.now
     (g.F.Frame.holding c.args.frame.now c.args.piece.now) c.perform.new.seat c.perform.result c.requires.riding
     (λ room. g.met.F.Frame.keeps c.args.frame.now c.args.piece.now room c.perform.result)
+    (λ batch. g.F.Frame.beside c.args.frame.now c.args.piece.now batch)
     c.perform.ensures.seat c.perform.ensures.went)
 
 pub returns-clause-counted : goal.returns-clause-counted

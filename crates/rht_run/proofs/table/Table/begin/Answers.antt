@@ -15,6 +15,7 @@ returns-clause-doing g c =
     c.perform.new.seat c.perform.result c.requires.before c.requires.begins
     (λ room. g.F.Frame.empties c.args.frame.now c.args.piece.now room)
     (λ room. g.met.F.Frame.keeps c.args.frame.now c.args.piece.now room c.perform.result)
+    (λ batch. g.F.Frame.beside c.args.frame.now c.args.piece.now batch)
     c.perform.ensures.seat c.perform.ensures.went
 
 pub returns-clause-piece : goal.returns-clause-piece
@@ -26,4 +27,5 @@ returns-clause-piece g c =
     c.perform.new.seat c.perform.result c.requires.before c.requires.begins
     (λ room. g.F.Frame.empties c.args.frame.now c.args.piece.now room)
     (λ room. g.met.F.Frame.keeps c.args.frame.now c.args.piece.now room c.perform.result)
+    (λ batch. g.F.Frame.beside c.args.frame.now c.args.piece.now batch)
     c.perform.ensures.seat c.perform.ensures.went)

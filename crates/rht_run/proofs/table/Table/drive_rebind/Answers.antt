@@ -17,8 +17,8 @@ begin_with_node-begun-requires-clause-begins g c =
     let env = c.args.self.now.env in
     let filling : Geometry → Option (Doing g.row.M.Denot) = λ geometry.
     Some (rebind_at env c.args.number c.args.port c.args.owner c.args.new (Filling (new_node_new geometry (word_of c.args.port) c.args.new))) in
-    ap (λ n. machine_of env n g.K.Ride.riding.call) c.requires.number
-    ∙ ap (λ (call : Call). machine_of env c.args.number call) c.requires.call
+    ap (λ n. machine_of env n g.K.Ride.riding.batch g.K.Ride.riding.call) c.requires.number
+    ∙ ap (λ (call : Call). machine_of env c.args.number g.K.Ride.riding.batch call) c.requires.call
     ∙ ap (rebinding_of env c.args.number c.args.port c.args.owner c.args.new) c.requires.single
     ∙ ap filling (sym c.starts-starts.ensures)
 

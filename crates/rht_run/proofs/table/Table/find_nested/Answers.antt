@@ -1,4 +1,4 @@
-use Rattle.std.proofs.Common.{◌∙◌, sym, ap, subst, arith}
+use Rattle.std.proofs.Common.{◌∙◌, sym, ap, subst, arith, None}
 use Rattle.rht_model.specs.declared.history.Call.{Call}
 use Rattle.rht_model.specs.declared.history.Reply.{Reply}
 use Rattle.rht_core.specs.Replies.{IsReplyTo}
@@ -15,7 +15,7 @@ new-find-requires g c =
 pub returns : goal.returns
 returns g c =
     let ended = c.find_on.ensures in
-    let is = drive_answered g.M.Mix.mix_of c.args.self.now g.K.Ride.riding c.find_on.result c.find_on.new.seat ended in
+    let is = drive_answered g.M.Mix.mix_of c.args.self.now g.K.Ride.riding c.find_on.result None c.find_on.new.seat ended in
     subst (λ (reply : Reply). HasEnded g.M.Mix.mix_of c.args.self.now g.K.Ride.riding reply c.find_on.new.seat)
     (sym (looked_up-owner_in c.find_on.result (subst (λ (call : Call). IsReplyTo call c.find_on.result) c.requires.call is.reply))
     ∙ sym (ap looked_up c.owner_in.ensures)) ended
