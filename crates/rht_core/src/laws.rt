@@ -4,6 +4,7 @@ ghost use Rattle.rht_core.specs.Alone.{Alone};
 ghost use Rattle.rht_core.specs.Attached.{Attached};
 ghost use Rattle.rht_core.specs.Causes.{Causes};
 ghost use Rattle.rht_core.specs.Counts.{Counted, AtRest};
+ghost use Rattle.rht_core.specs.Tidied.{Tidied};
 ghost use Rattle.rht_core.specs.FewPorts.{FewPorts, OneCaller};
 ghost use Rattle.rht_core.specs.Kicks.{Kicks};
 ghost use Rattle.rht_core.specs.LetGo.{LetGo};
@@ -243,6 +244,17 @@ pub fn counted<M: Mix>()
 /// moment comes.
 pub fn at_rest<M: Mix>()
     ensures { AtRest M M.mix_of }
+{}
+
+/// In every run each tidying that has ended, beside its caller's batch before the call began. Where it was
+/// answered `Clear` it has given back just the nodes that were due: those that waited, or the fresh ones where
+/// none waited. So many it says, and none waits then. Where it was answered `Pending` it has given back none,
+/// and they wait. The fresh nodes of a batch in which some waited stay fresh. And its last operation found the
+/// odd section word that was kept of that caller.
+///
+/// It doesn't say that nobody could reach these nodes; that is `safe`.
+pub fn tidied<M: Mix>()
+    ensures { Tidied M M.mix_of }
 {}
 
 /// In every run a call that was refused has undone what it did; so has a bind that was answered `Exists`,

@@ -3,7 +3,7 @@
 -- A call that begins keeps it, and so does each operation, of the caller or of another one. It speaks of the ghost, so it goes with the
 -- invariant event by event.
 use Rattle.std.specs.Prelude.{IfSome, option_map}
-use Rattle.std.proofs.Common.{◌≡◌, ◌≢◌, ◌⊎◌, ℕ, zero, ◌+◌, ◌<◌, List, [], ◌∷◌, ◌++◌, length, true, false, arith, Option, Some, None, refl, sym, ap, ◌∙◌, subst, inl, inr}
+use Rattle.std.proofs.Common.{◌≡◌, ◌≢◌, ◌⊎◌, ℕ, ◌+◌, ◌<◌, List, [], ◌∷◌, ◌++◌, length, true, false, arith, Option, Some, None, refl, sym, ap, ◌∙◌, subst, inl, inr}
 use Rattle.rht_words.specs.declared.op.Op.{Op}
 use Rattle.rht_words.specs.declared.env.Env.{Env}
 use Rattle.rht_words.specs.declared.geometry.Geometry.{Geometry}
@@ -82,7 +82,7 @@ put-none None = tt
 put-none (Some batch) = tt
 
 -- a caller is at a tidying, or isn't
-is_tidying : (L : Type 0) (doing : Doing L) → ((m : TidyModel) × (doing ≡ Tidying m)) ⊎ ((m : TidyModel) → doing ≡ Tidying m → ⊥)
+pub is_tidying : (L : Type 0) (doing : Doing L) → ((m : TidyModel) × (doing ≡ Tidying m)) ⊎ ((m : TidyModel) → doing ≡ Tidying m → ⊥)
 is_tidying L (Tidying m) = inl (m, refl)
 is_tidying L _ = inr (λ m is. cc)
 
