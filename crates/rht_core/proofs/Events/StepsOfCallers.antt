@@ -1,40 +1,30 @@
 -- What a caller knows by its job, and that the operation which it plans is its job's and a step, where the whole is true of the words and
 -- some ghost.
-use Rattle.std.proofs.Common.{◌≡◌, ◌≢◌, ℕ, zero, suc, ◌+◌, ◌<◌, ◌++◌, true, length, refl, sym, ap, ◌∙◌, subst, inl, inr, arith}
+use Rattle.std.proofs.Common.{◌≡◌, ℕ, zero, suc, ◌<◌, ◌++◌, true, length, refl, sym, ap, ◌∙◌, subst, arith}
 use Rattle.std.specs.Prelude.{Option, Some, None}
-use Rattle.std.proofs.lemmas.Bool.{cases_eq}
-use Rattle.std.proofs.lemmas.List.{get_or-set_same, get_or-set_other}
 use Rattle.rht_words.specs.declared.op.Op.{Op}
 use Rattle.rht_words.specs.declared.env.Env.{Env}
 use Rattle.rht_words.specs.declared.machine.Next.{Next}
 use Rattle.rht_words.specs.declared.machine.Next.TheVariants.{Go, Done}
-use Rattle.rht_words.specs.Operations.{old_of, word_after, applied}
-use Rattle.rht_words.specs.Places.{EnrolledCallers, words_in, word_at}
-use Rattle.rht_words.proofs.Memory.{Memory, is_write}
-use Rattle.rht_words.proofs.EachElement.{each_set}
+use Rattle.rht_words.specs.Operations.{old_of}
+use Rattle.rht_words.specs.Places.{words_in}
+use Rattle.rht_words.proofs.Memory.{Memory}
 use Rattle.rht_words.proofs.Members.{count_below-same}
 use Rattle.rht_model.specs.declared.history.Call.{Call}
 use Rattle.rht_model.specs.Endings.{Ending}
-use Rattle.rht_core.specs.declared.event.Event.{Event}
-use Rattle.rht_core.specs.declared.event.Event.TheVariants.{Enroll, Begin}
-use Rattle.rht_core.specs.declared.event.Event.TheVariants as events
 use Rattle.rht_callers.specs.declared.local.Doing.{Doing}
-use Rattle.rht_callers.specs.Locals.{fresh, does_nothing, machine_of, begin_with, local_after}
-use Rattle.rht_core.specs.Runs.{Core, local_of, beginning_in, planned_in, enrolling, core_step}
-use Rattle.rht_core.specs.Jobs.{Job, job_plan, job_after, job_of, told, held_of, held_next}
+use Rattle.rht_callers.specs.Locals.{does_nothing, machine_of}
+use Rattle.rht_core.specs.Runs.{Core, local_of, planned_in}
+use Rattle.rht_core.specs.Jobs.{Job, job_plan, job_after, job_of, told}
 use Rattle.rht_callers.proofs.CallBeginnings.{begins_so}
-use Rattle.rht_core.proofs.Events.Worlds.{beginning-some, planned-some}
-use Rattle.rht_core.proofs.Events.SoundRuns.{has_place, made_in}
+use Rattle.rht_core.proofs.Events.Worlds.{planned-some}
 use Rattle.rht_core.proofs.Events.RangesInRuns.{AllIn, job-in}
-use Rattle.rht_core.proofs.Events.JobsOfCallers.{plan-job, left-job, nothing-job, is_no_job}
+use Rattle.rht_core.proofs.Events.JobsOfCallers.{plan-job, nothing-job, is_no_job}
 use Rattle.rht_ghost.proofs.Theory.Ghosts.{Ghost, is_taken_by}
 use Rattle.rht_ghost.proofs.Theory.Wholes.{outs, Whole}
-use Rattle.rht_ghost.proofs.Theory.Answering.{outs_of}
-use Rattle.rht_ghost.proofs.Theory.Frames.{StaleStay, stale_write, same_owners}
 use Rattle.rht_ghost.proofs.Theory.Reliance.{Rely}
 use Rattle.rht_ghost.proofs.Theory.KnowledgeKept.{Knowing-rely}
-use Rattle.rht_ghost.proofs.Theory.Steps.{mem, ghost_after}
-use Rattle.rht_ghost.proofs.Moves.Quiet.{aside}
+use Rattle.rht_ghost.proofs.Theory.Steps.{mem}
 use Rattle.rht_ghost.proofs.Theory.Knowns.{known_nothing}
 use Rattle.rht_core.proofs.Machines.TidySteps.{OwnsNodes}
 use Rattle.rht_core.proofs.Machines.JobSteps.{JobIn, JobKnows, JobKnows-rely, JobStepOf, KnowsNothing, JobNext, holds_no, job_step}

@@ -1,7 +1,7 @@
 -- How many nodes a call has given back. A tidying gives back those that wait, one behind the other: those that it has given back and those
 -- that it has still are as many as it had at its beginning. No other call gives any back.
 use Rattle.std.specs.Prelude.{IfSome, nat_lt, if◌then◌else◌}
-use Rattle.std.proofs.Common.{◌≡◌, ℕ, zero, suc, ◌+◌, ◌<◌, ◌≤◌, ◌++◌, ◌==◌, List, [], length, length-append, length-drop, drop, get_or, Option, Some, None, refl, ap, ◌∙◌, subst, sym, arith}
+use Rattle.std.proofs.Common.{◌≡◌, ℕ, zero, suc, ◌+◌, ◌≤◌, ◌++◌, ◌==◌, List, length, length-append, length-drop, drop, get_or, Option, Some, None, refl, ap, ◌∙◌, subst, arith}
 use Rattle.std.proofs.lemmas.List.{append-nil}
 use Rattle.rht_words.specs.declared.env.Env.{Env}
 use Rattle.rht_words.specs.declared.geometry.Geometry.{Geometry}
@@ -13,18 +13,17 @@ use Rattle.rht_model.specs.declared.history.Reply.{Reply}
 use Rattle.rht_model.specs.declared.history.Reply.TheVariants.{Clear, Pending}
 use Rattle.rht_model.specs.Endings.{Ending}
 use Rattle.rht_model.specs.Replies.{IsReplyTo}
-use Rattle.rht_grace.specs.Batch.{BatchModel, with_word, cleared, first_odd}
+use Rattle.rht_grace.specs.Batch.{BatchModel, with_word, first_odd}
 use Rattle.rht_grace.specs.Tidy.{after_at, giving, asking, asked_at, begun}
 use Rattle.rht_grace.specs.declared.tidy.TidyAt.{TidyAt}
 use Rattle.rht_grace.specs.declared.tidy.TidyAt.TheVariants as tidy_at
 use Rattle.rht_grace.proofs.TidyRuns.{begun-some, begun-none}
 use Rattle.rht_callers.specs.Batches.{nodes_left}
 use Rattle.rht_core.specs.Counts.{returned_by}
-use Rattle.rht_core.specs.Jobs.{Job, finds, binds, lists, releases, rebinds, works, tidies, tidying, counts, call_of, first_job, IsFirstJob}
+use Rattle.rht_core.specs.Jobs.{Job, finds, binds, lists, releases, rebinds, works, tidies, counts, call_of, first_job, IsFirstJob}
 use Rattle.rht_core.specs.Tidyings.{IsTidyPlace}
 use Rattle.rht_core.proofs.Machines.TidyRanges.{Came, giving-so, asking-so}
 use Rattle.rht_core.proofs.Events.JobsOfCallers.{first_rebind-so, first_tidy-so, first-of}
-use Rattle.rht_ghost.proofs.Theory.Answering.{outs_of}
 use Rattle.rht_ghost.proofs.Theory.Steps.{by_test}
 
 -- a tidying that gives back has given back those before its place

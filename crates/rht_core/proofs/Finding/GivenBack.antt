@@ -1,21 +1,21 @@
 -- Places behind an operation that gives back a node. It forgets the places of the nodes that no open section has met and that have no seat:
 -- nobody stands at one of these, and nobody comes to one.
-use Rattle.std.proofs.Common.{◌≡◌, ◌≢◌, ◌⊎◌, ℕ, ◌+◌, ◌<◌, ◌≤◌, Bool, true, false, cond, List, ◌∷◌, Option, Some, None, refl, sym, ◌∙◌, ap, subst, inl, inr, arith}
+use Rattle.std.proofs.Common.{◌≡◌, ℕ, ◌+◌, ◌<◌, Bool, true, false, cond, Option, Some, None, refl, sym, ◌∙◌, ap, subst, inl, inr, arith}
 use Rattle.std.specs.Prelude.{◌||◌}
 use Rattle.std.specs.Option.{is_some}
-use Rattle.std.proofs.lemmas.Bool.{cases_eq, both_ways, or_left, or_right, or_cases}
+use Rattle.std.proofs.lemmas.Bool.{both_ways, or_left, or_right, or_cases}
 use Rattle.rht_words.specs.declared.env.Env.{Env}
 use Rattle.rht_words.specs.Links.{link_of}
 use Rattle.rht_words.specs.Members.{In}
-use Rattle.rht_words.specs.Places.{Node, NodeWord, ChainLink, KeyWord, OwnerWord}
+use Rattle.rht_words.specs.Places.{Node, NodeWord, ChainLink, KeyWord}
 use Rattle.rht_words.proofs.LinksRead.{links_tell_apart}
 use Rattle.rht_words.proofs.Memory.{Memory}
-use Rattle.rht_ghost.proofs.Theory.Ghosts.{put, put-same, put-other, put-all, Free, First, Leaving, Taken, Ghost, HasSeat, IsUsed, is_used, seat_of, with_owner, none-some}
-use Rattle.rht_ghost.proofs.Theory.Wholes.{chain_of, key_of, Whole, seated_at}
+use Rattle.rht_ghost.proofs.Theory.Ghosts.{put-other, put-all, Free, Leaving, Taken, Ghost, IsUsed, is_used, seat_of, with_owner}
+use Rattle.rht_ghost.proofs.Theory.Wholes.{chain_of, Whole}
 use Rattle.rht_ghost.proofs.Theory.SeatedLinks.{next_of}
 use Rattle.rht_core.proofs.Finding.Falling.{falling-kept}
-use Rattle.rht_core.proofs.Finding.Places.{Places, IsLow, LeadsDown, Leads, IsLast, IsOfPort, IsPlaced, PlacesRight}
-use Rattle.rht_core.proofs.Finding.Deaths.{DeathsRight, IsDead, DiedLate, IsLate}
+use Rattle.rht_core.proofs.Finding.Places.{Places, IsLow, Leads, IsLast, IsOfPort, PlacesRight}
+use Rattle.rht_core.proofs.Finding.Deaths.{DeathsRight, IsLate}
 
 -- No open section has met the node; and links lead from the nodes that were met to such nodes alone.
 pub record IsUnmet (env : Env) (M : Memory) (met : ℕ → Bool) (n : ℕ) : Type 0 where

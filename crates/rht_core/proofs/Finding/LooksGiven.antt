@@ -1,8 +1,7 @@
 -- What a look-up knows outlives an operation that gives back a node which no open section has met.
-use Rattle.std.proofs.Common.{◌≡◌, ◌⊎◌, ℕ, ◌+◌, ◌<◌, Bool, true, List, [], ◌∷◌, Some, None, refl, sym, ◌∙◌, ap, inl, inr}
+use Rattle.std.proofs.Common.{◌≡◌, ◌⊎◌, ℕ, ◌+◌, ◌<◌, Bool, true, List, [], ◌∷◌, Some, refl, sym, ◌∙◌, inl, inr}
 use Rattle.std.specs.List.{AllByRecursion}
 use Rattle.rht_words.specs.declared.env.Env.{Env}
-use Rattle.rht_words.specs.Members.{In}
 use Rattle.rht_words.specs.Places.{Node, NodeWord, KeyWord}
 use Rattle.rht_words.proofs.Memory.{Memory}
 use Rattle.rht_model.specs.declared.history.Reply.{Reply}
@@ -11,7 +10,7 @@ use Rattle.rht_find.specs.FindStanding.{standing_of_find}
 use Rattle.rht_find.specs.declared.find.FindAt.{FindAt}
 use Rattle.rht_find.specs.declared.find.FindAt.TheVariants as at
 use Rattle.rht_ghost.proofs.Theory.Ghosts.{Free, Taken, Ghost, seat_of, seat_in, seat, with_owner}
-use Rattle.rht_ghost.proofs.Theory.Wholes.{key_of, word_index, Whole}
+use Rattle.rht_ghost.proofs.Theory.Wholes.{word_index, Whole}
 use Rattle.rht_ghost.proofs.Theory.Passed.{TablesGrow}
 use Rattle.rht_core.proofs.Finding.Places.{Places, PlacesRight}
 use Rattle.rht_core.proofs.Finding.Deaths.{IsLate, late_used}

@@ -1,23 +1,20 @@
 -- What look-ups know behind an event, each of its own port: a look-up's own load leads on from what it knows; and what it knows then, as what
 -- it knows at an event of another caller or of none, outlives that event.
-use Rattle.std.proofs.Common.{◌≡◌, ◌≢◌, ◌⊎◌, ℕ, suc, ◌+◌, ◌<◌, ◌≤◌, Bool, true, false, List, [], ◌∷◌, ◌++◌, length, Option, Some, None, refl, sym, ◌∙◌, ap, subst, inl, inr, arith}
+use Rattle.std.proofs.Common.{◌≡◌, ◌⊎◌, ℕ, suc, ◌+◌, ◌<◌, ◌≤◌, Bool, true, false, List, [], ◌∷◌, ◌++◌, length, Option, Some, refl, sym, ◌∙◌, ap, subst, arith}
 use Rattle.std.specs.Prelude.{IfSome}
 use Rattle.std.specs.List.{AllByRecursion}
-use Rattle.std.proofs.lemmas.Bool.{cases_eq}
 use Rattle.std.proofs.lemmas.List.{length_push}
-use Rattle.rht_words.specs.declared.op.Op.{Op}
 use Rattle.rht_words.specs.declared.env.Env.{Env}
 use Rattle.rht_words.specs.declared.config.Kind.{Kind}
 use Rattle.rht_words.specs.declared.machine.Next.{Next}
 use Rattle.rht_words.specs.declared.machine.Next.TheVariants.{Go, Done}
 use Rattle.rht_words.specs.Operations.{old_of}
-use Rattle.rht_words.proofs.EachElement.{AllByRecursion-cut, AllByRecursion-push, AllByRecursion-weaker}
+use Rattle.rht_words.proofs.EachElement.{AllByRecursion-push, AllByRecursion-weaker}
 use Rattle.rht_words.specs.Standing.{stands_nowhere}
-use Rattle.rht_words.proofs.Memory.{Memory}
 use Rattle.rht_model.specs.declared.history.Call.{Call}
 use Rattle.rht_model.specs.declared.history.Call.TheVariants as calls
 use Rattle.rht_model.specs.declared.history.Reply.{Reply}
-use Rattle.rht_model.specs.Answers.{Answer, plain}
+use Rattle.rht_model.specs.Answers.{plain}
 use Rattle.rht_model.specs.Endings.{Ending, ended_with, plain_ending}
 use Rattle.rht_model.specs.Multimap.{Multimap}
 use Rattle.rht_find.specs.Find.{plan_at, goes, says, after_at, IsFindAtIn}
@@ -26,37 +23,24 @@ use Rattle.rht_find.proofs.FindBounds.{within_bound}
 use Rattle.rht_find.specs.FindStanding.{standing_of_find}
 use Rattle.rht_find.specs.declared.find.FindAt.{FindAt}
 use Rattle.rht_find.specs.declared.find.FindAt.TheVariants as at
-use Rattle.rht_callers.specs.declared.local.Local.{Local}
-use Rattle.rht_callers.specs.declared.local.Doing.{Doing}
-use Rattle.rht_callers.specs.Locals.{local_after, ending_of}
 use Rattle.rht_core.specs.declared.event.Event.{Event}
-use Rattle.rht_core.specs.declared.event.Event.TheVariants.{Enroll, Begin, Step}
 use Rattle.rht_grace.specs.Batch.{BatchModel}
-use Rattle.rht_core.specs.Jobs.{Job, finds, first_job, job_of, job_plan, job_next, job_after, told, held_of, held_next, call_of}
-use Rattle.rht_core.specs.Runs.{Core, World, View, IsAdmitted, IsAdmittedEvent, local_of, beginning_in, planned_in, world_step}
+use Rattle.rht_core.specs.Jobs.{Job, finds, first_job, job_of, job_plan, job_next, job_after, told, call_of}
+use Rattle.rht_core.specs.Runs.{Core, local_of, world_step}
 use Rattle.rht_core.specs.Standings.{standing, standing_with}
-use Rattle.rht_core.specs.Traces.{Did, Past, Trace, Traced, trace_begun, trace_did, traces_after, traced_step, traced_of, behind_call}
+use Rattle.rht_core.specs.Traces.{Did, Past, Trace, Traced, trace_did, traces_after, traced_of, behind_call}
 use Rattle.rht_core.specs.RunHistories.{bindings_behind}
 use Rattle.rht_stands.specs.StandsFor.{stands_for}
 use Rattle.rht_core.specs.Alone.{bindings_at}
-use Rattle.rht_ghost.proofs.Theory.Ghosts.{Ghost}
 use Rattle.rht_ghost.proofs.Theory.Passed.{TablesGrow}
 use Rattle.rht_ghost.proofs.Theory.Steps.{mem, ghost_after}
-use Rattle.rht_core.proofs.Events.Worlds.{induct_by_last, beginning-some, planned-some, begin_none, begin_self, begin_other, step_none, step_self, step_other}
-use Rattle.rht_core.proofs.Events.SoundRuns.{has_place, made_in}
-use Rattle.rht_core.proofs.Events.JobsOfCallers.{is_no_job, first_rebind-so, first_tidy-so, first_job-machine, nothing-job, same_call, local_after-job, first-of}
-use Rattle.rht_core.proofs.Events.Invariants.{step_of}
-use Rattle.rht_core.proofs.Events.InvariantRuns.{idle_at_opening}
+use Rattle.rht_core.proofs.Events.JobsOfCallers.{first_rebind-so, first_tidy-so, same_call}
 use Rattle.rht_core.proofs.Machines.JobSteps.{JobIn}
-use Rattle.rht_ghost.proofs.Theory.Answering.{IsSaidOn, ClaimsAnswer}
+use Rattle.rht_ghost.proofs.Theory.Answering.{IsSaidOn}
 use Rattle.rht_core.proofs.Histories.Behind.{behind-more}
 use Rattle.rht_core.proofs.Histories.CallerEntries.{IsSaid, said-more}
 use Rattle.rht_core.proofs.Histories.FittingCallers.{end-is, end-next}
-use Rattle.rht_core.proofs.Tracing.TracedRuns.{count-traced_of, traced_of-push, trace_begin_none, trace_begin_self, trace_begin_other, trace_step_none, trace_step_self, trace_step_other}
 use Rattle.rht_core.proofs.Tracing.TracesAtEvents.{behind_steps-push}
-use Rattle.rht_core.proofs.Tracing.TracedJobs.{busy-none, IsAtJob}
-use Rattle.rht_core.proofs.Tracing.RepliesInRuns.{Holds, Answered, runs-right}
-use Rattle.rht_core.proofs.Finding.Places.{Places}
 use Rattle.rht_core.proofs.Finding.PlacesInRuns.{Placed, EventMakes, next, next_places}
 use Rattle.rht_core.proofs.Finding.FoundSaid.{missing_said, missing_after, found_said}
 use Rattle.rht_core.proofs.Finding.Lookups.{LookMeans, look_says, look_leads}

@@ -2,18 +2,15 @@
 --
 -- It is one induction over the events, beside the places of nodes and what open sections may meet. These three go together: a node is given
 -- back that no section has met, so its places can be forgotten; and a look-up stands at nodes that its section has met.
-use Rattle.std.proofs.Common.{◌≡◌, ◌≢◌, ◌⊎◌, ℕ, suc, ◌+◌, ◌%◌, ◌<◌, ◌≤◌, Bool, true, false, List, [], ◌∷◌, ◌++◌, length, Option, Some, None, refl, sym, ◌∙◌, ap, subst, inl, inr, arith}
-use Rattle.std.specs.Prelude.{IfSome}
-use Rattle.std.specs.List.{AllByRecursion}
+use Rattle.std.proofs.Common.{◌≡◌, ◌≢◌, ℕ, ◌+◌, ◌%◌, ◌<◌, Bool, false, List, [], ◌∷◌, ◌++◌, length, Option, Some, None, refl, sym, ◌∙◌, ap, subst, inl, inr, arith}
 use Rattle.std.proofs.lemmas.Bool.{cases_eq}
-use Rattle.std.proofs.lemmas.List.{length_push}
 use Rattle.rht_words.specs.declared.op.Op.{Op}
 use Rattle.rht_words.specs.declared.env.Env.{Env}
 use Rattle.rht_words.specs.declared.config.Kind.{Kind}
 use Rattle.rht_words.specs.declared.machine.Next.{Next}
 use Rattle.rht_words.specs.declared.machine.Next.TheVariants.{Go, Done}
 use Rattle.rht_words.specs.Operations.{old_of}
-use Rattle.rht_words.proofs.EachElement.{AllByRecursion-cut, AllByRecursion-push, AllByRecursion-weaker}
+use Rattle.rht_words.proofs.EachElement.{AllByRecursion-cut, AllByRecursion-push}
 use Rattle.rht_words.specs.Places.{Section}
 use Rattle.rht_words.proofs.OpeningLaws.{stand_in_place}
 use Rattle.rht_words.proofs.Memory.{Memory}
@@ -21,11 +18,8 @@ use Rattle.rht_model.specs.declared.history.Call.{Call}
 use Rattle.rht_model.specs.declared.history.Call.TheVariants as calls
 use Rattle.rht_model.specs.declared.history.Reply.{Reply}
 use Rattle.rht_model.specs.Answers.{Answer, plain}
-use Rattle.rht_model.specs.Endings.{Ending, ended_with, plain_ending}
-use Rattle.rht_model.specs.Multimap.{Multimap}
-use Rattle.rht_find.specs.Find.{plan_at, goes, says, after_at, IsFindAtIn}
-use Rattle.rht_find.specs.FindBound.{find_bound}
-use Rattle.rht_find.proofs.FindBounds.{within_bound}
+use Rattle.rht_model.specs.Endings.{Ending, plain_ending}
+use Rattle.rht_find.specs.Find.{plan_at, goes, says}
 use Rattle.rht_find.specs.FindHeld.{held_of_find}
 use Rattle.rht_find.specs.declared.find.FindAt.{FindAt}
 use Rattle.rht_find.specs.declared.find.FindAt.TheVariants as at
@@ -35,42 +29,32 @@ use Rattle.rht_callers.specs.Batches.{nodes_held}
 use Rattle.rht_callers.specs.Locals.{local_after, ending_of}
 use Rattle.rht_core.specs.declared.event.Event.{Event}
 use Rattle.rht_core.specs.declared.event.Event.TheVariants.{Enroll, Begin, Step}
-use Rattle.rht_grace.specs.Batch.{BatchModel}
-use Rattle.rht_core.specs.Jobs.{Job, finds, first_job, job_of, job_plan, job_next, job_after, told, held_of, held_next, call_of}
+use Rattle.rht_core.specs.Jobs.{Job, finds, job_of, job_plan, job_next, job_after, told, held_of, held_next, call_of}
 use Rattle.rht_core.specs.Runs.{Core, World, View, IsAdmitted, IsAdmittedEvent, local_of, beginning_in, planned_in, world_step}
 use Rattle.rht_core.specs.Reach.{ComesTo}
 use Rattle.rht_core.specs.Standings.{standing, standing_with}
-use Rattle.rht_core.specs.Traces.{Did, Past, Trace, Traced, trace_begun, trace_did, traces_after, traced_step, traced_of, behind_call}
-use Rattle.rht_core.specs.RunHistories.{bindings_behind}
-use Rattle.rht_stands.specs.StandsFor.{stands_for}
-use Rattle.rht_core.specs.Alone.{bindings_at}
+use Rattle.rht_core.specs.Traces.{Did, Trace, Traced, trace_begun, trace_did, traces_after, traced_step, traced_of}
 use Rattle.rht_ghost.proofs.Theory.Ghosts.{Ghost}
-use Rattle.rht_ghost.proofs.Theory.Passed.{TablesGrow}
 use Rattle.rht_ghost.proofs.Theory.Frames.{GoesBack}
 use Rattle.rht_ghost.proofs.Theory.Steps.{ReturnsNode, mem, ghost_after}
 use Rattle.rht_core.proofs.Events.Worlds.{induct_by_last, run_of-push, beginning-some, planned-some, begin_none, begin_self, begin_other, step_none, step_self, step_other}
 use Rattle.rht_core.proofs.Events.SoundRuns.{has_place, made_in}
-use Rattle.rht_core.proofs.Events.JobsOfCallers.{is_no_job, first_rebind-so, first_job-machine, nothing-job, same_call, local_after-job, first-of}
+use Rattle.rht_core.proofs.Events.JobsOfCallers.{is_no_job, first_job-machine, nothing-job, local_after-job, first-of}
 use Rattle.rht_core.proofs.Events.Invariants.{StepOf, step_of}
 use Rattle.rht_core.proofs.Events.SectionsInRuns.{AreRight, section_parity}
 use Rattle.rht_core.proofs.Events.InvariantRuns.{idle_at_opening}
 use Rattle.rht_core.proofs.Machines.JobSteps.{JobIn}
-use Rattle.rht_ghost.proofs.Theory.Answering.{IsSaidOn, ClaimsAnswer}
-use Rattle.rht_core.proofs.Histories.Behind.{behind-more}
-use Rattle.rht_core.proofs.Histories.CallerEntries.{IsSaid, said-more}
-use Rattle.rht_core.proofs.Histories.FittingCallers.{end-is, end-next}
+use Rattle.rht_ghost.proofs.Theory.Answering.{ClaimsAnswer}
+use Rattle.rht_core.proofs.Histories.CallerEntries.{IsSaid}
+use Rattle.rht_core.proofs.Histories.FittingCallers.{end-is}
 use Rattle.rht_core.proofs.Tracing.TracedRuns.{world-traced_of, count-traced_of, traced_of-push, trace_begin_none, trace_begin_self, trace_begin_other, trace_step_none, trace_step_self, trace_step_other}
-use Rattle.rht_core.proofs.Tracing.TracesAtEvents.{behind_steps-push}
 use Rattle.rht_core.proofs.Tracing.TracedJobs.{busy-none, IsAtJob}
 use Rattle.rht_core.proofs.Tracing.RepliesInRuns.{Holds, Answered, runs-right}
 use Rattle.rht_core.proofs.Finding.Places.{Places}
 use Rattle.rht_core.proofs.Finding.GivenBack.{IsUnmet}
 use Rattle.rht_core.proofs.Finding.LookupsAtEvents.{SaysOf, Looks, JobLooks, AreLooking, SeesOn, Turns, EachLooks, LooksThen, met_now, ApartNow, placed', as_before, found_with, pasts-later, first-looks, own, known_next}
 use Rattle.rht_core.proofs.Finding.PlacesInRuns.{Placed, EventMakes, event_makes, next, placed_opening}
-use Rattle.rht_core.proofs.Finding.FoundSaid.{missing_said, missing_after, found_said}
-use Rattle.rht_core.proofs.Finding.Lookups.{LookMeans, look_says, look_leads}
-use Rattle.rht_core.proofs.Finding.LooksSeen.{look_seen}
-use Rattle.rht_core.proofs.Finding.LookSteps.{IsSpent, spent_leads, spent_stays}
+use Rattle.rht_core.proofs.Finding.Lookups.{LookMeans}
 use Rattle.rht_core.proofs.Returning.ComingJobs.{KnowsLook, job_comes}
 use Rattle.rht_core.proofs.Returning.GoneBack.{gives_back}
 use Rattle.rht_core.proofs.Returning.Meeting.{Leads, MeetsRight, stands_next, next_job, event_leads, stands_outside, reader_then, meets_then, stood, will_stand, turns}

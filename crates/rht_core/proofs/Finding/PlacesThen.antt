@@ -8,7 +8,7 @@ use Rattle.rht_model.specs.declared.history.Reply.{Reply}
 use Rattle.rht_model.specs.declared.history.Reply.TheVariants.{Missing}
 use Rattle.rht_find.specs.FindStanding.{standing_of_find}
 use Rattle.rht_find.specs.declared.find.FindAt.{FindAt}
-use Rattle.rht_ghost.proofs.Theory.Ghosts.{Free, Taken, Ghost, IsUsed, seat_of, with_owner, some-same}
+use Rattle.rht_ghost.proofs.Theory.Ghosts.{Free, Ghost, IsUsed, seat_of, with_owner, some-same}
 use Rattle.rht_ghost.proofs.Theory.Wholes.{Whole}
 use Rattle.rht_ghost.proofs.Theory.Passed.{TablesGrow}
 use Rattle.rht_ghost.proofs.Theory.Frames.{Made}

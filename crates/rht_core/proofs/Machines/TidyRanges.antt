@@ -1,5 +1,5 @@
 -- A tidying stays in range, whatever word it finds, and works on words of the table.
-use Rattle.std.proofs.Common.{◌≡◌, ℕ, zero, suc, ◌+◌, ◌%◌, ◌<◌, ◌≤◌, ◌++◌, List, [], length, get_or, Bool, true, false, ◌==◌, Option, Some, None, refl, sym, ap, ◌∙◌, subst, arith}
+use Rattle.std.proofs.Common.{◌≡◌, ℕ, zero, suc, ◌+◌, ◌%◌, ◌<◌, ◌≤◌, ◌++◌, length, get_or, ◌==◌, Option, Some, None, refl, sym, ◌∙◌, subst, arith}
 use Rattle.std.specs.Prelude.{nat_lt, if◌then◌else◌}
 use Rattle.std.specs.List.{AllByRecursion}
 use Rattle.std.proofs.lemmas.Bool.{ltb-true, ltb-false}
@@ -15,7 +15,7 @@ use Rattle.rht_model.specs.declared.history.Reply.{Reply}
 use Rattle.rht_model.specs.declared.history.Reply.TheVariants.{Clear, Pending}
 use Rattle.rht_arena.proofs.NodesPlanned.{planned_give}
 use Rattle.rht_grace.specs.Batch.{BatchModel, IsBatch, turned, with_word, cleared, first_odd}
-use Rattle.rht_grace.specs.Tidy.{plan_at, after_at, giving, ask, asking, keeping, asked, asked_at, begun, IsTidyAtIn}
+use Rattle.rht_grace.specs.Tidy.{plan_at, after_at, giving, ask, asking, asked_at, begun, IsTidyAtIn}
 use Rattle.rht_grace.specs.declared.tidy.TidyAt.{TidyAt}
 use Rattle.rht_grace.specs.declared.tidy.TidyAt.TheVariants as at
 use Rattle.rht_grace.proofs.BatchNodes.{waiting-most}

@@ -1,17 +1,16 @@
 -- A tidying holds nothing, and has nodes that its caller's calls took out: each of its loads leaves them to it, and one that it gives back
 -- it has no more.
-use Rattle.std.proofs.Common.{◌≡◌, ◌≢◌, ℕ, suc, ◌+◌, ◌/◌, ◌%◌, ◌<◌, ◌≤◌, ◌++◌, false, ◌∷◌, List, [], length, drop, get_or, Option, Some, None, refl, sym, ap, ◌∙◌, subst, inl, inr, arith, drop-cons, length-append}
+use Rattle.std.proofs.Common.{◌≡◌, ℕ, suc, ◌+◌, ◌/◌, ◌%◌, ◌<◌, ◌≤◌, ◌++◌, false, ◌∷◌, List, length, drop, get_or, Option, Some, None, refl, sym, ap, ◌∙◌, subst, inl, inr, arith, drop-cons, length-append}
 use Rattle.std.specs.Prelude.{◌==◌, nat_lt, if◌then◌else◌}
 use Rattle.std.proofs.Math.ListN.{drop_of_length-le}
-use Rattle.std.proofs.lemmas.Bool.{eq-eqb, cases_eq}
-use Rattle.std.proofs.lemmas.List.{append-nil}
+use Rattle.std.proofs.lemmas.Bool.{eq-eqb}
 use Rattle.rht_words.specs.declared.env.Env.{Env}
 use Rattle.rht_words.specs.declared.op.Op.{Op}
 use Rattle.rht_words.specs.declared.op.Op.TheVariants.{Or}
 use Rattle.rht_words.specs.declared.machine.Next.TheVariants.{Go, Done}
 use Rattle.rht_words.specs.Held as held
 use Rattle.rht_words.specs.Maps.{bit_of}
-use Rattle.rht_words.specs.Members.{In, NotIn, IsDistinct}
+use Rattle.rht_words.specs.Members.{In, IsDistinct}
 use Rattle.rht_words.specs.Operations.{old_of, word_after, applied}
 use Rattle.rht_words.specs.Places.{NodeMap, place_of, words_in}
 use Rattle.rht_words.proofs.Memory.{Memory, is_write}
@@ -19,7 +18,7 @@ use Rattle.rht_words.proofs.Members.{in-middle, in_and_not, NotIn-append, IsDist
 use Rattle.rht_model.specs.declared.history.Call.TheVariants.{Tidy}
 use Rattle.rht_model.specs.declared.history.Reply.{Reply}
 use Rattle.rht_model.specs.declared.history.Reply.TheVariants.{Clear, Pending}
-use Rattle.rht_model.specs.Answers.{Answer, plain}
+use Rattle.rht_model.specs.Answers.{plain}
 use Rattle.rht_model.specs.Replies.{IsTidyReply, takes_out}
 use Rattle.rht_grace.specs.Batch.{BatchModel, with_word, cleared}
 use Rattle.rht_grace.specs.Tidy.{load_of, plan_at, after_at, giving, asking}
@@ -28,7 +27,7 @@ use Rattle.rht_grace.specs.declared.tidy.TidyAt.TheVariants as at
 use Rattle.rht_callers.specs.Batches.{nodes_left}
 use Rattle.rht_core.specs.Tidyings.{IsTidyingIn}
 use Rattle.rht_core.proofs.Machines.TidyRanges.{Came, giving-so, asking-so, waiting_low}
-use Rattle.rht_ghost.proofs.Theory.Ghosts.{put, put-same, put-other, put-all, Owner, Free, NodeHeld, Taken, Ghost, is_taken_by, taken_is, with_owner}
+use Rattle.rht_ghost.proofs.Theory.Ghosts.{put, put-same, put-other, put-all, Free, NodeHeld, Taken, Ghost, is_taken_by, taken_is, with_owner}
 use Rattle.rht_ghost.proofs.Theory.Wholes.{outs, Whole}
 use Rattle.rht_ghost.proofs.Theory.Knowns.{known_nothing}
 use Rattle.rht_ghost.proofs.Theory.Knowledge.{Knowing, Only}

@@ -1,20 +1,15 @@
 -- What the operations of a tidying have seen, by its state: they have loaded section words, and then given back the nodes before its place.
-use Rattle.std.proofs.Common.{◌≡◌, ℕ, zero, suc, ◌+◌, ◌%◌, ◌<◌, ◌≤◌, ◌++◌, ◌∷◌, ◌==◌, List, [], length, length-append, get_or, map, Option, Some, None, refl, sym, ap, ◌∙◌, subst, append_assoc, arith}
+use Rattle.std.proofs.Common.{◌≡◌, ℕ, zero, suc, ◌+◌, ◌%◌, ◌<◌, ◌++◌, ◌∷◌, ◌==◌, List, [], length, length-append, get_or, map, Option, Some, None, refl, sym, ap, ◌∙◌, subst, append_assoc, arith}
 use Rattle.std.specs.Prelude.{nat_lt, if◌then◌else◌}
-use Rattle.std.specs.List.{AllByRecursion}
 use Rattle.std.proofs.lemmas.Bool.{eqb-true}
 use Rattle.std.proofs.lemmas.List.{append-nil, map-append}
-use Rattle.rht_words.specs.declared.env.Env.{Env}
 use Rattle.rht_words.specs.declared.geometry.Geometry.{Geometry}
-use Rattle.rht_words.specs.declared.op.Op.{Op}
-use Rattle.rht_words.specs.declared.machine.Next.{Next}
 use Rattle.rht_words.specs.declared.machine.Next.TheVariants.{Go, Done}
 use Rattle.rht_words.specs.Machines.{GoesOrEnds}
 use Rattle.rht_words.proofs.EachElement.{AllByRecursion-push}
-use Rattle.rht_model.specs.declared.history.Reply.{Reply}
-use Rattle.rht_model.specs.declared.history.Reply.TheVariants.{Clear, Pending}
-use Rattle.rht_grace.specs.Batch.{BatchModel, with_word, cleared, first_odd}
-use Rattle.rht_grace.specs.Tidy.{load_of, give_of, plan_at, after_at, giving, asking, asked_at, begun}
+use Rattle.rht_model.specs.declared.history.Reply.TheVariants.{Pending}
+use Rattle.rht_grace.specs.Batch.{BatchModel, with_word, first_odd}
+use Rattle.rht_grace.specs.Tidy.{give_of, plan_at, after_at, asking, asked_at, begun}
 use Rattle.rht_grace.specs.TidyLaws.{LoadsSection}
 use Rattle.rht_grace.specs.declared.tidy.TidyAt.{TidyAt}
 use Rattle.rht_grace.specs.declared.tidy.TidyAt.TheVariants as at

@@ -5,7 +5,7 @@ use Rattle.rht_words.specs.declared.env.Env.{Env}
 use Rattle.rht_words.specs.Members.{In}
 use Rattle.rht_words.proofs.Members.{in-middle}
 use Rattle.rht_words.proofs.Memory.{Memory}
-use Rattle.rht_ghost.proofs.Theory.Ghosts.{put, put-same, put-other, Owner, Free, First, Behind, Taken, Ghost, is_used, seat_of}
+use Rattle.rht_ghost.proofs.Theory.Ghosts.{put, put-same, put-other, Owner, Free, First, Behind, Taken, Ghost, is_used}
 use Rattle.rht_ghost.proofs.Theory.Wholes.{Whole}
 use Rattle.rht_ghost.proofs.Theory.Frames.{Made, OwnersStay}
 use Rattle.rht_ghost.proofs.Theory.Readiness.{Change, changed, IsRebinding}

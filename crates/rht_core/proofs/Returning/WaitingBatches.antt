@@ -1,11 +1,10 @@
 -- What is kept for the nodes that wait in each caller's batch, whatever its call does and whatever others do.
-use Rattle.std.proofs.Common.{◌≡◌, ◌≢◌, ◌⊎◌, ℕ, ◌%◌, ◌<◌, ◌≤◌, List, ◌++◌, length, drop, Option, Some, None, true, refl, sym, ◌∙◌, ap, subst, inl, inr, arith}
+use Rattle.std.proofs.Common.{◌≡◌, ◌≢◌, ◌⊎◌, ℕ, ◌%◌, ◌<◌, ◌≤◌, List, ◌++◌, drop, Option, Some, None, sym, ◌∙◌, subst, inl, inr, arith}
 use Rattle.std.specs.Prelude.{◌==◌, if◌then◌else◌, slice_index}
 use Rattle.std.proofs.lemmas.Bool.{cond_both, eqb-true}
 use Rattle.rht_words.specs.declared.env.Env.{Env}
 use Rattle.rht_words.specs.declared.machine.Next.{Next}
 use Rattle.rht_words.specs.declared.machine.Next.TheVariants.{Go, Done}
-use Rattle.rht_words.specs.Members.{In}
 use Rattle.rht_words.specs.Places.{Section}
 use Rattle.rht_words.proofs.Members.{In-append_right}
 use Rattle.rht_words.proofs.Memory.{Memory}

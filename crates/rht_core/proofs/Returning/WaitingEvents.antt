@@ -1,6 +1,6 @@
 -- What is kept for waiting nodes, by the calls of all callers, behind an event, while the words are those before it; and that a node which is
 -- given back then no section has met.
-use Rattle.std.proofs.Common.{◌≡◌, ◌⊎◌, ℕ, ◌/◌, ◌%◌, ◌<◌, ◌^◌, List, Option, Some, None, true, false, refl, sym, ◌∙◌, ap, subst, inl, inr, arith}
+use Rattle.std.proofs.Common.{◌≡◌, ℕ, ◌<◌, ◌^◌, List, Option, Some, None, true, false, refl, sym, ◌∙◌, ap, subst, inl, inr, arith}
 use Rattle.std.specs.Prelude.{slice_index}
 use Rattle.std.specs.Int.{bit_at}
 use Rattle.std.proofs.lemmas.Bool.{cases_eq}
@@ -11,13 +11,12 @@ use Rattle.rht_words.specs.declared.env.Env.{Env}
 use Rattle.rht_words.specs.declared.geometry.Geometry.{Geometry}
 use Rattle.rht_words.specs.Maps.{bit_of}
 use Rattle.rht_words.specs.Operations.{op_place, op_value, old_of}
-use Rattle.rht_words.specs.Places.{Section}
 use Rattle.rht_words.proofs.EachElement.{each_set}
 use Rattle.rht_words.proofs.Memory.{Memory}
 use Rattle.rht_model.specs.declared.history.Call.{Call}
 use Rattle.rht_arena.specs.Laws.{map_place, map_bit}
 use Rattle.rht_grace.specs.Batch.{BatchModel}
-use Rattle.rht_grace.specs.Tidy.{TidyModel, plan_at, give_of}
+use Rattle.rht_grace.specs.Tidy.{plan_at, give_of}
 use Rattle.rht_grace.specs.declared.tidy.TidyAt.{TidyAt}
 use Rattle.rht_grace.specs.declared.tidy.TidyAt.TheVariants as at
 use Rattle.rht_callers.specs.declared.local.Local.{Local}

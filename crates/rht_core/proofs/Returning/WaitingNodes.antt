@@ -1,7 +1,7 @@
 -- The nodes that wait in a caller's batch, and what is kept of the section words for them, by what its call does: while a section may meet
 -- one of them, its word is the one that is kept.
-use Rattle.std.proofs.Common.{◌≡◌, ◌≢◌, ◌⊎◌, ℕ, zero, suc, ◌+◌, ◌%◌, ◌<◌, ◌≤◌, List, [], ◌∷◌, length, drop, get_or, Bool, true, false, Option, Some, None, refl, sym, ◌∙◌, ap, subst, inl, inr, arith}
-use Rattle.std.specs.Prelude.{◌==◌, slice_index, slice_set, nat_lt, if◌then◌else◌}
+use Rattle.std.proofs.Common.{◌≡◌, ◌≢◌, ◌⊎◌, ℕ, zero, suc, ◌+◌, ◌%◌, ◌<◌, List, [], ◌∷◌, length, drop, false, Option, Some, None, refl, sym, ◌∙◌, ap, subst, inl, inr, arith}
+use Rattle.std.specs.Prelude.{◌==◌, slice_index, slice_set, nat_lt}
 use Rattle.std.proofs.lemmas.Bool.{cases_eq, cases_lt, cond_both, eqb-false, ltb-false}
 use Rattle.std.proofs.lemmas.List.{get_or-set_same, get_or-set_other}
 use Rattle.rht_words.specs.declared.env.Env.{Env}
@@ -11,8 +11,8 @@ use Rattle.rht_words.specs.Members.{In}
 use Rattle.rht_words.specs.Places.{Section}
 use Rattle.rht_words.proofs.Memory.{Memory}
 use Rattle.rht_model.specs.declared.history.Reply.{Reply}
-use Rattle.rht_grace.specs.Batch.{BatchModel, first_odd, with_word, turned}
-use Rattle.rht_grace.specs.Tidy.{after_at, giving, asking, ask, asked, asked_at, begun}
+use Rattle.rht_grace.specs.Batch.{BatchModel, first_odd, with_word}
+use Rattle.rht_grace.specs.Tidy.{after_at, giving, asking, ask, asked_at, begun}
 use Rattle.rht_grace.specs.declared.tidy.TidyAt.{TidyAt}
 use Rattle.rht_grace.specs.declared.tidy.TidyAt.TheVariants as at
 use Rattle.rht_grace.proofs.OddWords.{first_odd-Some, first_odd-None}
@@ -78,11 +78,13 @@ module _ (env : Env) (mix : ℕ → ℕ → ℕ → ℕ) (M : Memory) (readers :
             | inr past ↦ first_odd-None batch.kept from none d past
           ])
       go (Some caller) is =
-          let first = first_odd-Some batch.kept from caller is in
-          (keeps, λ d low. elim (cases_lt d from) [
-            | inl below ↦ even d below
-            | inr past ↦ first.before d past low
-          ])
+          let first = first_odd-Some batch.kept from caller is in (
+            keeps,
+            λ d low. elim (cases_lt d from) [
+              | inl below ↦ even d below
+              | inr past ↦ first.before d past low
+            ],
+          )
 
   -- a word that is kept now
   with-now : (batch : BatchModel) (caller : ℕ) → caller < length batch.kept → KeptTo batch.waiting batch.kept caller
