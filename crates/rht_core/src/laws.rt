@@ -34,8 +34,8 @@ pub fn extends<M: Mix>()
 /// its slots, nodes and buckets; and the words that it keeps have 64 bits. So each operation that a
 /// caller plans is on one of the words, never on that of the enrolled callers, and brings a word of 64
 /// bits. A caller's rooms may have as many items as there are nodes, also the one that a listing has
-/// taken. Its batch is of the table's nodes, none of which stands there twice. It says nothing else of
-/// what stands in a word.
+/// taken. Its batch is of the table's nodes, none of which stands there twice, and has a section word for each
+/// caller. It says nothing else of what stands in a word.
 pub fn in_range<M: Mix>()
     ensures { InRange M M.mix_of }
 {}
@@ -230,9 +230,10 @@ pub fn counted<M: Mix>()
 /// read section.
 ///
 /// Nodes: each is free, in the list of a port, or out, and never two of these. Those that are out are as many
-/// as the calls that were answered `Released` or `Rebound`, and each is in one caller's batch, once. In a table of one owner for each port no list has a
-/// second node. The count is the number of ports that are bound. So no node is lost: a bind that is refused, or
-/// finds its port bound, has given its node back, and so has a rebind that is answered `Absent`.
+/// as the calls that were answered `Released` or `Rebound`, but for those that tidyings gave back. Each is in
+/// one caller's batch, once. In a table of one owner for each port no list has a second node. The count is the
+/// number of ports that are bound. So no node is lost: a bind that is refused, or finds its port bound, has
+/// given its node back, and so has a rebind that is answered `Absent`.
 ///
 /// Slots: each that isn't free is retired, or has a table in force; and each table that was left behind is
 /// retired. Pages: each is free, or one of a table whose slot isn't free. It is in the run of a flat table; of a
@@ -240,8 +241,8 @@ pub fn counted<M: Mix>()
 /// a table that wasn't attached has been given back; and so has what was taken for an entry behind which another
 /// page was entered. Or it stands in a slot that was retired.
 ///
-/// It doesn't say which call took a node out, that a caller's batch has those of its own calls, that no table in force is retired, nor that such a
-/// moment comes.
+/// It doesn't say which call took a node out, that a caller's batch has those of its own calls, that no table
+/// in force is retired, nor that such a moment comes.
 pub fn at_rest<M: Mix>()
     ensures { AtRest M M.mix_of }
 {}
