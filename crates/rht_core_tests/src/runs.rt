@@ -9,6 +9,7 @@ mod closing;
 mod lists;
 mod refusals;
 mod resizing;
+mod tidying;
 
 ghost use Rattle.std.specs.Prelude.{◌≡◌, ◌<◌, true, length, IfSome};
 ghost use Rattle.rht_words.specs.declared.config.Kind.{Kind};
