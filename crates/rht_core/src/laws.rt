@@ -260,7 +260,7 @@ pub fn tidied<M: Mix>()
 
 /// In every run a call that was refused has undone what it did; so has a bind that was answered `Exists`,
 /// and a rebind or a release that was answered `Absent`. And so has a look-up, a listing, a reading of the
-/// count, and a `Work` that was answered `Idle`. None of its operations changed what the words stand for.
+/// count, a `Work` that was answered `Idle`, and a `Tidy` that was answered `Pending`. None of its operations changed what the words stand for.
 /// And each bit of each word was turned by its operations an even number of times, whatever others did to
 /// it meanwhile: so at its end the call holds no lock, and the node that it took was given back by it. And
 /// its caller is in no read section then.
