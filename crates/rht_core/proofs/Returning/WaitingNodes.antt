@@ -78,11 +78,13 @@ module _ (env : Env) (mix : ℕ → ℕ → ℕ → ℕ) (M : Memory) (readers :
             | inr past ↦ first_odd-None batch.kept from none d past
           ])
       go (Some caller) is =
-          let first = first_odd-Some batch.kept from caller is in
-          (keeps, λ d low. elim (cases_lt d from) [
-            | inl below ↦ even d below
-            | inr past ↦ first.before d past low
-          ])
+          let first = first_odd-Some batch.kept from caller is in (
+            keeps,
+            λ d low. elim (cases_lt d from) [
+              | inl below ↦ even d below
+              | inr past ↦ first.before d past low
+            ],
+          )
 
   -- a word that is kept now
   with-now : (batch : BatchModel) (caller : ℕ) → caller < length batch.kept → KeptTo batch.waiting batch.kept caller
