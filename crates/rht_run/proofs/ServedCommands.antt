@@ -18,7 +18,8 @@ use Rattle.rht_model.specs.declared.finished.Finished.{Finished}
 use Rattle.rht_model.specs.Endings.{ended_with, replied}
 use Rattle.rht_callers.specs.declared.local.Local.{Local}
 use Rattle.rht_grace.specs.Batch.{BatchModel}
-use Rattle.rht_core.specs.Locals.{is_idle, machine_of, rebinding_of}
+use Rattle.rht_callers.specs.Batches.{IsBatchIn}
+use Rattle.rht_core.specs.Locals.{is_idle, machine_of, rebinding_of, tidying_of}
 use Rattle.rht_core.specs.Runs.{IsAdmittedCall, IsBuiltFor}
 use Rattle.rht_core.specs.Replies.{IsFindReply, IsWorkReply, AreOwnersWith, ArePairsWith}
 use Rattle.rht_core.specs.Serving.{asks_for_work, AreWorks, AreBehind}
@@ -86,29 +87,36 @@ rebind-machine : (M : Type 0) (env : Env) (c port owner new : ℕ) (kind : Kind)
 rebind-machine M env c port owner new Single single = refl
 rebind-machine M env c port owner new Listed single = absurd (single refl)
 
+-- and one for a tidying of who has a batch
+tidying-machine : (M : Type 0) (env : Env) (batch : Option BatchModel) → IsBatchIn env batch
+    → is_some (tidying_of {M = M} env batch) ≡ true
+tidying-machine M env None own = absurd own
+tidying-machine M env (Some batch) own = refl
+
 -- by cases of the call
 made-machine : (M : Type 0) (env : Env) (c : ℕ) (batch : Option BatchModel) (call : Call) → IsBuiltFor env.config.kind call → IsMadeCall call
+    → IsBatchIn env batch
     → is_some (machine_of {M = M} env c batch call) ≡ true
-made-machine M env c batch (Bind port owner once) kind made = refl
-made-machine M env c batch (Find port) kind made = refl
-made-machine M env c batch (All port) kind made = refl
-made-machine M env c batch (Release port owner) kind made = refl
-made-machine M env c batch (Rebind port owner new) kind made = rebind-machine M env c port owner new env.config.kind kind
-made-machine M env c batch (Walk from limit) kind made = absurd made
-made-machine M env c batch Work kind made = refl
-made-machine M env c batch Tidy kind made = absurd made
-made-machine M env c batch Count kind made = refl
+made-machine M env c batch (Bind port owner once) kind made own = refl
+made-machine M env c batch (Find port) kind made own = refl
+made-machine M env c batch (All port) kind made own = refl
+made-machine M env c batch (Release port owner) kind made own = refl
+made-machine M env c batch (Rebind port owner new) kind made own = rebind-machine M env c port owner new env.config.kind kind
+made-machine M env c batch (Walk from limit) kind made own = absurd made
+made-machine M env c batch Work kind made own = refl
+made-machine M env c batch Tidy kind made own = tidying-machine M env batch own
+made-machine M env c batch Count kind made own = refl
 
 -- where there is something it is some thing
 some-thing : {A : Type 0} (o : Option A) → is_some o ≡ true → (a : A) × (o ≡ Some a)
 some-thing None none = absurd (cc)
 some-thing (Some a) some = (a, refl)
 
--- so a pass in no call can be given it
+-- so a pass in no call, which has its batch, can be given it
 pub MayBegin-made : {M : Type 0} (env : Env) (c : ℕ) (call : Call) (local : Local M) → is_idle local ≡ true → IsAdmittedCall call
-    → IsBuiltFor env.config.kind call → IsMadeCall call → MayBegin env c call local
-MayBegin-made {M} env c call local idle admitted kind made =
-    let machine = some-thing (machine_of {M = M} env c local.batch call) (made-machine M env c local.batch call kind made) in
+    → IsBuiltFor env.config.kind call → IsMadeCall call → IsBatchIn env local.batch → MayBegin env c call local
+MayBegin-made {M} env c call local idle admitted kind made own =
+    let machine = some-thing (machine_of {M = M} env c local.batch call) (made-machine M env c local.batch call kind made own) in
     record { idle = idle; admitted = admitted; built = kind; machine = machine.0; machine_is = machine.1 }
 
 -- ---- the work behind a call

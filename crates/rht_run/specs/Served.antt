@@ -11,7 +11,7 @@ use Rattle.rht_run.specs.declared.table.Table.{Table}
 use Rattle.rht_run.specs.declared.pass.Pass.{Pass}
 use Rattle.rht_run.specs.Passes.{IsPassOf, IsSamePass, book_of}
 
--- there is a machine for the call; a walk and a tidying have none yet
+-- there is a machine for the call; a walk has none yet
 abbrev pub IsMadeCall : Call → Type 0
 IsMadeCall (Bind port owner once) = Unit {0}
 IsMadeCall (Find port) = Unit {0}
@@ -20,7 +20,7 @@ IsMadeCall (Release port owner) = Unit {0}
 IsMadeCall (Rebind port owner new) = Unit {0}
 IsMadeCall (Walk from limit) = ⊥
 IsMadeCall Work = Unit {0}
-IsMadeCall Tidy = ⊥
+IsMadeCall Tidy = Unit {0}
 IsMadeCall Count = Unit {0}
 
 -- The pass is in no call. Its finished calls are those of `before`, and behind them those of one command, which ended with this

@@ -24,7 +24,7 @@ impl<M: Mix> Table<M> {
     /// it doesn't answer `Moved` with more to do. The answer is the reply to the call; what `work` was
     /// answered stands among the pass's finished calls alone. Each reply comes when it does of the call
     /// itself, which may wait; so may `work`. The owners of a `Listed` stand in `Pass::owners`. It takes
-    /// no memory. A rebind is for a table of one owner each, and a walk or a tidying can't be asked for yet.
+    /// no memory. A rebind is for a table of one owner each, and a walk can't be asked for yet.
     pub fn serve<R: Wait>(&self, rt: &R, pass: &mut Pass<M>, call: Call, auto: bool) -> Reply
         requires pass { IsPassOf M.mix_of self.now pass.old }
         requires idle { is_idle pass.old.local ≡ true }
@@ -45,7 +45,7 @@ impl<M: Mix> Table<M> {
         reply
     }
 
-    /// Makes a call other than a look-up. For a walk and a tidying there is no machine yet.
+    /// Makes a call other than a look-up. For a walk there is no machine yet.
     fn answer<R: Wait>(&self, rt: &R, pass: &mut Pass<M>, call: Call) -> Reply
         requires pass { IsPassOf M.mix_of self.now pass.old }
         requires may { MayBegin self.now.env pass.old.number call pass.old.local }
@@ -64,8 +64,9 @@ impl<M: Mix> Table<M> {
             Call::Release { port, owner } => self.release(rt, pass, port, owner),
             Call::Rebind { port, owner, new } => self.rebind(rt, pass, port, owner, new),
             Call::Work => self.work(rt, pass),
+            Call::Tidy => self.tidy(pass),
             Call::Count => self.count(pass),
-            Call::Find { .. } | Call::Walk { .. } | Call::Tidy => unreachable!(),
+            Call::Find { .. } | Call::Walk { .. } => unreachable!(),
         }
     }
 

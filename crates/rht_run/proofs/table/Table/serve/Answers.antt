@@ -1,6 +1,7 @@
 use Rattle.std.proofs.Common.{◌≡◌, ◌⊎◌, false, sym, ◌∙◌, inl, inr, rules}
 use Rattle.rht_core.specs.Serving.{asks_for_work}
 use Rattle.rht_run.proofs.CallSteps.{answered}
+use Rattle.rht_run.proofs.TidyCalls.{own_batch}
 use Rattle.rht_run.proofs.ServedCommands.{MayBegin-made, serves_alone, serves_find, serves_works, served_caused}
 use Rattle.rht_run.proofs.table.Table.serve.Goals.{else-auto-via-then-auto+else-asks_for_work, else-auto-via-else-auto}
 use Rattle.rht_run.proofs.table.Table.serve.Goals as goal
@@ -9,6 +10,7 @@ pub answer-reply-requires-clause-may : goal.answer-reply-requires-clause-may
 answer-reply-requires-clause-may g c =
     MayBegin-made c.args.self.now.env c.args.pass.now.number c.args.call c.args.pass.now.local c.requires.idle (search rules)
     c.requires.kind c.requires.made
+    (own_batch g.M.Mix.mix_of c.args.self.now c.args.pass.now c.requires.pass c.requires.idle)
 
 -- ---- a look-up
 
