@@ -103,6 +103,15 @@ tries-last P call ending (first ∷ tidy ∷ []) are all = absurd are
 tries-last P call ending (first ∷ tidy ∷ done ∷ []) are all = subst P are.3 all.1.1.0
 tries-last P call ending (first ∷ tidy ∷ done ∷ next ∷ dones) are all = absurd are
 
+-- which is the last of them
+pub tries-split : (call : Call) (ending : Ending) (tries : List Finished) → AreTries call ending tries
+    → (earlier : List Finished) × (tries ≡ earlier ++ ended_with call ending ∷ [])
+tries-split call ending [] are = absurd are
+tries-split call ending (done ∷ []) are = ([], ap (λ d. d ∷ []) are.0)
+tries-split call ending (first ∷ tidy ∷ []) are = absurd are
+tries-split call ending (first ∷ tidy ∷ done ∷ []) are = (first ∷ tidy ∷ [], ap (λ d. first ∷ tidy ∷ d ∷ []) are.3)
+tries-split call ending (first ∷ tidy ∷ done ∷ next ∷ dones) are = absurd are
+
 -- the call found a node, or looked for none
 abbrev pub FoundSome : Finished → Type 0
 FoundSome done = done.reply ≢ NoNode
