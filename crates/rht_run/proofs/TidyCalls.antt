@@ -1,19 +1,17 @@
 -- Why a tidying that a pass makes ends, whatever words it finds. Of each of its states it is shown how many operations are left: one for
 -- each node that is still to be given back, one for each caller that may still be asked, and before that one for each caller
 -- whose word is still to be kept. Each operation leaves fewer.
-use Rattle.std.proofs.Common.{◌≡◌, ℕ, zero, suc, ◌+◌, ◌-◌, ◌*◌, ◌<◌, ◌≤◌, ◌==◌, List, ◌++◌, length, get_or, refl, sym, ap, ◌∙◌, subst, arith, true, false}
-use Rattle.std.specs.Prelude.{Option, Some, None, nat_lt, if◌then◌else◌}
+use Rattle.std.proofs.Common.{◌≡◌, ℕ, zero, suc, ◌+◌, ◌-◌, ◌*◌, ◌<◌, ◌≤◌, ◌==◌, ◌++◌, length, get_or, refl, sym, ap, ◌∙◌, subst, arith, true}
+use Rattle.std.specs.Prelude.{Option, Some, None, nat_lt}
 use Rattle.std.specs.List.{AllByRecursion}
-use Rattle.std.proofs.lemmas.Bool.{ltb-true}
-use Rattle.rht_words.specs.declared.env.Env.{Env}
+use Rattle.std.proofs.lemmas.Bool.{cond_both}
 use Rattle.rht_words.specs.declared.geometry.Geometry.{Geometry}
-use Rattle.rht_words.specs.declared.machine.Next.{Next}
 use Rattle.rht_words.specs.declared.machine.Next.TheVariants.{Go, Done}
 use Rattle.rht_model.specs.declared.history.Call.TheVariants.{Tidy}
 use Rattle.rht_model.specs.declared.history.Reply.{Reply}
 use Rattle.rht_model.specs.declared.history.Reply.TheVariants.{Pending}
 use Rattle.rht_grace.specs.Batch.{BatchModel, IsBatch, turned, with_word, first_odd}
-use Rattle.rht_grace.specs.Tidy.{TidyModel, ask, asking, asked_at, begun, giving, after_at, moved, tidy_new, tidy_after}
+use Rattle.rht_grace.specs.Tidy.{TidyModel, ask, asking, asked_at, begun, after_at, moved, tidy_new, tidy_after}
 use Rattle.rht_grace.specs.declared.tidy.TidyAt.{TidyAt}
 use Rattle.rht_grace.specs.declared.tidy.TidyAt.TheVariants as at
 use Rattle.rht_grace.proofs.BatchNodes.{IsBatch-turned, waiting-most}
@@ -31,7 +29,6 @@ use Rattle.rht_core.specs.Runs.{View}
 use Rattle.rht_core.specs.Tidyings.{IsTidyPlace}
 use Rattle.rht_core.proofs.Machines.TidyRanges.{Came, giving-so, tidying_begins as tidying_begins_in}
 use Rattle.rht_core.proofs.Events.BatchesInRuns.{all_in_range}
-use Rattle.rht_ghost.proofs.Theory.Steps.{by_test}
 use Rattle.rht_run.specs.declared.table.Table.{Table}
 use Rattle.rht_run.specs.declared.pass.Pass.{Pass}
 use Rattle.rht_run.specs.Rule.{local_then}
@@ -68,13 +65,13 @@ module _ (g : Geometry) where
   fewer : (batch : BatchModel) (state : TidyAt) (word : ℕ) → IsTidyPlace g batch state → IsFewer (left_at batch state) (after_at g batch state word)
   fewer batch (at.Keeping caller) word there =
       let next = with_word batch caller word in
-      by_test (λ t. IsFewer (left_at batch (at.Keeping caller)) (if t then (next, at.Keeping (caller + 1), Go) else asking next 0))
-      (nat_lt (caller + 1) g.callers) (λ low. omega (arith, there))
+      cond_both (nat_lt (caller + 1) g.callers) (next, at.Keeping (caller + 1), Go) (asking next 0) (IsFewer (left_at batch (at.Keeping caller)))
+      (λ low. omega (arith, there))
       (λ past. asking-fewer next 0 (left_at batch (at.Keeping caller)) (omega (arith, there)))
   fewer batch (at.Asking caller) word there =
       let next = with_word batch caller 0 in
-      by_test (λ t. IsFewer (left_at batch (at.Asking caller)) (if t then (batch, at.Asking caller, Done (Pending caller word)) else asking next (caller + 1)))
-      (word == get_or batch.kept caller 0) (λ kept. tt)
+      cond_both (word == get_or batch.kept caller 0) (batch, at.Asking caller, Done (Pending caller word)) (asking next (caller + 1))
+      (IsFewer (left_at batch (at.Asking caller))) (λ kept. tt)
       (λ other. asking-fewer next (caller + 1) (left_at batch (at.Asking caller)) (omega (arith, there)))
   fewer batch (at.Giving index) word there =
       giving-so (IsFewer (left_at batch (at.Giving index))) batch (index + 1) (λ low. omega (arith, there)) (λ none. tt)
@@ -111,6 +108,16 @@ left_of m = left_at m.geometry m.batch m.at
 
 -- ---- a pass that tidies
 
+-- a batch that is there, and is sound
+record IsOwn (batch : Option BatchModel) : Type 0 where
+  own : BatchModel
+  is : batch ≡ Some own
+  sound : IsBatch own
+
+is_own : (batch : Option BatchModel) → IsSoundBatch batch → IsOwn batch
+is_own None sound = absurd sound
+is_own (Some own) sound = record { own = own; is = refl; sound = sound }
+
 module _ {M : Type 0} where
   -- what its caller does behind an operation that gives no reply: it tidies, with fewer operations left
   record TidiesOn (most : ℕ) (doing : Doing M) : Type 0 where
@@ -124,11 +131,6 @@ module _ {M : Type 0} where
   goes-on m (batch, state, Go) most few none =
       record { machine = record { geometry = m.geometry; batch = batch; at = state }; doing_is = refl; few = few }
   goes-on m (batch, state, Done reply) most few none = absurd (cc)
-
-  -- the batch of who is in no call
-  has-own : (batch : Option BatchModel) → IsSoundBatch batch → (own : BatchModel) × (batch ≡ Some own) × IsBatch own
-  has-own None sound = absurd sound
-  has-own (Some own) sound = (own, refl, sound)
 
 module _ {M : Type 0} (mix : ℕ → ℕ → ℕ → ℕ) (t : Table M) where
   sound_batch : (p : Pass M) → IsPassOf mix t p → IsSoundBatch (batch_room p.local.doing p.local.batch)
@@ -167,18 +169,18 @@ module _ {M : Type 0} (mix : ℕ → ℕ → ℕ → ℕ) (t : Table M) where
       → HasGone mix t (Some Tidy) p None after → IsTidying p after 0
   tidying_begins p after is idle calling gone =
       let g = t.env.geometry in
-      let own = has-own p.local.batch (idle-batch M IsSoundBatch p.local idle (sound_batch p is)) in
-      let batch : BatchModel = own.0 in
-      let same : batch.geometry ≡ g = subst (IsBatchIn t.env) own.1.0 (own_batch p is idle) in
+      let has = is_own p.local.batch (idle-batch M IsSoundBatch p.local idle (sound_batch p is)) in
+      let batch : BatchModel = has.own in
+      let same : batch.geometry ≡ g = subst (IsBatchIn t.env) has.is (own_batch p is idle) in
       let first : TidyModel = tidy_new g batch in
       let local : Local M = local_then t.env p.number (Some Tidy) p.local in
       let doing : local.doing ≡ Tidying first =
-      ap (λ (b : Option BatchModel). (begun_with p.local (tidying_of t.env b)).doing) own.1.0 in
-      let words : length batch.kept ≡ g.callers = own.1.1.callers ∙ ap (λ (h : Geometry). h.callers) same in
+      ap (λ (b : Option BatchModel). (begun_with p.local (tidying_of t.env b)).doing) has.is in
+      let words : length batch.kept ≡ g.callers = has.sound.callers ∙ ap (λ (h : Geometry). h.callers) same in
       let there = (tidying_begins_in g batch same
-      (subst (λ (h : Geometry). AllByRecursion (λ node. node < h.nodes) (batch.fresh ++ batch.waiting)) same own.1.1.among) words).at_in in
+      (subst (λ (h : Geometry). AllByRecursion (λ node. node < h.nodes) (batch.fresh ++ batch.waiting)) same has.sound.among) words).at_in in
       let next = tidies-on local first gone.old doing there (sym gone.replied) in
-      let few = begins-few g batch own.1.1 same in
+      let few = begins-few g batch has.sound same in
       let fewer_now = next.few in
       record {
         steps = 1;

@@ -220,15 +220,17 @@ impl<M: Mix> Table<M> {
     /// Gives back the nodes that wait in the pass's batch, all at once, so that binds can take them again.
     /// It waits for nobody, and takes no memory.
     ///
-    /// A node that a release or a rebind took out comes into its pass's batch. Where none waits, those in
-    /// the batch begin to: for each read section that is open then. `Clear` comes once it
-    /// found each of these left, and says how many nodes it gave back. `Pending` comes where the caller of this
-    /// number is in such a section still, whose word is the one that it names; then it gave back none. So
-    /// tidy again later: that caller's call has to end before. Nodes that came while others waited are for a
-    /// later call.
+    /// A node that a release or a rebind took out comes into its pass's batch. Where none of these waits
+    /// yet, they all begin to: until each read section that is open then has been left. What comes into
+    /// the batch while others wait is for a later call.
     ///
-    /// The kernel's counterparts are `kfree_rcu` and `call_rcu`, behind which the kernel frees by itself;
-    /// where this one answers `Pending`, `synchronize_rcu` would wait.
+    /// `Clear` comes once it has found all those sections left, and says how many nodes it gave back.
+    /// `Pending` comes where it found a caller in one of them still, also where the batch is empty. It
+    /// names that caller and its section word, and has given back none. So tidy again later, behind the
+    /// end of that caller's call.
+    ///
+    /// The kernel's counterparts are `call_rcu` and `kfree_rcu`, behind which it frees by itself. Where
+    /// this call answers `Pending`, `synchronize_rcu` would wait.
     pub fn tidy(&self, pass: &mut Pass<M>) -> Reply
         requires pass { IsPassOf M.mix_of self.now pass.old }
         requires idle { is_idle pass.old.local ≡ true }
@@ -246,7 +248,7 @@ impl<M: Mix> Table<M> {
         requires idle { is_idle pass.old.local ≡ true }
         ensures { HasCalled M.mix_of self.now Tidy result pass.old pass.new }
     {
-        let most = most_rounds(self.env.geometry);
+        let most = most_operations(self.env.geometry);
         if let Some(reply) = self.start(pass, Call::Tidy) {
             return reply;
         }
@@ -275,7 +277,7 @@ impl<M: Mix> Table<M> {
 }
 
 /// How many operations a tidying makes at most.
-fn most_rounds(geometry: Geometry) -> u32
+fn most_operations(geometry: Geometry) -> u32
     ensures { result ≡ 2 * geometry.callers + geometry.nodes }
 {
     2 * geometry.callers + geometry.nodes
