@@ -18,5 +18,9 @@ pub mod BehindCalls
 pub mod LoneCalls
 -- in every run each call that has ended has a reply of its kind
 pub mod RepliesInRuns
+-- what tidyings have given back, by their states
+pub mod TidiedBatches
+-- and so in every run
+pub mod TidiesInRuns
 -- and what of jobs where something else is kept
 pub mod JobsBeside

@@ -1,17 +1,18 @@
 -- What a call that tidies gives back, and why one waits, in every run.
-use Rattle.std.specs.Prelude.{◌≡◌, ◌↔◌, ℕ, ◌%◌, ◌<◌, List, [], ◌∷◌, ◌++◌, length, take, slice_index_or}
-use Rattle.std.specs.List.{Any, Contains}
+use Rattle.std.specs.Prelude.{◌≡◌, ◌↔◌, ℕ, ◌%◌, ◌<◌, List, [], ◌∷◌, ◌++◌, length, take, slice_index_or, Option, Some, None}
+use Rattle.std.specs.List.{AllByRecursion, Any}
 use Rattle.rht_words.specs.declared.env.Env.{Env}
 use Rattle.rht_words.specs.declared.geometry.Geometry.{Geometry}
 use Rattle.rht_words.specs.Members.{In}
 use Rattle.rht_words.specs.Places.{Section}
 use Rattle.rht_model.specs.declared.history.Call.TheVariants.{Tidy}
 use Rattle.rht_model.specs.declared.history.Reply.TheVariants.{Clear, Pending}
-use Rattle.rht_grace.specs.Batch.{BatchModel}
+use Rattle.rht_grace.specs.Batch.{BatchModel, batch_new}
 use Rattle.rht_grace.specs.TidyLaws.{due_of, left_of}
 use Rattle.rht_arena.specs.Laws.{map_place, map_bit}
 use Rattle.rht_core.specs.declared.event.Event.{Event}
-use Rattle.rht_core.specs.Runs.{Core, run_of, IsAdmitted}
+use Rattle.rht_callers.specs.Batches.{batch_room}
+use Rattle.rht_core.specs.Runs.{Core, local_of, run_of, IsAdmitted}
 use Rattle.rht_core.specs.Reach.{SetsBit}
 use Rattle.rht_core.specs.Seen.{LoadsWord}
 use Rattle.rht_core.specs.Traces.{Did, Past, traced_of, behind_call}
@@ -33,18 +34,18 @@ pub record TidiesRightly (g : Geometry) (before after : BatchModel) (past : Past
       × (after.fresh ≡ left_of before.fresh before.waiting)
       × ((node : ℕ) → ¬ GivesNode g past.steps node)
 
-module _ (M : Type 0) (mix : ℕ → ℕ → ℕ → ℕ) (batch_of : Core M → ℕ → BatchModel) where
+-- a caller's batch, wherever it lies
+abbrev pub batch_or : Geometry → Option BatchModel → BatchModel
+batch_or g None = batch_new g
+batch_or g (Some batch) = batch
+
+abbrev pub batch_of : {M : Type 0} → Core M → ℕ → BatchModel
+batch_of core c = batch_or core.env.geometry (batch_room (local_of core c).doing (local_of core c).batch)
+
+module _ (M : Type 0) (mix : ℕ → ℕ → ℕ → ℕ) where
+  -- a caller's batch before the event with this number
   abbrev pub batch_before : Env → List Event → ℕ → ℕ → BatchModel
   batch_before env events c index = batch_of (run_of {M = M} mix env (take index events)).core c
-
-  -- in every run each tidying that has ended
-  abbrev pub Tidied : Type 0
-  Tidied =
-      (env : Env) (events : List Event) (c : ℕ) (past : Past) → IsAdmitted env.config.kind events
-      → Contains ((traced_of {M = M} mix env events).traces c).past past
-      → past.done.call ≡ Tidy
-      → TidiesRightly env.geometry (batch_before env events c past.begin)
-      (batch_before env events c (behind_call past)) past
 
   -- why one waits: it loaded another caller's section word, and found the odd word that it had kept
   pub record FindsKept (env : Env) (events : List Event) (c caller section : ℕ) (did : Did) : Type 0 where
@@ -54,10 +55,23 @@ module _ (M : Type 0) (mix : ℕ → ℕ → ℕ → ℕ) (batch_of : Core M →
     pub kept : slice_index_or (batch_before env events c did.index).kept caller 0 ≡ section
     pub odd : section % 2 ≡ 1
 
-  -- and the last operation of the call did so, behind which it knows that some nodes are due
+  -- and the last operation of the call did so
   pub record SawPending (env : Env) (events : List Event) (c caller section : ℕ)
       (steps : List Did) : Type 0 where
     pub before : List Did
     pub last : Did
     pub are : steps ≡ before ++ last ∷ []
     pub finds : FindsKept env events c caller section last
+
+  -- A tidying has given back what was due and leaves what it is to leave, and one that waits has seen why.
+  pub record HasTidied (env : Env) (events : List Event) (c : ℕ) (past : Past) : Type 0 where
+    pub rightly : TidiesRightly env.geometry (batch_before env events c past.begin)
+        (batch_before env events c (behind_call past)) past
+    pub waits : (caller section : ℕ) → past.done.reply ≡ Pending caller section → SawPending env events c caller section past.steps
+
+  -- in every run each tidying that has ended
+  abbrev pub Tidied : Type 0
+  Tidied =
+      (env : Env) (events : List Event) (c : ℕ) → IsAdmitted env.config.kind events
+      → AllByRecursion (λ (past : Past). past.done.call ≡ Tidy → HasTidied env events c past)
+      ((traced_of {M = M} mix env events).traces c).past

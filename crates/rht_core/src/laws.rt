@@ -4,6 +4,7 @@ ghost use Rattle.rht_core.specs.Alone.{Alone};
 ghost use Rattle.rht_core.specs.Attached.{Attached};
 ghost use Rattle.rht_core.specs.Causes.{Causes};
 ghost use Rattle.rht_core.specs.Counts.{Counted, AtRest};
+ghost use Rattle.rht_core.specs.Tidied.{Tidied};
 ghost use Rattle.rht_core.specs.FewPorts.{FewPorts, OneCaller};
 ghost use Rattle.rht_core.specs.Kicks.{Kicks};
 ghost use Rattle.rht_core.specs.LetGo.{LetGo};
@@ -33,8 +34,8 @@ pub fn extends<M: Mix>()
 /// its slots, nodes and buckets; and the words that it keeps have 64 bits. So each operation that a
 /// caller plans is on one of the words, never on that of the enrolled callers, and brings a word of 64
 /// bits. A caller's rooms may have as many items as there are nodes, also the one that a listing has
-/// taken. Its batch is of the table's nodes, none of which stands there twice. It says nothing else of
-/// what stands in a word.
+/// taken. Its batch is of the table's nodes, none of which stands there twice, and has a section word for each
+/// caller. It says nothing else of what stands in a word.
 pub fn in_range<M: Mix>()
     ensures { InRange M M.mix_of }
 {}
@@ -233,10 +234,10 @@ pub fn counted<M: Mix>()
 /// read section.
 ///
 /// Nodes: each is free, in the list of a port, or out, and never two of these. Those that are out are as many
-/// as the calls that were answered `Released` or `Rebound`, less those that tidyings gave back, which are as many
-/// as their replies `Clear` say. Each is in one caller's batch, once. In a table of one owner for each port no list has a
-/// second node. The count is the number of ports that are bound. So no node is lost: a bind that is refused, or
-/// finds its port bound, has given its node back, and so has a rebind that is answered `Absent`.
+/// as the calls that were answered `Released` or `Rebound`, but for those that tidyings gave back. Each is in
+/// one caller's batch, once. In a table of one owner for each port no list has a second node. The count is the
+/// number of ports that are bound. So no node is lost: a bind that is refused, or finds its port bound, has
+/// given its node back, and so has a rebind that is answered `Absent`.
 ///
 /// Slots: each that isn't free is retired, or has a table in force; and each table that was left behind is
 /// retired. Pages: each is free, or one of a table whose slot isn't free. It is in the run of a flat table; of a
@@ -244,10 +245,21 @@ pub fn counted<M: Mix>()
 /// a table that wasn't attached has been given back; and so has what was taken for an entry behind which another
 /// page was entered. Or it stands in a slot that was retired.
 ///
-/// It doesn't say which call took a node out, that a caller's batch has those of its own calls, that no table in force is retired, nor that such a
-/// moment comes.
+/// It doesn't say which call took a node out, that a caller's batch has those of its own calls, that no table
+/// in force is retired, nor that such a moment comes.
 pub fn at_rest<M: Mix>()
     ensures { AtRest M M.mix_of }
+{}
+
+/// In every run each tidying that has ended, beside its caller's batch before the call began. Where it was
+/// answered `Clear` it has given back just the nodes that were due: those that waited, or the fresh ones where
+/// none waited. So many it says, and none waits then. Where it was answered `Pending` it has given back none,
+/// and they wait. The fresh nodes of a batch in which some waited stay fresh. And its last operation found the
+/// odd section word that was kept of that caller.
+///
+/// It doesn't say that nobody could reach these nodes; that is `safe`.
+pub fn tidied<M: Mix>()
+    ensures { Tidied M M.mix_of }
 {}
 
 /// In every run a call that was refused has undone what it did; so has a bind that was answered `Exists`,

@@ -3,11 +3,13 @@
 //! 282 + 4 * n on, and the pages from 314 on. With the low hash port 5 has bucket 5 of 64, which is
 //! at 314 + 5 = 319, and the marker of that place is 2 * 319 + 1 = 639.
 
+mod batches;
 mod binds;
 mod closing;
 mod lists;
 mod refusals;
 mod resizing;
+mod tidying;
 
 ghost use Rattle.std.specs.Prelude.{◌≡◌, ◌<◌, true, length, IfSome};
 ghost use Rattle.rht_words.specs.declared.config.Kind.{Kind};

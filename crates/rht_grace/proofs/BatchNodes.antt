@@ -5,7 +5,7 @@ use Rattle.std.specs.Prelude.{◌||◌, ◌↔◌, not}
 use Rattle.std.specs.List.{AllByRecursion, list_any}
 use Rattle.std.proofs.lemmas.Bool.{eqb-false, ne_eqb}
 use Rattle.rht_words.specs.Members.{NotIn, IsDistinct}
-use Rattle.rht_words.proofs.Members.{IsDistinct-left, IsDistinct-with, length-count_below, count_below-most}
+use Rattle.rht_words.proofs.Members.{IsDistinct-left, IsDistinct-with, NotIn-append, length-count_below, count_below-most}
 use Rattle.rht_words.proofs.EachElement.{AllByRecursion-append, AllByRecursion-cut, AllByRecursion-get_or}
 use Rattle.rht_grace.specs.Batch.{BatchModel, IsBatch, with_fresh, turned, with_word, cleared}
 
@@ -20,10 +20,6 @@ length-distinct bound xs distinct below =
 NotIn-parts : (x : ℕ) (xs ys : List ℕ) → NotIn x (xs ++ ys) → NotIn x xs × NotIn x ys
 NotIn-parts x [] ys out = (tt, out)
 NotIn-parts x (y ∷ xs) ys out = let rest = NotIn-parts x xs ys out.1 in ((out.0, rest.0), rest.1)
-
-pub NotIn-joined : (x : ℕ) (xs ys : List ℕ) → NotIn x xs → NotIn x ys → NotIn x (xs ++ ys)
-NotIn-joined x [] ys left right = right
-NotIn-joined x (y ∷ xs) ys left right = (left.0, NotIn-joined x xs ys left.1 right)
 
 pub NotIn-left : (x : ℕ) (xs ys : List ℕ) → NotIn x (xs ++ ys) → NotIn x xs
 NotIn-left x xs ys out = (NotIn-parts x xs ys out).0
@@ -59,7 +55,7 @@ pub none_of-both : (x : ℕ) (xs ys left right : List ℕ) (here there : Bool) �
     → (there ≡ true) ↔ NotIn x right
     → (there ≡ true) ↔ NotIn x (xs ++ ys)
 none_of-both x xs ys left right here there same_left same_right is first second = (
-  (λ none. NotIn-joined x xs ys (subst (NotIn x) same_left (first.0 is)) (subst (NotIn x) same_right (second.0 none))),
+  (λ none. NotIn-append x xs ys (subst (NotIn x) same_left (first.0 is)) (subst (NotIn x) same_right (second.0 none))),
   (λ out. second.1 (subst (NotIn x) (sym same_right) (NotIn-right x xs ys out))),
 )
 

@@ -8,6 +8,8 @@ pub mod BatchNodes
 pub mod OddWords
 -- what comes of a tidying, operation by operation
 pub mod TidyRuns
+-- it gives back all nodes that wait
+mod TidyGiving
 -- it gives back what it says
 mod TidyAnswers
 -- it ends soon

@@ -4,23 +4,24 @@
 -- words that are found; the asking, behind which comes the giving back or the end; and the loads that are kept, behind which comes the
 -- asking. Where a caller was asked and has another word, the word that is kept of it becomes 0. So what is shown of the callers behind it
 -- is of other kept words, which are the same for these callers.
-use Rattle.std.proofs.Common.{◌≡◌, ◌≢◌, ℕ, zero, suc, ◌+◌, ◌%◌, ◌<◌, ◌≤◌, ◌⊎◌, List, [], ◌∷◌, ◌++◌, length, map, take, drop, get_or, set, append_assoc, append-nil, get_or-set_other, take_all, Bool, true, false, ◌==◌, Option, Some, None, refl, sym, ◌∙◌, ap, subst, inl, inr, arith}
+use Rattle.std.proofs.Common.{◌≡◌, ◌≢◌, ℕ, zero, suc, ◌+◌, ◌%◌, ◌<◌, ◌≤◌, ◌⊎◌, List, [], ◌∷◌, ◌++◌, length, map, take, get_or, set, append_assoc, append-nil, get_or-set_other, take_all, Bool, true, false, ◌==◌, Option, Some, None, refl, sym, ◌∙◌, ap, subst, inl, inr, arith}
 use Rattle.std.specs.Prelude.{nat_lt, if◌then◌else◌}
 use Rattle.std.specs.List.{Any, range_with_len}
 use Rattle.std.proofs.lemmas.Bool.{ltb-true, ltb-false, eqb-true, eqb-false, cases_eq}
-use Rattle.std.proofs.lemmas.List.{drop_more, drop_all, take_more_set}
+use Rattle.std.proofs.lemmas.List.{take_more_set}
 use Rattle.rht_words.specs.declared.geometry.Geometry.{Geometry}
 use Rattle.rht_words.specs.declared.machine.Next.TheVariants.{Go, Done}
 use Rattle.rht_words.specs.Machines.{Performed, Ran}
 use Rattle.rht_model.specs.declared.history.Reply.{Reply}
 use Rattle.rht_model.specs.declared.history.Reply.TheVariants.{Clear, Pending}
-use Rattle.rht_grace.specs.Batch.{BatchModel, IsBatch, turned, with_word, cleared, first_odd}
+use Rattle.rht_grace.specs.Batch.{BatchModel, IsBatch, turned, with_word, first_odd}
 use Rattle.rht_grace.specs.Tidy.{load_of, give_of, giving, ask, asking, asked_at}
 use Rattle.rht_grace.specs.TidyLaws.{Tidied, tidying_ran, ops_of, olds_of, LoadsSection, AreLoads, IsOver, Waits, AnswersRightly, EndsRightly, TidiesRightly}
 use Rattle.rht_grace.specs.declared.tidy.TidyAt.{TidyAt}
 use Rattle.rht_grace.specs.declared.tidy.TidyAt.TheVariants as at
 use Rattle.rht_grace.proofs.BatchNodes.{IsBatch-cleared, IsBatch-with_word, IsBatch-turned}
 use Rattle.rht_grace.proofs.OddWords.{IsFirstFrom, first_odd-Some, first_odd-None}
+use Rattle.rht_grace.proofs.TidyGiving.{gives, gives_at}
 use Rattle.rht_grace.proofs.TidyRuns.{stepped, run_at, goes_on, did, by_step, not_ended, same_end, begun-some}
 
 -- one of some is one of more
@@ -34,48 +35,6 @@ any_weaker : {X : Type 0} (P Q : X → Type 0) (xs : List X) → ((x : X) → P 
 any_weaker P Q xs implies some = (some.0, some.1, some.2, some.3, implies some.1 some.4)
 
 module _ (g : Geometry) where
-  -- ---- giving back
-
-  -- the end of a batch whose nodes were given back
-  abbrev all_given : BatchModel → Tidied
-  all_given batch = record { reply = Clear (length batch.waiting); batch = cleared batch }
-
-  -- it has given back the waiting nodes from this place on
-  record Gave (batch : BatchModel) (index : ℕ) (end : Tidied) (steps : List Performed) : Type 0 where
-    is : all_given batch ≡ end
-    ops : ops_of steps ≡ map (give_of g) (drop index batch.waiting)
-
-  abbrev GivesOn : BatchModel → ℕ → Tidied → Ran Tidied → Type 0
-  GivesOn batch index end run = run.next ≡ Done end → Gave batch index end run.steps
-
-  giving_by : (batch : BatchModel) (index : ℕ) (end : Tidied) (olds : List ℕ) (more : Bool)
-      → nat_lt index (length batch.waiting) ≡ more
-      → (index < length batch.waiting → GivesOn batch index end (run_at g batch (at.Giving index) olds))
-      → GivesOn batch index end (goes_on g (if more then (batch, at.Giving index, Go) else (cleared batch, at.Keeping 0, Done (Clear (length batch.waiting)))) olds)
-  giving_by batch index end olds true low later is = later (ltb-true index (length batch.waiting) low) is
-  giving_by batch index end olds false past later is = record {
-    is = same_end (all_given batch) end is;
-    ops = ap (map (give_of g)) (sym (drop_all index batch.waiting (ltb-false index (length batch.waiting) past)));
-  }
-
-  gives_at : (olds : List ℕ) (batch : BatchModel) (index : ℕ) (end : Tidied) → index < length batch.waiting
-      → GivesOn batch index end (run_at g batch (at.Giving index) olds)
-  gives_at [] batch index end low = λ is. absurd (not_ended end is)
-  gives_at (old ∷ olds) batch index end low =
-      by_step g (GivesOn batch index end) batch (at.Giving index) old olds
-      (λ is. let rest = giving_by batch (index + 1) end olds (nat_lt (index + 1) (length batch.waiting)) refl
-      (λ next. gives_at olds batch (index + 1) end next) is in
-      record {
-        is = rest.is;
-        ops = ap (λ ops. give_of g (get_or batch.waiting index 0) ∷ ops) rest.ops
-            ∙ ap (map (give_of g)) (sym (drop_more batch.waiting index 0 low));
-      })
-
-  gives : (olds : List ℕ) (batch : BatchModel) (index : ℕ) (end : Tidied)
-      → GivesOn batch index end (goes_on g (giving batch index) olds)
-  gives olds batch index end =
-      giving_by batch index end olds (nat_lt index (length batch.waiting)) refl (gives_at olds batch index end)
-
   -- ---- asking
 
   -- the same as of a call, but that only the callers from one on were asked
@@ -114,7 +73,7 @@ module _ (g : Geometry) where
       → first_odd batch.kept from ≡ None
       → AsksOn batch from end (goes_on g (giving batch 0) olds)
   none_odd olds batch from end sound none is =
-      let gave = gives olds batch 0 end is in
+      let gave = gives g olds batch 0 end is in
       let steps = (goes_on g (giving batch 0) olds).steps in
       subst (λ e. Asked batch from e steps) gave.is (record {
         answers = record {
@@ -457,7 +416,7 @@ module _ (g : Geometry) where
   ends-asked batch node nodes olds end sound same (Some caller) found some is =
       asks_at olds batch 0 caller end sound same found is
   ends-asked batch node nodes olds end sound same None found some is =
-      let gave = gives_at olds batch 0 end some is in
+      let gave = gives_at g olds batch 0 end some is in
       let steps = (run_at g batch (at.Giving 0) olds).steps in
       subst (λ e. Asked batch 0 e steps) gave.is (record {
         answers = record {

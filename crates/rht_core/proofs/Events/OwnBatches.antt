@@ -82,7 +82,7 @@ put-none None = tt
 put-none (Some batch) = tt
 
 -- a caller is at a tidying, or isn't
-is_tidying : (L : Type 0) (doing : Doing L) → ((m : TidyModel) × (doing ≡ Tidying m)) ⊎ ((m : TidyModel) → doing ≡ Tidying m → ⊥)
+pub is_tidying : (L : Type 0) (doing : Doing L) → ((m : TidyModel) × (doing ≡ Tidying m)) ⊎ ((m : TidyModel) → doing ≡ Tidying m → ⊥)
 is_tidying L (Tidying m) = inl (m, refl)
 is_tidying L _ = inr (λ m is. cc)
 

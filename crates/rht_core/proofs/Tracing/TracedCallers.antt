@@ -139,7 +139,7 @@ module _ (M : Type 0) (mix : ℕ → ℕ → ℕ → ℕ) (env : Env) where
           → P events c view trace → P (events ++ event ∷ []) c view trace
       pub begins : (events : List Event) (c : ℕ) (call : Call) (machine : Doing M) (index : ℕ)
           (view : View M) (trace : Trace)
-          → index ≡ length events
+          → index ≡ length events → view_of (R events).world c ≡ view
           → is_idle view.local ≡ true → machine_of env c view.local.batch call ≡ Some machine
           → P events c view trace
           → P (events ++ Begin c call ∷ []) c (view_begun call machine view) (trace_begun index trace)
@@ -196,7 +196,7 @@ module _ (M : Type 0) (mix : ℕ → ℕ → ℕ → ℕ) (env : Env) where
                 (begin_self M mix r.world c call machine is place)
                 (trace_begin_self M mix r c call machine is)
                 (kept.begins events c call machine r.count (view_of r.world c) (r.traces c)
-                (count-traced_of M mix env events) can.idle made (each c)))
+                (count-traced_of M mix env events) refl can.idle made (each c)))
             | inr other ↦
                 stay (Begin c call) k _ _ (begin_other M mix r.world c call k other)
                 (trace_begin_other M mix r c call k other)

@@ -384,7 +384,7 @@ module _ (M : Type 0) (mix : ℕ → ℕ → ℕ → ℕ) (env : Env) (Now : Job
           lists = record { owners = refl; pairs = refl };
         };
         stays = λ past event c here trace keeping mine rest all. keeping mine (event ∷ rest) (next_event past event rest all);
-        begins = λ past c call machine index here trace now idle is keeping mine rest all. begins-keeping c call machine
+        begins = λ past c call machine index here trace now same idle is keeping mine rest all. begins-keeping c call machine
             index here trace is (keeping mine (Begin c call ∷ rest) (next_event past (Begin c call) rest all));
         steps = λ past c did here trace made keeping mine rest all.
             let next = next_event past (Steps c) rest all in

@@ -245,7 +245,7 @@ module _ (M : Type 0) (mix : ℕ → ℕ → ℕ → ℕ) (env : Env) where
         opens = λ c. record { past = tt; in_order = tt; past_ends = omega arith; steps = tt; progress = tt };
         stays = λ events event c here trace holds. holds-more events event c here.book.call trace holds;
         begins =
-            λ events c call machine index here trace now idle made holds. begin-holds events c call
+            λ events c call machine index here trace now same idle made holds. begin-holds events c call
             here.book.call trace index now holds;
         steps = λ events c did here trace made holds.
             let next = local_after mix here.local did.old in

@@ -9,17 +9,13 @@ use rht_words::{Config, Op};
 use std::test::Fail;
 
 #[test]
-fn calls_without_a_machine_are_not_begun(rt: HostRuntime) -> Result<(), Fail> {
+fn a_walk_is_not_begun(rt: HostRuntime) -> Result<(), Fail> {
     let walk = Call::Walk {
         from: None,
         limit: 1,
     };
-    let cases = [walk, Call::Tidy];
-    for call in cases {
-        let rows = [enrolls(0), begins(0, call), idles(0)];
-        assert_run::<Low>(&rt, rt.alloc(), small(), &rows)?;
-    }
-    Ok(())
+    let rows = [enrolls(0), begins(0, walk), idles(0)];
+    assert_run::<Low>(&rt, rt.alloc(), small(), &rows)
 }
 
 #[test]

@@ -1,0 +1,444 @@
+-- In every run a tidying that has ended gave back just the nodes that were due, where it cleared, or none where they wait; and it leaves its
+-- caller the batch that it is to leave. Where they wait it has seen why.
+-- Of each caller it is kept, event by event, what its tidying has given back beside the batch before the call began.
+use Rattle.std.proofs.Common.{◌≡◌, ◌↔◌, ℕ, suc, ◌+◌, ◌/◌, ◌<◌, ◌++◌, ◌∷◌, List, [], length, take, drop, get_or, map, true, false, Option, Some, None, refl, sym, ap, ◌∙◌, subst, inl, inr, append_assoc, drop-cons, length-append, arith}
+use Rattle.std.specs.Int.{bit_at}
+use Rattle.std.specs.List.{AllByRecursion}
+use Rattle.std.proofs.lemmas.List.{append-nil}
+use Rattle.std.proofs.Math.Seq.{take-append_seam}
+use Rattle.rht_words.specs.declared.env.Env.{Env}
+use Rattle.rht_words.specs.declared.machine.Next.{Next}
+use Rattle.rht_words.specs.declared.machine.Next.TheVariants.{Go, Done}
+use Rattle.rht_words.specs.Operations.{old_of}
+use Rattle.rht_words.proofs.EachElement.{AllByRecursion-append}
+use Rattle.rht_model.specs.declared.history.Call.{Call}
+use Rattle.rht_model.specs.declared.history.Call.TheVariants.{Tidy}
+use Rattle.rht_model.specs.declared.history.Reply.{Reply}
+use Rattle.rht_model.specs.declared.history.Reply.TheVariants.{Clear, Pending}
+use Rattle.rht_model.specs.Endings.{Ending, ended_with}
+use Rattle.rht_arena.specs.Laws.{map_bit}
+use Rattle.rht_find.specs.Find.{find_after}
+use Rattle.rht_bind.specs.Bind.{bind_after}
+use Rattle.rht_release.specs.All.{all_after}
+use Rattle.rht_release.specs.Release.{release_after}
+use Rattle.rht_release.specs.Rebind.{rebind_after}
+use Rattle.rht_move.specs.Work.{work_after}
+use Rattle.rht_grace.specs.Batch.{BatchModel}
+use Rattle.rht_grace.specs.Tidy.{TidyModel, tidy_new, plan_at, after_at, moved, begun}
+use Rattle.rht_grace.specs.declared.tidy.TidyAt.TheVariants as at
+use Rattle.rht_callers.specs.declared.local.Local.{Local}
+use Rattle.rht_callers.specs.declared.local.Doing.{Doing}
+use Rattle.rht_callers.specs.declared.local.Doing.TheVariants.{Idle, Finding, Binding, Listing, Releasing, Rebinding, Working, Counting, Tidying}
+use Rattle.rht_callers.specs.Batches.{batch_room, batch_given, batch_after, nodes_left}
+use Rattle.rht_callers.proofs.BatchesOfCallers.{idle-batch}
+use Rattle.rht_callers.specs.PortCounts.{count_after}
+use Rattle.rht_callers.specs.Locals.{does_nothing, is_idle, machine_of, doing_next, doing_after, local_after, ending_of, without_node, IsDoingOf}
+use Rattle.rht_callers.proofs.CallBeginnings.{begins_so}
+use Rattle.rht_core.specs.declared.event.Event.{Event}
+use Rattle.rht_core.specs.declared.event.Event.TheVariants.{Begin, Step}
+use Rattle.rht_core.specs.Laws.{view_begun}
+use Rattle.rht_core.specs.Jobs.{tidies, job_of, job_plan}
+use Rattle.rht_core.specs.Runs.{Core, World, View, run_of, local_of, planned_in, view_of, finished_with, book_after}
+use Rattle.rht_core.specs.Tidied.{GivesNode, SawPending, HasTidied, Tidied, batch_of, batch_or, batch_before}
+use Rattle.rht_core.specs.Tidyings.{IsTidyingIn}
+use Rattle.rht_core.specs.Traces.{Did, Past, Trace, traced_of, trace_begun, trace_did, behind_call, behind_steps}
+use Rattle.rht_core.proofs.Events.BusyCallers.{ends}
+use Rattle.rht_core.proofs.Events.OwnBatches.{is_tidying}
+use Rattle.rht_core.proofs.Events.Worlds.{run_of-push, step_self, planned-some}
+use Rattle.rht_core.proofs.Events.JobsOfCallers.{nothing-job, is_no_job}
+use Rattle.rht_core.proofs.Events.SoundRuns.{has_place, runs-in}
+use Rattle.rht_core.proofs.Machines.JobSteps.{JobIn, JobKnows}
+use Rattle.rht_core.proofs.Machines.TidyRanges.{Came, waiting_low}
+use Rattle.rht_core.proofs.Machines.TidySteps.{OwnsNodes}
+use Rattle.rht_core.proofs.Undoing.GoingBack.{clear_where}
+use Rattle.rht_core.proofs.Tracing.TidiedBatches.{HasCome, ComesTo, EndsSo, comes, begins_so as tidy_begins}
+use Rattle.rht_core.proofs.Tracing.TracedCallers.{IsMade, IsKeptTraced, traced_callers_keep}
+use Rattle.rht_core.proofs.Tracing.TracedRuns.{world-traced_of}
+use Rattle.rht_core.proofs.Tracing.TracesAtEvents.{behind_steps-push}
+use Rattle.rht_ghost.proofs.Theory.Ghosts.{Free, Taken}
+use Rattle.rht_ghost.proofs.Theory.Steps.{mem}
+use Rattle.rht_grace.specs.TidyLaws.{due_of, left_of}
+use Rattle.rht_words.specs.Members.{In}
+use Rattle.rht_words.specs.Places.{NodeMap, word_at}
+use Rattle.rht_words.proofs.Members.{in-middle}
+
+module _ (M : Type 0) (mix : ℕ → ℕ → ℕ → ℕ) (env : Env) where
+  -- ---- who tidies
+
+  abbrev IsNone : Doing M → Type 0
+  IsNone doing = (m : TidyModel) → doing ≡ Tidying m → ⊥
+
+  next-other : {A : Type 0} (doing : A → Doing M) → ((a : A) → IsNone (doing a)) → (r : A × Next Reply) → IsNone (doing_next doing r).0
+  next-other doing none (a, Go) = none a
+  next-other doing none (a, Done reply) = λ m is. cc
+
+  -- who doesn't, doesn't behind an operation
+  stays-other : (doing : Doing M) (old : ℕ) → IsNone doing → IsNone (doing_after mix doing old).0
+  stays-other Idle old none = λ m is. cc
+  stays-other (Finding m) old none = next-other Finding (λ a m is. cc) (find_after mix m old)
+  stays-other (Binding m) old none = next-other Binding (λ a m is. cc) (bind_after mix m old)
+  stays-other (Listing m) old none = next-other Listing (λ a m is. cc) (all_after mix m old)
+  stays-other (Releasing m) old none =
+      let next = release_after mix m old in next-other Releasing (λ a m is. cc) (next.0, without_node next.1)
+  stays-other (Rebinding m) old none =
+      let next = rebind_after mix m old in next-other Rebinding (λ a m is. cc) (next.0, without_node next.1)
+  stays-other (Working m) old none = next-other Working (λ a m is. cc) (work_after mix m old)
+  stays-other (Counting m) old none = next-other Counting (λ a m is. cc) (count_after m old)
+  stays-other (Tidying m) old none = absurd (none m refl)
+
+  module _ (events : List Event) (c : ℕ) where
+    abbrev batch_at : ℕ → BatchModel
+    batch_at index = batch_before M mix env events c index
+
+    -- ---- what is kept
+
+    abbrev PastTidied : Past → Type 0
+    PastTidied past = past.done.call ≡ Tidy → HasTidied M mix env events c past
+
+    record Keeps (view : View M) (trace : Trace) : Type 0 where
+      past : AllByRecursion PastTidied trace.past
+      asked : view.book.call ≡ Some Tidy → (m : TidyModel) × (view.local.doing ≡ Tidying m)
+      now : (m : TidyModel) → view.local.doing ≡ Tidying m → HasCome env.geometry (batch_at trace.begin) m.batch m.at trace.steps
+
+    abbrev KeepsSoFar : List Event → ℕ → View M → Trace → Type 0
+    KeepsSoFar so_far caller view trace = caller ≡ c → (rest : List Event) → events ≡ so_far ++ rest → Keeps view trace
+
+    -- the batch before the next event, and behind all so far
+    batch-next : (so_far rest : List Event) → events ≡ so_far ++ rest → (index : ℕ) → index ≡ length so_far
+        → batch_at index ≡ batch_of (run_of {M = M} mix env so_far).core c
+    batch-next so_far rest all index is =
+        ap (λ es. batch_of (run_of {M = M} mix env es).core c)
+        (ap (λ n. take n events) is ∙ ap (take (length so_far)) all ∙ take-append_seam so_far rest)
+
+    -- ---- a call begins
+
+    begun-asked : (batch : Option BatchModel) (call : Call) (machine : Doing M) → machine_of env c batch call ≡ Some machine
+        → Some call ≡ Some Tidy → (m : TidyModel) × (machine ≡ Tidying m)
+    begun-asked batch =
+        begins_so M env c batch (λ call machine. Some call ≡ Some Tidy → (m : TidyModel) × (machine ≡ Tidying m))
+        (λ port is. absurd (cc)) (λ port owner once is. absurd (cc)) (λ port is. absurd (cc)) (λ port owner is. absurd (cc))
+        (λ port owner new single is. absurd (cc)) (λ is. absurd (cc)) (λ is. absurd (cc))
+        (λ own has is. (tidy_new env.geometry own, refl))
+
+    begun-come : (batch : Option BatchModel) (call : Call) (machine : Doing M) → machine_of env c batch call ≡ Some machine
+        → (m : TidyModel) → machine ≡ Tidying m
+        → HasCome env.geometry (batch_or env.geometry batch) m.batch m.at []
+    begun-come batch =
+        begins_so M env c batch
+        (λ call machine. (m : TidyModel) → machine ≡ Tidying m → HasCome env.geometry (batch_or env.geometry batch) m.batch m.at [])
+        (λ port m is. absurd (cc)) (λ port owner once m is. absurd (cc)) (λ port m is. absurd (cc)) (λ port owner m is. absurd (cc))
+        (λ port owner new single m is. absurd (cc)) (λ m is. absurd (cc)) (λ m is. absurd (cc))
+        (λ own has m is.
+        let here : tidy_new env.geometry own ≡ m = cc in
+        subst (λ (n : TidyModel). HasCome env.geometry (batch_or env.geometry batch) n.batch n.at []) here
+        (subst (λ b. HasCome env.geometry b (begun own).0 (begun own).1 []) (sym (ap (batch_or env.geometry) has))
+        (tidy_begins env.geometry own)))
+
+    -- the batch of this caller, by what it does
+    abbrev own_of : Local M → BatchModel
+    own_of local = batch_or env.geometry (batch_room local.doing local.batch)
+
+    of-core : (core : Core M) (local : Local M) → core.env ≡ env → local_of core c ≡ local → batch_of core c ≡ own_of local
+    of-core core local same here =
+        ap (λ (e : Env). batch_or e.geometry (batch_room (local_of core c).doing (local_of core c).batch)) same
+        ∙ ap own_of here
+
+    begin-keeps : (so_far rest : List Event) (call : Call) (machine : Doing M) (index : ℕ) (view : View M) (trace : Trace)
+        → events ≡ so_far ++ rest → index ≡ length so_far → view_of (traced_of {M = M} mix env so_far).world c ≡ view
+        → is_idle view.local ≡ true → machine_of env c view.local.batch call ≡ Some machine → Keeps view trace
+        → Keeps (view_begun call machine view) (trace_begun index trace)
+    begin-keeps so_far rest call machine index view trace all at now idle is keeps =
+        let run = ap (λ (w : World M). w.core) (world-traced_of M mix env so_far) in
+        let stays = runs-in M mix env so_far in
+        let here : local_of (run_of {M = M} mix env so_far).core c ≡ view.local =
+        ap (λ (core : Core M). local_of core c) (sym run) ∙ ap (λ (v : View M). v.local) now in
+        let own : batch_at index ≡ batch_or env.geometry view.local.batch =
+        batch-next so_far rest all index at ∙ of-core (run_of {M = M} mix env so_far).core view.local stays.same_env here
+        ∙ ap (batch_or env.geometry) (idle-batch M (λ batch. batch_room view.local.doing view.local.batch ≡ batch) view.local idle refl) in
+        record {
+          past = keeps.past;
+          asked = begun-asked view.local.batch call machine is;
+          now = λ m tidies_now.
+              subst (λ b. HasCome env.geometry b m.batch m.at []) (sym own) (begun-come view.local.batch call machine is m tidies_now);
+        }
+
+    -- ---- an operation
+
+    module _ (so_far rest : List Event) (all : events ≡ so_far ++ Step c ∷ rest) (did : Did) (view : View M) (trace : Trace)
+        (made : IsMade M mix env so_far c view.local did) (keeps : Keeps view trace) where
+      abbrev steps : List Did
+      steps = trace.steps ++ did ∷ []
+
+      abbrev run : Core M
+      run = (run_of {M = M} mix env so_far).core
+
+      abbrev more : List Event
+      more = so_far ++ Step c ∷ []
+
+      all-more : events ≡ more ++ rest
+      all-more = all ∙ sym (append_assoc so_far (Step c ∷ []) rest)
+
+      here : local_of run c ≡ view.local
+      here = ap (λ (core : Core M). local_of core c) (sym made.now) ∙ made.known.here
+
+      found : did.old ≡ old_of run.words did.op
+      found = made.known.found ∙ ap (λ (core : Core M). old_of core.words did.op) made.now
+
+      before-is : batch_at did.index ≡ own_of view.local
+      before-is =
+          batch-next so_far (Step c ∷ rest) all did.index made.index
+          ∙ of-core run view.local (runs-in M mix env so_far).same_env here
+
+      planned : planned_in run c ≡ Some did.op
+      planned =
+          ap (λ es. planned_in (run_of {M = M} mix env es).core c)
+          (sym (ap (λ n. take n more) made.index ∙ take-append_seam so_far (Step c ∷ []))) ∙ made.recorded.plan
+
+      local-then : local_of (run_of {M = M} mix env more).core c ≡ (local_after mix view.local did.old).0
+      local-then =
+          let can = planned-some run.env run.enrolled run.locals c did.op planned in
+          ap (λ (w : World M). local_of w.core c) (run_of-push M mix env so_far (Step c))
+          ∙ ap (λ (v : View M). v.local)
+          (step_self M mix (run_of {M = M} mix env so_far) c did.op planned (has_place M mix env run c (runs-in M mix env so_far) can.below))
+          ∙ ap (λ old. (local_after mix (local_of run c) old).0) (sym found)
+          ∙ ap (λ local. (local_after mix local did.old).0) here
+
+      abbrev next : Local M × Option Reply
+      next = local_after mix view.local did.old
+
+      behind-is : batch_at (did.index + 1) ≡ own_of next.0
+      behind-is =
+          batch-next more rest all-more (did.index + 1) (let at = made.index in let long = length-append so_far (Step c ∷ []) in omega (arith, at, long))
+          ∙ of-core (run_of {M = M} mix env more).core next.0 (runs-in M mix env more).same_env local-then
+
+      -- what a tidying comes to
+      module _ (m : TidyModel) (same : view.local.doing ≡ Tidying m) where
+        abbrev came : Came
+        came = after_at env.geometry m.batch m.at did.old
+
+        geometry_is : m.geometry ≡ env.geometry
+        geometry_is = subst (IsDoingOf env) same made.table.doing
+
+        goes_so : doing_after mix view.local.doing did.old ≡ doing_next Tidying (moved m came)
+        goes_so =
+            ap (λ d. doing_after mix d did.old) same
+            ∙ ap (λ g. doing_next {M = M} Tidying (moved m (after_at g m.batch m.at did.old))) geometry_is
+
+        batch_so : batch_after mix view.local.doing view.local.batch did.old ≡ batch_given (moved m came) view.local.batch
+        batch_so =
+            ap (λ d. batch_after mix d view.local.batch did.old) same
+            ∙ ap (λ g. batch_given (moved m (after_at g m.batch m.at did.old)) view.local.batch) geometry_is
+
+        job_is : made.known.step.job ≡ tidies m.batch m.at
+        job_is = let both = sym made.known.step.is ∙ ap (λ (local : Local M). job_of local.doing) made.known.here ∙ ap job_of same in cc
+
+        within : IsTidyingIn env.geometry m.batch m.at
+        within = subst (JobIn env mix c) job_is made.known.step.within
+
+        owns : OwnsNodes env mix c (nodes_left m.batch m.at) made.known.ghost
+        owns =
+            let knows = subst (λ job. JobKnows env mix c job (mem env mix made.known.core.words) made.known.ghost) job_is made.known.step.knows in
+            knows.fits
+
+        plan_is : did.op ≡ plan_at env.geometry m.batch m.at
+        plan_is = made.known.step.plan ∙ ap (job_plan env c) job_is
+
+        -- the node that it gives back was taken
+        was_taken : (index : ℕ) → m.at ≡ at.Giving index
+            → (get_or m.batch.waiting index 0 < env.geometry.nodes) × (bit_at did.old (map_bit (get_or m.batch.waiting index 0)) ≡ 0)
+        was_taken index is =
+            let n = get_or m.batch.waiting index 0 in
+            let here_in = subst (IsTidyingIn env.geometry m.batch) is within in
+            let low = waiting_low env.geometry m.batch (at.Giving index) index here_in in
+            let mine : made.known.ghost.node n ≡ Taken c =
+            (subst (λ state. OwnsNodes env mix c (nodes_left m.batch state) made.known.ghost) is owns).out n
+            (subst (λ nodes. In n (m.batch.fresh ++ nodes)) (sym (drop-cons m.batch.waiting index 0 here_in.at_in))
+            (in-middle n m.batch.fresh (drop (suc index) m.batch.waiting))) in
+            let word : did.old ≡ word_at env.geometry made.known.core.words (NodeMap (n / 64)) =
+            made.known.found
+            ∙ ap (old_of made.known.core.words) (plan_is ∙ ap (plan_at env.geometry m.batch) is) in (
+              low,
+              ap (λ w. bit_at w (map_bit n)) word
+                  ∙ clear_where _ (map_bit n) (λ set.
+                  let free : made.known.ghost.node n ≡ Free = (made.known.inv.whole.arena.bits n low).0 set in
+                  let both : Taken c ≡ Free = sym mine ∙ free in cc),
+            )
+
+        came_so : ComesTo env.geometry (batch_at trace.begin) m.batch trace.steps did came
+        came_so =
+            comes env.geometry (batch_at trace.begin) m.batch m.at trace.steps did within.at_in plan_is was_taken (keeps.now m same)
+
+      -- ---- what is kept then
+
+      abbrev Kept : Local M → Option Reply → Type 0
+      Kept local reply =
+          Keeps (record { local = local; book = book_after (ending_of local reply) view.book })
+          (trace_did view.book.call did (ending_of local reply) trace)
+
+      left_come : (m : TidyModel) (came : Came) → ComesTo env.geometry (batch_at trace.begin) m.batch trace.steps did came
+          → (doing_next {M = M} Tidying (moved m came)).1 ≡ None
+          → (other : TidyModel) → (doing_next {M = M} Tidying (moved m came)).0 ≡ Tidying other
+          → HasCome env.geometry (batch_at trace.begin) other.batch other.at steps
+      left_come m (batch, state, Go) come none other is =
+          let here : record m { batch = batch; at = state } ≡ other = cc in
+          subst (λ (n : TidyModel). HasCome env.geometry (batch_at trace.begin) n.batch n.at steps) here come
+      left_come m (batch, state, Done reply) come none other is = absurd (cc)
+
+      left_tidies : (m : TidyModel) (came : Came) → (doing_next {M = M} Tidying (moved m came)).1 ≡ None
+          → (other : TidyModel) × ((doing_next {M = M} Tidying (moved m came)).0 ≡ Tidying other)
+      left_tidies m (batch, state, Go) none = (record m { batch = batch; at = state }, refl)
+      left_tidies m (batch, state, Done reply) none = absurd (cc)
+
+      keep_go : next.1 ≡ None → Kept next.0 None
+      keep_go none = record {
+        past = keeps.past;
+        asked = λ is.
+            let was = keeps.asked is in
+            let ends_none = sym (ap (λ d. d.1) (goes_so was.0 was.1)) ∙ none in
+            let other = left_tidies was.0 (came was.0 was.1) ends_none in
+            (other.0, ap (λ d. d.0) (goes_so was.0 was.1) ∙ other.1);
+        now = λ other is. elim (is_tidying M view.local.doing) [
+          | inl was ↦
+              left_come was.0 (came was.0 was.1) (came_so was.0 was.1) (sym (ap (λ d. d.1) (goes_so was.0 was.1)) ∙ none) other
+              (sym (ap (λ d. d.0) (goes_so was.0 was.1)) ∙ is)
+          | inr none_before ↦ absurd (stays-other view.local.doing did.old none_before other is)
+        ];
+      }
+
+      ended_so : (m : TidyModel) (came : Came) (reply : Reply) → ComesTo env.geometry (batch_at trace.begin) m.batch trace.steps did came
+          → (doing_next {M = M} Tidying (moved m came)).1 ≡ Some reply
+          → EndsSo env.geometry (batch_at trace.begin) m.batch came.0 reply trace.steps did
+          × (batch_or env.geometry (batch_room (doing_next {M = M} Tidying (moved m came)).0 (batch_given (moved m came) view.local.batch)) ≡ came.0)
+      ended_so m (batch, state, Go) reply come is = absurd (cc)
+      ended_so m (batch, state, Done given) reply come is =
+          let same : given ≡ reply = cc in
+          (subst (λ r. EndsSo env.geometry (batch_at trace.begin) m.batch batch r trace.steps did) same come, refl)
+
+      rightly : (reply : Reply) (was after : BatchModel) (past : Past) → past.done.reply ≡ reply → past.begin ≡ trace.begin → past.steps ≡ steps
+          → was.kept ≡ (batch_at did.index).kept
+          → EndsSo env.geometry (batch_at trace.begin) was after reply trace.steps did → batch_at (behind_call past) ≡ after
+          → HasTidied M mix env events c past
+      rightly (Clear count) was after past replied began are kept so behind = record {
+        rightly = record {
+          cleared = λ many is.
+              let same : count ≡ many = let both = sym replied ∙ is in cc in (
+                sym same ∙ so.many ∙ ap (λ i. length (due_of (batch_at i).fresh (batch_at i).waiting)) (sym began),
+                ap (λ b. b.waiting) behind ∙ so.none_waits,
+                ap (λ b. b.fresh) behind ∙ so.fresh ∙ ap (λ i. left_of (batch_at i).fresh (batch_at i).waiting) (sym began),
+                λ node. subst (λ i. In node (due_of (batch_at i).fresh (batch_at i).waiting) ↔ GivesNode env.geometry past.steps node) (sym began)
+                    (subst (λ s. In node (due_of (batch_at trace.begin).fresh (batch_at trace.begin).waiting) ↔ GivesNode env.geometry s node) (sym are)
+                    (so.gave node)),
+              );
+          waits = λ caller section is. absurd (let both = sym replied ∙ is in cc);
+        };
+        waits = λ caller section is. absurd (let both = sym replied ∙ is in cc);
+      }
+      rightly (Pending caller section) was after past replied began are kept so behind = record {
+        rightly = record {
+          cleared = λ many is. absurd (let both = sym replied ∙ is in cc);
+          waits = λ other word is. (
+            ap (λ b. b.waiting) behind ∙ so.waiting ∙ ap (λ i. due_of (batch_at i).fresh (batch_at i).waiting) (sym began),
+            ap (λ b. b.fresh) behind ∙ so.fresh ∙ ap (λ i. left_of (batch_at i).fresh (batch_at i).waiting) (sym began),
+            λ node gives. so.gave node (subst (λ s. GivesNode env.geometry s node) are gives),
+          );
+        };
+        waits = λ other word is.
+            let caller_is : caller ≡ other = let both = sym replied ∙ is in cc in
+            let word_is : section ≡ word = let both = sym replied ∙ is in cc in
+            subst (λ d. SawPending M mix env events c d word past.steps) caller_is
+            (subst (λ w. SawPending M mix env events c caller w past.steps) word_is
+            (record {
+              before = trace.steps;
+              last = did;
+              are = are;
+              finds = record {
+                caller_in = so.caller_in;
+                loads = record {
+                  there = (let callers = env.geometry.within.callers_within in let low = so.caller_in in omega (arith, low, callers.1));
+                  loads = so.loads;
+                };
+                found = so.found;
+                kept = ap (λ words. get_or words caller 0) (sym kept) ∙ so.kept;
+                odd = so.odd;
+              };
+            }));
+      }
+      rightly reply was after past replied began are kept so behind = absurd so
+
+      entry_so : (reply : Reply) (call : Call) (past : Past) → next.1 ≡ Some reply → view.book.call ≡ Some call → past.done.call ≡ call
+          → past.done.reply ≡ reply → past.begin ≡ trace.begin → past.steps ≡ steps → PastTidied past
+      entry_so reply call past ends_with is called replied began are asked =
+          let was = keeps.asked (is ∙ ap Some (sym called ∙ asked)) in
+          let m = was.0 in
+          let so = ended_so m (came m was.1) reply (came_so m was.1) (sym (ap (λ d. d.1) (goes_so m was.1)) ∙ ends_with) in
+          let behind : batch_at (behind_call past) ≡ (came m was.1).0 =
+          ap batch_at (ap (λ s. behind_steps (past.begin + 1) s) are ∙ behind_steps-push (past.begin + 1) trace.steps did)
+          ∙ behind-is
+          ∙ ap (λ (d : Doing M). batch_or env.geometry (batch_room d (batch_after mix view.local.doing view.local.batch did.old))) (ap (λ d. d.0) (goes_so m was.1))
+          ∙ ap (λ b. batch_or env.geometry (batch_room (doing_next {M = M} Tidying (moved m (came m was.1))).0 b)) (batch_so m was.1)
+          ∙ so.1 in
+          let kept : m.batch.kept ≡ (batch_at did.index).kept =
+          sym (ap (λ (b : BatchModel). b.kept) (before-is ∙ ap (λ (d : Doing M). batch_or env.geometry (batch_room d view.local.batch)) was.1)) in
+          rightly reply m.batch (came m was.1).0 past replied began are kept so.0 behind
+
+      keep_end : (reply : Reply) → next.1 ≡ Some reply → Kept next.0 (Some reply)
+      keep_end reply ends_with = record {
+        past = AllByRecursion-append PastTidied trace.past _ keeps.past (entries view.book.call refl);
+        asked = λ is. absurd (cc);
+        now = λ m is. absurd (idle_not m is);
+      }
+        where
+          busy : is_idle view.local ≡ false
+          busy = subst (λ (local : Local M). is_idle local ≡ false) made.known.here
+              (nothing-job (local_of made.known.core c).doing ∙ ap is_no_job made.known.step.is)
+
+          idle_not : (m : TidyModel) → next.0.doing ≡ Tidying m → ⊥
+          idle_not m is =
+              let idle = ends M mix view.local did.old reply busy ends_with in
+              let tidying : does_nothing {M = M} (Tidying m) ≡ true = ap does_nothing (sym is) ∙ idle in cc
+
+          ending : Ending
+          ending = record {
+            answer = record { reply = reply; owners = next.0.owners.items };
+            pairs = next.0.pairs.items;
+          }
+
+          entries : (call : Option Call) → view.book.call ≡ call
+              → AllByRecursion PastTidied (map (λ done. record { done = done; begin = trace.begin; steps = steps }) (finished_with call ending))
+          entries None is = tt
+          entries (Some call) is =
+              (entry_so reply call (record { done = ended_with call ending; begin = trace.begin; steps = steps }) ends_with is refl refl refl refl, tt)
+
+      step-keeps : Kept next.0 next.1
+      step-keeps = go next.1 refl
+        where
+          go : (reply : Option Reply) → next.1 ≡ reply → Kept next.0 next.1
+          go None is = subst (Kept next.0) (sym is) (keep_go is)
+          go (Some reply) is = subst (Kept next.0) (sym is) (keep_end reply is)
+
+    -- ---- so in every run
+
+    next_event : (so_far : List Event) (event : Event) (rest : List Event) → events ≡ (so_far ++ event ∷ []) ++ rest
+        → events ≡ so_far ++ event ∷ rest
+    next_event so_far event rest all = all ∙ append_assoc so_far (event ∷ []) rest
+
+    keeps_so : IsKeptTraced M mix env KeepsSoFar
+    keeps_so = record {
+      opens = λ k mine rest all. record { past = tt; asked = λ is. absurd (cc); now = λ m is. absurd (cc) };
+      stays = λ so_far event k view trace keeps mine rest all. keeps mine (event ∷ rest) (next_event so_far event rest all);
+      begins = λ so_far k call machine index view trace at now idle is keeps mine rest all.
+          let next = next_event so_far (Begin k call) rest all in
+          begin-keeps so_far (Begin k call ∷ rest) call machine index view trace next at
+          (subst (λ d. view_of (traced_of {M = M} mix env so_far).world d ≡ view) mine now) idle
+          (subst (λ d. machine_of env d view.local.batch call ≡ Some machine) mine is) (keeps mine (Begin k call ∷ rest) next);
+      steps = λ so_far k did view trace made keeps mine rest all.
+          let next = next_event so_far (Step k) rest all in
+          step-keeps so_far rest (next ∙ ap (λ d. so_far ++ Step d ∷ rest) mine) did view trace
+          (subst (λ d. IsMade M mix env so_far d view.local did) mine made) (keeps mine (Step k ∷ rest) next);
+    }
+
+pub tidied : (M : Type 0) (mix : ℕ → ℕ → ℕ → ℕ) → Tidied M mix
+tidied M mix env events c admitted =
+    let kept = traced_callers_keep M mix env (KeepsSoFar M mix env events c) (keeps_so M mix env events c) events c admitted refl []
+    (sym (append-nil events)) in
+    kept.past
