@@ -23,13 +23,16 @@ function draw(    i, kind, worker) {
   begin_chance(seed, number)
   kind = workers > 1 && below(2) ? "listed" : "single"
   ports = workers > 1 ? 24 : nodes - 1
-  print "table " kind " nodes " nodes " workers " workers " rewalks " one_of(0, 1, 8) (below(2) ? " hint 3" : "") (below(2) ? " shrink on" : "")
+  print "table " kind " nodes " nodes " workers " workers " rewalks " one_of(0, 1, 8) options()
   for (i = 1; i <= lines; i++) {
     worker = 1 + below(workers)
     print worker, drawn_call(kind)
   }
   draw_tail(kind)
 }
+
+# One worker has a table that grows once and never shrinks, so that no bind is refused for want of a table.
+function options() { return workers == 1 ? "" : (below(2) ? " hint 3" : "") (below(2) ? " shrink on" : "") }
 
 function drawn_call(kind,    port, what) {
   port = 1 + below(ports)
