@@ -95,8 +95,8 @@ pub fn all_steps_traced<M: Mix>()
 /// In every run a bind or a rebind that has ended took exactly one of the nodes, and none where it was
 /// answered `NoNode`; any other call took none. To take a node is to clear its bit, which was set. No
 /// other operation of the call, whichever it is, clears a bit of any node that it finds set; and the one
-/// that does leaves all other bits of its word. It doesn't say that nobody else has that node, nor that
-/// it was given back.
+/// that does leaves all other bits of its word. It doesn't say that nobody else has that node, nor whether
+/// it was used before and given back.
 pub fn taken_alone<M: Mix>()
     ensures { TakenAlone M M.mix_of }
 {}
@@ -152,6 +152,10 @@ pub fn taken_alone<M: Mix>()
 /// had chosen from. Where a table was due while the last one was the current one or nested, it had tried to
 /// attach a flat one of the due size behind that. Behind that load it closed its own caller's read section,
 /// once. All its other operations behind the load stored words, and none of them that of the current table.
+///
+/// A `Tidy` that was answered `Clear` loaded section words, then set one bit of the node map for each of as many
+/// nodes as it names, and did nothing else. One that was answered `Pending` only loaded section words. The last one
+/// it found to be the word that it names, of the caller that it names, and that word is odd.
 ///
 /// `Found` and `Missing` of a look-up, `Listed` of a listing, `Absent` of a release, `Rebound` and
 /// `Absent` of a rebind have nothing to show here. No other reply of these calls comes, and a call of
@@ -303,8 +307,9 @@ pub fn sections<M: Mix>()
 /// pages. It could reach the nodes of chains at which it stands, and those to which chain links lead from these and
 /// from the buckets of such tables. And it could reach those to which list links lead from these, and from the nodes
 /// of lists at which it stands. To give back is to set a map's bit that was clear, or to free a slot that wasn't
-/// free. It doesn't say where a caller stands, which `inside` ties to what it does. Nor does it speak of callers out
-/// of their sections.
+/// free. So a node that a release or a rebind took out is given back only where no caller in its section could
+/// come to it any more. It doesn't say that it is given back, nor where a caller stands, which `inside` ties to
+/// what it does. Nor does it speak of callers out of their sections.
 pub fn safe<M: Mix>()
     ensures given { Safe M M.mix_of }
     ensures taken { NeverFree M M.mix_of }
@@ -391,8 +396,9 @@ pub fn attached<M: Mix>()
 
 /// In every run a call is answered `NoNode` only where as many calls as there are nodes have taken one,
 /// or may have: the binds and rebinds that have ended with another reply, and those in progress. So where
-/// there are no more binds and rebinds than nodes, none is refused for want of a node. It doesn't say
-/// that no node is free when the reply comes: some may have been given back.
+/// there are no more binds and rebinds than nodes, none is refused for want of a node. A call counts also
+/// where its node was given back since. It doesn't say that no node is free when the reply comes: some may
+/// have been given back, by a call that didn't link its own, or by a tidying.
 pub fn nodes<M: Mix>()
     ensures { Nodes M M.mix_of }
 {}
