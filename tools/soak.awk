@@ -159,7 +159,7 @@ function drop_dawdling(worker,    i, left) {
       replies[worker, left] = replies[worker, i]
     } else if (replies[worker, i] != "missing") fault("port 0 was " replies[worker, i])
   }
-  many_calls[worker] = left + 0
+  many_calls[worker] = many_replies[worker] = left + 0
 }
 
 # Whether the workers may have run one after another: some order of them in which each makes all its calls at once.
