@@ -16,16 +16,18 @@ BEGIN {
 
 # ---- A script by chance -------------------------------------------------------------------------
 
-function draw(    i, calls, kind, line, owners_differ, worker) {
+function draw(    i, calls, kind, line, owners_differ, worker, small) {
   begin_chance(seed, number)
   kind = below(2) ? "listed" : "single"
   line = "table " kind " nodes 8 workers 4 rewalks " one_of(0, 1, 8)
-  if (below(2)) line = line " hint 3"
+  # few buckets and many ports, so that tables grow and shrink meanwhile; or few ports, which all workers want
+  small = below(2)
+  if (small) line = line " hint 3"
   if (below(2)) line = line " shrink on"
   if (below(2)) line = line " hash low"
-  if (below(4) == 0) line = line " work manual"
+  if (below(3) == 0) line = line " work manual"
   print line
-  ports = 2 + below(5)
+  ports = small ? 4 + below(5) : 2 + below(4)
   owners_differ = below(2)
   calls = 20 + below(21)
   for (i = 1; i <= calls; i++) {
@@ -54,7 +56,7 @@ function old_owner(port) { return times[port] ? had[port, 1 + below(times[port])
 function drawn_call(kind, owners_differ,    port, what, old) {
   port = 1 + below(ports)
   what = below(100)
-  if (what < 36) return "bind " port " " new_owner(port, owners_differ)
+  if (what < 40) return "bind " port " " new_owner(port, owners_differ)
   if (what < 62) return "release " port " " old_owner(port)
   if (what < 74) return "find " port
   if (what < 79) return "count"
@@ -157,7 +159,7 @@ function drop_dawdling(worker,    i, left) {
       replies[worker, left] = replies[worker, i]
     } else if (replies[worker, i] != "missing") fault("port 0 was " replies[worker, i])
   }
-  many_calls[worker] = left + 0
+  many_calls[worker] = many_replies[worker] = left + 0
 }
 
 # Whether the workers may have run one after another: some order of them in which each makes all its calls at once.
