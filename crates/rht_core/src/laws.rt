@@ -345,9 +345,9 @@ pub fn found<M: Mix>()
     ensures throughout { FindsWhatStays M M.mix_of }
 {}
 
-/// In every run each operation of a look-up or of a reading of the count, ended or in progress, only loads
-/// where it is on a bucket's word, and none is on the work lock. So these calls lock nothing. The first
-/// operation of a look-up adds 1 to its caller's own section word, and so does the last one of a look-up
+/// In every run each operation of a look-up, of a reading of the count or of a tidying, ended or in progress,
+/// only loads where it is on a bucket's word, and none is on the work lock. So these calls lock nothing. The
+/// first operation of a look-up adds 1 to its caller's own section word, and so does the last one of a look-up
 /// that has ended; all others load words.
 pub fn harmless<M: Mix>()
     ensures locks { Harmless M M.mix_of }
