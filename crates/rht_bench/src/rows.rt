@@ -132,8 +132,8 @@ impl Scale {
         }
     }
 
-    /// A row of this scale. A node that was taken out doesn't come back, so what binds is done a few
-    /// times in one table, and then in another one.
+    /// A row of this scale. Nobody tidies, so a node that was taken out doesn't come back. So what binds is
+    /// done a few times in one table, and then in another one.
     pub fn row(self, workload: Workload, ports: u32, threads: u32) -> Row {
         let share = self.many / ports.max(1);
         let (rounds, tables) = match workload {
