@@ -3,7 +3,7 @@
 ghost use Rattle.rht_core.specs.Alone.{Alone};
 ghost use Rattle.rht_core.specs.Attached.{Attached};
 ghost use Rattle.rht_core.specs.Causes.{Causes};
-ghost use Rattle.rht_core.specs.Counts.{Counted, AtRest};
+ghost use Rattle.rht_core.specs.Counts.{Counted, AtRest, OwnBatches};
 ghost use Rattle.rht_core.specs.Tidied.{Tidied};
 ghost use Rattle.rht_core.specs.FewPorts.{FewPorts, OneCaller};
 ghost use Rattle.rht_core.specs.Kicks.{Kicks};
@@ -241,10 +241,13 @@ pub fn counted<M: Mix>()
 /// a table that wasn't attached has been given back; and so has what was taken for an entry behind which another
 /// page was entered. Or it stands in a slot that was retired.
 ///
-/// It doesn't say which call took a node out, that a caller's batch has those of its own calls, that no table
-/// in force is retired, nor that such a moment comes.
+/// And in every run, whoever else is in a call, a caller that is in none has as many nodes in its batch as its
+/// own calls took out, and its tidyings didn't give back.
+///
+/// It doesn't say which call took a node out, that no table in force is retired, nor that such a moment comes.
 pub fn at_rest<M: Mix>()
-    ensures { AtRest M M.mix_of }
+    ensures rest { AtRest M M.mix_of }
+    ensures batches { OwnBatches M M.mix_of }
 {}
 
 /// In every run each tidying that has ended, beside its caller's batch before the call began. Where it was
