@@ -14,7 +14,7 @@ use Rattle.rht_policy.specs.Sizes.{most_ports}
 use Rattle.rht_model.specs.declared.history.Call.{Call}
 use Rattle.rht_model.specs.declared.history.Call.TheVariants.{Bind, Find, All, Release, Rebind, Work, Tidy, Count}
 use Rattle.rht_model.specs.declared.history.Reply.{Reply}
-use Rattle.rht_model.specs.declared.history.Reply.TheVariants.{Bound, Exists, Found, Missing, Listed, Released, Absent, Rebound, TooBig, Again, Busy, NoTable, NoNode, Elsewhere, Moved, Idle, Counted}
+use Rattle.rht_model.specs.declared.history.Reply.TheVariants.{Bound, Exists, Found, Missing, Listed, Released, Absent, Rebound, TooBig, Again, Busy, NoTable, NoNode, Elsewhere, Moved, Idle, Counted, Clear, Pending}
 use Rattle.rht_arena.specs.Laws.{SeesTaken}
 use Rattle.rht_core.specs.declared.event.Event.{Event}
 use Rattle.rht_core.specs.Runs.{IsAdmitted}
@@ -24,7 +24,8 @@ use Rattle.rht_core.specs.Seen.{LastWalked, CountedAt, SawCount, words_before}
 use Rattle.rht_core.specs.ResizeCauses.{IsUnboundAt, AttachesSome, HasFollowed, SawBusy, SawNoTable, SawNoPage}
 pub use Rattle.rht_core.specs.RoomCauses.{IsRaise}
 use Rattle.rht_core.specs.RoomCauses.{HadRoom}
-use Rattle.rht_core.specs.TidyCauses.{SawForTidy}
+use Rattle.rht_core.specs.Tidied.{HasTidied}
+use Rattle.rht_core.specs.TidyCauses.{HasGiven, SawInSection}
 use Rattle.rht_core.specs.WorkCauses.{SawElsewhere, SawNoTableDue, SawNothingDue, SawMoved}
 
 -- why a look-up ended with this reply: it has nothing to show for its answers
@@ -139,6 +140,13 @@ module _ (M : Type 0) (mix : ℕ → ℕ → ℕ → ℕ) where
       ⊎ SawNoPage env.geometry (words_before M mix env events) mix port size past.steps
   BindCause env events c port past _ = ⊥
 
+  -- why a tidying ended with this reply; and its batch is then what it is to be
+  abbrev pub TidyCause : Env → List Event → ℕ → Past → Reply → Type 0
+  TidyCause env events c past (Clear count) = HasGiven env.geometry count past.steps × HasTidied M mix env events c past
+  TidyCause env events c past (Pending caller section) =
+      SawInSection env.geometry caller section past.steps × HasTidied M mix env events c past
+  TidyCause env events c past _ = ⊥
+
   -- why a call ended with this reply; a call of which there is no machine yet never ends
   abbrev pub CauseOf : Env → List Event → ℕ → Past → Call → Reply → Type 0
   CauseOf env events c past (Bind port owner once) reply = BindCause env events c port past reply
@@ -147,7 +155,7 @@ module _ (M : Type 0) (mix : ℕ → ℕ → ℕ → ℕ) where
   CauseOf env events c past (Release port owner) reply = ReleaseCause env past reply
   CauseOf env events c past (Rebind port owner new) reply = RebindCause env past reply
   CauseOf env events c past Work reply = WorkCause env c (words_before M mix env events) past reply
-  CauseOf env events c past Tidy reply = SawForTidy env.geometry reply past.steps
+  CauseOf env events c past Tidy reply = TidyCause env events c past reply
   CauseOf env events c past Count reply = CountCause env events c past reply
   CauseOf env events c past _ reply = ⊥
 

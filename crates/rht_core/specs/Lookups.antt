@@ -1,5 +1,5 @@
--- What holds of look-ups in every run: how many operations they take, that a port which stays bound meanwhile is found, and what neither
--- they nor readings of the count ever do; and that they read in one read section.
+-- What holds of look-ups in every run: how many operations they take, and that a port which stays bound meanwhile is found. They read in one
+-- read section. And what they, readings of the count and tidyings never do.
 use Rattle.std.specs.Prelude.{◌≡◌, ◌≢◌, ◌⊎◌, ℕ, ◌+◌, ◌<◌, ◌≤◌, List, [], ◌∷◌, ◌++◌, length, Some}
 use Rattle.std.specs.List.{AllByRecursion}
 use Rattle.rht_words.specs.declared.op.Op.TheVariants.{Load}
@@ -8,7 +8,7 @@ use Rattle.rht_words.specs.declared.geometry.Geometry.{Geometry}
 use Rattle.rht_words.specs.Operations.{op_place}
 use Rattle.rht_words.specs.Places.{WorkLock, IsBucketPlace, place_of}
 use Rattle.rht_model.specs.declared.history.Call.{Call}
-use Rattle.rht_model.specs.declared.history.Call.TheVariants.{Find, Count}
+use Rattle.rht_model.specs.declared.history.Call.TheVariants.{Find, Count, Tidy}
 use Rattle.rht_model.specs.declared.history.Reply.TheVariants.{Found}
 use Rattle.rht_model.specs.Answers.{find_reply}
 use Rattle.rht_find.specs.FindBound.{find_bound}
@@ -31,13 +31,13 @@ pub record IsHarmless (g : Geometry) (did : Did) : Type 0 where
   pub buckets : IsBucketPlace g (op_place did.op) → did.op ≡ Load (op_place did.op)
   pub work : op_place did.op ≢ place_of g WorkLock
 
--- the call is a look-up, or a reading of the count
-abbrev pub LooksOrCounts : Call → Type 0
-LooksOrCounts call = ((port : ℕ) × (call ≡ Find port)) ⊎ (call ≡ Count)
+-- the call is a look-up, a reading of the count or a tidying
+abbrev pub IsLockFree : Call → Type 0
+IsLockFree call = ((port : ℕ) × (call ≡ Find port)) ⊎ (call ≡ Count) ⊎ (call ≡ Tidy)
 
 -- so it is of each operation of such a call
 abbrev pub IsHarmlessCall : Env → Call → List Did → Type 0
-IsHarmlessCall env call steps = LooksOrCounts call → AllByRecursion (IsHarmless env.geometry) steps
+IsHarmlessCall env call steps = IsLockFree call → AllByRecursion (IsHarmless env.geometry) steps
 
 -- ---- reading in one section
 
@@ -102,7 +102,7 @@ module _ (M : Type 0) (mix : ℕ → ℕ → ℕ → ℕ) where
       (env : Env) (events : List Event) (c : ℕ) → IsAdmitted env.config.kind events
       → AllByRecursion (IsFoundThroughout env events) ((traced_of {M = M} mix env events).traces c).past
 
-  -- in every run a look-up and a reading of the count change no bucket's word, and don't touch the work lock
+  -- in every run a look-up, a reading of the count and a tidying change no bucket's word, and don't touch the work lock
   abbrev pub Harmless : Type 0
   Harmless =
       (env : Env) (events : List Event) (c : ℕ) → IsAdmitted env.config.kind events

@@ -5,9 +5,9 @@ use Rattle.rht_words.specs.declared.config.Config.{Config}
 use Rattle.rht_words.specs.declared.env.Env.{Env}
 use Rattle.rht_model.specs.declared.bindings.Closed.{Closed}
 use Rattle.rht_model.specs.declared.history.Call.{Call}
-use Rattle.rht_model.specs.declared.history.Call.TheVariants.{Work}
+use Rattle.rht_model.specs.declared.history.Call.TheVariants.{Work, Tidy}
 use Rattle.rht_model.specs.declared.history.Reply.{Reply}
-use Rattle.rht_model.specs.declared.history.Reply.TheVariants.{Bound, Released, Busy, NoTable, Moved}
+use Rattle.rht_model.specs.declared.history.Reply.TheVariants.{Bound, Released, Busy, NoTable, NoNode, Moved}
 use Rattle.rht_model.specs.declared.finished.Finished.{Finished}
 use Rattle.rht_model.specs.Endings.{Ending, ended_with}
 use Rattle.rht_core.specs.declared.event.Event.{Event}
@@ -38,11 +38,23 @@ abbrev pub AreBehind : Bool → List Finished → Type 0
 AreBehind true done = AreWorks done
 AreBehind false done = done ≡ []
 
--- These calls are made for a command, which ends so: the command's own, and then `work` where its reply asks for that, and the script
--- leaves the work to its workers. So far a worker makes no others, since a node that is taken out doesn't come back.
-pub record AreForCommand (auto : Bool) (call : Call) (ending : Ending) (done : List Finished) : Type 0 where
+-- These calls are made until a command has its reply, and it ends so. The command's own call is the only one, where it isn't answered
+-- that there is no node. Else a tidying comes behind it and then the same call again, whose reply is the command's, whatever that is.
+abbrev pub AreTries : Call → Ending → List Finished → Type 0
+AreTries call ending [] = ⊥
+AreTries call ending (done ∷ []) = (done ≡ ended_with call ending) × (ending.answer.reply ≢ NoNode)
+AreTries call ending (first ∷ tidy ∷ []) = ⊥
+AreTries call ending (first ∷ tidy ∷ done ∷ []) =
+    (first.call ≡ call) × (first.reply ≡ NoNode) × (tidy.call ≡ Tidy) × (done ≡ ended_with call ending)
+AreTries call ending (first ∷ tidy ∷ done ∷ next ∷ dones) = ⊥
+
+-- These calls are made for a command, which ends so: those until it has its reply, and then `work` where that asks for it, and the
+-- script leaves the work to its workers.
+pub record AreForCommand (auto : Bool) (call : Call) (ending : Ending) (dones : List Finished) : Type 0 where
+  pub tries : List Finished
   pub behind : List Finished
-  pub whole : done ≡ ended_with call ending ∷ behind
+  pub whole : dones ≡ tries ++ behind
+  pub are_tries : AreTries call ending tries
   pub works : AreBehind (auto && asks_for_work call ending.answer.reply) behind
 
 -- the list is two, one behind the other

@@ -264,7 +264,7 @@ pub fn tidied<M: Mix>()
 
 /// In every run a call that was refused has undone what it did; so has a bind that was answered `Exists`,
 /// and a rebind or a release that was answered `Absent`. And so has a look-up, a listing, a reading of the
-/// count, and a `Work` that was answered `Idle`. None of its operations changed what the words stand for.
+/// count, a `Work` that was answered `Idle`, and a `Tidy` that was answered `Pending`. None of its operations changed what the words stand for.
 /// And each bit of each word was turned by its operations an even number of times, whatever others did to
 /// it meanwhile: so at its end the call holds no lock, and the node that it took was given back by it. And
 /// its caller is in no read section then.
@@ -345,9 +345,9 @@ pub fn found<M: Mix>()
     ensures throughout { FindsWhatStays M M.mix_of }
 {}
 
-/// In every run each operation of a look-up or of a reading of the count, ended or in progress, only loads
-/// where it is on a bucket's word, and none is on the work lock. So these calls lock nothing. The first
-/// operation of a look-up adds 1 to its caller's own section word, and so does the last one of a look-up
+/// In every run each operation of a look-up, of a reading of the count or of a tidying, ended or in progress,
+/// only loads where it is on a bucket's word, and none is on the work lock. So these calls lock nothing. The
+/// first operation of a look-up adds 1 to its caller's own section word, and so does the last one of a look-up
 /// that has ended; all others load words.
 pub fn harmless<M: Mix>()
     ensures locks { Harmless M M.mix_of }

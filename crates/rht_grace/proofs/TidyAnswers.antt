@@ -151,16 +151,27 @@ module _ (g : Geometry) where
         by_order (inl sooner) apart = inl (first.before other low sooner)
         by_order (inr later) apart = over_later asking other apart (over other (omega (arith, later, apart)) high)
 
+    zeroed_own : (words : List ℕ) (at : ℕ) → get_or (set words at 0) at 0 ≡ 0
+    zeroed_own [] at = refl
+    zeroed_own (word ∷ words) zero = refl
+    zeroed_own (word ∷ words) (suc at) = zeroed_own words at
+
     still_kept : (asking : List Performed) (after : BatchModel) (other : ℕ)
-        → (get_or after.kept other 0 ≡ get_or zeroed other 0) ⊎ IsOver zeroed asking other
-        → (get_or after.kept other 0 ≡ get_or batch.kept other 0) ⊎ IsOver batch.kept (step ∷ asking) other
+        → (get_or after.kept other 0 ≡ get_or zeroed other 0) ⊎ ((get_or after.kept other 0 ≡ 0) × IsOver zeroed asking other)
+        → (get_or after.kept other 0 ≡ get_or batch.kept other 0)
+        ⊎ ((get_or after.kept other 0 ≡ 0) × IsOver batch.kept (step ∷ asking) other)
     still_kept asking after other either = elim (cases_eq other caller) [
-      | inl same ↦ inr (subst (IsOver batch.kept (step ∷ asking)) (sym same) (over_now asking))
+      | inl same ↦ inr (own same either, subst (IsOver batch.kept (step ∷ asking)) (sym same) (over_now asking))
       | inr apart ↦ elim either [
         | inl is ↦ inl (is ∙ other_kept other apart)
-        | inr over ↦ inr (over_later asking other apart over)
+        | inr over ↦ inr (over.0, over_later asking other apart over.1)
       ]
     ]
+      where
+        own : other ≡ caller → (get_or after.kept other 0 ≡ get_or zeroed other 0) ⊎ ((get_or after.kept other 0 ≡ 0) × IsOver zeroed asking other)
+            → get_or after.kept other 0 ≡ 0
+        own same (inl is) = is ∙ subst (λ o. get_or zeroed o 0 ≡ 0) (sym same) (zeroed_own batch.kept caller)
+        own same (inr over) = over.0
 
     clears-more : (count : ℕ) (after : BatchModel) → ClearsFrom batch.waiting zeroed (caller + 1) count after rest
         → ClearsFrom batch.waiting batch.kept from count after (step ∷ rest)

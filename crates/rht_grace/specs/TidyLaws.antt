@@ -94,7 +94,8 @@ pub record Waits (g : Geometry) (nodes kept : List ℕ) (caller word : ℕ) (aft
   pub was_kept : slice_index kept caller ≡ word
   pub is_kept : slice_index after.kept caller ≡ word
   pub others : (other : ℕ) → other < g.callers
-      → (slice_index after.kept other ≡ slice_index kept other) ⊎ IsOver kept asking other
+      → (slice_index after.kept other ≡ slice_index kept other)
+      ⊎ ((slice_index after.kept other ≡ 0) × IsOver kept asking other)
   pub wait : after.waiting ≡ nodes
 
 -- it answers nothing else

@@ -17,6 +17,7 @@ use Rattle.rht_core.specs.declared.book.Book.{Book}
 use Rattle.rht_core.specs.Locals.{is_idle}
 use Rattle.rht_core.specs.Replies.{IsReplyTo, ArePairsWith, IsRightlyAnswered}
 use Rattle.rht_core.specs.Serving.{AreForCommand, Serves, calls_of}
+use Rattle.rht_core.proofs.Histories.ToldEntries.{tries-last}
 use Rattle.rht_run.specs.declared.table.Table.{Table}
 use Rattle.rht_run.specs.declared.pass.Pass.{Pass}
 use Rattle.rht_run.specs.Rule.{In, held_at}
@@ -123,16 +124,16 @@ new-below mix t number pass new =
     omega (arith, below, most, same)
 
 module _ {M : Type 0} (mix : ℕ → ℕ → ℕ → ℕ) (t : Table M) (auto : Bool) where
-  -- the command's own call was answered rightly
+  -- the call with which the command ended was answered rightly
   own-answered : (call : Call) (reply : Reply) (before now : Pass M) → HasServed mix t auto call reply before now
       → IsRightlyAnswered (ended_with call (replied reply now.local.owners.items now.local.pairs.items))
   own-answered call reply before now has =
-      let own = ended_with call (replied reply now.local.owners.items now.local.pairs.items) in
+      let ending = replied reply now.local.owners.items now.local.pairs.items in
       let right = (answers mix t now has.pass).finished in
       let more = (AllByRecursion-cut IsRightlyAnswered (book_of before).finished has.more
       (subst (AllByRecursion IsRightlyAnswered) has.finished right)).1 in
-      let whole : AllByRecursion IsRightlyAnswered (own ∷ has.made.behind) = subst (AllByRecursion IsRightlyAnswered) has.made.whole more in
-      whole.0
+      tries-last IsRightlyAnswered call ending has.made.tries has.made.are_tries
+      (AllByRecursion-cut IsRightlyAnswered has.made.tries has.made.behind (subst (AllByRecursion IsRightlyAnswered) has.made.whole more)).0
 
   -- and no pairs came with its reply
   served-pairs : (call : Call) (reply : Reply) (before now : Pass M) → IsCommandCall call

@@ -123,7 +123,6 @@ next-command P items commands i default same all within =
 -- there is a machine for each call that a command can ask for
 pub IsMadeCall-asked : (call : Call) → IsCommandCall call → IsMadeCall call
 IsMadeCall-asked (Walk from limit) asked = absurd asked
-IsMadeCall-asked Tidy asked = absurd asked
 IsMadeCall-asked _ asked = tt
 
 -- ---- one worker

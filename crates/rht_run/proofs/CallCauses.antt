@@ -1,7 +1,7 @@
 -- Why a pass's call was answered as it was.
 -- In the run that the pass is in, the traces remember the finished calls of the pass, in order, and each of these has its cause by
 -- the law of causes. So the one behind the calls that the pass had before stands in the trace at their number, and has its cause.
-use Rattle.std.proofs.Common.{◌≡◌, ℕ, List, [], ◌∷◌, ◌++◌, length, map, refl, ap, ◌∙◌, subst, arith}
+use Rattle.std.proofs.Common.{◌≡◌, ℕ, List, [], ◌∷◌, ◌++◌, length, map, refl, sym, ap, ◌∙◌, subst, append-nil, length-append, arith}
 use Rattle.std.specs.Prelude.{Some}
 use Rattle.std.specs.List.{AllByRecursion, slice_get}
 use Rattle.rht_words.specs.declared.env.Env.{Env}
@@ -48,12 +48,13 @@ module _ {M : Type 0} (mix : ℕ → ℕ → ℕ → ℕ) (t : Table M) (call : 
   done_now = ended_with call (replied reply now.local.owners.items now.local.pairs.items)
 
   -- What is so of each call that has ended in a run is so of a finished call of the pass, at its place.
-  pub traced_call : (Fact : Env → List Event → ℕ → Past → Type 0)
+  traced_behind : (Fact : Env → List Event → ℕ → Past → Type 0)
       → ((events : List Event) → IsAdmitted t.env.config.kind events
       → AllByRecursion (Fact t.env events now.number) ((traced_of {M = M} mix t.env events).traces now.number).past)
-      → (rest : List Finished) → IsPassOf mix t now → (book_of now).finished ≡ (book_of before).finished ++ done_now ∷ rest
+      → (earlier rest : List Finished) → IsPassOf mix t now
+      → (book_of now).finished ≡ ((book_of before).finished ++ earlier) ++ done_now ∷ rest
       → IsTracedCall mix t call reply before now Fact
-  traced_call Fact each rest is finished =
+  traced_behind Fact each earlier rest is finished =
       let events = is.in_run.events in
       let c = now.number in
       let admitted : IsAdmitted t.env.config.kind events =
@@ -63,28 +64,39 @@ module _ {M : Type 0} (mix : ℕ → ℕ → ℕ → ℕ) (t : Table M) (call : 
       (is.in_run.shows (held_at c (seen_by now)) (in_one (held_at c (seen_by now)) now.seat.me.0.held is.held)) in
       let traced = remembers M mix t.env events admitted in
       let pasts : List Past = ((traced_of {M = M} mix t.env events).traces c).past in
-      let remembered : map (λ (past : Past). past.done) pasts ≡ (book_of before).finished ++ done_now ∷ rest =
+      let others = (book_of before).finished ++ earlier in
+      let remembered : map (λ (past : Past). past.done) pasts ≡ others ++ done_now ∷ rest =
       (traced.traces c).past ∙ ap (λ (w : World M). (w.books c).finished) traced.world
       ∙ ap (λ (v : View M). v.book.finished) shows.shown ∙ finished in
       let there =
-      stands (Fact t.env events c) pasts (book_of before).finished done_now rest remembered (each events admitted) in
+      stands (Fact t.env events c) pasts others done_now rest remembered (each events admitted) in
       record {
         events = events;
         admitted = admitted;
         shows = shows;
-        at = length (book_of before).finished;
-        behind = omega arith;
+        at = length others;
+        behind = (let long = length-append (book_of before).finished earlier in omega (arith, long));
         past = there.past;
         place = there.place;
         done = there.done_is;
         fact = there.has;
       }
 
+  -- so it is of the first one behind those of `before`
+  pub traced_call : (Fact : Env → List Event → ℕ → Past → Type 0)
+      → ((events : List Event) → IsAdmitted t.env.config.kind events
+      → AllByRecursion (Fact t.env events now.number) ((traced_of {M = M} mix t.env events).traces now.number).past)
+      → (rest : List Finished) → IsPassOf mix t now → (book_of now).finished ≡ (book_of before).finished ++ done_now ∷ rest
+      → IsTracedCall mix t call reply before now Fact
+  traced_call Fact each rest is finished =
+      traced_behind Fact each [] rest is
+      (finished ∙ ap (λ others. others ++ done_now ∷ rest) (sym (append-nil (book_of before).finished)))
+
   -- so it has its cause
-  pub caused : (rest : List Finished) → IsPassOf mix t now
-      → (book_of now).finished ≡ (book_of before).finished ++ done_now ∷ rest → IsCaused mix t call reply before now
-  caused = traced_call (HasCause M mix) (λ events admitted. causes M mix t.env events now.number admitted)
+  pub caused : (earlier rest : List Finished) → IsPassOf mix t now
+      → (book_of now).finished ≡ ((book_of before).finished ++ earlier) ++ done_now ∷ rest → IsCaused mix t call reply before now
+  caused = traced_behind (HasCause M mix) (λ events admitted. causes M mix t.env events now.number admitted)
 
   -- and the last one has
   pub called_caused : HasCalled mix t call reply before now → IsCaused mix t call reply before now
-  called_caused has = caused [] has.pass has.finished
+  called_caused has = traced_call (HasCause M mix) (λ events admitted. causes M mix t.env events now.number admitted) [] has.pass has.finished

@@ -24,7 +24,9 @@ use Rattle.rht_core.specs.Laws.{view_stepped, IsLocalIn}
 use Rattle.rht_core.proofs.Events.Worlds.{run_of-push}
 use Rattle.rht_core.proofs.Events.BusyCallers.{busy_plans, begun_busy}
 use Rattle.rht_core.proofs.Events.BatchesInRuns.{all_in_range}
+use Rattle.rht_callers.specs.Batches.{IsBatchIn}
 use Rattle.rht_callers.proofs.RoomsOfCallers.{idle-limit}
+use Rattle.rht_callers.proofs.BatchesOfCallers.{idle-batch}
 use Rattle.rht_run.specs.declared.seats.Held.{Held}
 use Rattle.rht_run.specs.declared.seats.SeatView.{SeatView}
 use Rattle.rht_run.specs.declared.table.Table.{Table}
@@ -109,7 +111,10 @@ module _ {M : Type 0} where
 
     pub room_for : (begins : Option Call) → CanGo t.env p.number begins p.local → HasRoom t.env begins p.local
     room_for None can = tt
-    room_for (Some call) can = idle-limit M p.local t.env.geometry.nodes can.idle local_in.owners
+    room_for (Some call) can = (
+      idle-limit M p.local t.env.geometry.nodes can.idle local_in.owners,
+      idle-batch M (IsBatchIn t.env) p.local can.idle local_in.batch,
+    )
 
     -- the operation that it plans is in range, also where a call begins with it
     pub plans_in : (begins : Option Call) (op : Op) → CanGo t.env p.number begins p.local

@@ -1,6 +1,6 @@
--- The calls of a command. Behind the command's own comes `work`, until that doesn't answer that it is to be made again, where the
--- reply asks for it and the pass makes it by itself. A reply that asks for it comes without lists, and so does one of `work`: so
--- what is in the rooms at the end are the lists of the command's own call.
+-- The calls of a command. Its own is made once more behind a tidying, where it found no node. Behind it comes `work`, until that doesn't
+-- answer that it is to be made again, where the reply asks for it and the pass makes it by itself. A reply that asks for it comes without
+-- lists, and so does one of `work`: so what is in the rooms at the end are the lists of the command's last try.
 use Rattle.std.proofs.Common.{◌≡◌, ◌≢◌, ◌⊎◌, inl, inr, ℕ, Bool, true, false, List, [], ◌∷◌, ◌++◌, refl, sym, ◌∙◌, ap, subst, append_assoc}
 use Rattle.std.specs.Prelude.{Option, Some, None, is_some, ◌&&◌}
 use Rattle.std.specs.List.{AllByRecursion}
@@ -8,7 +8,7 @@ use Rattle.std.proofs.lemmas.List.{append-nil}
 use Rattle.rht_words.specs.declared.env.Env.{Env}
 use Rattle.rht_words.specs.declared.config.Kind.{Kind}
 use Rattle.rht_words.specs.declared.config.Kind.TheVariants.{Single, Listed}
-use Rattle.rht_words.proofs.EachElement.{AllByRecursion-append}
+use Rattle.rht_words.proofs.EachElement.{AllByRecursion-append, AllByRecursion-cut}
 use Rattle.rht_model.specs.declared.history.Call.{Call}
 use Rattle.rht_model.specs.declared.history.Call.TheVariants.{Bind, Find, All, Release, Rebind, Walk, Work, Tidy, Count}
 use Rattle.rht_model.specs.declared.history.Reply.{Reply}
@@ -18,17 +18,19 @@ use Rattle.rht_model.specs.declared.finished.Finished.{Finished}
 use Rattle.rht_model.specs.Endings.{ended_with, replied}
 use Rattle.rht_callers.specs.declared.local.Local.{Local}
 use Rattle.rht_grace.specs.Batch.{BatchModel}
-use Rattle.rht_core.specs.Locals.{is_idle, machine_of, rebinding_of}
+use Rattle.rht_callers.specs.Batches.{IsBatchIn}
+use Rattle.rht_core.specs.Locals.{is_idle, machine_of, rebinding_of, tidying_of}
 use Rattle.rht_core.specs.Runs.{IsAdmittedCall, IsBuiltFor}
-use Rattle.rht_core.specs.Replies.{IsFindReply, IsWorkReply, AreOwnersWith, ArePairsWith}
-use Rattle.rht_core.specs.Serving.{asks_for_work, AreWorks, AreBehind}
+use Rattle.rht_core.specs.Replies.{IsFindReply, IsWorkReply, IsRightlyAnswered, AreOwnersWith, ArePairsWith}
+use Rattle.rht_core.specs.Serving.{asks_for_work, AreWorks, AreBehind, AreTries}
+use Rattle.rht_core.proofs.Histories.ToldEntries.{tries-last, tries-split}
 use Rattle.rht_run.specs.declared.table.Table.{Table}
 use Rattle.rht_run.specs.declared.pass.Pass.{Pass}
 use Rattle.rht_run.specs.Passes.{IsPassOf, IsSamePass, HasCalled, book_of}
 use Rattle.rht_run.specs.Caused.{IsCaused}
 use Rattle.rht_run.specs.Rule.{MayBegin}
-use Rattle.rht_run.specs.Served.{IsMadeCall, HasServed, HasWorked}
-use Rattle.rht_run.proofs.CallSteps.{answered}
+use Rattle.rht_run.specs.Served.{IsMadeCall, HasServed, HasTried, HasWorked}
+use Rattle.rht_run.proofs.CallSteps.{answers, answered}
 use Rattle.rht_run.proofs.CallCauses.{caused}
 
 -- ---- replies without lists
@@ -86,29 +88,36 @@ rebind-machine : (M : Type 0) (env : Env) (c port owner new : ℕ) (kind : Kind)
 rebind-machine M env c port owner new Single single = refl
 rebind-machine M env c port owner new Listed single = absurd (single refl)
 
+-- and one for a tidying of who has a batch
+tidying-machine : (M : Type 0) (env : Env) (batch : Option BatchModel) → IsBatchIn env batch
+    → is_some (tidying_of {M = M} env batch) ≡ true
+tidying-machine M env None own = absurd own
+tidying-machine M env (Some batch) own = refl
+
 -- by cases of the call
 made-machine : (M : Type 0) (env : Env) (c : ℕ) (batch : Option BatchModel) (call : Call) → IsBuiltFor env.config.kind call → IsMadeCall call
+    → IsBatchIn env batch
     → is_some (machine_of {M = M} env c batch call) ≡ true
-made-machine M env c batch (Bind port owner once) kind made = refl
-made-machine M env c batch (Find port) kind made = refl
-made-machine M env c batch (All port) kind made = refl
-made-machine M env c batch (Release port owner) kind made = refl
-made-machine M env c batch (Rebind port owner new) kind made = rebind-machine M env c port owner new env.config.kind kind
-made-machine M env c batch (Walk from limit) kind made = absurd made
-made-machine M env c batch Work kind made = refl
-made-machine M env c batch Tidy kind made = absurd made
-made-machine M env c batch Count kind made = refl
+made-machine M env c batch (Bind port owner once) kind made own = refl
+made-machine M env c batch (Find port) kind made own = refl
+made-machine M env c batch (All port) kind made own = refl
+made-machine M env c batch (Release port owner) kind made own = refl
+made-machine M env c batch (Rebind port owner new) kind made own = rebind-machine M env c port owner new env.config.kind kind
+made-machine M env c batch (Walk from limit) kind made own = absurd made
+made-machine M env c batch Work kind made own = refl
+made-machine M env c batch Tidy kind made own = tidying-machine M env batch own
+made-machine M env c batch Count kind made own = refl
 
 -- where there is something it is some thing
 some-thing : {A : Type 0} (o : Option A) → is_some o ≡ true → (a : A) × (o ≡ Some a)
 some-thing None none = absurd (cc)
 some-thing (Some a) some = (a, refl)
 
--- so a pass in no call can be given it
+-- so a pass in no call, which has its batch, can be given it
 pub MayBegin-made : {M : Type 0} (env : Env) (c : ℕ) (call : Call) (local : Local M) → is_idle local ≡ true → IsAdmittedCall call
-    → IsBuiltFor env.config.kind call → IsMadeCall call → MayBegin env c call local
-MayBegin-made {M} env c call local idle admitted kind made =
-    let machine = some-thing (machine_of {M = M} env c local.batch call) (made-machine M env c local.batch call kind made) in
+    → IsBuiltFor env.config.kind call → IsMadeCall call → IsBatchIn env local.batch → MayBegin env c call local
+MayBegin-made {M} env c call local idle admitted kind made own =
+    let machine = some-thing (machine_of {M = M} env c local.batch call) (made-machine M env c local.batch call kind made own) in
     record { idle = idle; admitted = admitted; built = kind; machine = machine.0; machine_is = machine.1 }
 
 -- ---- the work behind a call
@@ -186,19 +195,70 @@ module _ {M : Type 0} (mix : ℕ → ℕ → ℕ → ℕ) (t : Table M) where
             pairs = none.1;
           }
 
+  -- ---- the tries of a command
+
+  -- a try that found a node, or needed none, is the only one
+  pub tries_once : (call : Call) (reply : Reply) (before now : Pass M) → reply ≢ NoNode → HasCalled mix t call reply before now
+      → HasTried mix t call reply before now
+  tries_once call reply before now found has = record {
+    pass = has.pass;
+    same = has.same;
+    idle = has.idle;
+    tries = ended_with call (replied reply now.local.owners.items now.local.pairs.items) ∷ [];
+    finished = has.finished;
+    are_tries = (refl, found);
+  }
+
+  -- behind one that found none there are a tidying and another one
+  pub tries_again : (call : Call) (first tidied reply : Reply) (before p q now : Pass M) → first ≡ NoNode
+      → HasCalled mix t call first before p → HasCalled mix t Tidy tidied p q → HasCalled mix t call reply q now
+      → HasTried mix t call reply before now
+  tries_again call first tidied reply before p q now none has tidy again =
+      let done : Call → Reply → Pass M → Finished =
+      λ asked answer pass. ended_with asked (replied answer pass.local.owners.items pass.local.pairs.items) in
+      record {
+        pass = again.pass;
+        same = record {
+          table = again.same.table ∙ tidy.same.table ∙ has.same.table;
+          number = again.same.number ∙ tidy.same.number ∙ has.same.number;
+        };
+        idle = again.idle;
+        tries = done call first p ∷ done Tidy tidied q ∷ done call reply now ∷ [];
+        finished =
+            again.finished ∙ ap (λ l. l ++ done call reply now ∷ []) (tidy.finished ∙ ap (λ l. l ++ done Tidy tidied q ∷ []) has.finished)
+            ∙ ap (λ l. l ++ done call reply now ∷ [])
+            (append_assoc (book_of before).finished (done call first p ∷ []) (done Tidy tidied q ∷ []))
+            ∙ append_assoc (book_of before).finished (done call first p ∷ done Tidy tidied q ∷ []) (done call reply now ∷ []);
+        are_tries = (refl, none, refl, refl);
+      }
+
+  -- the last one was answered rightly
+  pub tried_rightly : (call : Call) (reply : Reply) (before now : Pass M) → HasTried mix t call reply before now
+      → IsRightlyAnswered (ended_with call (replied reply now.local.owners.items now.local.pairs.items))
+  tried_rightly call reply before now has =
+      tries-last IsRightlyAnswered call (replied reply now.local.owners.items now.local.pairs.items) has.tries has.are_tries
+      (AllByRecursion-cut IsRightlyAnswered (book_of before).finished has.tries
+      (subst (AllByRecursion IsRightlyAnswered) has.finished (answers mix t now has.pass).finished)).1
+
   -- ---- a command
 
   module _ (auto : Bool) (call : Call) (reply : Reply) (before : Pass M) where
-    -- it is its own call alone
-    pub serves_alone : (now : Pass M) → (auto ≡ false) ⊎ (asks_for_work call reply ≡ false) → HasCalled mix t call reply before now
+    -- it is its tries alone
+    pub serves_alone : (now : Pass M) → (auto ≡ false) ⊎ (asks_for_work call reply ≡ false) → HasTried mix t call reply before now
         → HasServed mix t auto call reply before now
     serves_alone now not has = record {
       pass = has.pass;
       same = has.same;
       idle = has.idle;
-      more = ended_with call (replied reply now.local.owners.items now.local.pairs.items) ∷ [];
+      more = has.tries;
       finished = has.finished;
-      made = record { behind = []; whole = refl; works = none not };
+      made = record {
+        tries = has.tries;
+        behind = [];
+        whole = sym (append-nil has.tries);
+        are_tries = has.are_tries;
+        works = none not;
+      };
     }
       where
         none_asked : (auto : Bool) → AreBehind (auto && false) []
@@ -214,34 +274,45 @@ module _ {M : Type 0} (mix : ℕ → ℕ → ℕ → ℕ) (t : Table M) where
         → HasServed mix t auto call reply before now
     serves_find port now is right has =
         serves_alone now (inr (rw is (find_asks_none port reply right)))
-        (subst (λ (asked : Call). HasCalled mix t asked reply before now) (sym is) has)
+        (tries_once call reply before now (λ none. subst IsFindReply none right)
+        (subst (λ (asked : Call). HasCalled mix t asked reply before now) (sym is) has))
 
     -- or the work behind it too
-    pub serves_works : (p now : Pass M) → auto ≡ true → asks_for_work call reply ≡ true → HasCalled mix t call reply before p
+    pub serves_works : (p now : Pass M) → auto ≡ true → asks_for_work call reply ≡ true → HasTried mix t call reply before p
         → HasWorked mix t p now → HasServed mix t auto call reply before now
     serves_works p now own asks has worked =
-        let right = answered mix t call reply before p has in
+        let right = tried_rightly call reply before p has in
         let none =
         asks_no_lists call reply p.local.owners.items p.local.pairs.items asks right.owners right.pairs in
-        let ended : List ℕ → List (ℕ × ℕ) → Finished = λ owners pairs. ended_with call (replied reply owners pairs) in
-        let done : Finished = ended now.local.owners.items now.local.pairs.items in
-        let done_is : ended p.local.owners.items p.local.pairs.items ≡ done =
-        ap (λ o. ended o p.local.pairs.items) (none.0 ∙ sym worked.owners)
-        ∙ ap (λ q. ended now.local.owners.items q) (none.1 ∙ sym worked.pairs) in
+        let IsEnded : List ℕ → List (ℕ × ℕ) → Type 0 = λ owners pairs. AreTries call (replied reply owners pairs) has.tries in
+        let are : IsEnded now.local.owners.items now.local.pairs.items =
+        subst (λ o. IsEnded o now.local.pairs.items) (none.0 ∙ sym worked.owners)
+        (subst (λ q. IsEnded p.local.owners.items q) (none.1 ∙ sym worked.pairs) has.are_tries) in
         record {
           pass = worked.pass;
           same = record { table = worked.same.table ∙ has.same.table; number = worked.same.number ∙ has.same.number };
           idle = worked.idle;
-          more = done ∷ worked.works;
+          more = has.tries ++ worked.works;
           finished =
               worked.finished ∙ ap (λ l. l ++ worked.works) has.finished
-              ∙ append_assoc (book_of before).finished (ended p.local.owners.items p.local.pairs.items ∷ []) worked.works
-              ∙ ap (λ (d : Finished). (book_of before).finished ++ d ∷ worked.works) done_is;
-          made = record { behind = worked.works; whole = refl; works = rw (own, asks) worked.are_works };
+              ∙ append_assoc (book_of before).finished has.tries worked.works;
+          made = record {
+            tries = has.tries;
+            behind = worked.works;
+            whole = refl;
+            are_tries = are;
+            works = rw (own, asks) worked.are_works;
+          };
         }
 
-    -- its own call has its cause
+    -- the one with which it ended has its cause
     pub served_caused : (now : Pass M) → HasServed mix t auto call reply before now → IsCaused mix t call reply before now
     served_caused now has =
-        caused mix t call reply before now has.made.behind has.pass
-        (has.finished ∙ ap (λ l. (book_of before).finished ++ l) has.made.whole)
+        let done = ended_with call (replied reply now.local.owners.items now.local.pairs.items) in
+        let split = tries-split call (replied reply now.local.owners.items now.local.pairs.items) has.made.tries has.made.are_tries in
+        let others = (book_of before).finished in
+        caused mix t call reply before now split.0 has.made.behind has.pass
+        (has.finished
+        ∙ ap (λ l. others ++ l)
+        (has.made.whole ∙ ap (λ tries. tries ++ has.made.behind) split.1 ∙ append_assoc split.0 (done ∷ []) has.made.behind)
+        ∙ sym (append_assoc others split.0 (done ∷ has.made.behind)))

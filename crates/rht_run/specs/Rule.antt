@@ -11,6 +11,7 @@ use Rattle.rht_core.specs.declared.event.Event.{Event}
 use Rattle.rht_core.specs.declared.book.Book.{Book}
 use Rattle.rht_callers.specs.declared.local.Local.{Local}
 use Rattle.rht_callers.specs.declared.local.Doing.{Doing}
+use Rattle.rht_callers.specs.Batches.{IsBatchIn}
 use Rattle.rht_core.specs.Locals.{fresh, is_idle, machine_of, begun_with}
 use Rattle.rht_core.specs.Runs.{World, View, view_of, new_book, book_begun, run_of, IsAdmittedCall, IsBuiltFor, IsAdmitted}
 use Rattle.rht_core.specs.Laws.{view_stepped}
@@ -100,10 +101,10 @@ module _ {M : Type 0} where
   CanGo env c None local = is_idle local ≡ false
   CanGo env c (Some call) local = MayBegin env c call local
 
-  -- where a call begins, its caller's room of owners may have one item a node
+  -- where a call begins, its caller's room of owners may have one item a node, and it has its batch
   abbrev pub HasRoom : Env → Option Call → Local M → Type 0
   HasRoom env None local = Unit {0}
-  HasRoom env (Some call) local = local.owners.limit ≡ env.geometry.nodes
+  HasRoom env (Some call) local = (local.owners.limit ≡ env.geometry.nodes) × IsBatchIn env local.batch
 
   -- the caller where this call begins, if one does
   abbrev pub local_then : Env → ℕ → Option Call → Local M → Local M

@@ -6,12 +6,12 @@ use Rattle.rht_model.specs.declared.history.Reply.{Reply}
 use Rattle.rht_model.specs.declared.finished.Finished.{Finished}
 use Rattle.rht_model.specs.Endings.{replied}
 use Rattle.rht_core.specs.Locals.{is_idle}
-use Rattle.rht_core.specs.Serving.{AreWorks, AreForCommand}
+use Rattle.rht_core.specs.Serving.{AreWorks, AreTries, AreForCommand}
 use Rattle.rht_run.specs.declared.table.Table.{Table}
 use Rattle.rht_run.specs.declared.pass.Pass.{Pass}
 use Rattle.rht_run.specs.Passes.{IsPassOf, IsSamePass, book_of}
 
--- there is a machine for the call; a walk and a tidying have none yet
+-- there is a machine for the call; a walk has none yet
 abbrev pub IsMadeCall : Call → Type 0
 IsMadeCall (Bind port owner once) = Unit {0}
 IsMadeCall (Find port) = Unit {0}
@@ -20,7 +20,7 @@ IsMadeCall (Release port owner) = Unit {0}
 IsMadeCall (Rebind port owner new) = Unit {0}
 IsMadeCall (Walk from limit) = ⊥
 IsMadeCall Work = Unit {0}
-IsMadeCall Tidy = ⊥
+IsMadeCall Tidy = Unit {0}
 IsMadeCall Count = Unit {0}
 
 -- The pass is in no call. Its finished calls are those of `before`, and behind them those of one command, which ended with this
@@ -33,6 +33,16 @@ pub record HasServed {M : Type 0} (mix : ℕ → ℕ → ℕ → ℕ) (t : Table
   pub more : List Finished
   pub finished : (book_of now).finished ≡ (book_of before).finished ++ more
   pub made : AreForCommand auto call (replied reply now.local.owners.items now.local.pairs.items) more
+
+-- The pass is in no call. Its finished calls are those of `before`, and behind them those that were made until this call had its reply,
+-- which came with the lists that are in the rooms of the pass.
+pub record HasTried {M : Type 0} (mix : ℕ → ℕ → ℕ → ℕ) (t : Table M) (call : Call) (reply : Reply) (before now : Pass M) : Type 0 where
+  pub pass : IsPassOf mix t now
+  pub same : IsSamePass before now
+  pub idle : is_idle now.local ≡ true
+  pub tries : List Finished
+  pub finished : (book_of now).finished ≡ (book_of before).finished ++ tries
+  pub are_tries : AreTries call (replied reply now.local.owners.items now.local.pairs.items) tries
 
 -- The pass is in no call. Its finished calls are those of `before`, and behind them `work`, until that didn't answer that it is to
 -- be made again; so no lists are in its rooms.

@@ -1,12 +1,12 @@
 //! The calls. Each makes one operation after another until one of them has its reply, and its clause
 //! `cause` says what its own operations have to show for that.
 
-ghost use Rattle.std.specs.Prelude.{◌≡◌, ℕ, ◌+◌, true, false, None, Some};
+ghost use Rattle.std.specs.Prelude.{◌≡◌, ℕ, ◌+◌, ◌*◌, true, false, None, Some};
 ghost use Rattle.rht_words.specs.declared.config.Kind.TheVariants.{Single};
 ghost use Rattle.rht_model.specs.declared.history.Call.{Call as CallOf};
-ghost use Rattle.rht_model.specs.declared.history.Call.TheVariants.{Find, Bind, Release, Rebind, All, Work, Count};
+ghost use Rattle.rht_model.specs.declared.history.Call.TheVariants.{Find, Bind, Release, Rebind, All, Work, Tidy, Count};
 ghost use Rattle.rht_core.specs.Locals.{is_idle};
-ghost use Rattle.rht_core.specs.Replies.{IsFindReply, IsBindReply, IsReleaseReply, IsRebindReply, IsAllReply, IsWorkReply, IsCountReply, AreOwnersWith};
+ghost use Rattle.rht_core.specs.Replies.{IsFindReply, IsBindReply, IsReleaseReply, IsRebindReply, IsAllReply, IsWorkReply, IsTidyReply, IsCountReply, AreOwnersWith};
 ghost use Rattle.rht_run.specs.declared.pass.Pass.{Pass as PassOf};
 ghost use Rattle.rht_run.specs.Rule.{MayBegin};
 ghost use Rattle.rht_run.specs.Passes.{IsPassOf, IsCalling, HasCalled, Turned, HasGone};
@@ -19,7 +19,7 @@ use crate::ride::{clear_rooms, keep_node};
 use crate::table::Table;
 use rht_model::{Call, Reply};
 use rht_policy::Mix;
-use rht_words::Port;
+use rht_words::{Geometry, Port};
 use std::marker::Brand;
 use std::sync::Wait;
 
@@ -38,8 +38,9 @@ impl<M: Mix> Table<M> {
     fn step(&self, pass: &mut Pass<M>) -> Option<Reply>
         requires pass { IsPassOf M.mix_of self.now pass.old }
         requires busy { is_idle pass.old.local ≡ false }
-        ensures { (call : CallOf) (steps : ℕ) (before : PassOf M) → IsCalling M.mix_of self.now call steps before pass.old
+        ensures turned { (call : CallOf) (steps : ℕ) (before : PassOf M) → IsCalling M.mix_of self.now call steps before pass.old
             → Turned M.mix_of self.now call (steps + 1) before result pass.new }
+        ensures gone { HasGone M.mix_of self.now None pass.old result pass.new }
     {
         self.go::<Brand>(pass, None)
     }
@@ -216,6 +217,49 @@ impl<M: Mix> Table<M> {
         self.drive_work::<R, Brand>(rt, &mut pass.seat, pass.number)
     }
 
+    /// Gives back the nodes that wait in the pass's batch, all at once, so that binds can take them again.
+    /// It waits for nobody, and takes no memory.
+    ///
+    /// A node that a release or a rebind took out comes into its pass's batch. Where none of these waits
+    /// yet, they all begin to: until each read section that is open then has been left. What comes into
+    /// the batch while others wait is for a later call.
+    ///
+    /// `Clear` comes once it has found all those sections left, and says how many nodes it gave back.
+    /// `Pending` comes where it found a caller in one of them still, also where the batch is empty. It
+    /// names that caller and its section word, and has given back none. So tidy again later, behind the
+    /// end of that caller's call.
+    ///
+    /// The kernel's counterparts are `call_rcu` and `kfree_rcu`, behind which it frees by itself. Where
+    /// this call answers `Pending`, `synchronize_rcu` would wait.
+    pub fn tidy(&self, pass: &mut Pass<M>) -> Reply
+        requires pass { IsPassOf M.mix_of self.now pass.old }
+        requires idle { is_idle pass.old.local ≡ true }
+        ensures called { HasCalled M.mix_of self.now Tidy result pass.old pass.new }
+        ensures reply { IsTidyReply result }
+        ensures cause { IsCaused M.mix_of self.now Tidy result pass.old pass.new }
+    {
+        self.tidied(pass)
+    }
+
+    /// Tidies, operation by operation. It has ended within two operations for each caller and one for
+    /// each node, so nothing stands behind its loop.
+    fn tidied(&self, pass: &mut Pass<M>) -> Reply
+        requires pass { IsPassOf M.mix_of self.now pass.old }
+        requires idle { is_idle pass.old.local ≡ true }
+        ensures { HasCalled M.mix_of self.now Tidy result pass.old pass.new }
+    {
+        let most = most_operations(self.env.geometry);
+        if let Some(reply) = self.start(pass, Call::Tidy) {
+            return reply;
+        }
+        for rounds in 0..most {
+            if let Some(reply) = self.step(pass) {
+                return reply;
+            }
+        }
+        unreachable!()
+    }
+
     /// Counts the bound ports: `Counted`. The ports bound where it loaded the count were at most so many,
     /// and with the other callers that were in the middle of a call at least. It waits for nobody.
     pub fn count(&self, pass: &mut Pass<M>) -> Reply
@@ -230,4 +274,11 @@ impl<M: Mix> Table<M> {
         };
         reply
     }
+}
+
+/// How many operations a tidying makes at most.
+fn most_operations(geometry: Geometry) -> u32
+    ensures { result ≡ 2 * geometry.callers + geometry.nodes }
+{
+    2 * geometry.callers + geometry.nodes
 }

@@ -28,8 +28,8 @@ use std::sync::Wait;
 
 impl<M: Mix> Table<M> {
     /// Takes the binding out, from the first operation to the reply. It answers whether `work` has something
-    /// to do, or that there is no such binding, and the node that was taken out: that goes back in registers
-    /// where a reply would go through memory.
+    /// to do, or that there is no such binding, and the node that was taken out: twelve bytes, where a reply
+    /// has 32.
     #[inline(never)]
     pub(crate) fn drive_release<R: Wait, K: Ride>(
         &self,

@@ -1,7 +1,8 @@
 //! One operation of a call that is driven from outside its pass.
 //!
-//! The calls but a listing and a reading of the count go through the states of their machine in straight
-//! code: each line makes one operation, and knows in which state the machine is. So no machine is kept while the program runs.
+//! The calls but a listing, a tidying and a reading of the count go through the states of their machine
+//! in straight code: each line makes one operation, and knows in which state the machine is. So no
+//! machine is kept while the program runs.
 //! The seat's view has it, for the proofs alone.
 
 ghost use Rattle.std.specs.Prelude.{◌≡◌, Some};

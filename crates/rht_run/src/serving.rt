@@ -1,4 +1,4 @@
-//! Commands. Each is a call and the work that its reply asks for.
+//! Commands. Each is a call, once more where it found no node, and the work that its reply asks for.
 
 ghost use Rattle.std.specs.Prelude.{◌≡◌, ◌≢◌, ◌↔◌, ℕ, true, IsTrue};
 ghost use Rattle.rht_model.specs.declared.history.Call.TheVariants.{Find};
@@ -10,7 +10,7 @@ ghost use Rattle.rht_core.specs.Serving.{asks_for_work};
 ghost use Rattle.rht_run.specs.Rule.{MayBegin};
 ghost use Rattle.rht_run.specs.Passes.{IsPassOf, HasCalled};
 ghost use Rattle.rht_run.specs.Caused.{IsCaused};
-ghost use Rattle.rht_run.specs.Served.{IsMadeCall, HasServed, HasWorked};
+ghost use Rattle.rht_run.specs.Served.{IsMadeCall, HasServed, HasTried, HasWorked};
 
 use crate::pass::Pass;
 use crate::table::Table;
@@ -21,10 +21,13 @@ use std::sync::Wait;
 impl<M: Mix> Table<M> {
     /// Does a command: makes its call and, where `auto` is set, the work that the reply asks for. That is
     /// `work` after a `Bound` or a `Released` with a kick, after `Busy`, and after `NoTable` of a bind, until
-    /// it doesn't answer `Moved` with more to do. The answer is the reply to the call; what `work` was
-    /// answered stands among the pass's finished calls alone. Each reply comes when it does of the call
-    /// itself, which may wait; so may `work`. The owners of a `Listed` stand in `Pass::owners`. It takes
-    /// no memory. A rebind is for a table of one owner each, and a walk or a tidying can't be asked for yet.
+    /// it doesn't answer `Moved` with more to do. After `NoNode` it tidies once and makes the call again,
+    /// and the second reply is the command's, whatever it is.
+    ///
+    /// The answer is the command's reply. What the tidying and `work` were answered, and a first `NoNode`,
+    /// stand among the pass's finished calls alone. Each reply comes when it does of the call itself, which
+    /// may wait; so may `work`. The owners of a `Listed` stand in `Pass::owners`. It takes no memory.
+    /// A rebind is for a table of one owner each, and a walk can't be asked for yet.
     pub fn serve<R: Wait>(&self, rt: &R, pass: &mut Pass<M>, call: Call, auto: bool) -> Reply
         requires pass { IsPassOf M.mix_of self.now pass.old }
         requires idle { is_idle pass.old.local ≡ true }
@@ -34,18 +37,37 @@ impl<M: Mix> Table<M> {
         ensures reply { IsReplyTo call result }
         ensures cause { IsCaused M.mix_of self.now call result pass.old pass.new }
     {
-        // A look-up asks for no work.
+        // A look-up needs no node, and asks for no work.
         if let Call::Find { port } = call {
             return self.find(pass, port);
         }
-        let reply = self.answer(rt, pass, call);
+        let reply = self.tried(rt, pass, call);
         if auto && asks_for_work(call, reply) {
             self.work_off(rt, pass);
         }
         reply
     }
 
-    /// Makes a call other than a look-up. For a walk and a tidying there is no machine yet.
+    /// Makes a call other than a look-up. Where it finds no node the pass gives back those that it may, and
+    /// makes the call once more.
+    fn tried<R: Wait>(&self, rt: &R, pass: &mut Pass<M>, call: Call) -> Reply
+        requires pass { IsPassOf M.mix_of self.now pass.old }
+        requires idle { is_idle pass.old.local ≡ true }
+        requires kind { IsBuiltFor self.now.env.config.kind call }
+        requires made { IsMadeCall call }
+        requires other { (port : ℕ) → call ≢ Find port }
+        ensures { HasTried M.mix_of self.now call result pass.old pass.new }
+    {
+        match self.answer(rt, pass, call) {
+            Reply::NoNode => {
+                self.tidy(pass);
+                self.answer(rt, pass, call)
+            }
+            reply => reply,
+        }
+    }
+
+    /// Makes a call other than a look-up. For a walk there is no machine yet.
     fn answer<R: Wait>(&self, rt: &R, pass: &mut Pass<M>, call: Call) -> Reply
         requires pass { IsPassOf M.mix_of self.now pass.old }
         requires may { MayBegin self.now.env pass.old.number call pass.old.local }
@@ -64,8 +86,9 @@ impl<M: Mix> Table<M> {
             Call::Release { port, owner } => self.release(rt, pass, port, owner),
             Call::Rebind { port, owner, new } => self.rebind(rt, pass, port, owner, new),
             Call::Work => self.work(rt, pass),
+            Call::Tidy => self.tidy(pass),
             Call::Count => self.count(pass),
-            Call::Find { .. } | Call::Walk { .. } | Call::Tidy => unreachable!(),
+            Call::Find { .. } | Call::Walk { .. } => unreachable!(),
         }
     }
 

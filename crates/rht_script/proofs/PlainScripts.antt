@@ -67,7 +67,7 @@ module _ (kind : Kind) where
       rw (port_is, owner_is, new_is) (ap (λ (k : Kind). of_single k (Rebind port owner new)) sayable.3)
   call_of-plain (Walk from limit) sayable = absurd sayable
   call_of-plain Work sayable = refl
-  call_of-plain Tidy sayable = absurd sayable
+  call_of-plain Tidy sayable = refl
   call_of-plain Count sayable = refl
 
   -- the words of a call are plain, and at most four
@@ -94,7 +94,7 @@ module _ (kind : Kind) where
       ((plain_name refl, (port_is, (owner_is, (new_is, tt)))), omega arith)
   call_words-plain (Walk from limit) sayable = absurd sayable
   call_words-plain Work sayable = ((plain_name refl, tt), omega arith)
-  call_words-plain Tidy sayable = absurd sayable
+  call_words-plain Tidy sayable = ((plain_name refl, tt), omega arith)
   call_words-plain Count sayable = ((plain_name refl, tt), omega arith)
 
 -- ---- commands

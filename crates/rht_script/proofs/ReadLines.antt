@@ -11,7 +11,7 @@ use Rattle.rht_words.specs.declared.config.Kind.{Kind}
 use Rattle.rht_words.specs.declared.config.Kind.TheVariants.{Single, Listed}
 use Rattle.rht_words.specs.declared.limits.Limits.{Limits}
 use Rattle.rht_model.specs.declared.history.Call.{Call}
-use Rattle.rht_model.specs.declared.history.Call.TheVariants.{Bind, Find, All, Release, Rebind, Work, Count}
+use Rattle.rht_model.specs.declared.history.Call.TheVariants.{Bind, Find, All, Release, Rebind, Work, Tidy, Count}
 use Rattle.rht_script.specs.declared.script.TableLine.{TableLine}
 use Rattle.rht_script.specs.declared.script.ScriptFault.{ScriptFault}
 use Rattle.rht_script.specs.declared.script.Sched.{Sched}
@@ -113,6 +113,7 @@ pub record HoldsOfCalls (kind : Kind) (Q : Call → Type 0) : Type 0 where
   pub rebind : (port owner new : ℕ) → IsPort port → IsOwner owner → IsOwner new → kind ≡ Single
       → Q (Rebind port owner new)
   pub work : Q Work
+  pub tidy : Q Tidy
   pub count : Q Count
 
 module _ (kind : Kind) (Q : Call → Type 0) (holds : HoldsOfCalls kind Q) where
@@ -167,7 +168,8 @@ module _ (kind : Kind) (Q : Call → Type 0) (holds : HoldsOfCalls kind Q) where
       (IfOk-cond Q (is_word verb (codes "release")) _ _ (release_holds words)
       (IfOk-cond Q (is_word verb (codes "rebind")) _ _ (rebind_holds words)
       (IfOk-cond Q (is_word verb (codes "work")) _ _ (bare_holds Work holds.work words)
-      (IfOk-cond Q (is_word verb (codes "count")) _ (Err UnknownWord) (bare_holds Count holds.count words) tt))))))
+      (IfOk-cond Q (is_word verb (codes "tidy")) _ _ (bare_holds Tidy holds.tidy words)
+      (IfOk-cond Q (is_word verb (codes "count")) _ (Err UnknownWord) (bare_holds Count holds.count words) tt)))))))
 
 module _ (P : ℕ × Call → Type 0) (Q : Call → Type 0) (table : TableLine)
     (both : (worker : ℕ) (call : Call) → is_within (worker_limits table.config) worker ≡ true → Q call

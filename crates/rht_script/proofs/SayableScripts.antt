@@ -192,6 +192,7 @@ command_sayable table =
       rebind = λ port owner new is_port is_owner is_new single.
           (port_is port is_port, owner_is owner is_owner, owner_is new is_new, single);
       work = tt;
+      tidy = tt;
       count = tt;
     })
 
@@ -233,7 +234,7 @@ is_sound_call-sayable config (Release port owner) sayable = refl
 is_sound_call-sayable config (Rebind port owner new) sayable = ap is_single sayable.3
 is_sound_call-sayable config (Walk from limit) sayable = absurd sayable
 is_sound_call-sayable config Work sayable = refl
-is_sound_call-sayable config Tidy sayable = absurd sayable
+is_sound_call-sayable config Tidy sayable = refl
 is_sound_call-sayable config Count sayable = refl
 
 -- the test of limits, of what is within them
@@ -315,7 +316,7 @@ IsCommandCall-sayable kind (Release port owner) sayable = tt
 IsCommandCall-sayable kind (Rebind port owner new) sayable = tt
 IsCommandCall-sayable kind (Walk from limit) sayable = absurd sayable
 IsCommandCall-sayable kind Work sayable = tt
-IsCommandCall-sayable kind Tidy sayable = absurd sayable
+IsCommandCall-sayable kind Tidy sayable = tt
 IsCommandCall-sayable kind Count sayable = tt
 
 -- so each command of what can be said asks for such a call

@@ -9,7 +9,7 @@ use Rattle.rht_words.specs.declared.config.Kind.TheVariants.{Listed}
 use Rattle.rht_words.specs.declared.config.Config.{Config}
 use Rattle.rht_words.specs.declared.config.Hash.TheVariants.{Low}
 use Rattle.rht_model.specs.declared.history.Call.{Call}
-use Rattle.rht_model.specs.declared.history.Call.TheVariants.{Bind, Find, All, Release, Rebind, Work, Count}
+use Rattle.rht_model.specs.declared.history.Call.TheVariants.{Bind, Find, All, Release, Rebind, Work, Tidy, Count}
 use Rattle.rht_script.specs.declared.script.Sched.{Sched}
 use Rattle.rht_script.specs.declared.script.Sched.TheVariants.{Step, Skip, Finish}
 use Rattle.rht_script.specs.declared.script.TableLine.{TableLine}
@@ -94,8 +94,8 @@ unknown_words_of_commands : HaveFault 2 UnknownWord (below_table (
     ∷ codes "1 find\n" ∷ codes "1 release 80\n" ∷ codes "1 bind 80 100 7\n"
     ∷ codes "1 find 80 100\n" ∷ codes "1 find 80 # who?\n" ∷ codes "1 release 80 100 7\n"
     ∷ codes "1 all\n" ∷ codes "1 all 80 100\n" ∷ codes "1 rebind 80\n" ∷ codes "1 rebind 80 1\n"
-    ∷ codes "1 rebind 80 1 2 3\n" ∷ codes "1 count 80\n" ∷ codes "1 work 1\n" ∷ codes "1 work auto\n" ∷ codes "1 walk\n"
-    ∷ []))
+    ∷ codes "1 rebind 80 1 2 3\n" ∷ codes "1 count 80\n" ∷ codes "1 work 1\n" ∷ codes "1 work auto\n" ∷ codes "1 tidy 1\n"
+    ∷ codes "1 Tidy\n" ∷ codes "1 walk\n" ∷ []))
 unfolding whole_reading
 unknown_words_of_commands = refl
 
@@ -392,10 +392,10 @@ unknown_word_before_too_long = refl
 
 -- a table line without options, and a command of each verb
 verbs : Says (codes
-    "table single\n1 bind 80 100\n1 find 80\n1 all 80\n1 rebind 80 100 7\n1 work\n1 count\n1 release 80 7")
+    "table single\n1 bind 80 100\n1 find 80\n1 all 80\n1 rebind 80 100 7\n1 work\n1 count\n1 release 80 7\n1 tidy")
     plain_config
     ((1, Bind 80 100 false) ∷ (1, Find 80) ∷ (1, All 80) ∷ (1, Rebind 80 100 7) ∷ (1, Work) ∷ (1, Count)
-    ∷ (1, Release 80 7) ∷ [])
+    ∷ (1, Release 80 7) ∷ (1, Tidy) ∷ [])
 unfolding whole_reading
 verbs = refl
 

@@ -5,7 +5,7 @@ use Rattle.rht_words.specs.declared.config.Kind.{Kind}
 use Rattle.rht_words.specs.declared.config.Kind.TheVariants.{Single, Listed}
 use Rattle.rht_words.specs.declared.limits.Limits.{Limits}
 use Rattle.rht_model.specs.declared.history.Call.{Call}
-use Rattle.rht_model.specs.declared.history.Call.TheVariants.{Bind, Find, All, Release, Rebind, Work, Count}
+use Rattle.rht_model.specs.declared.history.Call.TheVariants.{Bind, Find, All, Release, Rebind, Work, Tidy, Count}
 use Rattle.rht_script.specs.declared.script.TableLine.{TableLine}
 use Rattle.rht_script.specs.declared.cause.Cause.{Cause}
 use Rattle.rht_script.specs.declared.cause.Cause.TheVariants.{UnknownWord, WrongKind}
@@ -87,6 +87,7 @@ call_of kind (verb ∷ words) =
     else if is_word verb (codes "release") then release_of words
     else if is_word verb (codes "rebind") then rebind_of kind words
     else if is_word verb (codes "work") then bare_of Work words
+    else if is_word verb (codes "tidy") then bare_of Tidy words
     else if is_word verb (codes "count") then bare_of Count words
     else Err UnknownWord
 

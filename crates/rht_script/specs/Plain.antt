@@ -22,7 +22,8 @@ use Rattle.rht_script.specs.ScheduleLines.{event_limits}
 -- ---- what can be said
 
 -- There is a verb for the call in a table of this kind: a bind that is tried until it ends, a look-up, a listing, a release
--- and a rebind, each of any port and owners, the work, and a reading of the count. A rebind is in a table of one owner each.
+-- and a rebind, each of any port and owners, the work, a tidying, and a reading of the count. A rebind is in a table of one
+-- owner each.
 abbrev pub IsSayableCall : Kind → Call → Type 0
 IsSayableCall kind (Bind port owner once) =
     IsWithinLimits port_limits port × IsWithinLimits owner_limits owner × (once ≡ false)
@@ -34,7 +35,7 @@ IsSayableCall kind (Rebind port owner new) =
     × (kind ≡ Single)
 IsSayableCall kind (Walk from limit) = ⊥
 IsSayableCall kind Work = Unit {0}
-IsSayableCall kind Tidy = ⊥
+IsSayableCall kind Tidy = Unit {0}
 IsSayableCall kind Count = Unit {0}
 
 -- a command line can say the command: it is one of a worker of the table
@@ -93,7 +94,7 @@ table_words config auto =
     ∷ codes "seed" ∷ decimal config.seed ∷ codes "rewalks" ∷ decimal config.rewalks
     ∷ (number_or_none (codes "hint") config.hint ++ number_or_none (codes "max") config.max)
 
--- the words of a call: its verb and its numbers; of calls for which there is no verb yet, none
+-- the words of a call: its verb and its numbers; of a walk, for which there is no verb yet, none
 abbrev pub call_words : Call → List (List ℕ)
 call_words (Bind port owner once) = codes "bind" ∷ decimal port ∷ decimal owner ∷ []
 call_words (Find port) = codes "find" ∷ decimal port ∷ []
@@ -103,7 +104,7 @@ call_words (Rebind port owner new) =
     codes "rebind" ∷ decimal port ∷ decimal owner ∷ decimal new ∷ []
 call_words (Walk from limit) = []
 call_words Work = codes "work" ∷ []
-call_words Tidy = []
+call_words Tidy = codes "tidy" ∷ []
 call_words Count = codes "count" ∷ []
 
 -- the words of a command: its worker, and the call's

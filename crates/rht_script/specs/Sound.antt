@@ -45,8 +45,8 @@ abbrev pub is_sound_command : Config → ℕ × Call → Bool
 is_sound_command config command =
     is_within (worker_limits config) command.0 && (has_sound_numbers command.1 && is_sound_call config command.1)
 
--- a command can ask for the call: for any that is about bindings, where a bind is tried until it ends, for the work, and for the
--- count
+-- a command can ask for the call: for any that is about bindings, where a bind is tried until it ends, for the work, for a tidying,
+-- and for the count
 abbrev pub IsCommandCall : Call → Type 0
 IsCommandCall (Bind port owner once) = once ≡ false
 IsCommandCall (Find port) = Unit {0}
@@ -55,7 +55,7 @@ IsCommandCall (Release port owner) = Unit {0}
 IsCommandCall (Rebind port owner new) = Unit {0}
 IsCommandCall (Walk from limit) = ⊥
 IsCommandCall Work = Unit {0}
-IsCommandCall Tidy = ⊥
+IsCommandCall Tidy = Unit {0}
 IsCommandCall Count = Unit {0}
 
 -- the line of a schedule is a worker's, and its number is within its limits

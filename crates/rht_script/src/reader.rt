@@ -27,7 +27,7 @@ use crate::script::{
 use cursors::{Lines, Words};
 use names::{
     ALL, AUTO, BIND, COUNT, FIND, FINISH, HASH, HINT, LISTED, LOW, MANUAL, MAX, MIN, MIX, NODES,
-    OFF, ON, PAGES, REBIND, RELEASE, REWALKS, SEED, SHRINK, SINGLE, SKIP, STEP, TABLE, WORK,
+    OFF, ON, PAGES, REBIND, RELEASE, REWALKS, SEED, SHRINK, SINGLE, SKIP, STEP, TABLE, TIDY, WORK,
     WORKERS,
 };
 use numbers::{OWNER, PORT, number_within};
@@ -296,6 +296,8 @@ fn call(kind: Kind, mut words: Words) -> Result<Call, Cause>
         rebind(kind, words)
     } else if verb == WORK {
         bare(Call::Work, words)
+    } else if verb == TIDY {
+        bare(Call::Tidy, words)
     } else if verb == COUNT {
         bare(Call::Count, words)
     } else {

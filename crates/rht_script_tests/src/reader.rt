@@ -143,7 +143,7 @@ fn reads_scripts(rt: HostRuntime) -> Result<(), Fail> {
             &[(1, Call::Find { port: 0 })],
         ),
         (
-            "table single workers 2\n2 find 0\n1 count\n2 work\n",
+            "table single workers 2\n2 find 0\n1 count\n2 work\n1 tidy\n",
             Config {
                 callers: 2,
                 ..plain
@@ -152,6 +152,7 @@ fn reads_scripts(rt: HostRuntime) -> Result<(), Fail> {
                 (2, Call::Find { port: 0 }),
                 (1, Call::Count),
                 (2, Call::Work),
+                (1, Call::Tidy),
             ],
         ),
         (

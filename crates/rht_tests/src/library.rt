@@ -14,7 +14,8 @@ use std::sync::Wait;
 use std::test::Fail;
 use std::thread::{Threads, join};
 
-/// What a thread does: it binds a port, asks who has it, gives it back, and binds it to another owner.
+/// What a thread does: it binds a port, asks who has it, gives it back, tidies, and binds it to another
+/// owner. The tidying may be `Pending`, since the other thread may be in a call.
 fn work<M: Mix, R: Wait>(rt: &R, table: &Table<M>, mut pass: Pass<M>, port: Port) -> Pass<M>
     requires pass { IsPassOf M.mix_of table.now pass }
     requires idle { is_idle pass.local ≡ true }
@@ -24,6 +25,7 @@ fn work<M: Mix, R: Wait>(rt: &R, table: &Table<M>, mut pass: Pass<M>, port: Port
     table.bind(rt, &mut pass, port, 1);
     table.find(&mut pass, port);
     table.release(rt, &mut pass, port, 1);
+    table.tidy(&mut pass);
     table.bind(rt, &mut pass, port, 2);
     pass
 }
@@ -48,7 +50,7 @@ fn both<M: Mix + Send + Sync, R: Threads + Wait + Sync>(
 }
 
 /// The two passes of a new table.
-fn pair<M: Mix>(table: &Table<M>, mut passes: Vec<Pass<M>>) -> Option<(Pass<M>, Pass<M>)>
+pub fn pair<M: Mix>(table: &Table<M>, mut passes: Vec<Pass<M>>) -> Option<(Pass<M>, Pass<M>)>
     requires { AreNew M.mix_of table.now 0 passes.items }
     ensures { IfSome result (λ r. IsNew M.mix_of table.now 0 r.0 × IsNew M.mix_of table.now 1 r.1) }
 {

@@ -7,6 +7,7 @@ ghost use Rattle.rht_core.specs.Locals.{is_idle};
 ghost use Rattle.rht_run.specs.Passes.{IsPassOf, AreNew, IsNew};
 
 use crate::asserts::{assert_bound, assert_same};
+use crate::library::pair;
 use rht_model::{Call, Closed, Reply};
 use rht_policy::{Low, Mix};
 use rht_run::{Pass, Table};
@@ -240,5 +241,55 @@ fn a_kick_is_followed_by_work_where_that_is_automatic(rt: HostRuntime) -> Result
         let closed = closed(rt.alloc(), table, pass)?;
         assert_same(&rt, (closed.size, closed.keys), (size, 4));
     }
+    Ok(())
+}
+
+/// Two callers of a table of one node. The node that one of them takes out is free once that one has tidied.
+fn hand_over<M: Mix, R: Wait>(
+    rt: &R,
+    table: &Table<M>,
+    first: &mut Pass<M>,
+    second: &mut Pass<M>,
+) -> [Reply; 8]
+    requires first { IsPassOf M.mix_of table.now first.old × (is_idle first.old.local ≡ true) }
+    requires second { IsPassOf M.mix_of table.now second.old × (is_idle second.old.local ≡ true) }
+{
+    let bound = table.bind(rt, first, 5, 9);
+    let released = table.release(rt, first, 5, 9);
+    let refused = table.bind(rt, second, 6, 2);
+    let others = table.tidy(second);
+    let own = table.tidy(first);
+    let again = table.tidy(first);
+    let taken = table.bind(rt, second, 6, 2);
+    let found = table.find(first, 6);
+    [bound, released, refused, others, own, again, taken, found]
+}
+
+#[test]
+fn a_node_that_was_tidied_is_bound_again(rt: HostRuntime) -> Result<(), Fail> {
+    let config = Config {
+        nodes: 1,
+        callers: 2,
+        ..SMALL
+    };
+    assert!(rt; config.is_settled());
+    let (table, passes) = Table::<Low>::open(rt.alloc(), config)?;
+    let (mut first, mut second) = pair(&table, passes).ok_or("two passes")?;
+    // The second caller's batch is empty. No call is open when the first one tidies.
+    let want = [
+        Reply::Bound { kick: false },
+        Reply::Released { kick: false },
+        Reply::NoNode,
+        Reply::Clear { returned: 0 },
+        Reply::Clear { returned: 1 },
+        Reply::Clear { returned: 0 },
+        Reply::Bound { kick: false },
+        Reply::Found { owner: 2 },
+    ];
+    assert_same(
+        &rt,
+        hand_over(&rt, &table, &mut first, &mut second),
+        want,
+    );
     Ok(())
 }

@@ -3,11 +3,11 @@
 -- Such a call found the bit of each node clear, each at some event. At opening all bits are set, and only an operation
 -- that takes a node clears its bit; so some call took it, and its trace has that operation. The nodes that calls took are no
 -- more than the calls that took one.
-use Rattle.std.proofs.Common.{◌≡◌, ◌≢◌, ℕ, zero, suc, ◌+◌, ◌/◌, ◌%◌, ◌<◌, ◌≤◌, Bool, true, false, cond, List, [], ◌∷◌, ◌++◌, length, map, take, ◌⊎◌, inl, inr, refl, sym, ap, ◌∙◌, subst, arith}
+use Rattle.std.proofs.Common.{◌≡◌, ◌≢◌, ℕ, zero, suc, ◌+◌, ◌/◌, ◌%◌, ◌<◌, ◌≤◌, ◌==◌, Bool, true, false, cond, List, [], ◌∷◌, ◌++◌, length, map, take, ◌⊎◌, inl, inr, refl, sym, ap, ◌∙◌, subst, arith}
 use Rattle.std.specs.Prelude.{Option, Some, None, IfSome, get_or, sum_by, count_by}
 use Rattle.std.specs.List.{AllByRecursion, Any, Contains, slice_get, range_with_len}
 use Rattle.std.specs.Int.{bit_at}
-use Rattle.std.proofs.lemmas.Bool.{cases_eq}
+use Rattle.std.proofs.lemmas.Bool.{cases_eq, eq-eqb, ne_eqb}
 use Rattle.std.proofs.lemmas.Nat.Bits.{bit_at-lt}
 use Rattle.std.proofs.lemmas.List.Elements.{All-from_recursion, All-contains}
 use Rattle.rht_words.specs.declared.op.Op.{Op}
@@ -15,6 +15,7 @@ use Rattle.rht_words.specs.declared.env.Env.{Env}
 use Rattle.rht_words.specs.declared.geometry.Geometry.{Geometry}
 use Rattle.rht_words.specs.Operations.{op_place, old_of, word_after, applied}
 use Rattle.rht_words.specs.Places.{IsAddress, NodeMap, word_at}
+use Rattle.rht_words.proofs.EachElement.{AllByRecursion-cut}
 use Rattle.rht_words.proofs.Members.{In-range_with_len}
 use Rattle.rht_words.proofs.WordChanges.{applied-other}
 use Rattle.rht_words.proofs.Memory.{is_write}
@@ -34,8 +35,8 @@ use Rattle.rht_core.specs.Jobs.{Job, finds, binds, lists, releases, rebinds, wor
 use Rattle.rht_core.specs.declared.event.Event.{Event}
 use Rattle.rht_core.specs.declared.event.Event.TheVariants.{Enroll, Begin, Step}
 use Rattle.rht_core.specs.Runs.{Core, World, local_of, run_of, planned_in, with_step, enrolling, core_step, world_step, IsAdmitted, IsAdmittedEvent}
-use Rattle.rht_core.specs.Traces.{Did, Past, Traced, traced_of, performed_of}
-use Rattle.rht_core.specs.Laws.{IsRecorded, IsPastCall}
+use Rattle.rht_core.specs.Traces.{Did, Past, Trace, Traced, traced_of, performed_of, IsRising, AreInOrder, behind_call}
+use Rattle.rht_core.specs.Laws.{IsRecorded, IsPastCall, ClearsBitOf, TakesNone, IsTakenBy, IsTakenIn}
 use Rattle.rht_core.specs.Causes.{CauseOf, HasCause}
 use Rattle.rht_core.specs.NodesUsed.{needs_node, may_take_node, took_node, takers_of, takers, IsForWant, Nodes}
 use Rattle.rht_ghost.proofs.Theory.Answering.{TellsNode}
@@ -46,6 +47,7 @@ use Rattle.rht_move.specs.WorkHeld.{held_of_work}
 use Rattle.rht_move.specs.declared.work.WorkAt.{WorkAt}
 use Rattle.rht_move.specs.declared.work.WorkAt.TheVariants as working
 use Rattle.rht_core.proofs.Counting.CoveredNodes.{Covers, covers_none, covers_one, covers_both, covers_all, TookBit, TookPast, TookCaller, TookAny, no_take, one_take, pasts_took, of_call, of_caller, any_took}
+use Rattle.rht_core.proofs.Counting.NodesOut.{sum_by-same}
 use Rattle.rht_core.proofs.Counting.NodesTaken.{HasTaken, JobTakes, Ended, calls_take, taken_alone}
 use Rattle.rht_core.proofs.Counting.FullTables.{taken}
 use Rattle.rht_core.proofs.Events.Worlds.{planned-some, run_of-push}
@@ -54,7 +56,7 @@ use Rattle.rht_core.proofs.Events.InvariantRuns.{opening_whole}
 use Rattle.rht_core.proofs.Tracing.TracedRuns.{world-traced_of}
 use Rattle.rht_core.proofs.Tracing.TracesInRuns.{traces_of_books}
 use Rattle.rht_core.proofs.Tracing.TracesAtEvents.{at_events}
-use Rattle.rht_core.proofs.Tracing.StepsInTraces.{all_steps_traced}
+use Rattle.rht_core.proofs.Tracing.StepsInTraces.{all_steps_traced, stands_before, LiesWithin, rising-within}
 use Rattle.rht_core.proofs.Reasons.CausesInRuns.{causes}
 
 -- ---- a call that needs no node has none
@@ -175,26 +177,61 @@ module _ (M : Type 0) (mix : ℕ → ℕ → ℕ → ℕ) (env : Env) (events : 
       → word_at g (applied words op) (NodeMap (n / 64)) ≡ word_at g words (NodeMap (n / 64))
   other_word words op n other = applied-other words op (map_place g n) (λ same. other (sym same))
 
-  -- an operation that clears the bit is recorded, so it stands in the trace of a call
+  -- an operation of some caller before this event took the node
+  record WasTaken (i n : ℕ) : Type 0 where
+    caller : ℕ
+    is_caller : caller < g.callers
+    did : Did
+    recorded : IsRecorded M mix env events caller did
+    early : did.index < i
+    clears : ClearsBitOf g n did
+
+  one_later : (i n : ℕ) → WasTaken i n → WasTaken (suc i) n
+  one_later i n was = record {
+    caller = was.caller;
+    is_caller = was.is_caller;
+    did = was.did;
+    recorded = was.recorded;
+    early = (let early = was.early in omega (arith, early));
+    clears = was.clears;
+  }
+
+  -- it is recorded, so it stands in the trace of a call
+  in_call : (i n : ℕ) (was : WasTaken i n) → TookCaller g (r.traces was.caller) n
+  in_call i n was =
+      let one = all_steps_traced M mix env events was.caller was.did admitted was.recorded in
+      of_call g (r.traces was.caller).past (r.traces was.caller).steps _ one.there.steps n one.there.call
+      (was.did, one.there.stands, was.clears)
+
+  in_some : (i n : ℕ) → WasTaken i n → TookAny g r.traces callers n
+  in_some i n was =
+      let below = was.is_caller in
+      of_caller g r.traces callers was.caller n (In-range_with_len 0 g.callers was.caller (omega arith) (omega (arith, below)))
+      (in_call i n was)
+
+  -- an operation that clears the bit is recorded
   of_step : (i n c : ℕ) (op : Op) → n < g.nodes → slice_get events i ≡ Some (Step c) → planned_in (core_at i) c ≡ Some op
       → op_place op ≡ map_place g n → bit_at (old_of (core_at i).words op) (map_bit n) ≡ 1
       → bit_at (word_after (old_of (core_at i).words op) op) (map_bit n) ≡ 0
-      → TookAny g r.traces callers n
+      → WasTaken (suc i) n
   of_step i n c op l is plan place set cleared =
-      let did : Did = record { index = i; op = op; old = old_of (core_at i).words op } in
-      let one = all_steps_traced M mix env events c did admitted (record { event = is; plan = plan; found = refl }) in
       let stays = (sound i).stays in
       let can = planned-some (core_at i).env (core_at i).enrolled (core_at i).locals c op plan in
       let below : c < g.callers = let b = can.below in let few = stays.few_enrolled in omega (arith, b, few) in
-      of_caller g r.traces callers c n (In-range_with_len 0 g.callers c (omega arith) (omega (arith, below)))
-      (of_call g (r.traces c).past (r.traces c).steps _ one.there.steps n one.there.call
-      (did, one.there.stands, record { within = l; place = place; free = set; taken = cleared }))
+      record {
+        caller = c;
+        is_caller = below;
+        did = record { index = i; op = op; old = old_of (core_at i).words op };
+        recorded = record { event = is; plan = plan; found = refl };
+        early = omega arith;
+        clears = record { within = l; place = place; free = set; taken = cleared };
+      }
 
   -- what one event makes of the bit
   by_op : (i n c : ℕ) (op : Option Op) → n < g.nodes → slice_get events i ≡ Some (Step c) → planned_in (core_at i) c ≡ op
-      → (bit i n ≡ 0 → TookAny g r.traces callers n)
+      → (bit i n ≡ 0 → WasTaken (suc i) n)
       → bit_at (word_at g (with_step mix (core_at i) c op).0.words (NodeMap (n / 64))) (n % 64) ≡ 0
-      → TookAny g r.traces callers n
+      → WasTaken (suc i) n
   by_op i n c None l is plan before clear = before clear
   by_op i n c (Some op) l is plan before clear =
       let words = (core_at i).words in
@@ -213,9 +250,9 @@ module _ (M : Type 0) (mix : ℕ → ℕ → ℕ → ℕ) (env : Env) (events : 
       ]
 
   by_event : (i n : ℕ) (event : Event) → n < g.nodes → slice_get events i ≡ Some event
-      → (bit i n ≡ 0 → TookAny g r.traces callers n)
+      → (bit i n ≡ 0 → WasTaken (suc i) n)
       → bit_at (word_at g (core_step mix (core_at i) event).0.words (NodeMap (n / 64))) (n % 64) ≡ 0
-      → TookAny g r.traces callers n
+      → WasTaken (suc i) n
   by_event i n Enroll l is before clear =
       let apart : op_place (enrolling (core_at i).env) ≢ map_place g n =
       λ same. absurd (omega (arith, same)) in
@@ -224,12 +261,12 @@ module _ (M : Type 0) (mix : ℕ → ℕ → ℕ → ℕ) (env : Env) (events : 
   by_event i n (Step c) l is before clear = by_op i n c (planned_in (core_at i) c) l is refl before clear
 
   -- by induction over the events
-  clear_took : (i n : ℕ) → n < g.nodes → bit i n ≡ 0 → TookAny g r.traces callers n
+  clear_took : (i n : ℕ) → n < g.nodes → bit i n ≡ 0 → WasTaken i n
   clear_took zero n l clear = let set = set_at_opening n l in absurd (omega (arith, set, clear))
-  clear_took (suc i) n l clear = go (slice_get events i) refl (clear_took i n l)
+  clear_took (suc i) n l clear = go (slice_get events i) refl (λ before. one_later i n (clear_took i n l before))
     where
-      go : (event : Option Event) → slice_get events i ≡ event → (bit i n ≡ 0 → TookAny g r.traces callers n)
-          → TookAny g r.traces callers n
+      go : (event : Option Event) → slice_get events i ≡ event → (bit i n ≡ 0 → WasTaken (suc i) n)
+          → WasTaken (suc i) n
       go None is before =
           before (subst (λ (es : List Event). bit_at (word_at g (run_of {M = M} mix env es).core.words (NodeMap (n / 64))) (n % 64) ≡ 0)
           (take_all events i is) clear)
@@ -245,15 +282,16 @@ module _ (M : Type 0) (mix : ℕ → ℕ → ℕ → ℕ) (env : Env) (events : 
   abbrev IsRecordedOf : ℕ → Did → Type 0
   IsRecordedOf c did = IsRecorded M mix env events c did
 
+  -- one of its operations saw that another had taken the node before
   seen_took : (c n : ℕ) (steps : List Did) → n < g.nodes → AllByRecursion (IsRecordedOf c) steps
-      → Any (SeesTaken g n) (map performed_of steps) → TookAny g r.traces callers n
+      → Any (SeesTaken g n) (map performed_of steps) → (did : Did) × Contains steps did × WasTaken did.index n
   seen_took c n steps l recorded seen =
       let at = of_map steps seen in
       let was = All-contains (IsRecordedOf c) steps at.0 (All-from_recursion (IsRecordedOf c) steps recorded) at.1 in
       let saw = at.2 in
       let word : word_at g (core_at at.0.index).words (NodeMap (n / 64)) ≡ at.0.old =
       sym (ap (λ p. get_or (core_at at.0.index).words p 0) saw.place) ∙ was.found in
-      clear_took at.0.index n l (ap (λ w. bit_at w (n % 64)) word ∙ saw.taken)
+      (at.0, at.1, clear_took at.0.index n l (ap (λ w. bit_at w (n % 64)) word ∙ saw.taken))
     where
       of_map : (all : List Did) → Any (SeesTaken g n) (map performed_of all)
           → (did : Did) × Contains all did × SeesTaken g n (performed_of did)
@@ -284,22 +322,27 @@ module _ (M : Type 0) (mix : ℕ → ℕ → ℕ → ℕ) (env : Env) (events : 
       (subst (λ (e : Env). g.nodes ≤ sum_by (λ c. takers_of (r.world.books c)) (range_with_len 0 e.geometry.callers))
       (sym (ap (λ (w : World M). w.core.env) world ∙ same)) covered)
 
+  -- a call that was answered so saw it of each node
+  saw_all : (c : ℕ) (past : Past) → IsPastCall M mix env events c past → HasCause M mix env events c past → past.done.reply ≡ NoNode
+      → (n : ℕ) → n < g.nodes → (did : Did) × Contains past.steps did × WasTaken did.index n
+  saw_all c past is cause no_node n l =
+      seen_took c n past.steps l is.steps (want past.done.call (subst (CauseOf M mix env events c past past.done.call) no_node cause))
+    where
+      want : (call : Call) → CauseOf M mix env events c past call NoNode → Any (SeesTaken g n) (map performed_of past.steps)
+      want (Bind port owner once) saw = saw n l
+      want (Rebind port owner new) saw = saw n l
+      want (Find port) saw = absurd saw
+      want (All port) saw = absurd saw
+      want (Release port owner) saw = absurd saw
+      want (Walk from limit) saw = absurd saw
+      want Work saw = absurd saw
+      want Tidy saw = absurd saw
+      want Count saw = absurd saw
+
   past_enough : (c : ℕ) (past : Past) → IsPastCall M mix env events c past → HasCause M mix env events c past
       → IsForWant env (run_of {M = M} mix env events) past.done
-  past_enough c past is cause no_node = enough (λ n l. seen_took c n past.steps l is.steps
-      (want past.done.call (subst (CauseOf M mix env events c past past.done.call) no_node cause) n l))
-    where
-      want : (call : Call) → CauseOf M mix env events c past call NoNode
-          → (n : ℕ) → n < g.nodes → Any (SeesTaken g n) (map performed_of past.steps)
-      want (Bind port owner once) saw n l = saw n l
-      want (Rebind port owner new) saw n l = saw n l
-      want (Find port) saw n l = absurd saw
-      want (All port) saw n l = absurd saw
-      want (Release port owner) saw n l = absurd saw
-      want (Walk from limit) saw n l = absurd saw
-      want Work saw n l = absurd saw
-      want Tidy saw n l = absurd saw
-      want Count saw n l = absurd saw
+  past_enough c past is cause no_node =
+      enough (λ n l. let saw = saw_all c past is cause no_node n l in in_some saw.0.index n saw.2)
 
   all_enough : (c : ℕ) (calls : List Past) → AllByRecursion (IsPastCall M mix env events c) calls
       → AllByRecursion (HasCause M mix env events c) calls
@@ -316,3 +359,117 @@ nodes M mix env events c admitted =
     (subst (AllByRecursion (IsForWant env w)) of.past
     (all_enough M mix env events admitted c (r.traces c).past (at_events M mix env events admitted c).past
     (causes M mix env events c admitted)))
+
+-- ---- what took the nodes before
+
+module _ (M : Type 0) (mix : ℕ → ℕ → ℕ → ℕ) (env : Env) (events : List Event) (admitted : IsAdmitted env.config.kind events)
+    (c : ℕ) (front rest : List Past) (past : Past)
+    (parts : ((traced_of {M = M} mix env events).traces c).past ≡ front ++ past ∷ rest)
+    (no_node : past.done.reply ≡ NoNode) where
+  abbrev run : Traced M
+  run = traced_of mix env events
+
+  abbrev all_callers : List ℕ
+  all_callers = range_with_len 0 env.geometry.callers
+
+  -- of the caller of such a call the calls before it, and of each other caller all
+  abbrev traces : ℕ → Trace
+  traces d = cond (d == c) (record { begin = 0; steps = []; past = front }) (run.traces d)
+
+  abbrev books : ℕ → Book
+  books d = cond (d == c) (record { call = None; steps = 0; finished = map (λ (p : Past). p.done) front }) (run.world.books d)
+
+  abbrev IsNodeTaken : Past → Type 0
+  IsNodeTaken p = IsTakenIn env.geometry p.done.call p.done.reply p.steps
+
+  -- they took at least as many nodes as they are counted for
+  front_taken : AllByRecursion IsNodeTaken (front ++ past ∷ rest)
+  front_taken = subst (AllByRecursion IsNodeTaken) parts (taken_alone M mix env events admitted c)
+
+  each_covers : (d : ℕ) → Covers (takers_of (books d)) (TookCaller env.geometry (traces d))
+  each_covers d = go (d == c)
+    where
+      go : (t : Bool)
+          → Covers (takers_of (cond t (record { call = None; steps = 0; finished = map (λ (p : Past). p.done) front }) (run.world.books d)))
+          (TookCaller env.geometry (cond t (record { begin = 0; steps = []; past = front }) (run.traces d)))
+      go true =
+          covers_both _ _ (TookPast env.geometry front) (TookBit env.geometry [])
+          (pasts_took env.geometry front (AllByRecursion-cut IsNodeTaken front (past ∷ rest) front_taken).0)
+          (covers_none 0 (TookBit env.geometry []) (λ n took. let below = took.1.1 in absurd (omega (arith, below))))
+      go false = caller_covers M mix env events admitted d
+
+  -- the call itself took none
+  none_itself : (n : ℕ) → TookBit env.geometry past.steps n → ⊥
+  none_itself n =
+      no_take env.geometry past.steps
+      (none past.done.call (AllByRecursion-cut IsNodeTaken front (past ∷ rest) front_taken).1.0) n
+    where
+      by_none : IsTakenBy env.geometry past.done.reply past.steps → TakesNone env.geometry past.steps
+      by_none (inl (is, none)) = none
+      by_none (inr (some, one)) = absurd (some no_node)
+
+      none : (call : Call) → IsTakenIn env.geometry call past.done.reply past.steps → TakesNone env.geometry past.steps
+      none (Bind port owner once) took = by_none took
+      none (Rebind port owner new) took = by_none took
+      none _ took = took
+
+  -- its operations come before its end
+  own_rising : (from : ℕ) (before : List Past) → AreInOrder from (before ++ past ∷ rest) → IsRising (past.begin + 1) past.steps
+  own_rising from [] order = order.1
+  own_rising from (first ∷ before) order = own_rising (behind_call first) before order.2
+
+  within : (did : Did) → Contains past.steps did → did.index < behind_call past
+  within did stands =
+      let rising = own_rising 0 front (subst (AreInOrder 0) parts (at_events M mix env events admitted c).in_order) in
+      let P = LiesWithin (past.begin + 1) past.steps in
+      (All-contains P past.steps did (All-from_recursion P past.steps (rising-within (past.begin + 1) past.steps rising)) stands).1
+
+  -- who took a node before its end is another caller, or did so in a call before it
+  taken_before : (i n : ℕ) → i ≤ behind_call past → (was : WasTaken M mix env events admitted i n)
+      → TookCaller env.geometry (traces was.caller) n
+  taken_before i n low was = elim (cases_eq was.caller c) [
+    | inl own ↦
+        let recorded = subst (λ d. IsRecorded M mix env events d was.did) own was.recorded in
+        let early = was.early in
+        let there = stands_before M mix env events c admitted front rest past was.did parts recorded (omega (arith, early, low)) in
+        let took : TookPast env.geometry front n = elim (of_call env.geometry front past.steps there.0 there.1 n there.2 (was.did, there.3, was.clears)) [
+          | inl before ↦ before
+          | inr itself ↦ absurd (none_itself n itself)
+        ] in
+        subst (λ t. TookCaller env.geometry (cond t (record { begin = 0; steps = []; past = front }) (run.traces was.caller)) n)
+        (sym (eq-eqb was.caller c own)) (inl took)
+    | inr other ↦
+        subst (λ t. TookCaller env.geometry (cond t (record { begin = 0; steps = []; past = front }) (run.traces was.caller)) n)
+        (sym (ne_eqb was.caller c other)) (in_call M mix env events admitted i n was)
+  ]
+
+  node_taken : (n : ℕ) → n < env.geometry.nodes → TookAny env.geometry traces all_callers n
+  node_taken n l =
+      let is = (AllByRecursion-cut (IsPastCall M mix env events c) front (past ∷ rest)
+      (subst (AllByRecursion (IsPastCall M mix env events c)) parts (at_events M mix env events admitted c).past)).1.0 in
+      let cause = (AllByRecursion-cut (HasCause M mix env events c) front (past ∷ rest)
+      (subst (AllByRecursion (HasCause M mix env events c)) parts (causes M mix env events c admitted))).1.0 in
+      let saw = saw_all M mix env events admitted c past is cause no_node n l in
+      let before = within saw.0 saw.1 in
+      let below = saw.2.is_caller in
+      of_caller env.geometry traces all_callers saw.2.caller n
+      (In-range_with_len 0 env.geometry.callers saw.2.caller (omega arith) (omega (arith, below)))
+      (taken_before saw.0.index n (omega (arith, before)) saw.2)
+
+  -- So beside the calls of other callers those of its caller before it took as many nodes as there are, or more.
+  pub nodes_before : env.geometry.nodes
+      ≤ sum_by (λ d. cond (d == c) (count_by took_node (map (λ (p : Past). p.done) front)) (takers_of (run.world.books d))) all_callers
+  nodes_before =
+      let covered = covers_all _ env.geometry.nodes (TookAny env.geometry traces all_callers)
+      (any_took env.geometry traces books all_callers each_covers) node_taken in
+      subst (λ many. env.geometry.nodes ≤ many)
+      (sum_by-same (λ d. takers_of (books d))
+      (λ d. cond (d == c) (count_by took_node (map (λ (p : Past). p.done) front)) (takers_of (run.world.books d)))
+      (λ d. own d (d == c)) all_callers)
+      covered
+    where
+      own : (d : ℕ) (t : Bool)
+          → takers_of (cond t (record { call = None; steps = 0; finished = map (λ (p : Past). p.done) front }) (run.world.books d))
+          ≡ cond t (count_by took_node (map (λ (p : Past). p.done) front)) (takers_of (run.world.books d))
+      own d true = omega arith
+      own d false = refl

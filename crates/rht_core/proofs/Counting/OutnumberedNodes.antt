@@ -1,6 +1,7 @@
--- Where one of the calls that serve commands found no node, more commands need one than there are nodes. The calls that took a node
--- are no fewer than the nodes; each is of a command that needs one, and so is the call that found none, which took none.
-use Rattle.std.proofs.Common.{◌≡◌, ◌≢◌, ◌⊎◌, ℕ, zero, suc, ◌+◌, ◌<◌, ◌≤◌, ◌==◌, Bool, true, false, cond, List, [], ◌∷◌, map, refl, ◌∙◌, ap, subst, inl, inr, arith}
+-- Where one of the calls that serve commands found no node, more commands need one than there are nodes. The calls that had taken a
+-- node before are no fewer than the nodes. Each is of a command that needs one, and no two are of one command; and the call that found
+-- none is of another such command, of which no call had taken one.
+use Rattle.std.proofs.Common.{◌≡◌, ◌≢◌, ◌⊎◌, ℕ, zero, suc, ◌+◌, ◌<◌, ◌≤◌, ◌==◌, Bool, true, false, cond, List, [], ◌∷◌, ◌++◌, refl, sym, ◌∙◌, ap, subst, inl, inr, arith}
 use Rattle.std.specs.Prelude.{◌&&◌, not, sum_by, count_by}
 use Rattle.std.specs.List.{AllByRecursion, range_with_len}
 use Rattle.std.proofs.lemmas.Bool.{cases_eq, eq-eqb, ne_eqb}
@@ -10,9 +11,11 @@ use Rattle.rht_model.specs.declared.history.Call.{Call}
 use Rattle.rht_model.specs.declared.history.Reply.{Reply}
 use Rattle.rht_model.specs.declared.history.Reply.TheVariants.{NoNode}
 use Rattle.rht_model.specs.declared.finished.Finished.{Finished}
+use Rattle.rht_model.specs.Endings.{Ending}
 use Rattle.rht_core.specs.NodesUsed.{needs_node, is_no_node, took_node}
-use Rattle.rht_core.specs.Serving.{calls_of}
+use Rattle.rht_core.specs.Serving.{asks_for_work, calls_of, AreBehind, AreTries, Serves}
 use Rattle.rht_core.proofs.Counting.NodesOut.{sum_by-same}
+use Rattle.rht_core.proofs.Histories.ToldEntries.{command_parts, AllByRecursion-behind}
 
 -- ---- sums over callers
 
@@ -113,10 +116,36 @@ module _ (has : Call → Bool) where
 
 -- ---- the calls of one caller
 
--- the calls that were made
-abbrev pub calls_made : List Finished → List Call
-calls_made done = map (λ (d : Finished). d.call) done
+-- a call that found no node needs one
+abbrev pub NeedsNode : Finished → Type 0
+NeedsNode done = done.reply ≡ NoNode → needs_node done.call ≡ true
 
+-- With so many that took a node before, no more of these calls take one than are needed; and where one finds none, fewer did before it.
+abbrev pub TakesFew : ℕ → ℕ → List Finished → Type 0
+TakesFew needed before [] = before ≤ needed
+TakesFew needed before (done ∷ dones) =
+    (done.reply ≡ NoNode → before < needed) × TakesFew needed (before + one_if (took_node done)) dones
+
+-- one call more
+took-cons : (d : Finished) (done : List Finished) → count_by took_node (d ∷ done) ≡ one_if (took_node d) + count_by took_node done
+took-cons d done = sum_by-cons (λ (k : Finished). one_if (took_node k)) d done
+
+-- so all together are no more
+pub few-took : (needed before : ℕ) (dones : List Finished) → TakesFew needed before dones → before + count_by took_node dones ≤ needed
+few-took needed before [] few = omega (arith, few)
+few-took needed before (d ∷ dones) few =
+    let rest = few-took needed (before + one_if (took_node d)) dones few.1 in
+    omega (arith, rest, took-cons d dones)
+
+-- and fewer than are needed took one before a call that found none
+pub few-before : (needed before : ℕ) (front rest : List Finished) (done : Finished) → TakesFew needed before (front ++ done ∷ rest)
+    → done.reply ≡ NoNode → before + count_by took_node front < needed
+few-before needed before [] rest done few none = let less = few.0 none in omega (arith, less)
+few-before needed before (d ∷ front) rest done few none =
+    let less = few-before needed (before + one_if (took_node d)) front rest done few.1 none in
+    omega (arith, less, took-cons d front)
+
+-- a call that needs no node takes none, and finds none wanting
 one_if-and : (needs found : Bool) → one_if (needs && not found) ≤ one_if needs
 one_if-and true true = omega arith
 one_if-and true false = omega arith
@@ -126,51 +155,70 @@ and_none : (needs : Bool) → one_if (needs && not true) ≡ 0
 and_none true = refl
 and_none false = refl
 
--- one call more
-took-cons : (d : Finished) (done : List Finished) → count_by took_node (d ∷ done) ≡ one_if (took_node d) + count_by took_node done
-took-cons d done = sum_by-cons (λ (k : Finished). one_if (took_node k)) d done
+few-other : (needed before : ℕ) (d : Finished) (dones : List Finished) → needs_node d.call ≡ false → NeedsNode d
+    → TakesFew needed before dones → TakesFew needed before (d ∷ dones)
+few-other needed before d dones other needs few =
+    let none : one_if (took_node d) ≡ 0 = ap (λ t. one_if (t && not (is_no_node d.reply))) other in (
+      λ is. absurd (let both = sym other ∙ needs is in cc),
+      subst (λ n. TakesFew needed n dones) (omega (arith, none)) few,
+    )
 
-pub needs-cons : (d : Finished) (done : List Finished)
-    → count_by needs_node (calls_made (d ∷ done)) ≡ one_if (needs_node d.call) + count_by needs_node (calls_made done)
-needs-cons d done = sum_by-cons (λ k. one_if (needs_node k)) d.call (calls_made done)
+-- so it is of `work`
+few-behind : (needed before : ℕ) (asked : Bool) (behind rest : List Finished) → AreBehind asked behind
+    → AllByRecursion NeedsNode (behind ++ rest) → TakesFew needed before rest → TakesFew needed before (behind ++ rest)
+few-behind needed before true [] rest works needs few = absurd works
+few-behind needed before true (d ∷ []) rest works needs few =
+    few-other needed before d rest (ap needs_node works.0) needs.0 few
+few-behind needed before true (d ∷ next ∷ behind) rest works needs few =
+    few-other needed before d (next ∷ behind ++ rest) (ap needs_node works.0) needs.0
+    (few-behind needed before true (next ∷ behind) rest works.2 needs.1 few)
+few-behind needed before false behind rest none needs few =
+    subst (λ front. TakesFew needed before (front ++ rest)) (sym none) few
 
--- no more of them took a node than need one
-pub took-needs : (done : List Finished) → count_by took_node done ≤ count_by needs_node (calls_made done)
-took-needs [] = omega arith
-took-needs (d ∷ done) =
-    let here = one_if-and (needs_node d.call) (is_no_node d.reply) in
-    let rest = took-needs done in
-    let took = took-cons d done in
-    let needed = needs-cons d done in
-    omega (arith, here, rest, took, needed)
+-- of the calls that are made until a command has its reply one takes a node, where the command needs one, or none does
+few-tries : (needed before : ℕ) (call : Call) (ending : Ending) (tries rest : List Finished) → AreTries call ending tries
+    → AllByRecursion NeedsNode (tries ++ rest) → before + one_if (needs_node call) ≤ needed
+    → ((now : ℕ) → now ≤ before + one_if (needs_node call) → TakesFew needed now rest) → TakesFew needed before (tries ++ rest)
+few-tries needed before call ending [] rest are needs room others = absurd are
+few-tries needed before call ending (done ∷ []) rest are needs room others =
+    let most = one_if-and (needs_node done.call) (is_no_node done.reply) in
+    let own : one_if (needs_node done.call) ≡ one_if (needs_node call) = ap (λ (d : Finished). one_if (needs_node d.call)) are.0 in (
+      λ none. absurd (are.1 (sym (ap (λ (d : Finished). d.reply) are.0) ∙ none)),
+      others (before + one_if (took_node done)) (omega (arith, most, own)),
+    )
+few-tries needed before call ending (first ∷ tidy ∷ []) rest are needs room others = absurd are
+few-tries needed before call ending (first ∷ tidy ∷ done ∷ []) rest are needs room others =
+    let one : one_if (needs_node call) ≡ 1 = ap (λ k. one_if (needs_node k)) (sym are.0) ∙ ap one_if (needs.0 are.1) in
+    let none : one_if (took_node first) ≡ 0 =
+    ap (λ r. one_if (needs_node first.call && not (is_no_node r))) are.1 ∙ and_none (needs_node first.call) in
+    let most = one_if-and (needs_node done.call) (is_no_node done.reply) in
+    let own : one_if (needs_node done.call) ≡ one_if (needs_node call) = ap (λ (d : Finished). one_if (needs_node d.call)) are.3 in
+    let last : TakesFew needed before (done ∷ rest) =
+    ((λ is. omega (arith, room, one)), others (before + one_if (took_node done)) (omega (arith, most, own))) in (
+      λ is. omega (arith, room, one),
+      subst (λ n. TakesFew needed n (tidy ∷ done ∷ rest)) (omega (arith, none))
+          (few-other needed before tidy (done ∷ rest) (ap needs_node are.2) needs.1.0 last),
+    )
+few-tries needed before call ending (first ∷ tidy ∷ done ∷ next ∷ dones) rest are needs room others = absurd are
 
--- a call that found no node needs one
-abbrev pub NeedsNode : Finished → Type 0
-NeedsNode done = done.reply ≡ NoNode → needs_node done.call ≡ true
-
-abbrev pub FoundNode : Finished → Type 0
-FoundNode done = is_no_node done.reply ≡ false
-
-no_node-is : (reply : Reply) → is_no_node reply ≡ true → reply ≡ NoNode
-no_node-is NoNode is = refl
-no_node-is reply is = absurd (cc)
-
--- fewer took one, or none found that there is none
-abbrev FewerTook : List Finished → Type 0
-FewerTook done = (count_by took_node done < count_by needs_node (calls_made done)) ⊎ AllByRecursion FoundNode done
-
-one-more-took : (d : Finished) (done : List Finished) (t : Bool) → is_no_node d.reply ≡ t → NeedsNode d → FewerTook done → FewerTook (d ∷ done)
-one-more-took d done true none needs rest =
-    let needed : one_if (needs_node d.call) ≡ 1 = ap one_if (needs (no_node-is d.reply none)) in
-    let took : one_if (took_node d) ≡ 0 = ap (λ t. one_if (needs_node d.call && not t)) none ∙ and_none (needs_node d.call) in
-    let fewer = took-needs done in
-    inl (omega (arith, needed, took, fewer, took-cons d done, needs-cons d done))
-one-more-took d done false found needs (inl less) =
-    let here = one_if-and (needs_node d.call) (is_no_node d.reply) in
-    inl (omega (arith, here, less, took-cons d done, needs-cons d done))
-one-more-took d done false found needs (inr all) = inr (found, all)
-
-pub fewer-took : (done : List Finished) → AllByRecursion NeedsNode done
-    → (count_by took_node done < count_by needs_node (calls_made done)) ⊎ AllByRecursion FoundNode done
-fewer-took [] needs = inr tt
-fewer-took (d ∷ done) needs = one-more-took d done (is_no_node d.reply) refl needs.0 (fewer-took done needs.1)
+module _ (auto : Bool) where
+  -- By induction over the commands: the calls that serve them take no more nodes than commands need one.
+  pub few-serves : (calls : List Call) (endings : List Ending) (done : List Finished) (needed before : ℕ) → Serves auto calls endings done
+      → AllByRecursion NeedsNode done → before + count_by needs_node calls ≤ needed → TakesFew needed before done
+  few-serves [] [] done needed before serves needs room =
+      subst (TakesFew needed before) (sym serves) (omega (arith, room))
+  few-serves [] (ending ∷ endings) done needed before serves needs room = absurd serves
+  few-serves (call ∷ calls) [] done needed before serves needs room = absurd serves
+  few-serves (call ∷ calls) (ending ∷ endings) done needed before serves needs room =
+      let tries = serves.first_is.tries in
+      let behind = serves.first_is.behind in
+      let parts = command_parts auto call ending (Serves auto calls endings) done serves in
+      let all : AllByRecursion NeedsNode (tries ++ (behind ++ serves.rest)) = subst (AllByRecursion NeedsNode) parts needs in
+      let later = AllByRecursion-behind NeedsNode tries (behind ++ serves.rest) all in
+      let counted = sum_by-cons (λ (k : Call). one_if (needs_node k)) call calls in
+      subst (TakesFew needed before) (sym parts)
+      (few-tries needed before call ending tries (behind ++ serves.rest) serves.first_is.are_tries all
+      (omega (arith, room, counted))
+      (λ now low. few-behind needed now (auto && asks_for_work call ending.answer.reply) behind serves.rest serves.first_is.works later
+      (few-serves calls endings serves.rest needed now serves.rest_is (AllByRecursion-behind NeedsNode behind serves.rest later)
+      (omega (arith, room, counted, low)))))

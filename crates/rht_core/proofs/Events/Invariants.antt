@@ -1,5 +1,5 @@
--- The invariant of every run: the whole is true of the words and some ghost, each caller knows what its job says, and its batch has the nodes
--- that its calls took out.
+-- The invariant of every run: the whole is true of the words and some ghost, and each caller knows what its job says. And its batch has the
+-- nodes that its calls took out.
 -- An operation of a caller keeps the whole and leads to what its next state says, and everybody else still knows what it knew.
 use Rattle.std.proofs.Common.{◌≡◌, ◌≢◌, ℕ, ◌+◌, refl, sym, ◌∙◌, subst, inl, inr}
 use Rattle.std.specs.Prelude.{Option, Some, None}

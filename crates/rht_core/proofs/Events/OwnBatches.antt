@@ -1,4 +1,4 @@
--- What is so of each caller's batch: its nodes are those that the caller's calls took out of lists and haven't given back, and none of them
+-- What is so of each caller's batch. Its nodes are those that the caller's calls took out of lists and haven't given back. None of them
 -- stands there twice, nor is it the one that the call in progress has taken out.
 -- A call that begins keeps it, and so does each operation, of the caller or of another one. It speaks of the ghost, so it goes with the
 -- invariant event by event.
@@ -123,8 +123,8 @@ module _ (env : Env) (mix : ℕ → ℕ → ℕ → ℕ) (L : Type 0) where
   held_by local = nodes_held local.doing local.batch
 
   -- They were taken out by its calls, none stands there twice, and none is the one that the call in progress has taken out. There are as
-  -- many of them as its calls have taken out and not given back, but for that one. And the answer of the call in progress, once it is known,
-  -- is one of its kind, and says whether it has taken one out.
+  -- many of them as its calls have taken out and not given back, but for that one.
+  -- And the answer of the call in progress, once it is known, is one of its kind, and says whether it has taken one out.
   pub record BatchRight (G : Ghost) (c : ℕ) (local : Local L) : Type 0 where
     pub out : (n : ℕ) → In n (held_by local) → G.node n ≡ Taken c
     pub sound : IsSoundBatch (batch_of local)

@@ -1,5 +1,5 @@
--- What a caller knows by its job, and that the operation which it plans is its job's and a step, where the whole is true of the words and
--- some ghost.
+-- What a caller knows by its job. The operation which it plans is its job's, and is a step where the whole is true of the words and some
+-- ghost.
 use Rattle.std.proofs.Common.{◌≡◌, ℕ, zero, suc, ◌<◌, ◌++◌, true, length, refl, sym, ap, ◌∙◌, subst, arith}
 use Rattle.std.specs.Prelude.{Option, Some, None}
 use Rattle.rht_words.specs.declared.op.Op.{Op}

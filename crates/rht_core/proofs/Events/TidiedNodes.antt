@@ -1,4 +1,4 @@
--- How many nodes a call has given back. A tidying gives back those that wait, one behind the other: those that it has given back and those
+-- How many nodes a call has given back. A tidying gives back those that wait, one behind the other. Those that it has given back and those
 -- that it has still are as many as it had at its beginning. No other call gives any back.
 use Rattle.std.specs.Prelude.{IfSome, nat_lt, if◌then◌else◌}
 use Rattle.std.proofs.Common.{◌≡◌, ℕ, zero, suc, ◌+◌, ◌≤◌, ◌++◌, ◌==◌, List, length, length-append, length-drop, drop, get_or, Option, Some, None, refl, ap, ◌∙◌, subst, arith}

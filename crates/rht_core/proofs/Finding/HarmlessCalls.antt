@@ -1,11 +1,12 @@
--- A look-up and a reading of the count only load, but for the look-up's own section word; and neither is ever at the work lock.
-use Rattle.std.proofs.Common.{◌≡◌, ◌≢◌, ℕ, ◌+◌, ◌<◌, ◌≤◌, List, [], ◌∷◌, ◌++◌, sym, subst, inl, inr, refl, arith}
+-- A look-up and a reading of the count only load, but for the look-up's own section word. A tidying loads section words, and sets bits of the
+-- map of nodes. None of them is ever at the work lock.
+use Rattle.std.proofs.Common.{◌≡◌, ◌≢◌, ℕ, ◌+◌, ◌/◌, ◌<◌, ◌≤◌, List, get_or, [], ◌∷◌, ◌++◌, sym, subst, inl, inr, refl, arith}
 use Rattle.rht_words.specs.declared.op.Op.{Op}
 use Rattle.rht_words.specs.declared.op.Op.TheVariants.{Load, Add}
 use Rattle.rht_words.specs.declared.env.Env.{Env}
 use Rattle.rht_words.specs.declared.geometry.Geometry.{Geometry}
 use Rattle.rht_words.specs.Operations.{op_place}
-use Rattle.rht_words.specs.Places.{Section, Slot, SlotWord, Node, NodeWord, KeyWord, ChainLink, OwnerWord, PageWord, ShapeWord, SeedWord, FutureWord, IsBucketPlace, place_of}
+use Rattle.rht_words.specs.Places.{Section, Slot, SlotWord, Node, NodeWord, KeyWord, ChainLink, OwnerWord, PageWord, ShapeWord, SeedWord, FutureWord, IsBucketPlace, place_of, map_words}
 use Rattle.rht_words.proofs.PlacesApart.{parts_in_order}
 use Rattle.rht_words.proofs.EachElement.{AllByRecursion-push}
 use Rattle.rht_model.specs.declared.history.Call.{Call}
@@ -16,12 +17,18 @@ use Rattle.rht_nest.specs.declared.reach.ReachAt.TheVariants as reaches
 use Rattle.rht_find.specs.Find.{plan_at, IsFindAtIn}
 use Rattle.rht_find.specs.declared.find.FindAt.{FindAt}
 use Rattle.rht_find.specs.declared.find.FindAt.TheVariants as at
+use Rattle.rht_grace.specs.Batch.{BatchModel}
+use Rattle.rht_grace.specs.Tidy as tidy
+use Rattle.rht_grace.specs.declared.tidy.TidyAt.{TidyAt}
+use Rattle.rht_grace.specs.declared.tidy.TidyAt.TheVariants as tidy_at
 use Rattle.std.specs.Prelude.{Option, Some, None}
 use Rattle.rht_core.specs.declared.book.Book.{Book}
-use Rattle.rht_core.specs.Jobs.{Job, finds, counts, call_of, job_after}
-use Rattle.rht_core.specs.Lookups.{IsHarmless, LooksOrCounts, IsHarmlessCall, Harmless}
+use Rattle.rht_core.specs.Jobs.{Job, finds, tidies, counts, call_of, job_after}
+use Rattle.rht_core.specs.Lookups.{IsHarmless, IsLockFree, IsHarmlessCall, Harmless}
+use Rattle.rht_core.specs.Tidyings.{IsTidyingIn}
 use Rattle.rht_core.specs.Traces.{Did}
 use Rattle.rht_core.proofs.Events.JobsOfCallers.{each_goes, same_call}
+use Rattle.rht_core.proofs.Machines.TidyRanges.{waiting_low}
 use Rattle.rht_core.proofs.Tracing.TracedJobs.{Performs, LeadsOn, IsAtJob, jobs_keep}
 
 -- ---- of operations
@@ -60,6 +67,17 @@ module _ (g : Geometry) where
     work = other_than_one (8 + caller) (omega arith);
   }
 
+  -- the words of the map of nodes lie before the page map
+  node_given : (node : ℕ) → node < g.nodes → IsHarmlessOp (tidy.give_of g node)
+  node_given node there = record {
+    buckets = λ bucket.
+        let order = parts_in_order g in
+        let before : node / 64 < map_words g.nodes = omega (arith, there) in
+        let low = bucket.0 in
+        absurd (omega (arith, before, low, order.pages, order.nodes, order.page_map));
+    work = other_than_one (280 + node / 64) (omega arith);
+  }
+
   reach_at : (table : ℕ) (state : ReachAt) → IsReachAtIn g state → IsHarmlessOp (reach_plan_at g table state)
   reach_at table reaches.Shape within = slot_load table ShapeWord
   reach_at table (reaches.Seed shape) within = slot_load table SeedWord
@@ -85,6 +103,14 @@ find_harmless env caller (at.Future table) few within = slot_load env.geometry t
 find_harmless env caller (at.Owner node) few within = node_load env.geometry node OwnerWord
 find_harmless env caller (at.Closing reply) few within = section_turn env.geometry caller few
 
+-- a tidying, in whatever state
+tidy_harmless : (env : Env) (batch : BatchModel) (state : TidyAt) → IsTidyingIn env.geometry batch state
+    → IsHarmlessOp env.geometry (tidy.plan_at env.geometry batch state)
+tidy_harmless env batch (tidy_at.Keeping caller) within = far_load env.geometry (8 + caller) (omega arith)
+tidy_harmless env batch (tidy_at.Asking caller) within = far_load env.geometry (8 + caller) (omega arith)
+tidy_harmless env batch (tidy_at.Giving index) within =
+    node_given env.geometry (get_or batch.waiting index 0) (waiting_low env.geometry batch (tidy_at.Giving index) index within)
+
 -- ---- of calls
 
 module _ (mix : ℕ → ℕ → ℕ → ℕ) (env : Env) where
@@ -92,14 +118,17 @@ module _ (mix : ℕ → ℕ → ℕ → ℕ) (env : Env) where
   by_op did op is harmless =
       let here = subst (IsHarmlessOp env.geometry) (sym is) harmless in record { buckets = here.buckets; work = here.work }
 
-  job_harmless : (job : Job) (did : Did) → Performs mix env job did → LooksOrCounts (call_of job) → IsHarmless env.geometry did
+  job_harmless : (job : Job) (did : Did) → Performs mix env job did → IsLockFree (call_of job) → IsHarmless env.geometry did
   job_harmless (finds port state) did performs reads =
       by_op did (plan_at env performs.caller state) performs.planned
       (find_harmless env performs.caller state performs.few performs.within)
   job_harmless counts did performs reads =
       by_op did _ performs.planned (record { buckets = λ there. refl; work = λ same. absurd (omega (arith, same)) })
+  job_harmless (tidies batch state) did performs reads =
+      by_op did (tidy.plan_at env.geometry batch state) performs.planned (tidy_harmless env batch state performs.within)
   job_harmless _ did performs (inl reads) = absurd (let same = reads.1 in cc)
-  job_harmless _ did performs (inr reads) = absurd (cc)
+  job_harmless _ did performs (inr (inl reads)) = absurd (cc)
+  job_harmless _ did performs (inr (inr reads)) = absurd (cc)
 
   -- so far each operation was so, and where the call has ended each was
   abbrev Now : Job → List Did → Type 0

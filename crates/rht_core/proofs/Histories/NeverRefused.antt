@@ -1,8 +1,8 @@
 -- Of the commands that a run serves none about bindings is refused, where the binds have at most 15 different ports, and the table has 64 first
 -- buckets or more, doesn't shrink, and has a node for each bind and rebind. One worker needs 16 buckets, and ports fewer than 16 at a time.
 --
--- All workers: the finished calls are the commands and `work`s, so the run has few ports, and no bind is refused but for want of a
--- node, nor is a table made. That no command wants for a node is what the history tells where there are as many nodes.
+-- All workers: the finished calls are those of the commands, tidyings and `work`s, so the run has few ports, and no bind is refused but
+-- for want of a node, nor is a table made. That no call wants for a node is what the history tells where there are as many nodes.
 --
 -- One worker: by induction over the events, fewer than 16 ports are bound behind each. The entries below an event leave what is bound behind
 -- it. Each but the last is of a call that had ended before, in a run of fewer events, where no bind was refused but for want of a node; so it
@@ -26,7 +26,7 @@ use Rattle.rht_words.proofs.Members.{one_if}
 use Rattle.rht_words.proofs.OpeningLaws.{opens_flat}
 use Rattle.rht_model.specs.declared.bindings.Closed.{Closed}
 use Rattle.rht_model.specs.declared.history.Call.{Call}
-use Rattle.rht_model.specs.declared.history.Call.TheVariants.{Bind, Work}
+use Rattle.rht_model.specs.declared.history.Call.TheVariants.{Bind, Work, Tidy}
 use Rattle.rht_model.specs.declared.history.Entry.{Entry}
 use Rattle.rht_model.specs.declared.history.Reply.{Reply}
 use Rattle.rht_model.specs.declared.history.Reply.TheVariants.{NoNode}
@@ -46,7 +46,7 @@ use Rattle.rht_core.specs.NodesUsed.{needs_node}
 use Rattle.rht_core.specs.Numbered.{Numbered, history_of}
 use Rattle.rht_core.specs.Replies.{IsRightlyAnswered}
 use Rattle.rht_core.specs.RunHistories.{bindings_behind, about_bindings, Fits}
-use Rattle.rht_core.specs.Serving.{asks_for_work, calls_of, AreBehind, Serves, IsServing, IsServedRun}
+use Rattle.rht_core.specs.Serving.{asks_for_work, calls_of, AreBehind, AreTries, Serves, IsServing, IsServedRun}
 use Rattle.rht_stands.specs.StandsFor.{AreBound}
 use Rattle.rht_core.specs.ToldHistories.{endings_by, IsOutnumbered, IsTold}
 use Rattle.rht_core.specs.Traces.{Past, Traced, traced_of, behind_call}
@@ -60,8 +60,8 @@ use Rattle.rht_core.proofs.Tracing.CallsOfFronts.{calls-later}
 use Rattle.rht_core.proofs.Tracing.RepliesInRuns.{replies}
 use Rattle.rht_core.proofs.Histories.CallEnds.{AreEnded}
 use Rattle.rht_core.proofs.Histories.AloneLaw.{left-behind}
-use Rattle.rht_core.proofs.Histories.ToldEntries.{command_first, entries_told, entries_of_finished-serves, replies-serves, AllByRecursion-in_map, split_at}
-use Rattle.rht_core.proofs.Histories.ToldHistories.{AreBound-Agree, IsServed, serving, ended, order_is, no_call_there, told}
+use Rattle.rht_core.proofs.Histories.ToldEntries.{command_parts, FoundSome, command_first, AllByRecursion-behind, entries_told, entries_of_finished-serves, replies-serves, AllByRecursion-in_map, split_at}
+use Rattle.rht_core.proofs.Histories.ToldHistories.{AreBound-Agree, IsServed, serving, ended, finished_are, no_call_there, told}
 use Rattle.rht_core.proofs.Histories.AnsweredInOrder.{IsRefusedForNode, IsRefusedForNode-reply, entries_told-replies, entries_told-caller, calls_in, bindings_left-first, after-told, answered_in_order, entries_of-all, not_refused, IsTakenBefore, answers-below}
 
 -- ---- calls that serve commands
@@ -74,36 +74,49 @@ behind-all P work true (d ∷ []) works = (subst P (sym works.0) work, tt)
 behind-all P work true (d ∷ next ∷ behind) works = (subst P (sym works.0) work, behind-all P work true (next ∷ behind) works.2)
 behind-all P work false behind none = subst (AllByRecursion (λ (d : Finished). P d.call)) (sym none) tt
 
+-- and what is so of a tidying and of a command's call is so of all calls until that has its reply
+tries-all : (P : Call → Type 0) → P Tidy → (call : Call) → P call → (ending : Ending) (tries : List Finished) → AreTries call ending tries
+    → AllByRecursion (λ (d : Finished). P d.call) tries
+tries-all P tidies call own ending [] are = absurd are
+tries-all P tidies call own ending (done ∷ []) are = (subst (λ (d : Finished). P d.call) (sym are.0) own, tt)
+tries-all P tidies call own ending (first ∷ tidy ∷ []) are = absurd are
+tries-all P tidies call own ending (first ∷ tidy ∷ done ∷ []) are =
+    (subst P (sym are.0) own, (subst P (sym are.2) tidies, (subst (λ (d : Finished). P d.call) (sym are.3) own, tt)))
+tries-all P tidies call own ending (first ∷ tidy ∷ done ∷ next ∷ dones) are = absurd are
+
 module _ (auto : Bool) where
   -- so what is so of all commands besides is so of all calls
-  calls-serve : (P : Call → Type 0) → P Work → (calls : List Call) (endings : List Ending) (done : List Finished) → Serves auto calls endings done
-      → AllByRecursion P calls → AllByRecursion (λ (d : Finished). P d.call) done
-  calls-serve P work [] [] done serves all = subst (AllByRecursion (λ (d : Finished). P d.call)) (sym serves) tt
-  calls-serve P work [] (ending ∷ endings) done serves all = absurd serves
-  calls-serve P work (call ∷ calls) [] done serves all = absurd serves
-  calls-serve P work (call ∷ calls) (ending ∷ endings) done serves all =
+  calls-serve : (P : Call → Type 0) → P Work → P Tidy → (calls : List Call) (endings : List Ending) (done : List Finished)
+      → Serves auto calls endings done → AllByRecursion P calls → AllByRecursion (λ (d : Finished). P d.call) done
+  calls-serve P work tidies [] [] done serves all = subst (AllByRecursion (λ (d : Finished). P d.call)) (sym serves) tt
+  calls-serve P work tidies [] (ending ∷ endings) done serves all = absurd serves
+  calls-serve P work tidies (call ∷ calls) [] done serves all = absurd serves
+  calls-serve P work tidies (call ∷ calls) (ending ∷ endings) done serves all =
+      let Q : Finished → Type 0 = λ d. P d.call in
+      let tries = serves.first_is.tries in
       let behind = serves.first_is.behind in
+      let tried = tries-all P tidies call all.0 ending tries serves.first_is.are_tries in
       let made = behind-all P work (auto && asks_for_work call ending.answer.reply) behind serves.first_is.works in
-      let others = calls-serve P work calls endings serves.rest serves.rest_is all.1 in
-      subst (AllByRecursion (λ (d : Finished). P d.call))
-      (sym (command_first auto call ending (Serves auto calls endings) done serves))
-      (all.0, AllByRecursion-append (λ (d : Finished). P d.call) behind serves.rest made others)
+      let others = calls-serve P work tidies calls endings serves.rest serves.rest_is all.1 in
+      subst (AllByRecursion Q) (sym (command_parts auto call ending (Serves auto calls endings) done serves))
+      (AllByRecursion-append Q tries (behind ++ serves.rest) tried (AllByRecursion-append Q behind serves.rest made others))
 
-  -- where calls are refused for want of a node alone, and no command is, none is refused
+  -- where calls are refused for want of a node alone, and none is, no command is refused
   none-refused : (calls : List Call) (endings : List Ending) (done : List Finished) → Serves auto calls endings done
-      → AllByRecursion (λ (d : Finished). IsRefusedForNode d.call d.reply) done
-      → AllByRecursion (λ (e : Ending). e.answer.reply ≢ NoNode) endings → NoneRefused calls endings
+      → AllByRecursion (λ (d : Finished). IsRefusedForNode d.call d.reply) done → AllByRecursion FoundSome done
+      → NoneRefused calls endings
   none-refused [] [] done serves all some = tt
   none-refused [] (ending ∷ endings) done serves all some = absurd serves
   none-refused (call ∷ calls) [] done serves all some = absurd serves
   none-refused (call ∷ calls) (ending ∷ endings) done serves all some =
+      let Q : Finished → Type 0 = λ d. IsRefusedForNode d.call d.reply in
       let behind = serves.first_is.behind in
-      let each : AllByRecursion (λ (d : Finished). IsRefusedForNode d.call d.reply) (ended_with call ending ∷ behind ++ serves.rest) =
-      subst (AllByRecursion (λ (d : Finished). IsRefusedForNode d.call d.reply))
-      (command_first auto call ending (Serves auto calls endings) done serves) all in (
-        λ about. not_refused call ending.answer.reply each.0 about some.0,
-        none-refused calls endings serves.rest serves.rest_is
-            (AllByRecursion-cut (λ (d : Finished). IsRefusedForNode d.call d.reply) behind serves.rest each.1).1 some.1,
+      let first = command_first auto call ending (Serves auto calls endings) done serves some in
+      let each : AllByRecursion Q (ended_with call ending ∷ behind ++ serves.rest) = subst (AllByRecursion Q) first all in
+      let found : AllByRecursion FoundSome (ended_with call ending ∷ behind ++ serves.rest) = subst (AllByRecursion FoundSome) first some in (
+        λ about. not_refused call ending.answer.reply each.0 about found.0,
+        none-refused calls endings serves.rest serves.rest_is (AllByRecursion-behind Q behind serves.rest each.1)
+            (AllByRecursion-behind FoundSome behind serves.rest found.1),
       )
 
 -- what is so of all commands is so of those of a worker
@@ -169,12 +182,12 @@ module _ (M : Type 0) (mix : ℕ → ℕ → ℕ → ℕ) (env : Env) (auto : Bo
       ended_among : (c : ℕ) → IsServed M mix env auto commands endings events admitted workers each c
           → AllByRecursion (λ (d : Finished). BindsAmong roomy.ports d.call) (w.books c).finished
       ended_among c (inl serves) =
-          calls-serve auto (BindsAmong roomy.ports) tt (calls_of (c + 1) commands) (endings_by c endings) (w.books c).finished serves
+          calls-serve auto (BindsAmong roomy.ports) tt tt (calls_of (c + 1) commands) (endings_by c endings) (w.books c).finished serves
           (calls_of-all (BindsAmong roomy.ports) (c + 1) commands roomy.among)
       ended_among c (inr none) = subst (AllByRecursion (λ (d : Finished). BindsAmong roomy.ports d.call)) (sym none.0) tt
 
   all_taken : (closed : Closed) → IsClosedOf env.geometry w.core.words closed → IsRoomyFor env.config commands
-      → ((c : ℕ) → c < env.config.callers → AllByRecursion (λ (e : Ending). e.answer.reply ≢ NoNode) (endings_by c endings))
+      → ((c : ℕ) → AllByRecursion FoundSome (w.books c).finished)
       → AreAllTaken env.config commands endings closed
   all_taken closed is_closed roomy some =
       let stays = few_ports M mix env events admitted (has_few_ports roomy) in
@@ -185,14 +198,14 @@ module _ (M : Type 0) (mix : ℕ → ℕ → ℕ → ℕ) (env : Env) (auto : Bo
             (for_node M mix env events c admitted
             (AllByRecursion-weaker (λ (d : Finished). IsCallTaken d.call d.reply) (λ (d : Finished). IsBindTaken d.call d.reply)
             (λ d. IsBindTaken-call d.call d.reply) done (stays.taken c)))
-            (some c low);
+            (some c);
         size = is_closed.size ∙ same_size M mix env w.core.words stays.none_made;
       }
 
   -- ---- one worker
 
   module _ (small : IsSmallFor env.config (calls_of 1 commands))
-      (some : AllByRecursion (λ (e : Ending). e.answer.reply ≢ NoNode) (endings_by 0 endings))
+      (some : AllByRecursion FoundSome (w.books 0).finished)
       (history : List Numbered) (fitting : Fits M mix env events history) where
     abbrev kind : Kind
     kind = env.config.kind
@@ -209,7 +222,10 @@ module _ (M : Type 0) (mix : ℕ → ℕ → ℕ → ℕ) (env : Env) (auto : Bo
 
     -- the history is that of the commands
     entries_are : history_of history ≡ entries
-    entries_are = order_is M mix env auto commands endings events admitted workers each history fitting small.one
+    entries_are =
+        finished_are M mix env auto commands endings events admitted workers each history fitting small.one
+        ∙ entries_of_finished-serves auto 0 calls (endings_by 0 endings) (w.books 0).finished
+        (each 0 (let one = small.one in omega (arith, one))).serves some
 
     ended_all : AreEnded (about_bindings past) history
     ended_all =
@@ -223,7 +239,9 @@ module _ (M : Type 0) (mix : ℕ → ℕ → ℕ → ℕ) (env : Env) (auto : Bo
     found_all =
         AllByRecursion-in_map (λ (entry : Entry). entry.reply ≢ NoNode) (λ (x : Numbered). x.entry) history
         (subst (AllByRecursion (λ (entry : Entry). entry.reply ≢ NoNode)) (sym entries_are)
-        (entries_told-replies (λ reply. reply ≢ NoNode) 0 calls (endings_by 0 endings) some))
+        (entries_told-replies (λ reply. reply ≢ NoNode) 0 calls (endings_by 0 endings)
+        (replies-serves auto (λ reply. reply ≢ NoNode) calls (endings_by 0 endings) (w.books 0).finished
+        (each 0 (let one = small.one in omega (arith, one))).serves some)))
 
     abbrev IsFewAt : ℕ → Type 0
     IsFewAt n = ¬ AreBound (bindings_behind M mix env events n) 16
@@ -318,15 +336,13 @@ module _ (M : Type 0) (mix : ℕ → ℕ → ℕ → ℕ) (env : Env) (auto : Bo
 
 -- ---- both laws
 
--- no worker's ending says that there was no node, where there are as many as are needed
+-- no call of a worker was answered that there is no node, where there are as many as are needed
 found-nodes : (config : Config) (auto : Bool) (commands : List (ℕ × Call)) (endings : List (List Ending)) (closed : Closed) (history : List Entry)
     → count_by (λ (command : ℕ × Call). needs_node command.1) commands ≤ config.nodes
-    → IsTold config auto commands endings closed history → (c : ℕ) → c < config.callers
-    → AllByRecursion (λ (e : Ending). e.answer.reply ≢ NoNode) (endings_by c endings)
-found-nodes config auto commands endings closed history enough told c low =
-    replies-serves auto (λ reply. reply ≢ NoNode) (calls_of (c + 1) commands) (endings_by c endings) (told.dones c) (told.serves c low)
+    → (told : IsTold config auto commands endings closed history) → (c : ℕ) → AllByRecursion FoundSome (told.dones c)
+found-nodes config auto commands endings closed history enough told c =
     (AllByRecursion-weaker (λ (d : Finished). d.reply ≡ NoNode → IsOutnumbered config commands)
-    (λ (d : Finished). d.reply ≢ NoNode) (λ d only none. let more = only none in omega (arith, more, enough)) (told.dones c)
+    FoundSome (λ d only none. let more = only none in omega (arith, more, enough)) (told.dones c)
     (told.no_node c))
 
 pub roomy_takes_all : (M : Type 0) (mix : ℕ → ℕ → ℕ → ℕ) → RoomyTakesAll M mix
@@ -341,8 +357,8 @@ roomy_takes_all M mix config auto commands endings closed served roomy =
     (λ c low. served.each c (subst (λ (k : Config). c < k.callers) same low))
     closed served.closed_is
     (subst (λ (k : Config). IsRoomyFor k commands) (sym same) roomy)
-    (λ c low. found-nodes config auto commands endings closed history roomy.nodes tells.told c
-    (subst (λ (k : Config). c < k.callers) same low)))
+    (λ c. subst (AllByRecursion FoundSome) (tells.dones_are c)
+    (found-nodes config auto commands endings closed history roomy.nodes tells.told c)))
 
 -- the commands of the one worker alone
 abbrev only_first : List Call → List (ℕ × Call)
@@ -376,14 +392,15 @@ one_worker_only M mix config auto commands endings closed served small enough =
     (served.workers ∙ ap (λ (k : Config). k.callers) (sym same))
     (λ c low. served.each c (subst (λ (k : Config). c < k.callers) same low))
     (subst (λ (k : Config). IsSmallFor k (calls_of 1 commands)) (sym same) small)
-    (found-nodes config auto commands endings closed history enough tells.told 0 (let one = small.one in omega (arith, one)))
+    (subst (AllByRecursion FoundSome) (tells.dones_are 0) (found-nodes config auto commands endings closed history enough tells.told 0))
     tells.numbered tells.fits closed
     (subst (λ (k : Config). Lists closed.bindings.pairs (bindings_left k.kind unbound (entries_told 0 (calls_of 1 commands) (endings_by 0 endings))))
     (sym same)
     (subst (λ es. Lists closed.bindings.pairs (bindings_left config.kind unbound es))
     (tells.told.in_order small.one
     ∙ entries_of_finished-serves auto 0 (calls_of 1 commands) (endings_by 0 endings) (tells.told.dones 0)
-    (tells.told.serves 0 (let one = small.one in omega (arith, one))))
+    (tells.told.serves 0 (let one = small.one in omega (arith, one)))
+    (found-nodes config auto commands endings closed history enough tells.told 0))
     tells.told.leaves)))
 
 pub one_worker_as_model : (M : Type 0) (mix : ℕ → ℕ → ℕ → ℕ) → OneWorkerAsModel M mix

@@ -1,27 +1,25 @@
 -- The entries of callers in a history, and those of calls that have ended: lists alone, with no run.
-use Rattle.std.proofs.Common.{◌≡◌, ◌≢◌, ℕ, ◌<◌, ◌==◌, Bool, true, false, cond, List, [], ◌∷◌, ◌++◌, map, refl, sym, ◌∙◌, ap, subst, inl, inr, arith}
+use Rattle.std.proofs.Common.{◌≡◌, ◌≢◌, ℕ, ◌<◌, ◌==◌, Bool, true, false, cond, List, [], ◌∷◌, ◌++◌, map, refl, sym, ◌∙◌, ap, subst, append_assoc, inl, inr, arith}
 use Rattle.std.specs.Prelude.{is_some, count_by, ◌&&◌}
 use Rattle.std.specs.List.{AllByRecursion}
-use Rattle.std.proofs.lemmas.List.Sums.{sum_by-cons}
 use Rattle.std.proofs.lemmas.Bool.{cases_eq, cases_lt, eq-eqb, ne_eqb, eqb-true}
-use Rattle.rht_words.proofs.Members.{one_if}
+use Rattle.rht_words.proofs.EachElement.{AllByRecursion-cut}
 use Rattle.rht_model.specs.declared.history.Call.{Call}
 use Rattle.rht_model.specs.declared.history.Call.TheVariants.{Work}
 use Rattle.rht_model.specs.declared.history.Entry.{Entry}
 use Rattle.rht_model.specs.declared.history.Reply.{Reply}
+use Rattle.rht_model.specs.declared.history.Reply.TheVariants.{NoNode}
 use Rattle.rht_model.specs.declared.finished.Finished.{Finished}
 use Rattle.rht_model.specs.Answers.{port_of}
 use Rattle.rht_model.specs.Endings.{Ending, ended_with}
 use Rattle.rht_core.specs.Alone.{entry_done}
 use Rattle.rht_core.specs.Numbered.{Numbered, history_of, NeverFalls, entries_of}
-use Rattle.rht_core.specs.NodesUsed.{needs_node}
-use Rattle.rht_core.specs.Serving.{asks_for_work, AreBehind, AreForCommand, IsCut, Serves}
+use Rattle.rht_core.specs.Serving.{asks_for_work, AreBehind, AreTries, AreForCommand, IsCut, Serves}
 use Rattle.rht_core.specs.Traces.{Past}
 use Rattle.rht_core.specs.RunHistories.{about_bindings}
 use Rattle.rht_core.specs.ToldHistories.{entries_of_finished, entries_by}
 use Rattle.rht_core.proofs.Histories.NumberedEntries.{AllBelow}
 use Rattle.rht_core.proofs.Histories.CallEnds.{AreEnded}
-use Rattle.rht_core.proofs.Counting.OutnumberedNodes.{calls_made, needs-cons}
 
 -- ---- the entries of one caller
 
@@ -88,11 +86,54 @@ entries_told caller (call ∷ calls) (ending ∷ endings) =
     cond (is_some (port_of call)) (entry_done caller (ended_with call ending) ∷ entries_told caller calls endings)
     (entries_told caller calls endings)
 
--- a command's calls come first: its own, those behind it, and then those of the other commands
-pub command_first : (auto : Bool) (call : Call) (ending : Ending) (Others : List Finished → Type 0) (done : List Finished)
+-- a command's calls come first: those until it has its reply, those behind them, and then those of the other commands
+pub command_parts : (auto : Bool) (call : Call) (ending : Ending) (Others : List Finished → Type 0) (done : List Finished)
     → (cut : IsCut (AreForCommand auto call ending) Others done)
+    → done ≡ cut.first_is.tries ++ (cut.first_is.behind ++ cut.rest)
+command_parts auto call ending Others done cut =
+    cut.whole ∙ ap (λ front. front ++ cut.rest) cut.first_is.whole
+    ∙ append_assoc cut.first_is.tries cut.first_is.behind cut.rest
+
+-- what is so of all these calls is so of the one with which the command ends
+pub tries-last : (P : Finished → Type 0) (call : Call) (ending : Ending) (tries : List Finished) → AreTries call ending tries
+    → AllByRecursion P tries → P (ended_with call ending)
+tries-last P call ending [] are all = absurd are
+tries-last P call ending (done ∷ []) are all = subst P are.0 all.0
+tries-last P call ending (first ∷ tidy ∷ []) are all = absurd are
+tries-last P call ending (first ∷ tidy ∷ done ∷ []) are all = subst P are.3 all.1.1.0
+tries-last P call ending (first ∷ tidy ∷ done ∷ next ∷ dones) are all = absurd are
+
+-- which is the last of them
+pub tries-split : (call : Call) (ending : Ending) (tries : List Finished) → AreTries call ending tries
+    → (earlier : List Finished) × (tries ≡ earlier ++ ended_with call ending ∷ [])
+tries-split call ending [] are = absurd are
+tries-split call ending (done ∷ []) are = ([], ap (λ d. d ∷ []) are.0)
+tries-split call ending (first ∷ tidy ∷ []) are = absurd are
+tries-split call ending (first ∷ tidy ∷ done ∷ []) are = (first ∷ tidy ∷ [], ap (λ d. first ∷ tidy ∷ d ∷ []) are.3)
+tries-split call ending (first ∷ tidy ∷ done ∷ next ∷ dones) are = absurd are
+
+-- the call found a node, or looked for none
+abbrev pub FoundSome : Finished → Type 0
+FoundSome done = done.reply ≢ NoNode
+
+-- where each found one there is one try alone
+tries-one : (call : Call) (ending : Ending) (tries : List Finished) → AreTries call ending tries → AllByRecursion FoundSome tries
+    → tries ≡ ended_with call ending ∷ []
+tries-one call ending [] are found = absurd are
+tries-one call ending (done ∷ []) are found = ap (λ d. d ∷ []) are.0
+tries-one call ending (first ∷ tidy ∷ []) are found = absurd are
+tries-one call ending (first ∷ tidy ∷ done ∷ []) are found = absurd (found.0 are.1)
+tries-one call ending (first ∷ tidy ∷ done ∷ next ∷ dones) are found = absurd are
+
+-- and then the command's own call is the first
+pub command_first : (auto : Bool) (call : Call) (ending : Ending) (Others : List Finished → Type 0) (done : List Finished)
+    → (cut : IsCut (AreForCommand auto call ending) Others done) → AllByRecursion FoundSome done
     → done ≡ ended_with call ending ∷ cut.first_is.behind ++ cut.rest
-command_first auto call ending Others done cut = cut.whole ∙ ap (λ front. front ++ cut.rest) cut.first_is.whole
+command_first auto call ending Others done cut found =
+    let parts = command_parts auto call ending Others done cut in
+    let rest = cut.first_is.behind ++ cut.rest in
+    let tried = AllByRecursion-cut FoundSome cut.first_is.tries rest (subst (AllByRecursion FoundSome) parts found) in
+    parts ∙ ap (λ tries. tries ++ rest) (tries-one call ending cut.first_is.tries cut.first_is.are_tries tried.0)
 
 -- what skips each `work` skips all that a worker makes by itself
 behind_skipped : {A : Type 0} (f : List Finished → A)
@@ -105,54 +146,34 @@ behind_skipped f skips true (d ∷ next ∷ behind) rest works =
 behind_skipped f skips false behind rest none = ap (λ front. f (front ++ rest)) none
 
 -- what is so of a list is so of its end
-AllByRecursion-behind : {X : Type 0} (P : X → Type 0) (front rest : List X) → AllByRecursion P (front ++ rest)
+pub AllByRecursion-behind : {X : Type 0} (P : X → Type 0) (front rest : List X) → AllByRecursion P (front ++ rest)
     → AllByRecursion P rest
 AllByRecursion-behind P [] rest all = all
 AllByRecursion-behind P (x ∷ front) rest all = AllByRecursion-behind P front rest all.1
 
--- no `work` needs a node
-needs-work : (d : Finished) (rest : List Finished) → d.call ≡ Work
-    → count_by needs_node (calls_made (d ∷ rest)) ≡ count_by needs_node (calls_made rest)
-needs-work d rest is =
-    let none : one_if (needs_node d.call) ≡ 0 = ap (λ call. one_if (needs_node call)) is in
-    let needed = needs-cons d rest in
-    omega (arith, none, needed)
-
--- and none has an entry
+-- no `work` has an entry
 entries_of_finished-work : (c : ℕ) (d : Finished) (rest : List Finished) → d.call ≡ Work → entries_of_finished c (d ∷ rest) ≡ entries_of_finished c rest
 entries_of_finished-work c d rest is =
     ap (λ call. cond (is_some (port_of call)) (entry_done c d ∷ entries_of_finished c rest) (entries_of_finished c rest)) is
 
 module _ (auto : Bool) where
-  -- so as many need a node as commands do
-  pub needs-serves : (calls : List Call) (endings : List Ending) (done : List Finished) → Serves auto calls endings done
-      → count_by needs_node (calls_made done) ≡ count_by needs_node calls
-  needs-serves [] [] done serves = ap (λ dones. count_by needs_node (calls_made dones)) serves
-  needs-serves [] (ending ∷ endings) done serves = absurd serves
-  needs-serves (call ∷ calls) [] done serves = absurd serves
-  needs-serves (call ∷ calls) (ending ∷ endings) done serves =
-      let behind = serves.first_is.behind in
-      let first = ap (λ dones. count_by needs_node (calls_made dones))
-      (command_first auto call ending (Serves auto calls endings) done serves) in
-      let here = needs-cons (ended_with call ending) (behind ++ serves.rest) in
-      let skips = behind_skipped (λ dones. count_by needs_node (calls_made dones)) needs-work
-      (auto && asks_for_work call ending.answer.reply) behind serves.rest serves.first_is.works in
-      let others = needs-serves calls endings serves.rest serves.rest_is in
-      let commands = sum_by-cons (λ (k : Call). one_if (needs_node k)) call calls in
-      omega (arith, first, here, skips, others, commands)
-
-  -- their entries are those that the commands tell
+  -- where no call found that there is no node, their entries are those that the commands tell
   pub entries_of_finished-serves : (c : ℕ) (calls : List Call) (endings : List Ending) (done : List Finished)
-      → Serves auto calls endings done → entries_of_finished c done ≡ entries_told c calls endings
-  entries_of_finished-serves c [] [] done serves = ap (entries_of_finished c) serves
-  entries_of_finished-serves c [] (ending ∷ endings) done serves = absurd serves
-  entries_of_finished-serves c (call ∷ calls) [] done serves = absurd serves
-  entries_of_finished-serves c (call ∷ calls) (ending ∷ endings) done serves =
+      → Serves auto calls endings done → AllByRecursion FoundSome done → entries_of_finished c done ≡ entries_told c calls endings
+  entries_of_finished-serves c [] [] done serves found = ap (entries_of_finished c) serves
+  entries_of_finished-serves c [] (ending ∷ endings) done serves found = absurd serves
+  entries_of_finished-serves c (call ∷ calls) [] done serves found = absurd serves
+  entries_of_finished-serves c (call ∷ calls) (ending ∷ endings) done serves found =
+      let behind = serves.first_is.behind in
+      let first = command_first auto call ending (Serves auto calls endings) done serves found in
+      let each : AllByRecursion FoundSome (ended_with call ending ∷ behind ++ serves.rest) = subst (AllByRecursion FoundSome) first found in
       let skips = behind_skipped (entries_of_finished c) (entries_of_finished-work c) (auto && asks_for_work call ending.answer.reply)
-      serves.first_is.behind serves.rest serves.first_is.works in
-      ap (entries_of_finished c) (command_first auto call ending (Serves auto calls endings) done serves)
+      behind serves.rest serves.first_is.works in
+      ap (entries_of_finished c) first
       ∙ ap (λ rest. cond (is_some (port_of call)) (entry_done c (ended_with call ending) ∷ rest) rest)
-      (skips ∙ entries_of_finished-serves c calls endings serves.rest serves.rest_is)
+      (skips
+      ∙ entries_of_finished-serves c calls endings serves.rest serves.rest_is
+      (AllByRecursion-behind FoundSome behind serves.rest each.1))
 
   -- and what is so of all their replies is so of the replies to the commands
   pub replies-serves : (P : Reply → Type 0) (calls : List Call) (endings : List Ending) (done : List Finished)
@@ -162,12 +183,13 @@ module _ (auto : Bool) where
   replies-serves P [] (ending ∷ endings) done serves all = absurd serves
   replies-serves P (call ∷ calls) [] done serves all = absurd serves
   replies-serves P (call ∷ calls) (ending ∷ endings) done serves all =
+      let Q : Finished → Type 0 = λ d. P d.reply in
+      let tries = serves.first_is.tries in
       let behind = serves.first_is.behind in
-      let each : AllByRecursion (λ (d : Finished). P d.reply) (ended_with call ending ∷ behind ++ serves.rest) =
-      subst (AllByRecursion (λ (d : Finished). P d.reply)) (command_first auto call ending (Serves auto calls endings) done serves) all in (
-        each.0,
-        replies-serves P calls endings serves.rest serves.rest_is
-            (AllByRecursion-behind (λ (d : Finished). P d.reply) behind serves.rest each.1),
+      let parts = AllByRecursion-cut Q tries (behind ++ serves.rest)
+      (subst (AllByRecursion Q) (command_parts auto call ending (Serves auto calls endings) done serves) all) in (
+        tries-last Q call ending tries serves.first_is.are_tries parts.0,
+        replies-serves P calls endings serves.rest serves.rest_is (AllByRecursion-behind Q behind serves.rest parts.1),
       )
 
 -- no commands have no entries

@@ -1,12 +1,12 @@
 -- A run that serves the commands of workers has a history that tells what they were answered: each one that fits it does. At its end
--- nobody is in a call, so each caller's entries are those of its finished calls about bindings, which are its commands'; and all entries
--- together leave what the last words stand for.
+-- nobody is in a call, so each caller's entries are those of its finished calls about bindings: its commands', and their first tries that
+-- found no node. All entries together leave what the last words stand for.
 -- Where a command was answered that the table is full, the entries up to the load of the count leave the ports that were bound then,
 -- and each other worker was in the middle of at most one call.
-use Rattle.std.proofs.Common.{◌≡◌, ◌≢◌, ◌⊎◌, ℕ, ◌+◌, ◌-◌, ◌<◌, ◌≤◌, ◌==◌, Bool, true, false, cond, List, [], ◌++◌, length, map, take, refl, sym, ◌∙◌, ap, subst, inl, inr, arith}
-use Rattle.std.specs.Prelude.{None, ◌&&◌, not, count_by}
-use Rattle.std.specs.List.{AllByRecursion, Any}
-use Rattle.std.proofs.lemmas.Bool.{cases_lt, eq-eqb, ne_eqb}
+use Rattle.std.proofs.Common.{◌≡◌, ◌≢◌, ◌⊎◌, ℕ, ◌+◌, ◌-◌, ◌<◌, ◌≤◌, ◌==◌, Bool, true, false, cond, List, [], ◌∷◌, ◌++◌, length, map, take, refl, sym, ◌∙◌, ap, subst, append_assoc, inl, inr, arith}
+use Rattle.std.specs.Prelude.{None, ◌&&◌, not, sum_by, count_by}
+use Rattle.std.specs.List.{AllByRecursion, Any, range_with_len}
+use Rattle.std.proofs.lemmas.Bool.{cases_lt, eq-eqb, eqb-true, ne_eqb}
 use Rattle.std.proofs.lemmas.List.{get_or_past, append-nil, take_all, map-append}
 use Rattle.std.proofs.Math.Seq.{take-length}
 use Rattle.rht_words.specs.declared.env.Env.{Env}
@@ -32,7 +32,7 @@ use Rattle.rht_core.specs.Laws.{IsPastCall}
 use Rattle.rht_core.specs.Seen.{others_in_call}
 use Rattle.rht_core.specs.Causes.{CauseOf, HasCause, SawFull}
 use Rattle.rht_stands.specs.Closing.{IsClosedOf}
-use Rattle.rht_core.specs.NodesUsed.{needs_node, is_no_node, took_node, may_take_node, takers_of, takers, IsForWant}
+use Rattle.rht_core.specs.NodesUsed.{needs_node, took_node, may_take_node, takers_of}
 use Rattle.rht_core.specs.Numbered.{Numbered, history_of, entries_of}
 use Rattle.rht_core.specs.RunHistories.{bindings_behind, ChangesBindings, about_bindings, Fits}
 use Rattle.rht_core.specs.Serving.{Serves, calls_of, IsServing}
@@ -45,14 +45,14 @@ use Rattle.rht_core.proofs.Tracing.TracesInRuns.{remembers}
 use Rattle.rht_core.proofs.Tracing.TracesAtEvents.{at_events, past-ends}
 use Rattle.rht_core.proofs.Tracing.StepsInTraces.{idle-book}
 use Rattle.rht_core.proofs.Reasons.CausesInRuns.{causes}
-use Rattle.rht_core.proofs.Counting.NodesUsed.{nodes}
-use Rattle.rht_core.proofs.Counting.OutnumberedNodes.{sum-below, sum-calls_of, took-needs, NeedsNode, FoundNode, fewer-took}
+use Rattle.rht_core.proofs.Counting.NodesUsed.{nodes_before}
+use Rattle.rht_core.proofs.Counting.OutnumberedNodes.{sum-below, sum-calls_of, NeedsNode, TakesFew, few-took, few-before, few-serves}
 use Rattle.rht_core.proofs.Histories.NumberedEntries.{AllBelow}
 use Rattle.rht_core.proofs.Histories.CallEnds.{AreEnded}
 use Rattle.rht_core.proofs.Histories.AloneCalls.{none-progress, about-ended, ended-below}
 use Rattle.rht_core.proofs.Histories.AloneLaw.{left-behind}
 use Rattle.rht_core.proofs.Histories.FittingRuns.{fits}
-use Rattle.rht_core.proofs.Histories.ToldEntries.{entries_by-ended, entries_told, entries_of_finished-serves, needs-serves, AllByRecursion-of_map, all_first, AllBelow-callers, split_at}
+use Rattle.rht_core.proofs.Histories.ToldEntries.{entries_by-ended, AllByRecursion-of_map, all_first, AllBelow-callers, split_at}
 
 -- ---- calls that were refused
 
@@ -187,20 +187,12 @@ module _ (M : Type 0) (mix : ℕ → ℕ → ℕ → ℕ) (env : Env) (auto : Bo
   entries_are history fitting c =
       entries_by-ended c (r.traces c).past history (ended history fitting c) ∙ ap (entries_of_finished c) (past_done c)
 
-  finished_are : (history : List Numbered) → Fits M mix env events history → env.config.callers ≡ 1
+  pub finished_are : (history : List Numbered) → Fits M mix env events history → env.config.callers ≡ 1
       → history_of history ≡ entries_of_finished 0 (w.books 0).finished
   finished_are history fitting one =
       sym (all_first (history_of history) (λ c more.
       entries_are history fitting c ∙ ap (entries_of_finished c) (no_others c (omega (arith, one, more)))))
       ∙ entries_are history fitting 0
-
-  -- the entries of one worker are those that its commands tell
-  pub order_is : (history : List Numbered) → Fits M mix env events history → env.config.callers ≡ 1
-      → history_of history ≡ entries_told 0 (calls_of 1 commands) (endings_by 0 endings)
-  order_is history fitting one =
-      finished_are history fitting one
-      ∙ entries_of_finished-serves auto 0 (calls_of 1 commands) (endings_by 0 endings) (w.books 0).finished
-      (each 0 (omega (arith, one))).serves
 
   -- ---- what is bound at the end
 
@@ -238,25 +230,6 @@ module _ (M : Type 0) (mix : ℕ → ℕ → ℕ → ℕ) (env : Env) (auto : Bo
   pub no_call_there : (c : ℕ) → (w.books c).call ≡ None
   no_call_there c = ap (λ (v : World M). (v.books c).call) (sym same_world) ∙ no_call c
 
-  took_most : (c : ℕ) → took c ≤ need c
-  took_most c = most (serving c)
-    where
-      most : IsServed c → took c ≤ need c
-      most (inl serves) =
-          let made = needs-serves auto (calls_of (c + 1) commands) (endings_by c endings) (w.books c).finished serves in
-          let none = took-none c (no_call_there c) in
-          let few = took-needs (w.books c).finished in
-          omega (arith, made, none, few)
-      most (inr empty) =
-          let none = took-none c (no_call_there c) in
-          let zero : count_by took_node (w.books c).finished ≡ 0 = ap (count_by took_node) empty.0 in
-          omega (arith, none, zero)
-
-  callers_same : w.core.env.geometry.callers ≡ env.config.callers
-  callers_same =
-      let stays : StaysIn M mix env w.core = runs-in M mix env events in
-      ap (λ (e : Env). e.geometry.callers) stays.same_env ∙ env.agrees.callers_same
-
   -- each call that found no node needs one
   need_nodes : (c : ℕ) → AllByRecursion NeedsNode (w.books c).finished
   need_nodes c =
@@ -266,31 +239,71 @@ module _ (M : Type 0) (mix : ℕ → ℕ → ℕ → ℕ) (env : Env) (auto : Bo
       (λ past cause none. needs-none M mix env events c past past.done.call past.done.reply cause none)
       (r.traces c).past (causes M mix env events c admitted)))
 
+  -- no more of a worker's calls take a node than its commands need
+  takes_few : (c : ℕ) → TakesFew (need c) 0 (w.books c).finished
+  takes_few c = few (serving c)
+    where
+      few : IsServed c → TakesFew (need c) 0 (w.books c).finished
+      few (inl serves) =
+          few-serves auto (calls_of (c + 1) commands) (endings_by c endings) (w.books c).finished (need c) 0 serves (need_nodes c)
+          (omega arith)
+      few (inr empty) = subst (TakesFew (need c) 0) (sym empty.0) (omega arith)
+
+  took_most : (c : ℕ) → took c ≤ need c
+  took_most c =
+      let few = few-took (need c) 0 (w.books c).finished (takes_few c) in
+      let none = took-none c (no_call_there c) in
+      omega (arith, few, none)
+
   -- where one of a worker's calls found none there are too few
-  outnumbered : (c : ℕ) → c < env.config.callers → took c < need c → env.geometry.nodes ≤ takers w → IsOutnumbered env.config commands
-  outnumbered c low less want =
-      let n = w.core.env.geometry.callers in
-      let sums = sum-below took need c 0 n (omega arith) (omega (arith, low, callers_same)) less took_most in
+  outnumbered : (c : ℕ) (front rest : List Past) (past : Past) → c < env.config.callers → (r.traces c).past ≡ front ++ past ∷ rest
+      → past.done.reply ≡ NoNode → IsOutnumbered env.config commands
+  outnumbered c front rest past low parts none =
+      let done : Past → Finished = λ p. p.done in
+      let finished : map done front ++ past.done ∷ map done rest ≡ (w.books c).finished =
+      sym (ap (map done) parts ∙ map-append done front (past ∷ rest)) ∙ past_done c in
+      let earlier = count_by took_node (map done front) in
+      let less = few-before (need c) 0 (map done front) (map done rest) past.done
+      (subst (TakesFew (need c) 0) (sym finished) (takes_few c)) none in
+      let before : ℕ → ℕ = λ d. cond (d == c) earlier (took d) in
+      let own : before c ≡ earlier = ap (λ t. cond t earlier (took c)) (eq-eqb c c refl) in
+      let each_most : (d : ℕ) → before d ≤ need d = λ d. most d (d == c) refl in
+      let n = env.geometry.callers in
+      let callers = env.agrees.callers_same in
+      let sums = sum-below before need c 0 n (omega arith) (omega (arith, low, callers)) (omega (arith, own, less)) each_most in
       let all = sum-calls_of needs_node n commands in
+      let many : env.geometry.nodes ≤ sum_by before (range_with_len 0 n) =
+      subst (λ (v : World M). env.geometry.nodes ≤ sum_by (λ d. cond (d == c) earlier (takers_of (v.books d))) (range_with_len 0 n)) same_world
+      (nodes_before M mix env events admitted c front rest past parts none) in
       let nodes_same = env.agrees.nodes_same in
-      omega (arith, sums, all, want, nodes_same)
+      omega (arith, sums, all, many, nodes_same)
+    where
+      most : (d : ℕ) (t : Bool) → (d == c) ≡ t → cond t (count_by took_node (map (λ (p : Past). p.done) front)) (took d) ≤ need d
+      most d false other = took_most d
+      most d true same =
+          let done : Past → Finished = λ p. p.done in
+          let finished : map done front ++ past.done ∷ map done rest ≡ (w.books c).finished =
+          sym (ap (map done) parts ∙ map-append done front (past ∷ rest)) ∙ past_done c in
+          let less = few-before (need c) 0 (map done front) (map done rest) past.done
+          (subst (TakesFew (need c) 0) (sym finished) (takes_few c)) none in
+          subst (λ e. count_by took_node (map done front) ≤ need e) (sym (eqb-true d c same)) (omega (arith, less))
+
+  -- by induction over the calls
+  outnumbered_all : (c : ℕ) (front calls : List Past) → c < env.config.callers → (r.traces c).past ≡ front ++ calls
+      → AllByRecursion (λ (p : Past). p.done.reply ≡ NoNode → IsOutnumbered env.config commands) calls
+  outnumbered_all c front [] low parts = tt
+  outnumbered_all c front (past ∷ calls) low parts = (
+    outnumbered c front calls past low parts,
+    outnumbered_all c (front ++ past ∷ []) calls low (parts ∙ sym (append_assoc front (past ∷ []) calls)),
+  )
 
   no_node_told : (c : ℕ)
       → AllByRecursion (λ (d : Finished). d.reply ≡ NoNode → IsOutnumbered env.config commands) (w.books c).finished
   no_node_told c = elim (cases_lt c env.config.callers) [
     | inl low ↦
-        let calls = calls_of (c + 1) commands in
-        let done = (w.books c).finished in
-        elim (fewer-took done (need_nodes c)) [
-          | inl less ↦
-              let made = needs-serves auto calls (endings_by c endings) done (each c low).serves in
-              let none = took-none c (no_call_there c) in
-              AllByRecursion-weaker (IsForWant env w) (λ (d : Finished). d.reply ≡ NoNode → IsOutnumbered env.config commands)
-              (λ d want is. outnumbered c low (omega (arith, less, made, none)) (want is)) done (nodes M mix env events c admitted)
-          | inr found ↦
-              AllByRecursion-weaker FoundNode (λ (d : Finished). d.reply ≡ NoNode → IsOutnumbered env.config commands)
-              (λ d other is. absurd (let both = sym other ∙ ap is_no_node is in cc)) done found
-        ]
+        subst (AllByRecursion (λ (d : Finished). d.reply ≡ NoNode → IsOutnumbered env.config commands)) (past_done c)
+        (AllByRecursion-of_map (λ (d : Finished). d.reply ≡ NoNode → IsOutnumbered env.config commands) (λ (p : Past). p.done)
+        (r.traces c).past (outnumbered_all c [] (r.traces c).past low refl))
     | inr past ↦ rw (no_others c past) tt
   ]
 

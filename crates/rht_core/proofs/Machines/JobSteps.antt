@@ -117,8 +117,8 @@ pub record IsRebindingIn (env : Env) (new : ℕ) (state : RebindAt) : Type 0 whe
   pub new_in : new < 2 ^ 32
   pub at_in : IsRebindAtIn env state
 
--- What is said of a job by its machine: that it is one for tables of this kind, that all it names is the table's, and that what
--- its state keeps fits its port and its owner, or a tidying's its caller's nodes.
+-- What is said of a job by its machine: that it is one for tables of this kind, that all it names is the table's, and that what its state
+-- keeps fits its port and its owner. Of a tidying it is said which nodes its caller has.
 pub record JobFacts : Type 1 where
   pub built : Type 0
   pub within : Type 0

@@ -14,6 +14,7 @@ use Rattle.rht_words.specs.declared.machine.Next.TheVariants.{Go, Done}
 use Rattle.rht_model.specs.declared.history.Call.{Call}
 use Rattle.rht_model.specs.declared.history.Call.TheVariants.{Bind, Find, All, Release, Rebind, Walk, Work, Tidy, Count}
 use Rattle.rht_model.specs.declared.history.Reply.{Reply}
+use Rattle.rht_model.specs.declared.history.Reply.TheVariants.{Clear, Pending}
 use Rattle.rht_model.specs.Endings.{Ending, plain_ending}
 use Rattle.rht_find.specs.Find.{after_at as find_after_at}
 use Rattle.rht_bind.specs.Bind.{after_at}
@@ -26,10 +27,12 @@ use Rattle.rht_core.specs.Traces.{Did, Past, traced_of, behind_call, IsRising, A
 use Rattle.rht_core.specs.Runs.{IsAdmitted}
 use Rattle.rht_core.specs.Laws.{IsRecorded, IsPastCall}
 use Rattle.rht_core.specs.Seen.{words_before}
+use Rattle.rht_core.specs.Tidied.{HasTidied}
 use Rattle.rht_core.specs.TidyCauses.{SawForTidy}
+use Rattle.rht_core.proofs.Tracing.TidiesInRuns as tidies_runs
 use Rattle.rht_grace.specs.Tidy as tidy
 use Rattle.rht_core.proofs.Reasons.TidiesSeen.{SawAtTidy, tidy-saw, first_tidy-saw}
-use Rattle.rht_core.specs.Causes.{CauseOf, HasCause, Causes}
+use Rattle.rht_core.specs.Causes.{TidyCause, CauseOf, HasCause, Causes}
 use Rattle.rht_release.specs.Release as release
 use Rattle.rht_release.specs.Rebind as rebind
 use Rattle.rht_words.specs.Machines.{GoesOrEnds}
@@ -163,33 +166,41 @@ module _ (M : Type 0) (mix : ℕ → ℕ → ℕ → ℕ) (env : Env) (events : 
 
   -- ---- the causes
 
+  tidy-cause : (past : Past) (reply : Reply) → SawForTidy env.geometry reply past.steps → HasTidied M mix env events c past
+      → TidyCause M mix env events c past reply
+  tidy-cause past (Clear count) saw has = (saw, has)
+  tidy-cause past (Pending caller section) saw has = (saw, has)
+  tidy-cause past _ saw has = absurd saw
+
   module _ (admitted : IsAdmitted env.config.kind events) where
     cause_of : (past : Past) (call : Call) (reply : Reply) → SawOf env c words_at mix call reply past.steps
-        → IsReplyTo call reply → AllByRecursion (IsRecorded M mix env events c) past.steps
+        → IsReplyTo call reply → (call ≡ Tidy → HasTidied M mix env events c past)
+        → AllByRecursion (IsRecorded M mix env events c) past.steps
         → IsRising (past.begin + 1) past.steps → CauseOf M mix env events c past call reply
-    cause_of past (Bind port owner once) reply saw right recorded rising =
+    cause_of past (Bind port owner once) reply saw right tidied_so recorded rising =
         bind-cause M mix env events c admitted port past reply saw recorded rising
-    cause_of past (Find port) reply saw right recorded rising = find-cause reply right
-    cause_of past (All port) reply saw right recorded rising = all-cause reply right
-    cause_of past (Release port owner) reply saw right recorded rising =
+    cause_of past (Find port) reply saw right tidied_so recorded rising = find-cause reply right
+    cause_of past (All port) reply saw right tidied_so recorded rising = all-cause reply right
+    cause_of past (Release port owner) reply saw right tidied_so recorded rising =
         release-cause M mix env events c admitted past reply saw right recorded
-    cause_of past (Rebind port owner new) reply saw right recorded rising = rebind-cause env past reply saw right
-    cause_of past Work reply saw right recorded rising = work-cause env c words_at past reply saw right
-    cause_of past Tidy reply saw right recorded rising = saw
-    cause_of past Count reply saw right recorded rising =
+    cause_of past (Rebind port owner new) reply saw right tidied_so recorded rising = rebind-cause env past reply saw right
+    cause_of past Work reply saw right tidied_so recorded rising = work-cause env c words_at past reply saw right
+    cause_of past Tidy reply saw right tidied_so recorded rising = tidy-cause past reply saw (tidied_so refl)
+    cause_of past Count reply saw right tidied_so recorded rising =
         count-cause M mix env events c admitted past reply saw recorded
-    cause_of past _ reply saw right recorded rising = absurd saw
+    cause_of past _ reply saw right tidied_so recorded rising = absurd saw
 
     all_caused : (from : ℕ) (calls : List Past)
         → AllByRecursion
         (λ (past : Past). SawOf env c words_at mix past.done.call past.done.reply past.steps) calls
         → AllByRecursion (IsEndedSo M mix env (Holds M mix env) (Answered M mix env)) calls
+        → AllByRecursion (λ (past : Past). past.done.call ≡ Tidy → HasTidied M mix env events c past) calls
         → AllByRecursion (IsPastCall M mix env events c) calls → AreInOrder from calls
         → AllByRecursion (HasCause M mix env events c) calls
-    all_caused from [] saw right were order = tt
-    all_caused from (past ∷ calls) saw right were order = (
-      cause_of past past.done.call past.done.reply saw.0 right.0.reply were.0.steps order.1,
-      all_caused (behind_call past) calls saw.1 right.1 were.1 order.2,
+    all_caused from [] saw right tidied_so were order = tt
+    all_caused from (past ∷ calls) saw right tidied_so were order = (
+      cause_of past past.done.call past.done.reply saw.0 right.0.reply tidied_so.0 were.0.steps order.1,
+      all_caused (behind_call past) calls saw.1 right.1 tidied_so.1 were.1 order.2,
     )
 
 pub causes : (M : Type 0) (mix : ℕ → ℕ → ℕ → ℕ) → Causes M mix
@@ -197,4 +208,5 @@ causes M mix env events c admitted =
     let stands = at_events M mix env events admitted c in
     all_caused M mix env events c admitted 0 ((traced_of {M = M} mix env events).traces c).past
     (past-saw M mix env events c admitted) (runs-right M mix env events c admitted).past
+    (tidies_runs.tidied M mix env events c admitted)
     stands.past stands.in_order

@@ -510,6 +510,27 @@ within_call from (first ∷ calls) last (suc number) (suc other) past did order 
     within_call (behind_call first) calls last number other past did order.2 rising is low high
     (in_rest first.steps lists other did there)
 
+-- an operation before the end of a call is that call's, or of a call before that
+before_end : (from : ℕ) (front rest : List Past) (past : Past) (last : List Did) (number : ℕ) (did : Did)
+    → AreInOrder from (front ++ past ∷ rest) → IsRising (behind_calls from (front ++ past ∷ rest)) last
+    → did.index < behind_call past
+    → IsIn (map (λ past. past.steps) (front ++ past ∷ rest) ++ last ∷ []) number did
+    → IsIn (map (λ past. past.steps) front ++ past.steps ∷ []) number did
+before_end from [] rest past last zero did order rising high there =
+    record { steps = there.steps; call = there.call; stands = there.stands }
+before_end from [] rest past last (suc number) did order rising high there =
+    let lists = map (λ (past : Past). past.steps) rest ++ last ∷ [] in
+    let later = at_least (behind_call past) lists number did (calls-rising (behind_call past) rest last order.2 rising)
+    (in_rest past.steps lists number did there) in
+    absurd (omega (arith, later, high))
+before_end from (first ∷ front) rest past last zero did order rising high there =
+    record { steps = there.steps; call = there.call; stands = there.stands }
+before_end from (first ∷ front) rest past last (suc number) did order rising high there =
+    let lists = map (λ (past : Past). past.steps) (front ++ past ∷ rest) ++ last ∷ [] in
+    let is = before_end (behind_call first) front rest past last number did order.2 rising high
+    (in_rest first.steps lists number did there) in
+    record { steps = is.steps; call = is.call; stands = is.stands }
+
 module _ (M : Type 0) (mix : ℕ → ℕ → ℕ → ℕ) (env : Env) (events : List Event) (c : ℕ)
     (admitted : IsAdmitted env.config.kind events) where
   abbrev trace : Trace
@@ -546,6 +567,26 @@ module _ (M : Type 0) (mix : ℕ → ℕ → ℕ → ℕ) (env : Env) (events : 
       (last-rising _ (runs-right M mix env events c admitted).now)
       (slice_get-get_or trace.past number past within ∙ ap Some is) low high
       (record { steps = there.steps; call = there.call; stands = there.stands })
+
+  -- one that comes before the end of one of its calls is of that call, or of one before that
+  pub stands_before : (front rest : List Past) (past : Past) (did : Did) → trace.past ≡ front ++ past ∷ rest
+      → IsRecorded M mix env events c did → did.index < behind_call past
+      → (number : ℕ) × (steps : List Did) × (slice_get (map (λ past. past.steps) front ++ past.steps ∷ []) number ≡ Some steps)
+      × Contains steps did
+  stands_before front rest past did parts recorded high =
+      let there = all_stand M mix env events admitted c did recorded in
+      let number = calls_ended M mix env (take did.index events) c in
+      let is = before_end 0 front rest past trace.steps number did
+      (subst (AreInOrder 0) parts (at_events M mix env events admitted c).in_order)
+      (subst (λ calls. IsRising (behind_calls 0 calls) trace.steps) parts
+      (last-rising _ (runs-right M mix env events c admitted).now))
+      high
+      (record {
+        steps = there.steps;
+        call = ap (λ (calls : List Past). slice_get (map (λ past. past.steps) calls ++ trace.steps ∷ []) number) (sym parts) ∙ there.call;
+        stands = there.stands;
+      }) in
+      (number, is.steps, is.call, is.stands)
 
 pub all_steps_traced : (M : Type 0) (mix : ℕ → ℕ → ℕ → ℕ) → AllStepsTraced M mix
 all_steps_traced M mix env events c did admitted recorded =

@@ -1,4 +1,4 @@
--- What the operations of a tidying have given back, by its state, beside the batch that its caller had before: the nodes that were due
+-- What the operations of a tidying have given back, by its state, beside the batch that its caller had before. The nodes that were due
 -- wait, and those before the tidying's place are given back, and no others.
 use Rattle.std.proofs.Common.{◌≡◌, ◌↔◌, ℕ, zero, suc, ◌+◌, ◌%◌, ◌<◌, ◌≤◌, ◌++◌, ◌∷◌, ◌==◌, List, [], length, take, get_or, Option, Some, None, refl, sym, ap, ◌∙◌, subst, inl, inr, arith}
 use Rattle.std.specs.Prelude.{nat_lt, if◌then◌else◌}

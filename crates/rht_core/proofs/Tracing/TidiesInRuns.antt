@@ -1,4 +1,4 @@
--- In every run a tidying that has ended gave back just the nodes that were due, where it cleared, or none where they wait; and it leaves its
+-- In every run a tidying that has ended gave back just the nodes that were due, where it cleared, or none where they wait. It leaves its
 -- caller the batch that it is to leave. Where they wait it has seen why.
 -- Of each caller it is kept, event by event, what its tidying has given back beside the batch before the call began.
 use Rattle.std.proofs.Common.{◌≡◌, ◌↔◌, ℕ, suc, ◌+◌, ◌/◌, ◌<◌, ◌++◌, ◌∷◌, List, [], length, take, drop, get_or, map, true, false, Option, Some, None, refl, sym, ap, ◌∙◌, subst, inl, inr, append_assoc, drop-cons, length-append, arith}
