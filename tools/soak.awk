@@ -16,7 +16,7 @@ BEGIN {
 
 # ---- A script by chance -------------------------------------------------------------------------
 
-function draw(    i, calls, kind, line, owners_differ, worker, small) {
+function draw(    i, calls, kind, line, owners_differ, worker) {
   begin_chance(seed, number)
   kind = below(2) ? "listed" : "single"
   line = "table " kind " nodes 8 workers 4 rewalks " one_of(0, 1, 8)
@@ -25,7 +25,7 @@ function draw(    i, calls, kind, line, owners_differ, worker, small) {
   if (small) line = line " hint 3"
   if (below(2)) line = line " shrink on"
   if (below(2)) line = line " hash low"
-  if (below(3) == 0) line = line " work manual"
+  if (below(small ? 2 : 4) == 0) line = line " work manual"
   print line
   ports = small ? 4 + below(5) : 2 + below(4)
   owners_differ = below(2)
@@ -56,7 +56,7 @@ function old_owner(port) { return times[port] ? had[port, 1 + below(times[port])
 function drawn_call(kind, owners_differ,    port, what, old) {
   port = 1 + below(ports)
   what = below(100)
-  if (what < 40) return "bind " port " " new_owner(port, owners_differ)
+  if (what < (small ? 48 : 38)) return "bind " port " " new_owner(port, owners_differ)
   if (what < 62) return "release " port " " old_owner(port)
   if (what < 74) return "find " port
   if (what < 79) return "count"
