@@ -45,8 +45,8 @@ module _ (M : Type 0) (mix : ℕ → ℕ → ℕ → ℕ) where
   abbrev pub batch_before : Env → List Event → ℕ → ℕ → BatchModel
   batch_before env events c index = batch_of (run_of {M = M} mix env (take index events)).core c
 
-  -- A tidying has given back what was due, and leaves what it is to leave. And its operations are in order, as those of the machine that
-  -- begins with this batch: for which words the nodes wait, that each caller was asked, that each node is given back once, and why one waits.
+  -- A tidying has given back what was due, and leaves what it is to leave. And it has done what it answers: for which words the nodes wait,
+  -- that each caller was asked, that each node is given back once and in order, and why one waits.
   pub record HasTidied (env : Env) (events : List Event) (c : ℕ) (past : Past) : Type 0 where
     pub rightly : TidiesRightly env.geometry (batch_before env events c past.begin)
         (batch_before env events c (behind_call past)) past

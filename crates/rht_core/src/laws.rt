@@ -260,7 +260,7 @@ pub fn at_rest<M: Mix>()
 /// and they wait. The fresh nodes of a batch in which some waited stay fresh.
 ///
 /// And its operations are in order. Where none waited before, it first loads each caller's section word, and the
-/// nodes wait for these words; else they wait for those that were kept before. Then it loads section words again.
+/// nodes wait for these words; else they wait for those that were kept before. Then it may load further ones.
 /// Where it was answered `Clear`, each of the words for which they wait is even, or one of these loads found
 /// another one. Then it gives the nodes back, each once, and does nothing else. Where it was answered `Pending`,
 /// the last load found of that caller the very word for which the nodes wait, and it is odd.

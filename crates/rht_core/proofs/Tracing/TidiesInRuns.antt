@@ -5,13 +5,13 @@
 use Rattle.std.proofs.Common.{◌≡◌, ◌↔◌, ℕ, suc, ◌+◌, ◌/◌, ◌<◌, ◌≤◌, ◌++◌, ◌∷◌, List, [], length, take, drop, get_or, map, true, false, Option, Some, None, refl, sym, ap, ◌∙◌, subst, inl, inr, append_assoc, drop-cons, length-append, arith}
 use Rattle.std.specs.Int.{bit_at}
 use Rattle.std.specs.List.{AllByRecursion}
-use Rattle.std.proofs.lemmas.List.{append-nil, take-append-drop}
+use Rattle.std.proofs.lemmas.List.{append-nil}
 use Rattle.std.proofs.Math.Seq.{take-append_seam}
 use Rattle.rht_words.specs.declared.env.Env.{Env}
 use Rattle.rht_words.specs.declared.machine.Next.{Next}
 use Rattle.rht_words.specs.declared.machine.Next.TheVariants.{Go, Done}
 use Rattle.rht_words.specs.Operations.{old_of}
-use Rattle.rht_words.proofs.EachElement.{AllByRecursion-append, AllByRecursion-cut, AllByRecursion-weaker}
+use Rattle.rht_words.proofs.EachElement.{AllByRecursion-append, AllByRecursion-weaker}
 use Rattle.rht_model.specs.declared.history.Call.{Call}
 use Rattle.rht_model.specs.declared.history.Call.TheVariants.{Tidy}
 use Rattle.rht_model.specs.declared.history.Reply.{Reply}
@@ -24,13 +24,13 @@ use Rattle.rht_release.specs.All.{all_after}
 use Rattle.rht_release.specs.Release.{release_after}
 use Rattle.rht_release.specs.Rebind.{rebind_after}
 use Rattle.rht_move.specs.Work.{work_after}
-use Rattle.rht_grace.specs.Batch.{BatchModel, IsBatch}
-use Rattle.rht_grace.specs.Tidy.{TidyModel, tidy_new, plan_at, after_at, moved, begun}
+use Rattle.rht_grace.specs.Batch.{BatchModel}
+use Rattle.rht_grace.specs.Tidy.{TidyModel, tidy_new, plan_at, after_at, moved}
 use Rattle.rht_grace.specs.declared.tidy.TidyAt.TheVariants as at
 use Rattle.rht_callers.specs.declared.local.Local.{Local}
 use Rattle.rht_callers.specs.declared.local.Doing.{Doing}
 use Rattle.rht_callers.specs.declared.local.Doing.TheVariants.{Idle, Finding, Binding, Listing, Releasing, Rebinding, Working, Counting, Tidying}
-use Rattle.rht_callers.specs.Batches.{IsBatchIn, IsSoundBatch, batch_room, batch_given, batch_after, nodes_left}
+use Rattle.rht_callers.specs.Batches.{batch_room, batch_given, batch_after, nodes_left}
 use Rattle.rht_callers.proofs.BatchesOfCallers.{idle-batch}
 use Rattle.rht_callers.specs.PortCounts.{count_after}
 use Rattle.rht_callers.specs.Locals.{does_nothing, is_idle, machine_of, doing_next, doing_after, local_after, ending_of, without_node, IsDoingOf}
@@ -39,12 +39,12 @@ use Rattle.rht_core.specs.declared.event.Event.{Event}
 use Rattle.rht_core.specs.declared.event.Event.TheVariants.{Begin, Step}
 use Rattle.rht_core.specs.Laws.{view_begun}
 use Rattle.rht_core.specs.Jobs.{tidies, job_of, job_plan}
-use Rattle.rht_core.specs.Runs.{Core, World, View, run_of, local_of, planned_in, view_of, finished_with, book_after, IsAdmitted, IsAdmittedEvent}
+use Rattle.rht_core.specs.Runs.{Core, World, View, run_of, local_of, planned_in, view_of, finished_with, book_after, IsAdmitted}
 use Rattle.rht_core.specs.Lookups.{TidiesSoon}
 use Rattle.rht_core.specs.Tidied.{GivesNode, TidiesRightly, HasTidied, Tidied, batch_of, batch_or, batch_before}
 use Rattle.rht_core.specs.Tidyings.{IsTidyingIn}
 use Rattle.rht_core.specs.Traces.{Did, Past, Trace, performed_of, traced_of, trace_begun, trace_did, behind_call, behind_steps}
-use Rattle.rht_core.proofs.Events.BatchesInRuns.{in_range}
+use Rattle.rht_core.proofs.Events.BatchesInRuns.{AreSound, sound_before}
 use Rattle.rht_core.proofs.Events.BusyCallers.{ends}
 use Rattle.rht_core.proofs.Events.OwnBatches.{is_tidying}
 use Rattle.rht_core.proofs.Events.Worlds.{run_of-push, step_self, planned-some}
@@ -89,12 +89,7 @@ module _ (M : Type 0) (mix : ℕ → ℕ → ℕ → ℕ) (env : Env) where
   stays-other (Counting m) old none = next-other Counting (λ a m is. cc) (count_after m old)
   stays-other (Tidying m) old none = absurd (none m refl)
 
-  -- a caller's batch is sound before each event, and the table's
-  abbrev AreSound : List Event → ℕ → Type 0
-  AreSound events c =
-      (index : ℕ) → let own = batch_before M mix env events c index in IsBatch own × (own.geometry ≡ env.geometry)
-
-  module _ (events : List Event) (c : ℕ) (sound : AreSound events c) where
+  module _ (events : List Event) (c : ℕ) (sound : AreSound env mix M events c) where
     abbrev batch_at : ℕ → BatchModel
     batch_at index = batch_before M mix env events c index
 
@@ -322,10 +317,14 @@ module _ (M : Type 0) (mix : ℕ → ℕ → ℕ → ℕ) (env : Env) where
         ];
       }
 
+      -- a call that began at this event and had these operations
+      abbrev EndsAs : ℕ → Reply → BatchModel → List Did → Type 0
+      EndsAs begin reply after did = EndsRightly (batch_at begin) (record { reply = reply; batch = after }) (map performed_of did)
+
       -- what has ended with this reply, and leaves this batch
       record HasEnded (after : BatchModel) (reply : Reply) : Type 0 where
         so : EndsSo env.geometry (batch_at trace.begin) after reply steps
-        ends : EndsRightly (batch_at trace.begin) (record { reply = reply; batch = after }) (map performed_of steps)
+        ends : EndsAs trace.begin reply after steps
         soon : length steps ≤ tidy_bound env.geometry
 
       ended_so : (m : TidyModel) (came : Came) (reply : Reply) → ComesOn (batch_at trace.begin) steps came
@@ -388,11 +387,10 @@ module _ (M : Type 0) (mix : ℕ → ℕ → ℕ → ℕ) (env : Env) where
             tidied = record {
               rightly = rightly reply after past replied began are ended.0.so behind;
               ends =
-                  subst (λ i. EndsRightly (batch_at i) (record { reply = past.done.reply; batch = batch_at (behind_call past) }) (map performed_of past.steps)) (sym began)
-                  (subst (λ s. EndsRightly (batch_at trace.begin) (record { reply = past.done.reply; batch = batch_at (behind_call past) }) (map performed_of s)) (sym are)
-                  (subst (λ r. EndsRightly (batch_at trace.begin) (record { reply = r; batch = batch_at (behind_call past) }) (map performed_of steps)) (sym replied)
-                  (subst (λ b. EndsRightly (batch_at trace.begin) (record { reply = reply; batch = b }) (map performed_of steps)) (sym behind)
-                  ended.0.ends)));
+                  subst (λ i. EndsAs i past.done.reply (batch_at (behind_call past)) past.steps) (sym began)
+                  (subst (EndsAs trace.begin past.done.reply (batch_at (behind_call past))) (sym are)
+                  (subst (λ r. EndsAs trace.begin r (batch_at (behind_call past)) steps) (sym replied)
+                  (subst (λ b. EndsAs trace.begin reply b steps) (sym behind) ended.0.ends)));
             };
             soon = subst (λ (s : List Did). length s ≤ tidy_bound env.geometry) (sym are) ended.0.soon;
           }
@@ -453,44 +451,21 @@ module _ (M : Type 0) (mix : ℕ → ℕ → ℕ → ℕ) (env : Env) where
           (subst (λ d. IsMade M mix env so_far d view.local did) mine made) (keeps mine (Step k ∷ rest) next);
     }
 
-  -- ---- each batch is sound
-
-  admitted-take : (events : List Event) (index : ℕ) → IsAdmitted env.config.kind events → IsAdmitted env.config.kind (take index events)
-  admitted-take events index admitted =
-      (AllByRecursion-cut (IsAdmittedEvent env.config.kind) (take index events) (drop index events)
-      (subst (IsAdmitted env.config.kind) (sym (take-append-drop index events)) admitted)).0
-
-  sound-or : (batch : Option BatchModel) → IsSoundBatch batch → IsBatchIn env batch
-      → IsBatch (batch_or env.geometry batch) × ((batch_or env.geometry batch).geometry ≡ env.geometry)
-  sound-or None sound in_table = absurd sound
-  sound-or (Some batch) sound in_table = (sound, in_table)
-
-  all_sound : (events : List Event) (c : ℕ) → IsAdmitted env.config.kind events → AreSound events c
-  all_sound events c admitted index =
-      let before = take index events in
-      let core : Core M = (run_of {M = M} mix env before).core in
-      let stays = runs-in M mix env before in
-      let local = local_of core c in
-      let batch = batch_room local.doing local.batch in
-      let has = in_range env mix M before (admitted-take events index admitted) in
-      subst (λ (e : Env). let own = batch_or e.geometry batch in IsBatch own × (own.geometry ≡ env.geometry)) (sym stays.same_env)
-      (sound-or batch (has.batches c) (stays.locals_of c).batch)
-
   kept_so : (events : List Event) (c : ℕ) (admitted : IsAdmitted env.config.kind events)
-      → let r = traced_of {M = M} mix env events in Keeps events c (all_sound events c admitted) (view_of r.world c) (r.traces c)
+      → let r = traced_of {M = M} mix env events in Keeps events c (sound_before env mix M events c admitted) (view_of r.world c) (r.traces c)
   kept_so events c admitted =
-      let sound = all_sound events c admitted in
+      let sound = sound_before env mix M events c admitted in
       traced_callers_keep M mix env (KeepsSoFar events c sound) (keeps_so events c sound) events c admitted refl [] (sym (append-nil events))
 
 pub tidied : (M : Type 0) (mix : ℕ → ℕ → ℕ → ℕ) → Tidied M mix
 tidied M mix env events c admitted =
-    let sound = all_sound M mix env events c admitted in
+    let sound = sound_before env mix M events c admitted in
     AllByRecursion-weaker (PastTidied M mix env events c sound) (λ past. past.done.call ≡ Tidy → HasTidied M mix env events c past)
     (λ past so asked. (so asked).tidied) _ (kept_so M mix env events c admitted).past
 
 pub tidies_soon : (M : Type 0) (mix : ℕ → ℕ → ℕ → ℕ) → TidiesSoon M mix
 tidies_soon M mix env events c admitted =
-    let sound = all_sound M mix env events c admitted in
+    let sound = sound_before env mix M events c admitted in
     let kept = kept_so M mix env events c admitted in
     let trace = (traced_of {M = M} mix env events).traces c in
     record {
