@@ -121,7 +121,7 @@ fn assert_cases<R: Threads + Wait + Sync + Abort>(
 
 #[test]
 fn scripts_are_served_and_others_refused(rt: HostRuntime) -> Result<(), Fail> {
-    let cases: [Case; 30] = [
+    let cases: [Case; 31] = [
         (&["run"], "table single\n", 0, "size 64 keys 0\n", ""),
         (
             &["run"],
