@@ -40,6 +40,11 @@ code_of ScriptTooLong = 9
 abbrev pub fault_at : ℕ → Cause → ScriptFault
 fault_at line cause = record { line = line; cause = code_of cause }
 
+-- what is read, with the cause told by its number
+abbrev pub coded : {X : Type 0} → Result X Cause → Result X ℕ
+coded (Ok value) = Ok value
+coded (Err cause) = Err (code_of cause)
+
 -- what is read at this line
 abbrev pub at_line : {X : Type 0} → ℕ → Result X Cause → Result X ScriptFault
 at_line line (Ok value) = Ok value

@@ -1,7 +1,7 @@
 //! Why a line is no line of a script.
 
 ghost use Rattle.std.specs.Prelude.{◌≡◌};
-ghost use Rattle.rht_script.specs.Grammar.{code_of, fault_at, at_line};
+ghost use Rattle.rht_script.specs.Grammar.{code_of, coded, fault_at, at_line};
 
 use crate::script::ScriptFault;
 
@@ -44,6 +44,16 @@ impl Cause {
         ensures { result ≡ code_of self }
     {
         self as u8
+    }
+}
+
+/// What was read, with the cause told by its number.
+pub(crate) fn coded<T>(read: Result<T, Cause>) -> Result<T, u8>
+    ensures { result ≡ coded read }
+{
+    match read {
+        Ok(value) => Ok(value),
+        Err(cause) => Err(cause.code()),
     }
 }
 

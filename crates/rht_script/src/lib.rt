@@ -15,9 +15,11 @@ mod script;
 mod writer;
 
 pub use generator::generated;
-pub use reader::{MOST_BYTES, read};
+pub use reader::{
+    MOST_BYTES, command_line, line_end, number_of, port_word, read, table_line, word_at,
+};
 pub use script::{ReadError, Sched, Script, ScriptFault, TableLine};
 pub use writer::{
-    write_closed, write_fault, write_open, write_operation, write_reply, write_run, write_size,
-    write_summary,
+    write_closed, write_fault, write_number, write_open, write_operation, write_port, write_ports,
+    write_reply, write_run, write_size, write_summary,
 };

@@ -1,6 +1,6 @@
 use Rattle.std.proofs.Common.{◌≡◌, length}
 use Rattle.rht_script.specs.Grammar.{said_from}
-use Rattle.rht_script.proofs.reader.table_line.Given as goal
+use Rattle.rht_script.proofs.reader.first_table.Given as goal
 
 -- the lines so far were skipped, so what is said is said in the lines that are left
 abbrev pub invariant-loop-next : goal.invariant-loop-next
