@@ -3,10 +3,11 @@
 //!
 //! None of these calls takes memory. A cause is told by its number, as in a `ScriptFault`.
 
-ghost use Rattle.std.specs.Prelude.{◌≡◌};
+ghost use Rattle.std.specs.Prelude.{◌≡◌, IfOk, IsTrue};
 ghost use Rattle.rht_words.specs.Settled.{IsSettled};
 ghost use Rattle.rht_script.specs.CommandLines.{command_of, port_limits};
 ghost use Rattle.rht_script.specs.Grammar.{coded};
+ghost use Rattle.rht_script.specs.Sound.{IsCommandCall, is_sound_command};
 ghost use Rattle.rht_script.specs.Spelling.{between, number_of, words_of};
 ghost use Rattle.rht_script.specs.TableLines.{one_number, table_of};
 
@@ -38,7 +39,9 @@ pub fn port_word(word: &[u8], form: u32) -> Result<Port, u8>
 /// What a table line says, or its first cause, of 1 to 4 and 8. A line is never skipped: without
 /// words it has cause 1, and a first word that begins with `#` is a word like any other.
 pub fn table_line(line: &[u8]) -> Result<TableLine, u8>
-    ensures { result ≡ coded (table_of (words_of line.now)) }
+    ensures value { result ≡ coded (table_of (words_of line.now)) }
+    ensures settled { IfOk result (λ table. IsSettled table.config) }
+    ensures form { IfOk result (λ table. table.form ≡ one_number) }
 {
     coded(table(Words::new(line)))
 }
@@ -49,7 +52,9 @@ pub fn table_line(line: &[u8]) -> Result<TableLine, u8>
 pub fn command_line(line: &[u8], table: &TableLine) -> Result<(u32, Call), u8>
     requires settled { IsSettled table.now.config }
     requires form { table.now.form ≡ one_number }
-    ensures { result ≡ coded (command_of table.now (words_of line.now)) }
+    ensures value { result ≡ coded (command_of table.now (words_of line.now)) }
+    ensures sound { IfOk result (λ command. IsTrue (is_sound_command table.now.config command)) }
+    ensures asked { IfOk result (λ command. IsCommandCall command.1) }
 {
     coded(first_command(table, Words::new(line)))
 }
