@@ -14,9 +14,11 @@ mod reader;
 mod script;
 mod writer;
 
+pub use cause::{Cause, at_line};
 pub use generator::generated;
 pub use reader::{
-    MOST_BYTES, command_line, line_end, number_of, port_word, read, table_line, word_at,
+    Lines, MOST_BYTES, Words, command_line, line_end, number_of, port_word, read, table_line,
+    too_long, word_at,
 };
 pub use script::{ReadError, Sched, Script, ScriptFault, TableLine};
 pub use writer::{

@@ -22,6 +22,7 @@ mod numbers;
 mod parts;
 mod places;
 
+pub use self::cursors::{Lines, Words};
 pub use self::parts::{command_line, number_of, port_word, table_line};
 pub use self::places::{line_end, word_at};
 use crate::cause::{Cause, at_line};
@@ -29,7 +30,6 @@ use crate::options::{Options, Setting};
 use crate::script::{
     EVENTS, ONE_NUMBER, ReadError, Sched, Script, ScriptFault, ScriptLine, TableLine, worker_limits,
 };
-use cursors::{Lines, Words};
 use names::{
     ALL, AUTO, BIND, COUNT, FIND, FINISH, HASH, HINT, LISTED, LOW, MANUAL, MAX, MIN, MIX, NODES,
     OFF, ON, PAGES, REBIND, RELEASE, REWALKS, SEED, SHRINK, SINGLE, SKIP, STEP, TABLE, WORK,
@@ -64,7 +64,7 @@ pub fn read(alloc: Global, bytes: &[u8]) -> Result<Script, ReadError>
 }
 
 /// The fault of too many bytes, at the line of the first byte that is one too many.
-fn too_long(bytes: &[u8]) -> ScriptFault
+pub fn too_long(bytes: &[u8]) -> ScriptFault
     requires { MOST_BYTES < length bytes.now }
     ensures { result ≡ fault_at (1 + count_by (λ byte. byte == 10) (take MOST_BYTES bytes.now)) ScriptTooLong }
 {

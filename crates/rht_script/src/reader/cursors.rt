@@ -5,10 +5,10 @@
 
 ghost use Rattle.std.specs.Prelude.{◌≡◌, ◌≢◌, ◌+◌, [], ◌∷◌, MatchOption, Ok, Err};
 ghost use Rattle.rht_script.specs.CommandLines.{number_first, end_of};
-ghost use Rattle.rht_script.specs.Spelling.{lines_of, words_of, is_skipped};
+ghost use Rattle.rht_script.specs.Spelling.{between, lines_of, words_of, is_skipped};
 ghost use Rattle.rht_script.specs.Cursors.{TakesNext, Reads};
 
-use super::numbers::number_within;
+use super::numbers::{number_between, number_within};
 use super::places::{letter_at, line_end, word_at};
 use crate::cause::Cause;
 use crate::script::{MOST_LINES, ScriptFault};
@@ -129,6 +129,16 @@ impl<'a> Words<'a> {
     {
         match self.next() {
             Some(word) => number_within(limits, word),
+            None => Err(Cause::UnknownWord),
+        }
+    }
+
+    /// The next word's number, which is any of 64 bits. After an `Err` the words are of no more use.
+    pub fn long_number(&mut self) -> Result<u64, Cause>
+        ensures { Reads result self.new (number_first (between 0 u64.MAX) self.old) }
+    {
+        match self.next() {
+            Some(word) => number_between(word, 0, u64::MAX),
             None => Err(Cause::UnknownWord),
         }
     }
