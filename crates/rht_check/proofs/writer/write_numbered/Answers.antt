@@ -1,0 +1,13 @@
+use Rattle.std.proofs.Common.{decimal}
+use Rattle.rht_io.proofs.ToldLemmas.{Puts-after, Puts-failed}
+use Rattle.rht_check.proofs.writer.write_numbered.Goals as goal
+
+pub returns-in_err-write_number : goal.returns-in_err-write_number
+returns-in_err-write_number g c =
+    Puts-failed g.O.Sink.held g.O.Sink.faults c.args.out.now c.write_number.new.out c.in_err-write_number.field-0.0 c.from_residual.result
+    (decimal c.args.number) c.args.found.now c.in_err-write_number.ensures c.from_residual.ensures.0
+
+pub returns : goal.returns
+returns g c =
+    Puts-after g.O.Sink.held g.O.Sink.faults c.args.out.now c.write_number.new.out c.put_all.new.out c.put_all.result
+    (decimal c.args.number) c.args.found.now c.in_ok-write_number.ensures c.put_all.ensures
