@@ -124,12 +124,13 @@ impl PortMap {
         ensures reply { result ≡ rebind_reply owner (listed_at self.old port) }
         ensures after { listed_at self.new ≡ with_owners (listed_at self.old) port (owners_rebound owner new (listed_at self.old port)) }
     {
-        match self.owners.get_mut(&port) {
-            Some(list) if list.is_only(owner) => {
-                list.replace_first(new);
-                Reply::Rebound
-            }
-            _ => Reply::Absent,
+        let Some(list) = self.owners.get_mut(&port) else {
+            return Reply::Absent;
+        };
+        if list.exchange(owner, new) {
+            Reply::Rebound
+        } else {
+            Reply::Absent
         }
     }
 
