@@ -4,3 +4,7 @@ pub mod OwnerLists
 pub mod WorkersCommands
 -- where a worker's next command stands, and what taking it leaves
 pub mod NextCommands
+-- an ordered map as bindings
+pub mod PortMaps
+-- the entries of an ordered map, listed
+pub mod ListedPorts

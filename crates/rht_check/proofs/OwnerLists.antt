@@ -1,6 +1,6 @@
 -- What a release takes out of a port's owners, by the place at which its owner stands first.
-use Rattle.std.proofs.Common.{◌≡◌, ℕ, ◌+◌, ◌<◌, ◌==◌, Bool, true, false, Option, None, Some, List, [], ◌∷◌, length, get_or, suc, zero, refl, sym, ◌∙◌, ap, arith, inl, inr}
-use Rattle.std.proofs.lemmas.Bool.{cases_Bool}
+use Rattle.std.proofs.Common.{◌≡◌, ◌≢◌, ℕ, ◌+◌, ◌<◌, ◌==◌, Bool, true, false, Option, None, Some, List, [], ◌∷◌, length, get_or, suc, zero, refl, sym, ◌∙◌, ap, arith, inl, inr}
+use Rattle.std.proofs.lemmas.Bool.{cases_Bool, cases_eq, eq-eqb, ne_eqb}
 use Rattle.std.proofs.lemmas.List.Quantifiers.{position-Some}
 use Rattle.std.proofs.lemmas.Iterator.Adapters.{position_from-zero}
 use Rattle.std.specs.Option.{IsSome, OnSome}
@@ -55,6 +55,16 @@ module _ (owner : ℕ) where
 
   pub unreleased : (owners : List ℕ) → position is_owner owners ≡ None → IsUnreleased owners
   unreleased owners none = unreleased_from owners 0 (sym (position_from-zero is_owner owners) ∙ none)
+
+-- Without one of its owners a port is still bound, unless that was its only one.
+pub owners_released-some : (owner : ℕ) (owners : List ℕ) → owners ≢ [] → owners ≢ owner ∷ []
+    → owners_released owner owners ≢ []
+owners_released-some owner [] some others = absurd (some refl)
+owners_released-some owner (first ∷ owners) some others =
+    elim (cases_eq first owner) [
+      | inl same ↦ rw (eq-eqb first owner same) (λ none. others (ap (λ o. o ∷ owners) same ∙ ap (λ l. owner ∷ l) none))
+      | inr other ↦ rw (ne_eqb first owner other) (λ none. let both : first ∷ owners_released owner owners ≡ [] = none in cc)
+    ]
 
 -- what holds where there is a value, holds where there is one
 pub on_some : {X : Type 0} (value : Option X) (P : Type 0) → IsSome value → OnSome value P → P

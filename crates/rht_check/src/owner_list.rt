@@ -1,7 +1,7 @@
 //! The owners of a port, which are many only in a table of lists. One more in front moves none of
 //! the others.
 
-ghost use Rattle.std.specs.Prelude.{◌≡◌, ◌==◌, ◌≤◌, ◌↔◌, ◌+◌, [], ◌∷◌, length, fold, take, drop, IsTrue, IfOk, OnOk, OnErr, position, slice_get};
+ghost use Rattle.std.specs.Prelude.{◌≡◌, ◌≢◌, ◌==◌, ◌≤◌, ◌↔◌, ◌+◌, [], ◌∷◌, length, fold, take, drop, IsTrue, IfOk, OnOk, OnErr, position, slice_get};
 ghost use Rattle.std.specs.List.{list_any};
 ghost use Rattle.rht_model.specs.Listing.{added};
 ghost use Rattle.rht_model.specs.Answers.{owners_released, owners_rebound};
@@ -49,6 +49,7 @@ impl OwnerList {
     pub fn take_out(&mut self, owner: u32) -> bool
         ensures found { result ≡ list_any (λ o. o == owner) self.old }
         ensures owners { self.new ≡ owners_released owner self.old }
+        ensures bound { self.old ≢ [] → self.old ≢ owner ∷ [] → self.new ≢ [] }
     {
         match self.place(owner) {
             Some(place) => {

@@ -1,6 +1,6 @@
-use Rattle.std.proofs.Common.{◌≡◌, ℕ, List, length, ◌∙◌, sym, ap, arith}
+use Rattle.std.proofs.Common.{◌≡◌, ◌≢◌, ℕ, List, [], length, ◌∙◌, sym, ap, subst, arith}
 use Rattle.std.specs.List.{remove}
-use Rattle.rht_check.proofs.OwnerLists.{released_at, unreleased, on_some}
+use Rattle.rht_check.proofs.OwnerLists.{released_at, unreleased, owners_released-some, on_some}
 use Rattle.rht_check.proofs.owner_list.OwnerList.take_out.Goals as goal
 
 pub returns-in-Some-clause-found : goal.returns-in-Some-clause-found
@@ -24,3 +24,8 @@ returns-in-Some-clause-owners c =
     (e.variant.1 (omega (arith, at.within, owners.ok.0, ap (λ (l : List ℕ). length l) c.self.view_is))) e.items
     ∙ ap (λ l. remove l c.in-Some.place) c.self.view_is
     ∙ at.left
+
+pub returns-in-Some-clause-bound : goal.returns-in-Some-clause-bound
+returns-in-Some-clause-bound c = λ some others.
+    subst (λ l. l ≢ []) (sym (returns-in-Some-clause-owners c))
+    (owners_released-some c.args.owner c.args.self.now some others)
