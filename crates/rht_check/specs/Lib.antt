@@ -6,6 +6,8 @@ pub mod ClaimLines
 pub mod Reading
 -- the commands that each worker has left
 pub mod CommandsLeft
+-- what an ordered map of ports has at a port, and what a change of one port is
+pub mod Updates
 -- the verdict on it
 pub mod Verdicts
 -- the text of a verdict

@@ -2,7 +2,7 @@
 
 ghost use Rattle.std.specs.Prelude.{◌≡◌, ◌==◌, ℕ, [], All, IfOk, MatchOption, position};
 ghost use Rattle.rht_check.specs.Claims.{commands_of};
-ghost use Rattle.rht_check.specs.CommandsLeft.{left_of, TakesCommand, IsWorkerOf, IsFirstLeft};
+ghost use Rattle.rht_check.specs.CommandsLeft.{left_of, IsNextAt, TakesCommand, IsWorkerOf, IsFirstLeft};
 
 use rht_model::Call;
 use std::alloc::{AllocError, Global};
@@ -54,11 +54,23 @@ impl<'a> CommandsLeft<'a> {
             ((left_of self.old worker ≡ []) × (self.new ≡ self.old))
             (TakesCommand self.old self.new worker) }
     {
-        let number = worker.checked_sub(1)? as usize;
-        let from = *self.places.get(number)?;
-        let place = from + place_of(worker, &self.commands[from..])?;
-        self.places[number] = place + 1;
+        let place = self.next_place(worker)?;
+        self.places[worker as usize - 1] = place + 1;
         Some(self.commands[place].1)
+    }
+
+    /// Where the worker's next command stands. `None` where it has none left.
+    fn next_place(&self, worker: u32) -> Option<usize>
+        ensures { MatchOption result (left_of self.now worker ≡ []) (IsNextAt self.now worker) }
+    {
+        if worker == 0 || worker as usize > self.places.len() {
+            return None;
+        }
+        let from = self.places[worker as usize - 1];
+        match place_of(worker, &self.commands[from..]) {
+            Some(steps) => Some(from + steps),
+            None => None,
+        }
     }
 
     /// The first worker that has commands left.
@@ -69,7 +81,7 @@ impl<'a> CommandsLeft<'a> {
     {
         for number in 0..self.places.len() {
             let worker = number as u32 + 1;
-            if place_of(worker, &self.commands[self.places[number]..]).is_some() {
+            if self.next_place(worker).is_some() {
                 return Some(worker);
             }
         }

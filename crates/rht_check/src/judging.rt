@@ -4,9 +4,9 @@
 ghost use Rattle.std.specs.Prelude.{◌≡◌, ◌↔◌, [], IsTrue, IfOk, length};
 ghost use Rattle.std.specs.Bool.{OnTrue};
 ghost use Rattle.rht_model.specs.Answers.{MayRefuse};
-ghost use Rattle.rht_model.specs.Listing.{listed_at};
 ghost use Rattle.rht_model.specs.Histories.{without_kick, IsLegalAt, left_by};
 ghost use Rattle.rht_check.specs.Claims.{entry_of, IsSoundClaim};
+ghost use Rattle.rht_check.specs.Updates.{owners_at};
 ghost use Rattle.rht_check.specs.Verdicts.{IsVerdict};
 
 use crate::claim::{Claim, Verdict};
@@ -56,9 +56,9 @@ fn admit(
     call: Call,
     told: &(u32, Reply, Owners),
 ) -> Result<bool, AllocError>
-    ensures legal { IfOk result (λ legal. IsTrue legal ↔ IsLegalAt kind (listed_at bindings.old) (entry_of told.now call)) }
+    ensures legal { IfOk result (λ legal. IsTrue legal ↔ IsLegalAt kind (owners_at bindings.old) (entry_of told.now call)) }
     ensures left { IfOk result (λ legal.
-        OnTrue legal (listed_at bindings.new ≡ left_by kind (listed_at bindings.old) (entry_of told.now call))) }
+        OnTrue legal (owners_at bindings.new ≡ left_by kind (owners_at bindings.old) (entry_of told.now call))) }
 {
     if may_refuse(call, told.1) {
         return Ok(told.2.as_slice().is_empty());
@@ -104,7 +104,7 @@ fn is_plain(told: &(u32, Reply, Owners), reply: Reply) -> bool
 /// Whether the claim lists the owners of the port.
 fn is_list(told: &(u32, Reply, Owners), port: u32, bindings: &PortMap) -> bool
     ensures { IsTrue result ↔ (
-        (without_kick told.now.1 ≡ Reply.Listed (length (listed_at bindings.now port))) × (told.now.2 ≡ listed_at bindings.now port)) }
+        (without_kick told.now.1 ≡ Reply.Listed (length (owners_at bindings.now port))) × (told.now.2 ≡ owners_at bindings.now port)) }
 {
     let owners = told.2.as_slice();
     match told.1 {

@@ -1,8 +1,9 @@
 //! The owners of a port, which are many only in a table of lists. One more in front moves none of
 //! the others.
 
-ghost use Rattle.std.specs.Prelude.{◌≡◌, ◌==◌, ◌↔◌, [], ◌∷◌, length, IsTrue, IfOk, OnOk, OnErr, position, slice_get};
+ghost use Rattle.std.specs.Prelude.{◌≡◌, ◌≢◌, ◌==◌, ◌≤◌, ◌↔◌, ◌+◌, [], ◌∷◌, length, fold, take, drop, IsTrue, IfOk, OnOk, OnErr, position, slice_get};
 ghost use Rattle.std.specs.List.{list_any};
+ghost use Rattle.rht_model.specs.Listing.{added};
 ghost use Rattle.rht_model.specs.Answers.{owners_released, owners_rebound};
 
 use rht_model::Bindings;
@@ -48,6 +49,7 @@ impl OwnerList {
     pub fn take_out(&mut self, owner: u32) -> bool
         ensures found { result ≡ list_any (λ o. o == owner) self.old }
         ensures owners { self.new ≡ owners_released owner self.old }
+        ensures bound { self.old ≢ [] → self.old ≢ owner ∷ [] → self.new ≢ [] }
     {
         match self.place(owner) {
             Some(place) => {
@@ -84,16 +86,20 @@ impl OwnerList {
         ensures { IsTrue result ↔ (self.now ≡ owners.now) }
     {
         let (front, back) = self.owners.as_slices();
-        owners.len() == self.owners.len()
-            && &owners[..front.len()] == front
-            && &owners[front.len()..] == back
+        front.len() <= owners.len() && is_split(owners, front, back)
     }
 
-    /// Puts a new owner in the place of the first one.
-    pub fn replace_first(&mut self, new: u32) {
-        if let Some(first) = self.owners.front_mut() {
-            *first = new;
+    /// Puts a new owner in the place of this one, where this is the only one, and tells whether it
+    /// was.
+    pub fn exchange(&mut self, owner: u32, new: u32) -> bool
+        ensures only { IsTrue result ↔ (self.old ≡ owner ∷ []) }
+        ensures owners { self.new ≡ owners_rebound owner new self.old }
+    {
+        if !self.is_only(owner) {
+            return false;
         }
+        self.owners[0] = new;
+        true
     }
 
     /// The number of owners.
@@ -104,9 +110,23 @@ impl OwnerList {
     }
 
     /// Adds the owners to a listing, as those of this port.
-    pub fn add_to(&self, port: Port, bindings: &mut Bindings) {
-        for owner in self.owners.iter() {
-            bindings.add(port, *owner);
+    pub fn add_to(&self, port: Port, bindings: &mut Bindings)
+        requires { length self.now ≤ bindings.old.room }
+        ensures pairs { bindings.new.pairs ≡ fold (λ pairs owner. added pairs port owner) bindings.old.pairs self.now }
+        ensures room { bindings.new.room + length self.now ≡ bindings.old.room }
+    {
+        for i in 0..self.owners.len() {
+            bindings.add(port, self.owners[i]);
         }
     }
+}
+
+/// Whether the list parts into these two, of which the first isn't longer than it.
+fn is_split(list: &[u32], front: &[u32], back: &[u32]) -> bool
+    requires { length front.now ≤ length list.now }
+    ensures { IsTrue result ↔ (
+        (take (length front.now) list.now ≡ front.now) × (drop (length front.now) list.now ≡ back.now)) }
+{
+    let (first, rest) = list.split_at(front.len());
+    first == front && rest == back
 }

@@ -1,9 +1,10 @@
 //! Bindings as an ordered map, which serves the calls that are about bindings.
 
 ghost use Rattle.std.specs.Prelude.{◌≡◌, ◌↔◌, ◌∷◌, IsTrue, IfOk, OnOk, slice_get};
-ghost use Rattle.rht_model.specs.Multimap.{unbound, with_owners};
-ghost use Rattle.rht_model.specs.Listing.{listed_at, Lists};
+ghost use Rattle.rht_model.specs.Multimap.{unbound, Agree};
+ghost use Rattle.rht_model.specs.Listing.{Lists};
 ghost use Rattle.rht_model.specs.Answers.{bind_reply, find_reply, release_reply, rebind_reply, owners_bound, owners_released, owners_rebound};
+ghost use Rattle.rht_check.specs.Updates.{owners_at, count_of_owners, IsUpdated, ChangesTo};
 
 use crate::owner_list::OwnerList;
 use rht_model::{Bindings, Reply};
@@ -13,27 +14,29 @@ use std::collections::BTreeMap;
 use std::marker::Model;
 
 /// The bound ports in rising order, each with its owners. Contracts see the pairs;
-/// `listed_at` says what they stand for.
+/// `owners_at` says what they stand for.
 #[derive(Debug, Drop)]
 pub struct PortMap {
     owners: BTreeMap<Port, OwnerList>,
 }
 
 impl Model for PortMap {
-    ghost use Rattle.std.specs.Prelude.{◌≢◌, ℕ, List, [], All};
+    ghost use Rattle.std.specs.Prelude.{◌≢◌, ℕ, List, [], IfSome};
+    ghost use Rattle.std.specs.Ordering.{nat_cmp};
+    ghost use Rattle.std.specs.BTreeMap.{get};
     ghost use Rattle.rht_model.specs.Multimap.{Port};
 
     ghost Value = { List (Port × List ℕ) };
 
     ghost view = { λ p. p.owners.entries };
 
-    ghost invariant = { λ p. All (λ pair. pair.1 ≢ []) p.owners.entries };
+    ghost invariant = { λ p. (port : ℕ) → IfSome (get nat_cmp p.owners port) (λ list. list ≢ []) };
 }
 
 impl PortMap {
     /// Nothing is bound. It takes no memory.
     pub fn new(alloc: Global) -> PortMap
-        ensures { listed_at result ≡ unbound }
+        ensures { Agree (owners_at result) unbound }
     {
         PortMap {
             owners: BTreeMap::new(alloc),
@@ -42,14 +45,14 @@ impl PortMap {
 
     /// The first owner of the port.
     fn first(&self, port: Port) -> Option<u32>
-        ensures { result ≡ slice_get (listed_at self.now port) 0 }
+        ensures { result ≡ slice_get (owners_at self.now port) 0 }
     {
         self.owners.get(&port)?.first()
     }
 
     /// Whether these are the owners of the port.
     pub fn are_owners(&self, port: Port, owners: &[u32]) -> bool
-        ensures { IsTrue result ↔ (listed_at self.now port ≡ owners.now) }
+        ensures { IsTrue result ↔ (owners_at self.now port ≡ owners.now) }
     {
         match self.owners.get(&port) {
             Some(list) => list.are(owners),
@@ -59,7 +62,7 @@ impl PortMap {
 
     /// Looks the port up.
     pub fn find(&self, port: Port) -> Reply
-        ensures { result ≡ find_reply (listed_at self.now port) }
+        ensures { result ≡ find_reply (owners_at self.now port) }
     {
         match self.first(port) {
             Some(owner) => Reply::Found { owner },
@@ -75,8 +78,8 @@ impl PortMap {
         port: Port,
         owner: u32,
     ) -> Result<Reply, AllocError>
-        ensures reply { IfOk result (λ reply. reply ≡ bind_reply kind (listed_at self.old port)) }
-        ensures after { OnOk result (listed_at self.new ≡ with_owners (listed_at self.old) port (owners_bound kind owner (listed_at self.old port))) }
+        ensures reply { IfOk result (λ reply. reply ≡ bind_reply kind (owners_at self.old port)) }
+        ensures after { OnOk result (ChangesTo self.old self.new port (owners_bound kind owner (owners_at self.old port))) }
     {
         match self.first(port) {
             Some(first) if kind == Kind::Single => Ok(Reply::Exists { owner: first }),
@@ -89,21 +92,21 @@ impl PortMap {
 
     /// Binds the port to one owner more, who is its first one then.
     fn put_first(&mut self, alloc: Global, port: Port, owner: u32) -> Result<(), AllocError>
-        ensures { OnOk result (listed_at self.new ≡ with_owners (listed_at self.old) port (owner ∷ listed_at self.old port)) }
+        ensures { OnOk result (IsUpdated self.old self.new port (Some (owner ∷ owners_at self.old port))) }
     {
         match self.owners.get_mut(&port) {
-            Some(list) => list.put_first(owner),
+            Some(list) => list.put_first(owner)?,
             None => {
                 self.owners.insert(port, OwnerList::of(alloc, owner)?)?;
-                Ok(())
             }
         }
+        Ok(())
     }
 
     /// Takes the port's first binding to this owner out.
     pub fn release(&mut self, port: Port, owner: u32) -> Reply
-        ensures reply { result ≡ release_reply owner (listed_at self.old port) }
-        ensures after { listed_at self.new ≡ with_owners (listed_at self.old) port (owners_released owner (listed_at self.old port)) }
+        ensures reply { result ≡ release_reply owner (owners_at self.old port) }
+        ensures after { ChangesTo self.old self.new port (owners_released owner (owners_at self.old port)) }
     {
         let Some(list) = self.owners.get_mut(&port) else {
             return Reply::Absent;
@@ -121,21 +124,22 @@ impl PortMap {
 
     /// Puts a new owner in the place of the port's only one.
     pub fn rebind(&mut self, port: Port, owner: u32, new: u32) -> Reply
-        ensures reply { result ≡ rebind_reply owner (listed_at self.old port) }
-        ensures after { listed_at self.new ≡ with_owners (listed_at self.old) port (owners_rebound owner new (listed_at self.old port)) }
+        ensures reply { result ≡ rebind_reply owner (owners_at self.old port) }
+        ensures after { ChangesTo self.old self.new port (owners_rebound owner new (owners_at self.old port)) }
     {
-        match self.owners.get_mut(&port) {
-            Some(list) if list.is_only(owner) => {
-                list.replace_first(new);
-                Reply::Rebound
-            }
-            _ => Reply::Absent,
+        let Some(list) = self.owners.get_mut(&port) else {
+            return Reply::Absent;
+        };
+        if list.exchange(owner, new) {
+            Reply::Rebound
+        } else {
+            Reply::Absent
         }
     }
 
     /// The bound ports with their owners, as a list.
     pub fn listing(&self, alloc: Global) -> Result<Bindings, AllocError>
-        ensures { IfOk result (λ bindings. Lists bindings.pairs (listed_at self.now)) }
+        ensures { IfOk result (λ bindings. Lists bindings.pairs (owners_at self.now)) }
     {
         let mut bindings = Bindings::with_room(alloc, self.count()?)?;
         for (port, list) in &self.owners {
@@ -146,10 +150,14 @@ impl PortMap {
 
     /// How many owners all ports have together. More than a listing has room for are want of
     /// memory.
-    fn count(&self) -> Result<u32, AllocError> {
+    fn count(&self) -> Result<u32, AllocError>
+        ensures { IfOk result (λ count. count ≡ count_of_owners self.now) }
+    {
         let mut count: u32 = 0;
-        for list in self.owners.values() {
-            let len = u32::try_from(list.len()).map_err(|_| AllocError)?;
+        for (_port, list) in &self.owners {
+            let Ok(len) = u32::try_from(list.len()) else {
+                return Err(AllocError);
+            };
             count = count.checked_add(len).ok_or(AllocError)?;
         }
         Ok(count)

@@ -1,0 +1,10 @@
+-- what a release takes out of a port's owners
+pub mod OwnerLists
+-- a worker's commands among those of all
+pub mod WorkersCommands
+-- where a worker's next command stands, and what taking it leaves
+pub mod NextCommands
+-- an ordered map as bindings
+pub mod PortMaps
+-- the entries of an ordered map, listed
+pub mod ListedPorts
