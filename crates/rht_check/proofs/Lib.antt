@@ -8,3 +8,5 @@ pub mod NextCommands
 pub mod PortMaps
 -- the entries of an ordered map, listed
 pub mod ListedPorts
+-- claims judged one by one
+pub mod JudgedClaims
