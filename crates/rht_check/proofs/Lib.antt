@@ -10,3 +10,5 @@ pub mod PortMaps
 pub mod ListedPorts
 -- claims judged one by one
 pub mod JudgedClaims
+-- texts that are put one after another
+pub mod PutTexts

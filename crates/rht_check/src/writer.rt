@@ -17,9 +17,9 @@ pub fn write_verdict<O: Sink>(out: &mut O, verdict: &Verdict) -> Result<(), Fail
 {
     match verdict {
         Verdict::Legal { bindings } => write_accepted(out, bindings),
-        Verdict::Extra { claim } => write_named(out, b"claim ", *claim, b": extra\n"),
-        Verdict::Wrong { claim } => write_named(out, b"claim ", *claim, b": wrong\n"),
-        Verdict::Unfinished { worker } => write_named(out, b"worker ", *worker, b": unfinished\n"),
+        Verdict::Extra { claim } => write_named(out, b"claim ", (*claim).into(), b": extra\n"),
+        Verdict::Wrong { claim } => write_named(out, b"claim ", (*claim).into(), b": wrong\n"),
+        Verdict::Unfinished { worker } => write_named(out, b"worker ", (*worker).into(), b": unfinished\n"),
     }
 }
 
@@ -29,16 +29,14 @@ fn write_accepted<O: Sink>(out: &mut O, bindings: &Bindings) -> Result<(), Faile
 {
     put_all(out, b"legal\n")?;
     write_ports(out, bindings)?;
-    put_all(out, b"keys ")?;
-    write_number(out, bindings.len() as u64)?;
-    put_all(out, b"\n")
+    write_named(out, b"keys ", bindings.len() as u64, b"\n")
 }
 
 /// Writes what a number is of, the number, and what is found of it.
-fn write_named<O: Sink>(out: &mut O, name: &[u8], number: u32, found: &[u8]) -> Result<(), Failed>
+fn write_named<O: Sink>(out: &mut O, name: &[u8], number: u64, found: &[u8]) -> Result<(), Failed>
     ensures { Puts O.held O.faults out.old out.new result (name.now ++ decimal number ++ found.now) }
 {
     put_all(out, name)?;
-    write_number(out, number.into())?;
+    write_number(out, number)?;
     put_all(out, found)
 }
