@@ -8,3 +8,7 @@ pub mod NextCommands
 pub mod PortMaps
 -- the entries of an ordered map, listed
 pub mod ListedPorts
+-- claims judged one by one
+pub mod JudgedClaims
+-- texts that are put one after another
+pub mod PutTexts

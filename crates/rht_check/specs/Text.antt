@@ -6,10 +6,15 @@ use Rattle.rht_script.specs.Text.{named, port_line}
 use Rattle.rht_check.specs.declared.claim.Verdict.{Verdict}
 use Rattle.rht_check.specs.declared.claim.Verdict.TheVariants.{Legal, Extra, Wrong, Unfinished}
 
--- a history that is accepted: a line for each port that it leaves bound, and their number
-abbrev pub accepted_text : List (Port × List ℕ) → List ℕ
-accepted_text pairs = codes "legal\n" ++ flat_map port_line pairs ++ named (codes "keys") (length pairs) ++ codes "\n"
+-- how many ports are bound
+abbrev pub keys_line : ℕ → List ℕ
+keys_line count = named (codes "keys") count ++ codes "\n"
 
+-- a history that is accepted: a line for each port that it leaves bound, and how many these are
+abbrev pub accepted_text : List (Port × List ℕ) → List ℕ
+accepted_text pairs = codes "legal\n" ++ (flat_map port_line pairs ++ keys_line (length pairs))
+
+-- any other verdict is one line
 abbrev pub verdict_text : Verdict → List ℕ
 verdict_text (Legal bindings) = accepted_text bindings.pairs
 verdict_text (Extra number) = named (codes "claim") number ++ codes ": extra\n"

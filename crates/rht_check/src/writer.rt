@@ -1,9 +1,8 @@
-//! The text of a verdict. Each function puts a text and leaves what stands behind it to another.
+//! The text of a verdict.
 
 ghost use Rattle.std.specs.Prelude.{◌≡◌, ◌++◌, length, codes, decimal};
-ghost use Rattle.std.specs.List.{flat_map};
 ghost use Rattle.rht_io.specs.Told.{Puts};
-ghost use Rattle.rht_script.specs.Text.{named, port_line};
+ghost use Rattle.rht_script.specs.Text.{named};
 ghost use Rattle.rht_check.specs.Text.{accepted_text, verdict_text};
 
 use crate::claim::Verdict;
@@ -20,12 +19,7 @@ pub fn write_verdict<O: Sink>(out: &mut O, verdict: &Verdict) -> Result<(), Fail
         Verdict::Legal { bindings } => write_accepted(out, bindings),
         Verdict::Extra { claim } => write_named(out, b"claim ", (*claim).into(), b": extra\n"),
         Verdict::Wrong { claim } => write_named(out, b"claim ", (*claim).into(), b": wrong\n"),
-        Verdict::Unfinished { worker } => write_named(
-            out,
-            b"worker ",
-            (*worker).into(),
-            b": unfinished\n",
-        ),
+        Verdict::Unfinished { worker } => write_named(out, b"worker ", (*worker).into(), b": unfinished\n"),
     }
 }
 
@@ -34,30 +28,15 @@ fn write_accepted<O: Sink>(out: &mut O, bindings: &Bindings) -> Result<(), Faile
     ensures { Puts O.held O.faults out.old out.new result (accepted_text bindings.now.pairs) }
 {
     put_all(out, b"legal\n")?;
-    write_bound(out, bindings)
-}
-
-/// Writes a line for each bound port, and the line of their number.
-fn write_bound<O: Sink>(out: &mut O, bindings: &Bindings) -> Result<(), Failed>
-    ensures { Puts O.held O.faults out.old out.new result
-        (flat_map port_line bindings.now.pairs ++ (named (codes "keys") (length bindings.now.pairs) ++ codes "\n")) }
-{
     write_ports(out, bindings)?;
     write_named(out, b"keys ", bindings.len() as u64, b"\n")
 }
 
 /// Writes what a number is of, the number, and what is found of it.
 fn write_named<O: Sink>(out: &mut O, name: &[u8], number: u64, found: &[u8]) -> Result<(), Failed>
-    ensures { Puts O.held O.faults out.old out.new result (name.now ++ (decimal number ++ found.now)) }
+    ensures { Puts O.held O.faults out.old out.new result (name.now ++ decimal number ++ found.now) }
 {
     put_all(out, name)?;
-    write_numbered(out, number, found)
-}
-
-/// Writes a number, and what is found of it.
-fn write_numbered<O: Sink>(out: &mut O, number: u64, found: &[u8]) -> Result<(), Failed>
-    ensures { Puts O.held O.faults out.old out.new result (decimal number ++ found.now) }
-{
     write_number(out, number)?;
     put_all(out, found)
 }
