@@ -1,10 +1,10 @@
 use Rattle.std.proofs.Common.{◌++◌, Ok, Err, codes, length, refl, subst}
 use Rattle.std.specs.List.{flat_map}
 use Rattle.rht_io.specs.Told.{Puts}
-use Rattle.rht_io.proofs.ToldLemmas.{Puts-after, Puts-passed_on}
+use Rattle.rht_io.proofs.ToldLemmas.{Puts-after, Puts-longer, Puts-passed_on}
 use Rattle.rht_script.specs.Text.{port_line}
 use Rattle.rht_check.specs.Text.{keys_line, accepted_text}
-use Rattle.rht_check.proofs.PutTexts.{Puts-longer, Puts-stopped}
+use Rattle.rht_check.proofs.PutTexts.{Puts-stopped}
 use Rattle.rht_check.proofs.writer.write_accepted.Goals as goal
 
 pub returns-in_err-put_all : goal.returns-in_err-put_all

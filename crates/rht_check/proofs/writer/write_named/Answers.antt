@@ -1,8 +1,8 @@
 use Rattle.std.proofs.Common.{◌≡◌, ℕ, List, ◌++◌, Result, Ok, Err, decimal, refl, sym, ◌∙◌, subst, append_assoc}
 use Rattle.rht_io.specs.declared.source.Failed.{Failed}
 use Rattle.rht_io.specs.Told.{Puts}
-use Rattle.rht_io.proofs.ToldLemmas.{Puts-after, Puts-passed_on}
-use Rattle.rht_check.proofs.PutTexts.{Puts-longer, Puts-stopped}
+use Rattle.rht_io.proofs.ToldLemmas.{Puts-after, Puts-longer, Puts-passed_on}
+use Rattle.rht_check.proofs.PutTexts.{Puts-stopped}
 use Rattle.rht_check.proofs.writer.write_named.Goals as goal
 
 pub returns-in_err-put_all : goal.returns-in_err-put_all
