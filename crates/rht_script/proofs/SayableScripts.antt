@@ -141,10 +141,10 @@ module _ (kind : Kind) (options : Options) (are : AreAllowed options) where
       (where_agreed (sizes_agree config && has_room config) refl)
 
 -- what a table line says: a config that a table can be opened with
-abbrev IsSettledTable : TableLine → Type 0
+abbrev pub IsSettledTable : TableLine → Type 0
 IsSettledTable table = IsSettled table.config
 
-table_settled : (words : List (List ℕ)) → IfOk (table_of words) IsSettledTable
+pub table_settled : (words : List (List ℕ)) → IfOk (table_of words) IsSettledTable
 unfolding table_of
 table_settled [] = tt
 table_settled (table ∷ []) = IfOk-cond IsSettledTable (is_word table (codes "table")) _ (Err NoTableLine)
@@ -176,7 +176,7 @@ said_settled number (line ∷ lines) =
     IfOk-after IsSettledSaid (lines_from (number + 1) table lines) _ (λ others. is))))
 
 -- each command is one of a worker, and its call has a verb
-command_sayable : (table : TableLine) (words : List (List ℕ))
+pub command_sayable : (table : TableLine) (words : List (List ℕ))
     → IfOk (command_of table words) (IsSayableCommand table.config)
 command_sayable table =
     let port_is = IsWithinLimits-test port_limits in
@@ -273,7 +273,7 @@ has_sound_numbers-sayable kind (Rebind port owner new) sayable =
 has_sound_numbers-sayable kind _ sayable = refl
 
 -- so a command that can be said is sound
-is_sound_command-sayable : (config : Config) (command : ℕ × Call) → IsSayableCommand config command
+pub is_sound_command-sayable : (config : Config) (command : ℕ × Call) → IsSayableCommand config command
     → is_sound_command config command ≡ true
 is_sound_command-sayable config command sayable =
     let limits = worker_limits config in
