@@ -12,3 +12,9 @@ pub mod ListedPorts
 pub mod JudgedClaims
 -- texts that are put one after another
 pub mod PutTexts
+-- what the calls that read a line answer, in the words of the definitions
+pub mod LinesRead
+-- owners read word by word
+pub mod OwnersRead
+-- what was read so far, before what the lines say that are left
+pub mod ClaimsRead

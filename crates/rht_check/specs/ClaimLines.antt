@@ -23,16 +23,18 @@ use Rattle.rht_check.specs.Claims.{Told}
 abbrev pub about_bindings : ℕ × Call → Result AskedLine Cause
 about_bindings command = if is_some (port_of command.1) then Ok (Command command) else Err UnknownWord
 
+-- the line that ends them, behind whose word no other stands
+abbrev pub history_of : List (List ℕ) → Result AskedLine Cause
+history_of words = do
+  end ← end_of words
+  Ok History
+
 -- what a line of these words says below this table line and above the claims
 unfoldable pub asked_of : TableLine → List (List ℕ) → Result AskedLine Cause
 asked_of table [] = Err UnknownWord
 asked_of table (word ∷ words) =
-    if is_word word (codes "history") then (do
-      end ← end_of words
-      Ok History)
-    else (do
-      command ← command_of table (word ∷ words)
-      about_bindings command)
+    if is_word word (codes "history") then history_of words
+    else (command_of table (word ∷ words) >>= about_bindings)
 
 -- ---- replies
 
@@ -97,23 +99,21 @@ worker_of table word =
     if ends_with_colon word then number_of (worker_limits table.config) (take (length word - 1) word)
     else Err UnknownWord
 
--- the worker's reply, and the owners beside it
-abbrev pub reply_of : ℕ → List (List ℕ) → Result Told Cause
+-- a worker's list of owners
+unfoldable pub list_of : ℕ → List (List ℕ) → Result Told Cause
+list_of worker words = owners_of words >>= (λ owners. Ok (worker, Listed (length owners), owners))
+
+-- a worker's reply, and the owners beside it
+unfoldable pub reply_of : ℕ → List (List ℕ) → Result Told Cause
 reply_of worker [] = Err UnknownWord
 reply_of worker (name ∷ words) =
-    if is_word name (codes "list") then (do
-      owners ← owners_of words
-      Ok (worker, Listed (length owners), owners))
-    else (do
-      reply ← plain_of name words
-      Ok (worker, reply, []))
+    if is_word name (codes "list") then list_of worker words
+    else (plain_of name words >>= (λ reply. Ok (worker, reply, [])))
 
 -- what a line of these words claims
 unfoldable pub told_of : TableLine → List (List ℕ) → Result Told Cause
 told_of table [] = Err UnknownWord
-told_of table (word ∷ words) = do
-  worker ← worker_of table word
-  reply_of worker words
+told_of table (word ∷ words) = worker_of table word >>= (λ worker. reply_of worker words)
 
 -- ---- what the calls that read a line ask and answer
 

@@ -9,7 +9,7 @@ ghost use Rattle.rht_script.specs.Spelling.{between, words_of};
 ghost use Rattle.rht_script.specs.CommandLines.{owner_limits};
 ghost use Rattle.rht_script.specs.Reading.{IsReasonFor};
 ghost use Rattle.rht_check.specs.Claims.{IsSoundClaim};
-ghost use Rattle.rht_check.specs.ClaimLines.{asked_of, worker_of, plain_of, bare_reply, busy_of, last_number, owners_of, told_of, coded_at, IsSoundTable};
+ghost use Rattle.rht_check.specs.ClaimLines.{history_of, about_bindings, asked_of, worker_of, ends_with_colon, plain_of, bare_reply, busy_of, last_number, owners_of, list_of, reply_of, told_of, coded_at, IsSoundTable};
 ghost use Rattle.rht_check.specs.Reading.{IsClaim, IsClaimReason, asked_from, told_from, claimed_with, claimed_from};
 
 use crate::claim::Claim;
@@ -134,6 +134,7 @@ fn claims_below(
     table: &TableLine,
     mut lines: Lines,
 ) -> Result<Vec<(u32, Reply, Owners)>, ReadError>
+    requires { IsSoundTable table.now }
     ensures told { IfOk result (λ claims. told_from lines.entry.number table.now lines.entry.lines ≡ Ok claims.items) }
     ensures reason { IfErr result (IsReasonFor (told_from lines.entry.number table.now lines.entry.lines)) }
 {
@@ -154,15 +155,32 @@ fn asked(number: u32, table: &TableLine, line: &[u8]) -> Result<AskedLine, Scrip
     ensures { result ≡ at_line number (asked_of table.now (words_of line.now)) }
 {
     let mut words = Words::new(line);
-    if words.next() == Some(HISTORY) {
-        at_line(number, words.end())?;
-        return Ok(AskedLine::History);
+    let Some(word) = words.next() else {
+        return Err(Cause::UnknownWord.at(number));
+    };
+    if word == HISTORY {
+        return at_line(number, history(words));
     }
     let command = coded_at(number, command_line(line, table))?;
+    at_line(number, about_bindings(command))
+}
+
+/// The line that ends the commands, behind whose word no other stands.
+fn history(mut words: Words) -> Result<AskedLine, Cause>
+    ensures { result ≡ history_of words.entry }
+{
+    words.end()?;
+    Ok(AskedLine::History)
+}
+
+/// The command, where its call is about bindings.
+fn about_bindings(command: (u32, Call)) -> Result<AskedLine, Cause>
+    ensures { result ≡ about_bindings command }
+{
     if is_about_bindings(command.1) {
         Ok(AskedLine::Command(command))
     } else {
-        Err(Cause::UnknownWord.at(number))
+        Err(Cause::UnknownWord)
     }
 }
 
@@ -187,31 +205,72 @@ fn told(
     table: &TableLine,
     mut words: Words,
 ) -> Result<(u32, Reply, Owners), ReadError>
+    requires { IsSoundTable table.now }
     ensures told { IfOk result (λ told. at_line number (told_of table.now words.entry) ≡ Ok told) }
     ensures reason { IfErr result (IsReasonFor (at_line number (told_of table.now words.entry))) }
 {
-    let word = at_line(number, words.next().ok_or(Cause::UnknownWord))?;
+    let Some(word) = words.next() else {
+        return Err(ReadError::Fault(Cause::UnknownWord.at(number)));
+    };
     let worker = worker(number, table, word)?;
-    let name = at_line(number, words.next().ok_or(Cause::UnknownWord))?;
+    reply(alloc, number, worker, words)
+}
+
+/// The worker of a claim's first word, which ends with a colon.
+fn worker(number: u32, table: &TableLine, word: &[u8]) -> Result<u32, ScriptFault>
+    requires { IsSoundTable table.now }
+    ensures { result ≡ at_line number (worker_of table.now word.now) }
+{
+    if !ends_with_colon(word) {
+        return Err(Cause::UnknownWord.at(number));
+    }
+    let front = &word[..word.len().saturating_sub(1)];
+    let worker = coded_at(number, number_of(front, 1, table.config.callers.into()))?;
+    Ok(worker as u32)
+}
+
+/// Whether the word ends with a colon.
+fn ends_with_colon(word: &[u8]) -> bool
+    ensures { result ≡ ends_with_colon word.now }
+{
+    !word.is_empty() && word[word.len() - 1] == b':'
+}
+
+/// A worker's reply, and the owners beside it.
+fn reply(
+    alloc: Global,
+    number: u32,
+    worker: u32,
+    mut words: Words,
+) -> Result<(u32, Reply, Owners), ReadError>
+    ensures told { IfOk result (λ told. at_line number (reply_of worker words.entry) ≡ Ok told) }
+    ensures reason { IfErr result (IsReasonFor (at_line number (reply_of worker words.entry))) }
+{
+    let Some(name) = words.next() else {
+        return Err(ReadError::Fault(Cause::UnknownWord.at(number)));
+    };
     if name == LIST {
-        let owners = owners(alloc, number, words)?;
-        let len = u32::try_from(owners.as_slice().len()).map_err(|_| ReadError::Memory)?;
-        return Ok((worker, Reply::Listed { len }, owners));
+        return list(alloc, number, worker, words);
     }
     let reply = at_line(number, plain(name, words))?;
     Ok((worker, reply, Owners::new(alloc)))
 }
 
-/// The worker of a claim's first word, which ends with a colon.
-fn worker(number: u32, table: &TableLine, word: &[u8]) -> Result<u32, ScriptFault>
-    ensures { result ≡ at_line number (worker_of table.now word.now) }
+/// A list of owners. More of them than a number can count are want of memory.
+fn list(
+    alloc: Global,
+    number: u32,
+    worker: u32,
+    words: Words,
+) -> Result<(u32, Reply, Owners), ReadError>
+    ensures told { IfOk result (λ told. at_line number (list_of worker words.entry) ≡ Ok told) }
+    ensures reason { IfErr result (IsReasonFor (at_line number (list_of worker words.entry))) }
 {
-    if word.last() != Some(&b':') {
-        return Err(Cause::UnknownWord.at(number));
+    let owners = owners(alloc, number, words)?;
+    match u32::try_from(owners.as_slice().len()) {
+        Ok(len) => Ok((worker, Reply::Listed { len }, owners)),
+        Err(_) => Err(ReadError::Memory),
     }
-    let front = &word[..word.len() - 1];
-    let worker = coded_at(number, number_of(front, 1, table.config.callers.into()))?;
-    Ok(worker as u32)
 }
 
 /// The owners of these words.
@@ -221,7 +280,8 @@ fn owners(alloc: Global, number: u32, mut words: Words) -> Result<Owners, ReadEr
 {
     let mut owners = Owners::new(alloc);
     while let Some(word) = words.next() {
-        owners.push(coded_at(number, number_of(word, 0, u32::MAX.into()))? as u32)?;
+        let owner = coded_at(number, number_of(word, 0, 4_294_967_295))?;
+        owners.push(owner as u32)?;
     }
     Ok(owners)
 }

@@ -177,7 +177,7 @@ said_settled number (line ∷ lines) =
     IfOk-after IsSettledSaid (lines_from (number + 1) table lines) _ (λ others. is.0))))
 
 -- each command is one of a worker, and its call has a verb
-command_sayable : (table : TableLine) (words : List (List ℕ))
+pub command_sayable : (table : TableLine) (words : List (List ℕ))
     → IfOk (command_of table words) (IsSayableCommand table.config)
 command_sayable table =
     let port_is = IsWithinLimits-test port_limits in
@@ -274,7 +274,7 @@ has_sound_numbers-sayable kind (Rebind port owner new) sayable =
 has_sound_numbers-sayable kind _ sayable = refl
 
 -- so a command that can be said is sound
-is_sound_command-sayable : (config : Config) (command : ℕ × Call) → IsSayableCommand config command
+pub is_sound_command-sayable : (config : Config) (command : ℕ × Call) → IsSayableCommand config command
     → is_sound_command config command ≡ true
 is_sound_command-sayable config command sayable =
     let limits = worker_limits config in
