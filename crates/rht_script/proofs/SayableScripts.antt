@@ -141,9 +141,9 @@ module _ (kind : Kind) (options : Options) (are : AreAllowed options) where
       IfOk-cond IsSettled options.twice (Err OptionsDisagree) _ tt
       (where_agreed (sizes_agree config && has_room config) refl)
 
--- what a table line says: a config that a table can be opened with, and ports that are one number each
+-- what a table line says: a config that a table can be opened with
 abbrev pub IsSettledTable : TableLine → Type 0
-IsSettledTable table = IsSettled table.config × (table.form ≡ one_number)
+IsSettledTable table = IsSettled table.config
 
 pub table_settled : (words : List (List ℕ)) → IfOk (table_of words) IsSettledTable
 unfolding table_of
@@ -156,7 +156,22 @@ table_settled (table ∷ kind ∷ words) =
     IfOk-then AreAllowed IsSettledTable (options_from no_options words) _
     (options_allowed no_options words no_options_allowed) (λ options are.
     IfOk-then IsSettled IsSettledTable (config_of kind options) _ (config_settled kind options are)
-    (λ config is. (is, refl)))))
+    (λ config is. is))))
+    tt
+
+-- and ports that are one number each
+abbrev pub HasOneNumber : TableLine → Type 0
+HasOneNumber table = table.form ≡ one_number
+
+pub table_form : (words : List (List ℕ)) → IfOk (table_of words) HasOneNumber
+unfolding table_of
+table_form [] = tt
+table_form (table ∷ []) = IfOk-cond HasOneNumber (is_word table (codes "table")) _ (Err NoTableLine) tt tt
+table_form (table ∷ kind ∷ words) =
+    IfOk-cond HasOneNumber (is_word table (codes "table")) _ (Err NoTableLine)
+    (IfOk-after HasOneNumber (kind_of kind) _ (λ kind.
+    IfOk-after HasOneNumber (options_from no_options words) _ (λ options.
+    IfOk-after HasOneNumber (config_of kind options) _ (λ config. refl))))
     tt
 
 -- ---- the whole script
@@ -174,7 +189,7 @@ said_settled number (line ∷ lines) =
     (said_settled (number + 1) lines)
     (IfOk-then IsSettledTable IsSettledSaid (at_line number (table_of words)) _
     (IfOk-at_line IsSettledTable number (table_of words) (table_settled words)) (λ table is.
-    IfOk-after IsSettledSaid (lines_from (number + 1) table lines) _ (λ others. is.0))))
+    IfOk-after IsSettledSaid (lines_from (number + 1) table lines) _ (λ others. is))))
 
 -- each command is one of a worker, and its call has a verb
 pub command_sayable : (table : TableLine) (words : List (List ℕ))
