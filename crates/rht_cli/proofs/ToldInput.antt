@@ -8,7 +8,6 @@ use Rattle.std.proofs.lemmas.Bool.{cases_lt}
 use Rattle.std.proofs.lemmas.List.{length-take-le}
 use Rattle.rht_script.specs.declared.script.ScriptFault.{ScriptFault}
 use Rattle.rht_script.specs.Grammar.{Said, most_bytes, reading_of}
-use Rattle.rht_script.specs.Reading.{FirstFault}
 use Rattle.rht_script.proofs.ReadingLemmas.{reading_by-front, reading_by-long, reading_of-front, reading_of-long}
 use Rattle.rht_check.specs.Reading.{SaidClaim, claimed_from, claim_reading_of}
 use Rattle.rht_cli.specs.declared.form.Form.{Form}

@@ -1,5 +1,4 @@
 use Rattle.std.proofs.lemmas.Result.{err_from_is_err_and}
-use Rattle.std.proofs.Common.{refl, inl}
 use Rattle.rht_check.specs.Reading.{claim_reading_of}
 use Rattle.rht_check.specs.Text.{verdict_text}
 use Rattle.rht_cli.specs.declared.form.Form.TheVariants.{Check}
