@@ -10,5 +10,7 @@ pub mod GenNodes
 pub mod GenCounts
 -- what a replay writes
 pub mod ReplayTexts
--- how a form that reads a script is served
+-- what the verdict on a claimed history is printed as
+pub mod VerdictTexts
+-- how a form that reads its input is served
 pub mod ServedScripts

@@ -1,18 +1,18 @@
--- How a form that reads a script is served: what was read of it is its input, and a text of its was written whole, or where the sink
+-- How a form that reads its input is served: what was read of it is its input, and a text of its was written whole, or where the sink
 -- failed a prefix of it was.
 use Rattle.std.proofs.Common.{ℕ, List, Option, Result, Ok, Err, refl, inl, inr, arith}
 use Rattle.rht_io.specs.declared.source.Failed.{Failed}
 use Rattle.rht_io.specs.Told.{Rose, Puts}
+use Rattle.rht_script.specs.declared.script.ScriptFault.{ScriptFault}
 use Rattle.rht_registry.specs.declared.replaying.ReplayError.{ReplayError}
 use Rattle.rht_registry.specs.declared.replaying.ReplayError.TheVariants as replays
 use Rattle.rht_registry.specs.Players.{Writes}
 use Rattle.rht_cli.specs.declared.form.Form.{Form}
 use Rattle.rht_cli.specs.declared.ending.Failure.{Failure}
 use Rattle.rht_cli.specs.declared.ending.Failure.TheVariants.{Fault, Read, Write, Memory}
-use Rattle.rht_cli.specs.Input.{IsUnread}
-use Rattle.rht_cli.specs.Forms.{ReadsScript, Prints}
+use Rattle.rht_cli.specs.Input.{IsAtFault, IsUnread}
+use Rattle.rht_cli.specs.Forms.{ReadsInput, Prints, IsFaultOf}
 use Rattle.rht_cli.specs.Endings.{FailsBy, Serves, ServesUnread, served_by, replayed_by}
-use Rattle.rht_cli.proofs.ToldInput.{IsFaultOf-script}
 
 -- a count that stays 0 doesn't rise
 pub never_rises : Rose 0 0 → ⊥
@@ -23,13 +23,16 @@ never_rises rose = elim rose [
 
 module _ {S O : Type 0} (left : S → Option (List ℕ)) (sfaults : S → ℕ) (held : O → Option (List ℕ))
     (ofaults : O → ℕ) (form : Form) (s s' : S) where
-  -- no script was read
-  pub FailsBy-unread : ReadsScript form → (o : O) (failure : Failure) → IsUnread (left s) (left s') (sfaults s) (sfaults s') failure
+  -- nothing was read by the form's reading
+  pub FailsBy-unread : {X : Type 0} (reading : List ℕ → Result X ScriptFault)
+      → ((fault : ScriptFault) → IsAtFault reading (left s) (left s') fault → IsFaultOf form (left s) (left s') fault)
+      → ReadsInput form → (o : O) (failure : Failure)
+      → IsUnread reading (left s) (left s') (sfaults s) (sfaults s') failure
       → FailsBy left sfaults held ofaults form s s' o o failure
-  FailsBy-unread reads o (Fault fault) unread = (IsFaultOf-script form reads (left s) (left s') fault unread, refl)
-  FailsBy-unread reads o Read unread = (unread, refl, reads)
-  FailsBy-unread reads o Write unread = absurd unread
-  FailsBy-unread reads o Memory unread = inl refl
+  FailsBy-unread reading at_fault reads o (Fault fault) unread = (at_fault fault unread, refl)
+  FailsBy-unread reading at_fault reads o Read unread = (unread, refl, reads)
+  FailsBy-unread reading at_fault reads o Write unread = absurd unread
+  FailsBy-unread reading at_fault reads o Memory unread = inl refl
 
   -- the text was put: it was written, or the sink failed and a prefix of it was
   pub Serves-put : (o o' : O) (text : List ℕ) (put : Result (Unit {0}) Failed)

@@ -13,7 +13,7 @@ use Rattle.rht_cli.specs.declared.ending.Failure.{Failure}
 use Rattle.rht_cli.specs.declared.ending.Failure.TheVariants.{Fault, Read, Write, Memory}
 use Rattle.rht_cli.specs.declared.ending.Ending.{Ending}
 use Rattle.rht_cli.specs.declared.ending.Ending.TheVariants.{Done, Usage, Unserved}
-use Rattle.rht_cli.specs.Forms.{ReadsScript, Prints, IsFaultOf}
+use Rattle.rht_cli.specs.Forms.{ReadsInput, Prints, IsFaultOf}
 
 -- why a script wasn't read
 abbrev pub of_read_error : ReadError → Failure
@@ -57,7 +57,7 @@ failure_line Memory = codes "rht: out of memory\n"
 
 abbrev pub ending_line : Ending → List ℕ
 ending_line Done = []
-ending_line Usage = codes "rht: usage: rht run | rht replay | rht gen NUMBER\n"
+ending_line Usage = codes "rht: usage: rht run | rht replay | rht gen NUMBER | rht check\n"
 ending_line (Unserved failure) = failure_line failure
 
 -- the line on standard error, by the status; at 2 it is the line of the script's first fault instead
@@ -87,7 +87,7 @@ abbrev pub FailsBy : {S O : Type 0} → (S → Option (List ℕ)) → (S → ℕ
 FailsBy left sfaults held ofaults form s s_after o o_after (Fault fault) =
     IsFaultOf form (left s) (left s_after) fault × (o_after ≡ o)
 FailsBy left sfaults held ofaults form s s_after o o_after Read =
-    Rose (sfaults s) (sfaults s_after) × (o_after ≡ o) × ReadsScript form
+    Rose (sfaults s) (sfaults s_after) × (o_after ≡ o) × ReadsInput form
 FailsBy left sfaults held ofaults form s s_after o o_after Write =
     Rose (ofaults o) (ofaults o_after) × IsCutShort form (left s) (left s_after) (held o) (held o_after)
 FailsBy left sfaults held ofaults form s s_after o o_after Memory =

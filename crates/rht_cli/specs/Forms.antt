@@ -1,24 +1,27 @@
 -- The command forms: which words they are, what their input is, and what text they print for it.
 -- What a status means rests on the relations here and on nothing else of a form.
-use Rattle.std.specs.Prelude.{◌≡◌, ℕ, ◌^◌, ◌&&◌, nat_lt, nat_le, if◌then◌else◌, Option, None, Some, List, [], ◌∷◌, length, codes}
+use Rattle.std.specs.Prelude.{◌≡◌, ℕ, ◌^◌, ◌&&◌, nat_lt, nat_le, if◌then◌else◌, Option, None, Some, Result, List, [], ◌∷◌, length, codes}
 use Rattle.std.specs.Char.{is_ascii_digit}
 use Rattle.std.specs.List.{list_all}
 use Rattle.std.specs.Str.{bytes_eq}
 use Rattle.std.specs.Str.Parse.{digits_value}
 use Rattle.rht_script.specs.declared.script.ScriptFault.{ScriptFault}
-use Rattle.rht_script.specs.Grammar.{Said}
+use Rattle.rht_script.specs.Grammar.{reading_of}
 use Rattle.rht_cli.specs.declared.form.Form.{Form}
-use Rattle.rht_cli.specs.declared.form.Form.TheVariants.{Run, Replay, Gen}
-use Rattle.rht_cli.specs.Input.{IsScriptRead, IsNoScript}
+use Rattle.rht_cli.specs.declared.form.Form.TheVariants.{Run, Replay, Gen, Check}
+use Rattle.rht_check.specs.Reading.{claim_reading_of}
+use Rattle.rht_cli.specs.Input.{IsReadAs, IsAtFault}
 use Rattle.rht_cli.specs.RunText.{whole_text, IsRunText}
 use Rattle.rht_cli.specs.GenText.{IsGenText}
 use Rattle.rht_cli.specs.ReplayText.{IsReplayText}
+use Rattle.rht_cli.specs.VerdictText.{IsVerdictText}
 
 -- the form that a single word is
 abbrev pub form_of_word : List ℕ → Option Form
 form_of_word word =
     if bytes_eq word (codes "run") then Some Run
     else if bytes_eq word (codes "replay") then Some Replay
+    else if bytes_eq word (codes "check") then Some Check
     else None
 
 -- the form `gen` of the number that digits stand for, where there are some and it has 32 bits
@@ -52,33 +55,45 @@ abbrev pub ReadsScript : Form → Type 0
 ReadsScript Run = Unit {0}
 ReadsScript Replay = Unit {0}
 ReadsScript (Gen number) = ⊥
+ReadsScript Check = ⊥
 
--- A script was read, and the text is one for what it says.
-pub record IsPrintedOf (IsText : Said → List ℕ → Type 0) (left left_after : Option (List ℕ)) (text : List ℕ) : Type 0 where
-  pub said : Said
-  pub read : IsScriptRead left left_after said
+-- the form reads its input, be it a script or a claimed history
+abbrev pub ReadsInput : Form → Type 0
+ReadsInput Run = Unit {0}
+ReadsInput Replay = Unit {0}
+ReadsInput (Gen number) = ⊥
+ReadsInput Check = Unit {0}
+
+-- The input was read by such a reading, and the text is one for what it says.
+pub record IsPrintedOf {X : Type 0} (reading : List ℕ → Result X ScriptFault) (IsText : X → List ℕ → Type 0)
+    (left left_after : Option (List ℕ)) (text : List ℕ) : Type 0 where
+  pub said : X
+  pub read : IsReadAs reading left left_after said
   pub is_text : IsText said text
 
 -- This form's input was read, which leaves so much of it, and the text is one that the form prints for it. `gen` reads nothing, and
 -- does what the script of its number says.
 unfoldable pub Prints : Form → Option (List ℕ) → Option (List ℕ) → List ℕ → Type 0
-Prints Run left left_after text = IsPrintedOf (IsRunText whole_text) left left_after text
-Prints Replay left left_after text = IsPrintedOf IsReplayText left left_after text
+Prints Run left left_after text = IsPrintedOf reading_of (IsRunText whole_text) left left_after text
+Prints Replay left left_after text = IsPrintedOf reading_of IsReplayText left left_after text
 Prints (Gen number) left left_after text = (left_after ≡ left) × IsGenText number text
+Prints Check left left_after text = IsPrintedOf claim_reading_of IsVerdictText left left_after text
 
--- Reading the bytes that are left leaves the rest, and they are a script.
-pub record IsScript (left rest : Option (List ℕ)) : Type 0 where
-  pub said : Said
-  pub read : IsScriptRead left rest said
+-- Reading the bytes that are left leaves the rest, and they say something.
+pub record SaysBy {X : Type 0} (reading : List ℕ → Result X ScriptFault) (left rest : Option (List ℕ)) : Type 0 where
+  pub said : X
+  pub read : IsReadAs reading left rest said
 
--- what is left is this form's input, of which reading it leaves the rest
+-- what is left is this form's input, of which reading it leaves the rest: a script, or a claimed history
 unfoldable pub HasInput : Form → Option (List ℕ) → Option (List ℕ) → Type 0
-HasInput Run left rest = IsScript left rest
-HasInput Replay left rest = IsScript left rest
+HasInput Run left rest = SaysBy reading_of left rest
+HasInput Replay left rest = SaysBy reading_of left rest
 HasInput (Gen number) left rest = rest ≡ left
+HasInput Check left rest = SaysBy claim_reading_of left rest
 
 -- what it means that this form's input was read and is at fault
 unfoldable pub IsFaultOf : Form → Option (List ℕ) → Option (List ℕ) → ScriptFault → Type 0
-IsFaultOf Run left left_after fault = IsNoScript left left_after fault
-IsFaultOf Replay left left_after fault = IsNoScript left left_after fault
+IsFaultOf Run left left_after fault = IsAtFault reading_of left left_after fault
+IsFaultOf Replay left left_after fault = IsAtFault reading_of left left_after fault
 IsFaultOf (Gen number) left left_after fault = ⊥
+IsFaultOf Check left left_after fault = IsAtFault claim_reading_of left left_after fault

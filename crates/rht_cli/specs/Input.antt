@@ -1,10 +1,11 @@
--- Which bytes are read of an input: all of them, or one more than a script can have. And when they are a script.
-use Rattle.std.specs.Prelude.{◌≡◌, ℕ, ◌+◌, ◌<◌, ◌≤◌, ◌⊎◌, ◌++◌, Bool, Option, Ok, List, [], length, MatchBool}
+-- Which bytes are read of an input: all of them, or one more than a script can have. And when they are a script, or
+-- a claimed history.
+use Rattle.std.specs.Prelude.{◌≡◌, ℕ, ◌+◌, ◌<◌, ◌≤◌, ◌⊎◌, ◌++◌, Bool, Option, Result, Ok, Err, List, [], length, MatchBool}
 use Rattle.std.specs.Io.KnownBytes.{Consumes, IsAtEnd}
 use Rattle.rht_io.specs.Told.{Rose}
 use Rattle.rht_script.specs.declared.script.ScriptFault.{ScriptFault}
 use Rattle.rht_script.specs.Grammar.{most_bytes, Said, reading_of}
-use Rattle.rht_script.specs.Reading.{FirstFault}
+use Rattle.rht_check.specs.Reading.{SaidClaim, claim_reading_of}
 use Rattle.rht_cli.specs.declared.ending.Failure.{Failure}
 use Rattle.rht_cli.specs.declared.ending.Failure.TheVariants.{Fault, Read, Write, Memory}
 
@@ -29,24 +30,33 @@ IsReadFault before after Read = Rose before after
 IsReadFault before after Write = ⊥
 IsReadFault before after Memory = Unit {0}
 
--- ---- scripts
+-- ---- what the bytes say
 
--- The input was read to its end and is a script, which says this.
-pub record IsScriptRead (left left_after : Option (List ℕ)) (said : Said) : Type 0 where
+-- The input was read to its end, and by such a reading it says this.
+pub record IsReadAs {X : Type 0} (reading : List ℕ → Result X ScriptFault) (left left_after : Option (List ℕ)) (said : X) : Type 0 where
   pub bytes : List ℕ
   pub taken : Consumes left left_after bytes
   pub to_end : IsAtEnd left_after
-  pub script : reading_of bytes ≡ Ok said
+  pub says : reading bytes ≡ Ok said
 
--- The whole input was read, or one byte more than a script can have, and this is its first fault.
-pub record IsNoScript (left left_after : Option (List ℕ)) (fault : ScriptFault) : Type 0 where
+-- The whole input was read, or one byte more than a script can have, and by such a reading this is its first fault.
+pub record IsAtFault {X : Type 0} (reading : List ℕ → Result X ScriptFault) (left left_after : Option (List ℕ)) (fault : ScriptFault) : Type 0 where
   pub bytes : List ℕ
   pub read : IsRead left left_after bytes
-  pub first : FirstFault bytes fault
+  pub first : reading bytes ≡ Err fault
 
--- why no script was read: the input is none, the source's faults rose, or memory ran out
-abbrev pub IsUnread : Option (List ℕ) → Option (List ℕ) → ℕ → ℕ → Failure → Type 0
-IsUnread left left_after before after (Fault fault) = IsNoScript left left_after fault
-IsUnread left left_after before after Read = Rose before after
-IsUnread left left_after before after Write = ⊥
-IsUnread left left_after before after Memory = Unit {0}
+-- why nothing was read by such a reading: the input is at fault, the source's faults rose, or memory ran out
+abbrev pub IsUnread : {X : Type 0} → (List ℕ → Result X ScriptFault) → Option (List ℕ) → Option (List ℕ) → ℕ → ℕ → Failure → Type 0
+IsUnread reading left left_after before after (Fault fault) = IsAtFault reading left left_after fault
+IsUnread reading left left_after before after Read = Rose before after
+IsUnread reading left left_after before after Write = ⊥
+IsUnread reading left left_after before after Memory = Unit {0}
+
+-- ---- scripts and claimed histories
+
+-- The input was read to its end and is a script, which says this; or a claimed history, which says that.
+abbrev pub IsScriptRead : Option (List ℕ) → Option (List ℕ) → Said → Type 0
+IsScriptRead = IsReadAs reading_of
+
+abbrev pub IsClaimRead : Option (List ℕ) → Option (List ℕ) → SaidClaim → Type 0
+IsClaimRead = IsReadAs claim_reading_of

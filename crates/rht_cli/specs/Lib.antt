@@ -1,4 +1,4 @@
--- which bytes are read of an input, and when they are a script
+-- which bytes are read of an input, and when they are a script or a claimed history
 pub mod Input
 -- the text of a script that was run, or what sums it up
 pub mod RunText
@@ -6,6 +6,8 @@ pub mod RunText
 pub mod GenText
 -- the text of a script that was replayed
 pub mod ReplayText
+-- the text of the verdict on a claimed history
+pub mod VerdictText
 -- the command forms: their words, their input and their text
 pub mod Forms
 -- how a run can end, and what each end means

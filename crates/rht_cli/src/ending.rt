@@ -87,7 +87,10 @@ impl Ending {
     {
         match self {
             Ending::Done => Ok(()),
-            Ending::Usage => put_all(err, b"rht: usage: rht run | rht replay | rht gen NUMBER\n"),
+            Ending::Usage => put_all(
+                err,
+                b"rht: usage: rht run | rht replay | rht gen NUMBER | rht check\n",
+            ),
             Ending::Unserved(failure) => failure.write(err),
         }
     }

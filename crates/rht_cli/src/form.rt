@@ -18,6 +18,8 @@ pub enum Form {
     /// `gen NUMBER`: reads nothing, does the commands of the script of this number, and sums up in
     /// a line what they are answered and what is bound at the end.
     Gen { number: u32 },
+    /// `check`: reads a claimed history, and prints whether it is legal, or what is wrong with it.
+    Check,
 }
 
 impl Form {
@@ -41,6 +43,8 @@ fn form_of_word(word: &str) -> Option<Form>
         Some(Form::Run)
     } else if word == "replay" {
         Some(Form::Replay)
+    } else if word == "check" {
+        Some(Form::Check)
     } else {
         None
     }

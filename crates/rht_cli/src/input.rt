@@ -1,12 +1,17 @@
-//! Reading the whole input, and no more of it than a script can have, as a script.
+//! Reading the whole input, and no more of it than a script can have, as a script or as a claimed
+//! history.
 
 ghost use Rattle.std.specs.Prelude.{◌≡◌, ◌<◌, ◌≤◌, length, vec_len, IfOk, IfErr};
 ghost use Rattle.std.specs.List.{AllByRecursion};
+ghost use Rattle.rht_script.specs.Grammar.{reading_of};
 ghost use Rattle.rht_script.specs.Reading.{said_by};
 ghost use Rattle.rht_script.specs.Sound.{IsSoundScript, IsCommandCall};
-ghost use Rattle.rht_cli.specs.Input.{IsRead, IsMore, IsReadFault, IsScriptRead, IsUnread};
+ghost use Rattle.rht_check.specs.Claims.{IsSoundClaim};
+ghost use Rattle.rht_check.specs.Reading.{claim_reading_of, said_by_claim};
+ghost use Rattle.rht_cli.specs.Input.{IsRead, IsMore, IsReadFault, IsScriptRead, IsClaimRead, IsUnread};
 
 use crate::ending::Failure;
+use rht_check::{Claim, read_claim};
 use rht_io::Source;
 use rht_script::{MOST_BYTES, Script, read};
 use std::alloc::{AllocError, Global};
@@ -20,11 +25,22 @@ pub fn read_script<S: Source>(alloc: Global, source: &mut S) -> Result<Script, F
     ensures sound { IfOk result IsSoundScript }
     ensures asked { IfOk result
         (λ script. AllByRecursion (λ command. IsCommandCall command.1) script.commands.items) }
-    ensures unread { IfErr result (IsUnread (S.left source.old) (S.left source.new)
+    ensures unread { IfErr result (IsUnread reading_of (S.left source.old) (S.left source.new)
         (S.faults source.old) (S.faults source.new)) }
 {
     let bytes = read_all(alloc, source)?;
     Ok(read(alloc, &bytes)?)
+}
+
+/// Reads the claimed history that the input is.
+pub fn read_claimed<S: Source>(alloc: Global, source: &mut S) -> Result<Claim, Failure>
+    ensures read { IfOk result (λ claim. IsClaimRead (S.left source.old) (S.left source.new) (said_by_claim claim)) }
+    ensures sound { IfOk result IsSoundClaim }
+    ensures unread { IfErr result (IsUnread claim_reading_of (S.left source.old) (S.left source.new)
+        (S.faults source.old) (S.faults source.new)) }
+{
+    let bytes = read_all(alloc, source)?;
+    Ok(read_claim(alloc, &bytes)?)
 }
 
 /// Reads the input to its end, or until it has one byte more than a script can have.

@@ -1,8 +1,8 @@
 //! The top call: the program from bytes to bytes.
 //!
 //! Stands on the forms, the reader of the input, the script's writer, the registry whose workers do a
-//! script's commands on a table or which replays it, the closing of that table, and the endings. Begin with the clauses of
-//! `run`: they say what each status means.
+//! script's commands on a table or which replays it, the closing of that table, the judge of claimed histories, and the
+//! endings. Begin with the clauses of `run`: they say what each status means.
 
 ghost use Rattle.std.specs.Prelude.{◌≡◌, ◌≢◌, ◌≤◌, ◌↔◌, ◌⊎◌, None, Some, Option, List, ℕ, string_bytes, map, IfOk};
 ghost use Rattle.std.specs.List.{AllByRecursion};
@@ -15,13 +15,14 @@ ghost use Rattle.rht_script.specs.Text.{fault_line};
 ghost use Rattle.rht_run.specs.ServedRuns.{tag_of, HasRun};
 ghost use Rattle.rht_registry.specs.Players.{IsReplayed};
 ghost use Rattle.rht_cli.specs.declared.form.Form.{Form};
-ghost use Rattle.rht_cli.specs.declared.form.Form.TheVariants.{Run, Replay, Gen};
-ghost use Rattle.rht_cli.specs.Forms.{form_of, HasForm, ReadsScript, HasInput, IsFaultOf};
+ghost use Rattle.rht_cli.specs.declared.form.Form.TheVariants.{Run, Replay, Gen, Check};
+ghost use Rattle.rht_cli.specs.Forms.{form_of, HasForm, ReadsInput, HasInput, IsFaultOf};
 ghost use Rattle.rht_cli.specs.Endings.{IsDone, IsCutShort, Serves, ServesUnread, served_by, replayed_by, ending_of, status_line};
 
 use crate::ending::{Ending, Failure};
 use crate::form::Form;
-use crate::input::read_script;
+use crate::input::{read_claimed, read_script};
+use rht_check::{check, write_verdict};
 use rht_io::{Failed, Gate, Sink, Source};
 use rht_model::{Closed, Replies};
 use rht_policy::{Lookup3, Low, Mix};
@@ -35,7 +36,7 @@ use std::thread::Threads;
 
 /// Runs the program on the words after its name, and answers its exit status.
 ///
-/// The script comes from the source, but that of `gen`; the text goes to `out`, and the line of a status above 0
+/// The script, or at `check` the claimed history, comes from the source, but the script of `gen`; the text goes to `out`, and the line of a status above 0
 /// to `err`, whose faults change no status. The gate hears of each command before it and after it.
 pub fn run<R: Threads + Wait + Sync, S: Source, O: Sink, E: Sink, G: Gate + Sync>(
     rt: &R,
@@ -54,17 +55,17 @@ pub fn run<R: Threads + Wait + Sync, S: Source, O: Sink, E: Sink, G: Gate + Sync
     ensures usage { (result ≡ 1) ↔ (form_of (map string_bytes words.now.items) ≡ None) }
     ensures usage_leaves { result ≡ 1 → (source.new ≡ source.old) × (out.new ≡ out.old) }
 
-    // 2: the whole input, or one byte more than a script can have, was read, and is no script. The
-    // line names its first fault. Nothing was written.
+    // 2: the whole input, or one byte more than a script can have, was read, and is none that the form
+    // takes. The line names its first fault. Nothing was written.
     ensures no_script { result ≡ 2 → (fault : ScriptFault)
         × HasForm (map string_bytes words.now.items)
         (λ form. IsFaultOf form (S.left source.old) (S.left source.new) fault)
         × PutsLine (E.held err.old) (E.held err.new) (E.faults err.old) (E.faults err.new) (fault_line fault)
         × (out.new ≡ out.old) }
 
-    // 3: the form reads a script, and the source had a fault. Nothing was written.
+    // 3: the form reads its input, and the source had a fault. Nothing was written.
     ensures unread { result ≡ 3 → Rose (S.faults source.old) (S.faults source.new) × (out.new ≡ out.old)
-        × HasForm (map string_bytes words.now.items) ReadsScript }
+        × HasForm (map string_bytes words.now.items) ReadsInput }
 
     // 4: the sink had a fault. A prefix of the form's text was written.
     ensures unwritten { result ≡ 4 → Rose (O.faults out.old) (O.faults out.new)
@@ -137,6 +138,7 @@ fn serve<R: Threads + Wait + Sync, S: Source, O: Sink, G: Gate + Sync>(
         Form::Run => serve_run(rt, alloc, source, out, gate),
         Form::Replay => serve_replay(alloc, source, out),
         Form::Gen { number } => serve_gen(rt, alloc, number, out, gate),
+        Form::Check => serve_check(alloc, source, out),
     }
 }
 
@@ -180,6 +182,19 @@ fn serve_gen<R: Threads + Wait + Sync, O: Sink, G: Gate + Sync>(
     let script = generated(alloc, number)?;
     let (replies, closed) = run_hashed(rt, alloc, &script, gate)?;
     served_by(write_summary(out, number, &replies, &closed))
+}
+
+/// Reads a claimed history, and prints the verdict on it.
+fn serve_check<S: Source, O: Sink>(
+    alloc: Global,
+    source: &mut S,
+    out: &mut O,
+) -> Result<(), Failure>
+    ensures { Serves S.left S.faults O.held O.faults Check source.old source.new out.old out.new result }
+{
+    let claim = read_claimed(alloc, source)?;
+    let verdict = check(alloc, &claim)?;
+    served_by(write_verdict(out, &verdict))
 }
 
 /// Replays a script on a table whose ports are hashed as its config says.

@@ -14,9 +14,10 @@ use std::sync::atomic::{AtomicBool, AtomicU64, Ordering};
 use std::test::Fail;
 use std::thread::Threads;
 
+mod claims;
 mod growth;
 
-const USAGE: &str = "rht: usage: rht run | rht replay | rht gen NUMBER\n";
+const USAGE: &str = "rht: usage: rht run | rht replay | rht gen NUMBER | rht check\n";
 
 const NO_TABLE_LINE: &str = "rht: line 1: no table line\n";
 
@@ -616,8 +617,11 @@ fn a_failing_err_changes_no_status(rt: HostRuntime) -> Result<(), Fail> {
 
 #[test]
 fn where_nothing_outside_can_fail(rt: HostRuntime) -> Result<(), Fail> {
-    let cases: [(&[&str], &str, u8); 9] = [
+    let cases: [(&[&str], &str, u8); 12] = [
         (&["run"], SCRIPT, 0),
+        (&["check"], SCRIPT, 2),
+        (&["check"], "table single\nhistory\n", 0),
+        (&["check", "7"], "table single\nhistory\n", 1),
         (&["run"], "", 2),
         (&["run"], "table single\n1 bind 80", 2),
         (&["replay"], SCRIPT, 0),

@@ -67,6 +67,16 @@ module _ {S E : Type 0} (held : S → Option (List ℕ)) (faults : S → ℕ) wh
     kept = kept;
   }
 
+  -- a prefix of a text is one of a longer text
+  pub Puts-longer : (a b : S) (e : E) (xs ys : List ℕ) → Puts held faults a b (Err e) xs
+      → Puts held faults a b (Err e) (xs ++ ys)
+  Puts-longer a b e xs ys put = record {
+    whole = tt;
+    prefix = AppendsPrefix-longer (held a) (held b) xs ys put.prefix;
+    failed = put.failed;
+    kept = put.kept;
+  }
+
   -- a call that put a text
   pub Puts-of_put : (a b : S) (xs : List ℕ) → Appends (held a) (held b) xs → faults a ≤ faults b
       → Puts {E = E} held faults a b (Ok tt) xs
@@ -80,3 +90,9 @@ Puts-passed_on held faults a b (Ok done) r xs failed passed put = absurd (cc)
 Puts-passed_on held faults a b (Err e) (Ok done) xs failed passed put = absurd (cc)
 Puts-passed_on held faults a b (Err e) (Err f) xs failed passed put =
     record { whole = tt; prefix = put.prefix; failed = put.failed; kept = put.kept }
+
+-- a failure that is passed on is one of any longer text
+pub Puts-failed : {S E F : Type 0} (held : S → Option (List ℕ)) (faults : S → ℕ) (a b : S) (e : E) (r : Result (Unit {0}) F)
+    (xs ys : List ℕ) → Puts held faults a b (Err e) xs → IsErr r → Puts held faults a b r (xs ++ ys)
+Puts-failed held faults a b e r xs ys put failed =
+    Puts-passed_on held faults a b (Err e) r (xs ++ ys) refl failed (Puts-longer held faults a b e xs ys put)

@@ -8,7 +8,7 @@ use Rattle.std.proofs.lemmas.Bool.{and_parts, cases_eq}
 use Rattle.std.proofs.KnownBytes.{Appends-nil}
 use Rattle.rht_io.specs.declared.source.Failed.{Failed}
 use Rattle.rht_io.specs.Told.{Puts}
-use Rattle.rht_io.proofs.ToldLemmas.{AppendsPrefix-after, AppendsPrefix-longer, Rose-after_kept, Puts-after, Puts-of_put, Puts-passed_on}
+use Rattle.rht_io.proofs.ToldLemmas.{AppendsPrefix-after, AppendsPrefix-longer, Rose-after_kept, Puts-after, Puts-longer, Puts-of_put, Puts-passed_on}
 use Rattle.rht_registry.specs.declared.replaying.ReplayError.{ReplayError}
 use Rattle.rht_registry.specs.declared.replaying.ReplayError.TheVariants.{Write}
 use Rattle.rht_model.specs.declared.history.Call.{Call}
@@ -64,22 +64,6 @@ module _ {S : Type 0} (held : S → Option (List ℕ)) (faults : S → ℕ) wher
   pub Puts-nothing : {E : Type 0} (a : S) → Puts {E = E} held faults a a (Ok tt) []
   Puts-nothing a = Puts-of_put held faults a a [] (Appends-nil (held a)) (omega arith)
 
-  -- a prefix of a text is one of a longer text
-  pub Puts-longer : {E : Type 0} (a b : S) (e : E) (xs ys : List ℕ) → Puts held faults a b (Err e) xs
-      → Puts held faults a b (Err e) (xs ++ ys)
-  Puts-longer a b e xs ys put = record {
-    whole = tt;
-    prefix = AppendsPrefix-longer (held a) (held b) xs ys put.prefix;
-    failed = put.failed;
-    kept = put.kept;
-  }
-
-  -- a failure that is passed on is one of any longer text
-  pub Puts-failed : (a b : S) (e : Failed) (r : Result (Unit {0}) Failed) (xs ys : List ℕ) → Puts held faults a b (Err e) xs → IsErr r
-      → Puts held faults a b r (xs ++ ys)
-  Puts-failed a b e r xs ys put failed =
-      Puts-passed_on held faults a b (Err e) r (xs ++ ys) refl failed (Puts-longer a b e xs ys put)
-
   -- ---- what is still to play
 
   -- some lines were put since the beginning, and with those of the rest they are those of the whole, which ends where the rest does
@@ -114,7 +98,7 @@ module _ {S : Type 0} (held : S → Option (List ℕ)) (faults : S → ℕ) wher
         Puts-passed_on held faults old new (Err e) r whole.1 refl failed
         (subst (Puts held faults old new (Err e)) to_play.text
         (Puts-after held faults old mid new (Err e) to_play.so_far (first.1 ++ more) to_play.put
-        (Puts-longer mid new e first.1 more put)))
+        (Puts-longer held faults mid new e first.1 more put)))
 
     -- nothing is left to play
     pub to_play-none : (mid : S) (a : A) (rest : A × List ℕ) → StillToPlay old mid whole rest → rest ≡ (a, [])

@@ -1,5 +1,7 @@
 -- a text taken apart at line feeds and at blanks
 pub mod PiecesLemmas
+-- where a line ends and where its next word stands, as places of the whole text
+pub mod PlaceLemmas
 -- numbers read digit by digit
 pub mod NumberLemmas
 -- the config of options is settled

@@ -1,9 +1,10 @@
 -- The first line of a text ends where its first line feed is, and the other lines are those of what stands
 -- behind it. The first word of a line begins at the first byte that is no blank and ends at the next blank.
-use Rattle.std.proofs.Common.{◌≡◌, ◌≢◌, ℕ, ◌+◌, ◌<◌, ◌≤◌, ◌==◌, Bool, true, false, not, cond, List, [], ◌∷◌, length, get_or, take, drop, nat_lt, Some, None, position, suc, refl, ap, ◌∙◌, sym, arith, inl, inr}
+use Rattle.std.proofs.Common.{◌≡◌, ◌≢◌, ℕ, ◌+◌, ◌<◌, ◌≤◌, ◌==◌, Bool, true, false, not, cond, List, [], ◌∷◌, length, get_or, take, drop, nat_lt, Some, None, position, suc, refl, ap, ◌∙◌, sym, arith, inl, inr, add-one, drop-cons}
 use Rattle.std.specs.Prelude.{filter}
 use Rattle.std.specs.List.{slice_split, position_or_len, onto_first}
 use Rattle.std.proofs.lemmas.List.{get_or-drop}
+use Rattle.std.proofs.lemmas.List.Sums.{passes_at_first}
 use Rattle.std.proofs.lemmas.List.Splits.{slice_split_first, slice_split-cons_yes, slice_split-cons_no, length-slice_split}
 use Rattle.std.proofs.lemmas.Option.{cond_some, none-some}
 use Rattle.std.proofs.lemmas.Bool.{ltb-true, ltb-false, cases_Bool, cond-true}
@@ -176,12 +177,26 @@ some_text (byte ∷ text) end begins found =
     let behind : suc place ≡ end = omega (arith, rw begins at at.1) in
     rw (← behind) refl
 
+-- the blank itself changes none of the words behind it
+behind_blank : (text : List ℕ) (end : ℕ) → position is_blank text ≡ Some end
+    → words_of (drop end text) ≡ words_of (drop (end + 1) text)
+behind_blank text end found =
+    let place = position_or_len is_blank text in
+    let at = cond_some (nat_lt place (length text)) place end found in
+    let within : place < length text = ltb-true place (length text) at.0 in
+    let blank : is_blank (get_or text end 0) ≡ true = rw at.1 at (passes_at_first is_blank text 0 within) in
+    let here : end < length text = rw at.1 at within in
+    ap words_of (drop-cons text end 0 here)
+    ∙ words_of-blank (get_or text end 0) (drop (suc end) text) blank
+    ∙ ap (λ n. words_of (drop n text)) (sym (add-one end))
+
 pub words_of-blank_at : (text : List ℕ) (end : ℕ) → BeginsWord text → position is_blank text ≡ Some end
-    → words_of text ≡ take end text ∷ words_of (drop (end + 1) text)
+    → words_of text ≡ take end text ∷ words_of (drop end text)
 unfolding words_of
 words_of-blank_at text end begins found =
     ap (filter is_some_text) (slice_split-position is_blank text end found)
     ∙ cond-true (is_some_text (take end text)) _ _ (some_text text end begins found)
+    ∙ ap (λ (words : List (List ℕ)). take end text ∷ words) (sym (behind_blank text end found))
 
 only_word : (text : List ℕ) → BeginsWord text → filter is_some_text (text ∷ []) ≡ text ∷ []
 only_word [] begins = absurd begins

@@ -30,7 +30,7 @@ use Rattle.rht_script.specs.declared.options.Setting.TheVariants.{Nodes, Hint, M
 use Rattle.rht_script.specs.declared.options.Options.{Options}
 use Rattle.rht_script.specs.Spelling.{◌>>=◌, lines_of, is_skipped, number_of}
 use Rattle.rht_script.specs.Grammar.{most_lines, most_in_line, words_at, lines_from, said_from}
-use Rattle.rht_script.specs.TableLines.{no_options, kind_of, with_setting, setting_of, options_from, configured, sizes_agree, has_room, rounded_min, config_of, table_of}
+use Rattle.rht_script.specs.TableLines.{one_number, no_options, kind_of, with_setting, setting_of, options_from, configured, sizes_agree, has_room, rounded_min, config_of, table_of}
 use Rattle.rht_script.specs.CommandLines.{port_limits, owner_limits, worker_limits, bind_of, find_of, all_of, release_of, of_single, rebind_of, bare_of, call_of, command_of}
 use Rattle.rht_script.specs.ScheduleLines.{event_limits, events_of}
 use Rattle.rht_script.specs.ScriptLines.{line_of, commands_among, schedule_among}
@@ -460,7 +460,7 @@ module _ (config : Config) (auto : Bool) (settled : IsSettled config) where
       settled.starts in
       rw (configured-said, sizes_agree-settled, room) refl
 
-  table_of-plain : table_of (table_words config auto) ≡ Ok (record { config = config; auto = auto })
+  table_of-plain : table_of (table_words config auto) ≡ Ok (record { config = config; auto = auto; form = one_number })
   unfolding table_of
   table_of-plain = rw (kind_of-plain config.kind, options_from-plain, config_of-plain) refl
 
@@ -581,7 +581,7 @@ reads_back said can short =
     let settled = can.config in
     let auto = said.auto in
     let lines = plain_order said in
-    let table : TableLine = record { config = config; auto = auto } in
+    let table : TableLine = record { config = config; auto = auto; form = one_number } in
     let words = table_words config auto in
     let plain = table_words-plain config auto settled in
     let behind = flat_map (λ line. plain_line (line_words line)) lines in

@@ -244,7 +244,7 @@ pub record AreLines (P : ScriptLine → Type 0) (number : ℕ) (lines : List Scr
   pub each : AllByRecursion P lines
   pub few : length lines + number ≤ 1000001
 
-words_few : (number : ℕ) (line : List ℕ) → IfOk (words_at number line) (λ words. number ≤ most_lines)
+pub words_few : (number : ℕ) (line : List ℕ) → IfOk (words_at number line) (λ words. number ≤ most_lines)
 words_few number line = by_test (nat_lt most_lines number) refl
   where
     by_test : (many : Bool) → nat_lt most_lines number ≡ many

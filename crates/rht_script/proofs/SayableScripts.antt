@@ -1,13 +1,13 @@
 -- Whatever is read, today's words can say. Each number of an option is read within its limits, so the options are
 -- allowed, and where their first table has room their config is settled. Each command is read with its worker, port and
 -- owner within their limits, and each line of the schedule with its worker and its number (`ReadLines`).
-use Rattle.std.proofs.Common.{◌≡◌, ℕ, ◌+◌, ◌*◌, Bool, true, false, not, ◌&&◌, cond, Ok, Err, List, [], ◌∷◌, length, codes, refl, ap, arith}
+use Rattle.std.proofs.Common.{◌≡◌, ℕ, ◌+◌, ◌*◌, Bool, true, false, not, ◌&&◌, cond, Result, Ok, Err, List, [], ◌∷◌, length, codes, refl, ap, arith}
 use Rattle.std.specs.Prelude.{IfOk, nat_le, nat_lt}
 use Rattle.std.specs.List.{AllByRecursion}
 use Rattle.std.proofs.lemmas.Bool.{le-leb, leb-true, and_from, and_parts}
 use Rattle.std.proofs.lemmas.List.Elements.{All-from_recursion, recursion_from_All, All-weaker}
 use Rattle.std.proofs.lemmas.List.Sums.{list_all-from_AllPass}
-use Rattle.std.proofs.lemmas.Result.{IfOk-at_ok}
+use Rattle.std.proofs.lemmas.Result.{IfOk-at_ok, IfOk-weaker}
 use Rattle.rht_words.specs.declared.config.Config.{Config}
 use Rattle.rht_words.specs.declared.config.Kind.{Kind}
 use Rattle.rht_words.specs.declared.limits.Limits.{Limits}
@@ -20,15 +20,16 @@ use Rattle.rht_script.specs.declared.script.Script.{Script}
 use Rattle.rht_script.specs.declared.script.TableLine.{TableLine}
 use Rattle.rht_script.specs.declared.script.Sched.{Sched}
 use Rattle.rht_script.specs.declared.script.Sched.TheVariants.{Step, Skip, Finish}
+use Rattle.rht_script.specs.declared.cause.Cause.{Cause}
 use Rattle.rht_script.specs.declared.cause.Cause.TheVariants.{NoTableLine, UnknownWord, OptionsDisagree}
 use Rattle.rht_script.specs.declared.options.Setting.{Setting}
 use Rattle.rht_script.specs.declared.options.Setting.TheVariants.{Nodes, Hint, Min, Max, Pages, Workers, Seed, Rewalks}
 use Rattle.rht_script.specs.declared.options.Options.{Options}
 use Rattle.rht_script.specs.Spelling.{is_word, is_within, number_of, lines_of, is_skipped}
-use Rattle.rht_script.specs.TableLines.{numbered, kind_of, hash_of, switch_of, auto_of, setting_of, no_options, with_setting, options_from, configured, sizes_agree, has_room, config_of, table_of}
+use Rattle.rht_script.specs.TableLines.{one_number, numbered, kind_of, hash_of, switch_of, auto_of, setting_of, no_options, with_setting, options_from, configured, sizes_agree, has_room, config_of, table_of}
 use Rattle.rht_script.specs.CommandLines.{port_limits, owner_limits, worker_limits, command_of}
 use Rattle.rht_script.specs.ScheduleLines.{event_limits}
-use Rattle.rht_script.specs.Grammar.{most_bytes, at_line, words_at, Said, lines_from, said_from, reading_of}
+use Rattle.rht_script.specs.Grammar.{most_bytes, coded, at_line, words_at, Said, lines_from, said_from, reading_of}
 use Rattle.rht_script.specs.Allowed.{IsAllowed, AreAllowed}
 use Rattle.rht_script.specs.Plain.{IsSayableCall, IsSayableCommand, IsSayableSched, IsSayable}
 use Rattle.rht_script.specs.Reading.{said_by}
@@ -141,10 +142,10 @@ module _ (kind : Kind) (options : Options) (are : AreAllowed options) where
       (where_agreed (sizes_agree config && has_room config) refl)
 
 -- what a table line says: a config that a table can be opened with
-abbrev IsSettledTable : TableLine → Type 0
+abbrev pub IsSettledTable : TableLine → Type 0
 IsSettledTable table = IsSettled table.config
 
-table_settled : (words : List (List ℕ)) → IfOk (table_of words) IsSettledTable
+pub table_settled : (words : List (List ℕ)) → IfOk (table_of words) IsSettledTable
 unfolding table_of
 table_settled [] = tt
 table_settled (table ∷ []) = IfOk-cond IsSettledTable (is_word table (codes "table")) _ (Err NoTableLine)
@@ -156,6 +157,21 @@ table_settled (table ∷ kind ∷ words) =
     (options_allowed no_options words no_options_allowed) (λ options are.
     IfOk-then IsSettled IsSettledTable (config_of kind options) _ (config_settled kind options are)
     (λ config is. is))))
+    tt
+
+-- and ports that are one number each
+abbrev pub HasOneNumber : TableLine → Type 0
+HasOneNumber table = table.form ≡ one_number
+
+pub table_form : (words : List (List ℕ)) → IfOk (table_of words) HasOneNumber
+unfolding table_of
+table_form [] = tt
+table_form (table ∷ []) = IfOk-cond HasOneNumber (is_word table (codes "table")) _ (Err NoTableLine) tt tt
+table_form (table ∷ kind ∷ words) =
+    IfOk-cond HasOneNumber (is_word table (codes "table")) _ (Err NoTableLine)
+    (IfOk-after HasOneNumber (kind_of kind) _ (λ kind.
+    IfOk-after HasOneNumber (options_from no_options words) _ (λ options.
+    IfOk-after HasOneNumber (config_of kind options) _ (λ config. refl))))
     tt
 
 -- ---- the whole script
@@ -176,7 +192,7 @@ said_settled number (line ∷ lines) =
     IfOk-after IsSettledSaid (lines_from (number + 1) table lines) _ (λ others. is))))
 
 -- each command is one of a worker, and its call has a verb
-command_sayable : (table : TableLine) (words : List (List ℕ))
+pub command_sayable : (table : TableLine) (words : List (List ℕ))
     → IfOk (command_of table words) (IsSayableCommand table.config)
 command_sayable table =
     let port_is = IsWithinLimits-test port_limits in
@@ -274,7 +290,7 @@ has_sound_numbers-sayable kind (Rebind port owner new) sayable =
 has_sound_numbers-sayable kind _ sayable = refl
 
 -- so a command that can be said is sound
-is_sound_command-sayable : (config : Config) (command : ℕ × Call) → IsSayableCommand config command
+pub is_sound_command-sayable : (config : Config) (command : ℕ × Call) → IsSayableCommand config command
     → is_sound_command config command ≡ true
 is_sound_command-sayable config command sayable =
     let limits = worker_limits config in
@@ -318,6 +334,28 @@ IsCommandCall-sayable kind (Walk from limit) sayable = absurd sayable
 IsCommandCall-sayable kind Work sayable = tt
 IsCommandCall-sayable kind Tidy sayable = tt
 IsCommandCall-sayable kind Count sayable = tt
+
+-- ---- one line
+
+-- what holds of what a command line says, where there is a verb for it: a table serves it, and a command can ask it
+pub command_sound : (table : TableLine) (words : List (List ℕ))
+    → IfOk (command_of table words) (λ command. is_sound_command table.config command ≡ true)
+command_sound table words =
+    IfOk-weaker (command_of table words) (IsSayableCommand table.config) _
+    (is_sound_command-sayable table.config) (command_sayable table words)
+
+pub command_asked : (table : TableLine) (words : List (List ℕ))
+    → IfOk (command_of table words) (λ command. IsCommandCall command.1)
+command_asked table words =
+    IfOk-weaker (command_of table words) (IsSayableCommand table.config) _
+    (λ command can. IsCommandCall-sayable table.config.kind command.1 can.1) (command_sayable table words)
+
+-- what holds of what was read holds with the cause told by its number too
+pub IfOk-coded : {X : Type 0} (P : X → Type 0) (read : Result X Cause) → IfOk read P → IfOk (coded read) P
+IfOk-coded P (Ok value) holds = holds
+IfOk-coded P (Err cause) holds = tt
+
+-- ---- a whole script
 
 -- so each command of what can be said asks for such a call
 pub commands_asked : (said : Said) → IsSayable said

@@ -16,7 +16,7 @@ use Rattle.rht_script.specs.declared.script.TableLine.{TableLine}
 use Rattle.rht_script.specs.declared.cause.Cause.{Cause}
 use Rattle.rht_script.specs.declared.cause.Cause.TheVariants.{NoTableLine, UnknownWord, BadNumber, OutOfRange, LineTooLong, WrongKind, OptionsDisagree}
 use Rattle.rht_script.specs.Spelling.{lines_of, words_of, number_of}
-use Rattle.rht_script.specs.TableLines.{setting_of, configured, config_of, table_of}
+use Rattle.rht_script.specs.TableLines.{one_number, setting_of, configured, config_of, table_of}
 use Rattle.rht_script.specs.CommandLines.{bind_of, find_of, all_of, release_of, rebind_of, bare_of, call_of, command_of}
 use Rattle.rht_script.specs.ScheduleLines.{events_of}
 use Rattle.rht_script.specs.ScriptLines.{line_of}
@@ -55,7 +55,7 @@ too_long lines = map (λ line. replicate (most_in_line + 1) 32 ++ line) lines
 
 -- a plain table line
 abbrev plain_table : TableLine
-plain_table = record { config = plain_config; auto = true }
+plain_table = record { config = plain_config; auto = true; form = one_number }
 
 -- each of these lines, read as a command's below that one, has this cause
 abbrev HaveCause : Cause → List (List ℕ) → Type 0

@@ -40,6 +40,11 @@ code_of ScriptTooLong = 9
 abbrev pub fault_at : ℕ → Cause → ScriptFault
 fault_at line cause = record { line = line; cause = code_of cause }
 
+-- what is read, with the cause told by its number
+abbrev pub coded : {X : Type 0} → Result X Cause → Result X ℕ
+coded (Ok value) = Ok value
+coded (Err cause) = Err (code_of cause)
+
 -- what is read at this line
 abbrev pub at_line : {X : Type 0} → ℕ → Result X Cause → Result X ScriptFault
 at_line line (Ok value) = Ok value
@@ -96,9 +101,14 @@ said_from number (line ∷ lines) = do
         table ← at_line number (table_of words)
         said_with table (number + 1) lines
 
--- what the bytes say, or their first fault; of too many bytes the fault is at the line at which they become too many
-unfoldable pub reading_of : List ℕ → Result Said ScriptFault
-reading_of bytes =
+-- what is read of the bytes by a reading of their lines, which are counted from 1; of too many bytes the fault is at the line
+-- at which they become too many
+abbrev pub reading_by : {X : Type 0} → (ℕ → List (List ℕ) → Result X ScriptFault) → List ℕ → Result X ScriptFault
+reading_by read_from bytes =
     if nat_lt most_bytes (length bytes)
     then Err (fault_at (1 + count_by (λ byte. byte == 10) (take most_bytes bytes)) ScriptTooLong)
-    else said_from 1 (lines_of bytes)
+    else read_from 1 (lines_of bytes)
+
+-- what the bytes say, or their first fault
+unfoldable pub reading_of : List ℕ → Result Said ScriptFault
+reading_of bytes = reading_by said_from bytes

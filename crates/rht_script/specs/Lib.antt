@@ -10,6 +10,8 @@ pub mod ScheduleLines
 pub mod ScriptLines
 -- bytes as lines, lines as words, and words as numbers
 pub mod Spelling
+-- where a line ends, and where its next word stands
+pub mod Parts
 -- which options have numbers within their limits
 pub mod Allowed
 -- what the reader's cursors give

@@ -66,6 +66,10 @@ is_number word = nat_lt 0 (length word) && nat_le (length word) most_digits && l
 abbrev pub value_of : List ℕ → ℕ
 value_of digits = fold (λ value digit. value * 10 + (digit - 48)) 0 digits
 
+-- the limits of the numbers from the least to the greatest
+abbrev pub between : ℕ → ℕ → Limits
+between least greatest = record { least = least; greatest = greatest }
+
 -- the number is within these limits
 abbrev pub is_within : Limits → ℕ → Bool
 is_within limits number = nat_le limits.least number && nat_le number limits.greatest

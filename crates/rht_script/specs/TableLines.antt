@@ -155,12 +155,16 @@ config_of kind options =
     then Ok (configured kind options)
     else Err OptionsDisagree
 
+-- how ports are written: as one number
+abbrev pub one_number : ℕ
+one_number = 1
+
 -- what the words of a table line behind its kind say; a worker runs `work` by itself where they don't say otherwise
 abbrev pub table_with : Kind → List (List ℕ) → Result TableLine Cause
 table_with kind words = do
   options ← options_from no_options words
   config ← config_of kind options
-  Ok (record { config = config; auto = unwrap_or options.auto true })
+  Ok (record { config = config; auto = unwrap_or options.auto true; form = one_number })
 
 -- what the words of a table line behind `table` say: the kind, and the options
 abbrev pub table_below : List (List ℕ) → Result TableLine Cause

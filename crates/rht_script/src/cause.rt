@@ -1,13 +1,13 @@
 //! Why a line is no line of a script.
 
 ghost use Rattle.std.specs.Prelude.{◌≡◌};
-ghost use Rattle.rht_script.specs.Grammar.{code_of, fault_at, at_line};
+ghost use Rattle.rht_script.specs.Grammar.{code_of, coded, fault_at, at_line};
 
 use crate::script::ScriptFault;
 
 /// Why a line is no line of a script, by the number that a fault tells.
 #[derive(Clone, Copy, Debug, PartialEq, Eq)]
-pub(crate) enum Cause {
+pub enum Cause {
     /// The first line that isn't skipped doesn't begin with `table`, or there is none.
     NoTableLine = 1,
     /// A word can't stand where it does, is missing, or is one too many.
@@ -30,7 +30,7 @@ pub(crate) enum Cause {
 
 impl Cause {
     /// The fault of this cause at a line, counted from 1.
-    pub(crate) fn at(self, line: u32) -> ScriptFault
+    pub fn at(self, line: u32) -> ScriptFault
         ensures { result ≡ fault_at line self }
     {
         ScriptFault {
@@ -47,8 +47,18 @@ impl Cause {
     }
 }
 
+/// What was read, with the cause told by its number.
+pub(crate) fn coded<T>(read: Result<T, Cause>) -> Result<T, u8>
+    ensures { result ≡ coded read }
+{
+    match read {
+        Ok(value) => Ok(value),
+        Err(cause) => Err(cause.code()),
+    }
+}
+
 /// What was read at a line, counted from 1.
-pub(crate) fn at_line<T>(line: u32, read: Result<T, Cause>) -> Result<T, ScriptFault>
+pub fn at_line<T>(line: u32, read: Result<T, Cause>) -> Result<T, ScriptFault>
     ensures { result ≡ at_line line read }
 {
     match read {

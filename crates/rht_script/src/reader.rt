@@ -1,7 +1,8 @@
 //! Reading a script's bytes.
 //!
 //! Stands on the cursors of `cursors`, which take a text apart line by line and word by word, and
-//! on the options of a table line. Begin with `read`.
+//! on the options of a table line. Begin with `read`; `parts` and `places` have the calls by which
+//! other programs read the same lines and words.
 
 ghost use Rattle.std.specs.Prelude.{◌≡◌, ◌+◌, ◌<◌, ◌≤◌, ◌==◌, ◌∷◌, Ok, Err, IfOk, IfErr, MatchResult, MatchOption, count_by, length, take, fold};
 ghost use Rattle.std.specs.List.{AllByRecursion};
@@ -18,13 +19,17 @@ ghost use Rattle.rht_script.specs.declared.cause.Cause.TheVariants.{ScriptTooLon
 mod cursors;
 mod names;
 mod numbers;
+mod parts;
+mod places;
 
+pub use self::cursors::{Lines, Words};
+pub use self::parts::{command_line, number_of, port_word, table_line};
+pub use self::places::{line_end, word_at};
 use crate::cause::{Cause, at_line};
 use crate::options::{Options, Setting};
 use crate::script::{
-    EVENTS, ReadError, Sched, Script, ScriptFault, ScriptLine, TableLine, worker_limits,
+    EVENTS, ONE_NUMBER, ReadError, Sched, Script, ScriptFault, ScriptLine, TableLine, worker_limits,
 };
-use cursors::{Lines, Words};
 use names::{
     ALL, AUTO, BIND, COUNT, FIND, FINISH, HASH, HINT, LISTED, LOW, MANUAL, MAX, MIN, MIX, NODES,
     OFF, ON, PAGES, REBIND, RELEASE, REWALKS, SEED, SHRINK, SINGLE, SKIP, STEP, TABLE, TIDY, WORK,
@@ -54,12 +59,12 @@ pub fn read(alloc: Global, bytes: &[u8]) -> Result<Script, ReadError>
         return Err(ReadError::Fault(too_long(bytes)));
     }
     let mut lines = Lines::new(bytes);
-    let table = table_line(&mut lines)?;
+    let table = first_table(&mut lines)?;
     script_below(alloc, &table, lines)
 }
 
 /// The fault of too many bytes, at the line of the first byte that is one too many.
-fn too_long(bytes: &[u8]) -> ScriptFault
+pub fn too_long(bytes: &[u8]) -> ScriptFault
     requires { MOST_BYTES < length bytes.now }
     ensures { result ≡ fault_at (1 + count_by (λ byte. byte == 10) (take MOST_BYTES bytes.now)) ScriptTooLong }
 {
@@ -76,7 +81,7 @@ fn line_feeds(bytes: &[u8]) -> u32
 }
 
 /// What the table line says, which is the first line that isn't skipped.
-fn table_line(lines: &mut Lines) -> Result<TableLine, ScriptFault>
+fn first_table(lines: &mut Lines) -> Result<TableLine, ScriptFault>
     ensures { MatchResult result
         (λ table. said_from lines.old.number lines.old.lines ≡ said_with table lines.new.number lines.new.lines)
         (λ fault. said_from lines.old.number lines.old.lines ≡ Err fault) }
@@ -130,6 +135,7 @@ fn table(mut words: Words) -> Result<TableLine, Cause>
     Ok(TableLine {
         config: options.config(kind)?,
         auto: options.auto.unwrap_or(true),
+        form: ONE_NUMBER,
     })
 }
 

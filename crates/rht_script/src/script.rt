@@ -17,7 +17,12 @@ pub struct TableLine {
     pub config: Config,
     /// Whether a worker runs `work` by itself where a reply asks for it.
     pub auto: bool,
+    /// How ports are written: 1, as one number.
+    pub form: u32,
 }
+
+/// How ports are written where a table line says nothing of it.
+pub(crate) const ONE_NUMBER: u32 = 1;
 
 /// A script: what the table is opened with, and what the workers do.
 #[derive(Debug, Drop)]

@@ -3,7 +3,7 @@
 //! Stands on `rht_io`'s sinks. Text is gathered in a buffer, which takes no memory, and is put
 //! where it doesn't fit there. After a put that failed nothing more is put.
 
-ghost use Rattle.std.specs.Prelude.{◌≡◌, ◌≤◌, ◌+◌, ◌++◌, length, codes, flat_map};
+ghost use Rattle.std.specs.Prelude.{◌≡◌, ◌≤◌, ◌+◌, ◌++◌, length, codes, decimal, flat_map};
 ghost use Rattle.std.specs.List.{enumerate_from};
 ghost use Rattle.rht_io.specs.Told.{Puts};
 ghost use Rattle.rht_script.specs.Text.{pair_text, owners_text, walk_end, reply_text, reply_line, port_line, last_line, closed_text, worker_text, ending_line, run_text, cause_text, fault_line};
@@ -18,7 +18,8 @@ pub use self::operations::{write_open, write_operation, write_size};
 use self::pieces::Writer;
 pub use self::summary::write_summary;
 use crate::script::ScriptFault;
-use rht_io::{Failed, Sink};
+use itoa::Buffer;
+use rht_io::{Failed, Sink, put_all};
 use rht_model::{Bindings, Closed, Cursor, Replies, Reply};
 use rht_words::Port;
 
@@ -196,6 +197,15 @@ fn add_replies<O: Sink>(
     Ok(())
 }
 
+/// Writes the lines of what is bound: for each port its owners, the first one first.
+pub fn write_ports<O: Sink>(out: &mut O, bindings: &Bindings) -> Result<(), Failed>
+    ensures { Puts O.held O.faults out.old out.new result (flat_map port_line bindings.now.pairs) }
+{
+    let mut text = Writer::new(out);
+    add_ports(&mut text, bindings)?;
+    text.put()
+}
+
 /// Adds a line for each port.
 fn add_ports<O: Sink>(text: &mut Writer<'_, O>, bindings: &Bindings) -> Result<(), Failed>
     ensures text { Adds O.held O.faults text.old.out.now text.new.out.now result
@@ -229,6 +239,21 @@ fn add_last_line<O: Sink>(text: &mut Writer<'_, O>, size: u32, keys: u32) -> Res
     text.add_named(b"size", size.into())?;
     text.add_named(b" keys", keys.into())?;
     text.end_line()
+}
+
+/// Writes a number in decimal, without leading zeros.
+pub fn write_number<O: Sink>(out: &mut O, number: u64) -> Result<(), Failed>
+    ensures { Puts O.held O.faults out.old out.new result (decimal number) }
+{
+    let mut digits = Buffer::new();
+    put_all(out, digits.format(number).as_bytes())
+}
+
+/// Writes a port as scripts have it, which is a number.
+pub fn write_port<O: Sink>(out: &mut O, port: Port) -> Result<(), Failed>
+    ensures { Puts O.held O.faults out.old out.new result (decimal port) }
+{
+    write_number(out, port.into())
 }
 
 /// Writes the line that tells of a script's first fault: `rht: line`, the line's number, and what

@@ -11,6 +11,8 @@ mod generator;
 #[cfg(test)]
 mod operations;
 #[cfg(test)]
+mod parts;
+#[cfg(test)]
 mod reader;
 #[cfg(test)]
 mod script;

@@ -1,12 +1,15 @@
 //! The two cursors that a script is taken apart by: over the lines of its bytes, and over the words
-//! of a line. All that is known of places in the input stands here.
+//! of a line.
+//!
+//! Stands on `places`, which finds where a line ends and where the next word stands.
 
-ghost use Rattle.std.specs.Prelude.{◌≡◌, ◌≢◌, ◌+◌, ◌==◌, [], ◌∷◌, MatchOption, Ok, Err, not, position};
+ghost use Rattle.std.specs.Prelude.{◌≡◌, ◌≢◌, ◌+◌, [], ◌∷◌, MatchOption, Ok, Err};
 ghost use Rattle.rht_script.specs.CommandLines.{number_first, end_of};
-ghost use Rattle.rht_script.specs.Spelling.{lines_of, words_of, is_blank, is_skipped};
-ghost use Rattle.rht_script.specs.Cursors.{TakesNext, Reads, BeginsWord};
+ghost use Rattle.rht_script.specs.Spelling.{between, lines_of, words_of, is_skipped};
+ghost use Rattle.rht_script.specs.Cursors.{TakesNext, Reads};
 
-use super::numbers::number_within;
+use super::numbers::{number_between, number_within};
+use super::places::{letter_at, line_end, word_at};
 use crate::cause::Cause;
 use crate::script::{MOST_LINES, ScriptFault};
 use rht_words::Limits;
@@ -130,6 +133,16 @@ impl<'a> Words<'a> {
         }
     }
 
+    /// The next word's number, which is any of 64 bits. After an `Err` the words are of no more use.
+    pub fn long_number(&mut self) -> Result<u64, Cause>
+        ensures { Reads result self.new (number_first (between 0 u64.MAX) self.old) }
+    {
+        match self.next() {
+            Some(word) => number_between(word, 0, u64::MAX),
+            None => Err(Cause::UnknownWord),
+        }
+    }
+
     /// Whether no word is left over.
     pub fn end(&mut self) -> Result<(), Cause>
         ensures { result ≡ end_of self.old }
@@ -146,57 +159,20 @@ fn first_line(text: &[u8]) -> (&[u8], &[u8])
     requires { text.now ≢ [] }
     ensures { lines_of text.now ≡ result.0.now ∷ lines_of result.1.now }
 {
-    match line_feed_at(text) {
-        Some(end) => (&text[..end], &text[end + 1..]),
-        None => (text, &[]),
+    let end = line_end(text, 0);
+    if end < text.len() {
+        (&text[..end], &text[end + 1..])
+    } else {
+        (text, &[])
     }
 }
 
-/// The first word, and what stands behind the blank that ends it.
+/// The first word, and what stands behind it.
 fn first_word(line: &[u8]) -> Option<(&[u8], &[u8])>
     ensures { MatchOption result
         (words_of line.now ≡ [])
         (λ parts. words_of line.now ≡ parts.0.now ∷ words_of parts.1.now) }
 {
-    let start = letter_at(line)?;
-    Some(split_word(&line[start..]))
-}
-
-/// The word that the text begins with, and what stands behind the blank that ends it.
-fn split_word(text: &[u8]) -> (&[u8], &[u8])
-    requires { BeginsWord text.now }
-    ensures { words_of text.now ≡ result.0.now ∷ words_of result.1.now }
-{
-    match blank_at(text) {
-        Some(end) => (&text[..end], &text[end + 1..]),
-        None => (text, &[]),
-    }
-}
-
-/// The place of the first line feed.
-fn line_feed_at(text: &[u8]) -> Option<usize>
-    ensures { result ≡ position (λ byte. byte == 10) text.now }
-{
-    text.iter().position(|byte| *byte == b'\n')
-}
-
-/// The place of the first byte that is no blank.
-fn letter_at(text: &[u8]) -> Option<usize>
-    ensures { result ≡ position (λ byte. not (is_blank byte)) text.now }
-{
-    text.iter().position(|byte| !is_blank(*byte))
-}
-
-/// The place of the first blank.
-fn blank_at(text: &[u8]) -> Option<usize>
-    ensures { result ≡ position is_blank text.now }
-{
-    text.iter().position(|byte| is_blank(*byte))
-}
-
-/// Whether the byte parts words: a space, a tab or a carriage return.
-fn is_blank(byte: u8) -> bool
-    ensures { result ≡ is_blank byte }
-{
-    byte == b' ' || byte == b'\t' || byte == b'\r'
+    let (start, end) = word_at(line, 0)?;
+    Some((&line[start..end], &line[end..]))
 }

@@ -1,11 +1,11 @@
 //! Numbers in a text.
 
-ghost use Rattle.std.specs.Prelude.{◌≡◌, ◌^◌, ◌<◌, IfOk, true};
+ghost use Rattle.std.specs.Prelude.{◌≡◌, ◌^◌, ◌<◌, ◌≤◌, IfOk, true};
 ghost use Rattle.std.specs.Char.{is_ascii_digit};
 ghost use Rattle.std.specs.List.{list_all};
 ghost use Rattle.std.specs.Option.{SomeIff};
 ghost use Rattle.rht_words.specs.Limits.{IsWithinLimits};
-ghost use Rattle.rht_script.specs.Spelling.{number_of, is_number, value_of};
+ghost use Rattle.rht_script.specs.Spelling.{between, number_of, is_number, value_of};
 
 use crate::cause::Cause;
 use rht_words::Limits;
@@ -26,17 +26,26 @@ pub const OWNER: Limits = Limits {
 };
 
 /// The number that the word stands for, where it is within the limits.
-#[tactic(auto, unfolding(crate::specs::Spelling::number_of))]
 pub fn number_within(limits: Limits, word: &[u8]) -> Result<u32, Cause>
     ensures value { result ≡ number_of limits word.now }
     ensures within { IfOk result (IsWithinLimits limits) }
+{
+    let number = number_between(word, limits.least.into(), limits.greatest.into())?;
+    Ok(number as u32)
+}
+
+/// The number that the word stands for, where it is neither below the least nor above the greatest.
+#[tactic(auto, unfolding(crate::specs::Spelling::number_of))]
+pub fn number_between(word: &[u8], least: u64, greatest: u64) -> Result<u64, Cause>
+    ensures value { result ≡ number_of (between least greatest) word.now }
+    ensures least { IfOk result (λ number. least ≤ number) }
+    ensures greatest { IfOk result (λ number. number ≤ greatest) }
 {
     if !is_number(word) {
         return Err(Cause::BadNumber);
     }
     match value(word) {
-        Some(number) if u64::from(limits.least) <= number && number <= u64::from(limits.greatest) =>
-            Ok(number as u32),
+        Some(number) if least <= number && number <= greatest => Ok(number),
         _ => Err(Cause::OutOfRange),
     }
 }

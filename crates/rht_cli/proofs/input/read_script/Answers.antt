@@ -1,7 +1,7 @@
 use Rattle.std.proofs.Common.{◌≡◌, ℕ, List, Ok, subst}
 use Rattle.rht_script.specs.Grammar.{reading_of}
 use Rattle.rht_script.specs.Reading.{said_by}
-use Rattle.rht_cli.proofs.ToldInput.{IsScriptRead-read}
+use Rattle.rht_cli.proofs.ToldInput.{script_bounded, IsReadAs-read}
 use Rattle.rht_cli.proofs.input.read_script.Goals as goal
 
 pub returns-clause-read : goal.returns-clause-read
@@ -11,4 +11,4 @@ returns-clause-read g c =
     let said = said_by c.in_ok-read.field-0 in
     let is_script : reading_of bytes ≡ Ok said =
     subst (λ (l : List ℕ). reading_of l ≡ Ok said) c.deref.ensures.value c.in_ok-read.ensures.script in
-    IsScriptRead-read (left c.args.source.now) (left c.read_all.new.source) bytes said c.in_ok-bytes.ensures.read is_script
+    IsReadAs-read reading_of script_bounded (left c.args.source.now) (left c.read_all.new.source) bytes said c.in_ok-bytes.ensures.read is_script

@@ -1,20 +1,37 @@
 use Rattle.std.proofs.Common.{[], Some, ap, inl, inr}
-use Rattle.rht_cli.specs.declared.form.Form.TheVariants.{Gen}
+use Rattle.rht_script.specs.Grammar.{reading_of}
+use Rattle.rht_check.specs.Reading.{claim_reading_of}
+use Rattle.rht_cli.specs.declared.form.Form.TheVariants.{Gen, Check}
 use Rattle.rht_cli.proofs.ServedScripts.{never_rises}
-use Rattle.rht_cli.proofs.ToldInput.{HasInput-script, IsFaultOf-script, HasInput-gen, IsScriptRead-told, IsNoScript-told}
+use Rattle.rht_cli.proofs.ToldInput.{script_bounded, claim_bounded, HasInput-script, IsFaultOf-script, HasInput-claim, IsFaultOf-claim, HasInput-gen, IsReadAs-told, IsAtFault-told}
 use Rattle.rht_cli.proofs.laws.complete.Goals as goal
 
 pub returns-clause-served : goal.returns-clause-served
 returns-clause-served g c form said named reads script =
     c.run.ensures.served form c.args.bytes.items (Some []) named (ap Some c.new-source.ensures)
-    (HasInput-script form reads (Some c.args.bytes.items) (Some []) said (IsScriptRead-told c.args.bytes.items said script))
+    (HasInput-script form reads (Some c.args.bytes.items) (Some []) said (IsReadAs-told reading_of script_bounded c.args.bytes.items said script))
     never_rises never_rises
 
 pub returns-clause-refused : goal.returns-clause-refused
 returns-clause-refused g c form fault named reads first =
-    let input = IsNoScript-told c.args.bytes.items fault first in
+    let input = IsAtFault-told reading_of script_bounded c.args.bytes.items fault first in
     elim (c.run.ensures.refused form c.args.bytes.items input.0 fault named (ap Some c.new-source.ensures)
     (IsFaultOf-script form reads (Some c.args.bytes.items) input.0 fault input.1) never_rises) [
+      | inl two ↦ inl two.0
+      | inr memory ↦ inr memory
+    ]
+
+pub returns-clause-judged : goal.returns-clause-judged
+returns-clause-judged g c said named says =
+    c.run.ensures.served Check c.args.bytes.items (Some []) named (ap Some c.new-source.ensures)
+    (HasInput-claim (Some c.args.bytes.items) (Some []) said (IsReadAs-told claim_reading_of claim_bounded c.args.bytes.items said says))
+    never_rises never_rises
+
+pub returns-clause-unclaimed : goal.returns-clause-unclaimed
+returns-clause-unclaimed g c fault named first =
+    let input = IsAtFault-told claim_reading_of claim_bounded c.args.bytes.items fault first in
+    elim (c.run.ensures.refused Check c.args.bytes.items input.0 fault named (ap Some c.new-source.ensures)
+    (IsFaultOf-claim (Some c.args.bytes.items) input.0 fault input.1) never_rises) [
       | inl two ↦ inl two.0
       | inr memory ↦ inr memory
     ]

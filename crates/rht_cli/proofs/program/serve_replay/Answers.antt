@@ -1,6 +1,8 @@
 use Rattle.std.proofs.lemmas.Result.{err_from_is_err_and}
+use Rattle.rht_script.specs.Grammar.{reading_of}
 use Rattle.rht_cli.specs.declared.form.Form.TheVariants.{Replay}
 use Rattle.rht_cli.proofs.ReplayTexts.{Prints-replayed}
+use Rattle.rht_cli.proofs.ToldInput.{IsFaultOf-script}
 use Rattle.rht_cli.proofs.ServedScripts.{FailsBy-unread, Serves-replayed}
 use Rattle.rht_cli.proofs.program.serve_replay.Goals as goal
 
@@ -9,7 +11,8 @@ returns-in_err-script g c =
     let p = err_from_is_err_and c.from_residual.result c.from_residual.ensures.1 in
     rw (p.1, p.2)
     (FailsBy-unread g.S.Source.left g.S.Source.faults g.O.Sink.held g.O.Sink.faults Replay c.args.source.now
-    c.read_script.new.source tt c.args.out.now c.in_err-script.field-0.0 c.in_err-script.ensures.unread)
+    c.read_script.new.source reading_of (IsFaultOf-script Replay tt (g.S.Source.left c.args.source.now) (g.S.Source.left c.read_script.new.source))
+    tt c.args.out.now c.in_err-script.field-0.0 c.in_err-script.ensures.unread)
 
 pub returns : goal.returns
 returns g c =

@@ -4,9 +4,11 @@ use Rattle.rht_script.specs.Reading.{said_by}
 use Rattle.rht_script.specs.Text.{run_text}
 use Rattle.rht_model.specs.Endings.{Ending}
 use Rattle.rht_registry.proofs.SoundCommands.{sound-commands}
+use Rattle.rht_script.specs.Grammar.{reading_of}
 use Rattle.rht_cli.specs.declared.form.Form.TheVariants.{Run}
 use Rattle.rht_cli.specs.Forms.{Prints}
 use Rattle.rht_cli.proofs.RunTexts.{closed-keys, Prints-run}
+use Rattle.rht_cli.proofs.ToldInput.{IsFaultOf-script}
 use Rattle.rht_cli.proofs.ServedScripts.{FailsBy-unread, Serves-put}
 use Rattle.rht_cli.proofs.program.serve_run.Goals as goal
 
@@ -15,7 +17,8 @@ returns-in_err-script g c =
     let p = err_from_is_err_and c.from_residual.result c.from_residual.ensures.1 in
     rw (p.1, p.2)
     (FailsBy-unread g.S.Source.left g.S.Source.faults g.O.Sink.held g.O.Sink.faults Run c.args.source.now
-    c.read_script.new.source tt c.args.out.now c.in_err-script.field-0.0 c.in_err-script.ensures.unread)
+    c.read_script.new.source reading_of (IsFaultOf-script Run tt (g.S.Source.left c.args.source.now) (g.S.Source.left c.read_script.new.source))
+    tt c.args.out.now c.in_err-script.field-0.0 c.in_err-script.ensures.unread)
 
 pub write_run-requires : goal.write_run-requires
 write_run-requires g c =

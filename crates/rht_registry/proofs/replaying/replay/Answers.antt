@@ -3,7 +3,8 @@ use Rattle.std.proofs.lemmas.Result.{err_from_is_err_and}
 use Rattle.rht_policy.specs.Mix.{mix_named}
 use Rattle.rht_registry.specs.Replays.{Playing, schedule_played, end_text, replay_text}
 use Rattle.rht_registry.specs.Players.{playing_of, Writes}
-use Rattle.rht_registry.proofs.PlayedParts.{Puts-longer, Writes-failed, Writes-after, Writes-nothing}
+use Rattle.rht_io.proofs.ToldLemmas.{Puts-longer}
+use Rattle.rht_registry.proofs.PlayedParts.{Writes-failed, Writes-after, Writes-nothing}
 use Rattle.rht_registry.proofs.ReplayEnds.{env_of, env_of-config, lines-for, commands-for, replay_text-one, replay_text-is, replay-in_run}
 use Rattle.rht_registry.proofs.replaying.replay.Goals as goal
 

@@ -10,7 +10,8 @@ use Rattle.rht_core.specs.Closing.{current_size}
 use Rattle.rht_script.specs.OperationText.{size_line}
 use Rattle.rht_registry.specs.Replays.{callers_of, open_text, end_text}
 use Rattle.rht_registry.proofs.LastBindings.{closed_text-bound_in}
-use Rattle.rht_registry.proofs.PlayedParts.{list_all-each, Puts-longer, Writes-of_put, Writes-failed, Writes-nothing}
+use Rattle.rht_io.proofs.ToldLemmas.{Puts-longer}
+use Rattle.rht_registry.proofs.PlayedParts.{list_all-each, Writes-of_put, Writes-failed, Writes-nothing}
 use Rattle.rht_registry.proofs.ReplayEnds.{end_text-idle, end_text-busy}
 use Rattle.rht_registry.proofs.replaying.write_end.Goals as goal
 

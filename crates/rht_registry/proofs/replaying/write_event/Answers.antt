@@ -3,7 +3,7 @@ use Rattle.rht_io.specs.declared.source.Failed.{Failed}
 use Rattle.rht_io.specs.Told.{Puts}
 use Rattle.rht_io.proofs.ToldLemmas.{Puts-after}
 use Rattle.rht_registry.specs.Replays.{did_text, ended_text, event_text}
-use Rattle.rht_registry.proofs.PlayedParts.{Puts-failed}
+use Rattle.rht_io.proofs.ToldLemmas.{Puts-failed}
 use Rattle.rht_registry.proofs.replaying.write_event.Goals as goal
 
 pub returns-in_err-write_did : goal.returns-in_err-write_did

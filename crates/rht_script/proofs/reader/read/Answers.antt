@@ -26,14 +26,14 @@ returns-in_err-table-clause-reason c =
 
 -- what is read is what the table line says with the lines below it
 read_below : (c : goal.After-script_below) → reading_of c.args.bytes.now ≡ said_with c.in_ok-table.table
-    c.table_line.new.lines.number c.table_line.new.lines.lines
+    c.first_table.new.lines.number c.first_table.new.lines.lines
 read_below c =
     reading_of-lines c.args.bytes.now c.if-bytes-gt-MOST_BYTES.false
     ∙ sym (ap said_in c.new-lines.ensures) ∙ c.in_ok-table.ensures
 
 pub returns-clause-reason : goal.returns-clause-reason
 returns-clause-reason c =
-    let left = c.table_line.new.lines in
+    let left = c.first_table.new.lines in
     IfErr-weaker c.script_below.result (IsReasonFor (said_with c.in_ok-table.table left.number left.lines))
     (IsReason c.args.bytes.now)
     (λ error reason. subst (λ reading. IsReasonFor reading error) (sym (read_below c)) reason)
@@ -41,7 +41,7 @@ returns-clause-reason c =
 
 pub returns-clause-script : goal.returns-clause-script
 returns-clause-script c =
-    let left = c.table_line.new.lines in
+    let left = c.first_table.new.lines in
     IfOk-weaker c.script_below.result
     (λ script. said_with c.in_ok-table.table left.number left.lines ≡ Ok (said_by script))
     (IsScript c.args.bytes.now) (λ script says. read_below c ∙ says) c.script_below.ensures.script

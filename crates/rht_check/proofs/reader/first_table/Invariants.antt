@@ -1,0 +1,12 @@
+use Rattle.std.proofs.Common.{◌≡◌, ◌≤◌, length}
+use Rattle.rht_check.specs.Reading.{claimed_from}
+use Rattle.rht_check.proofs.reader.first_table.Given as goal
+
+-- the lines so far were skipped, so what is said is said in the lines that are left
+abbrev pub invariant-loop-next : goal.invariant-loop-next
+invariant-loop-next l =
+    claimed_from l.lines.number l.lines.lines ≡ claimed_from l.initial.lines.number l.initial.lines.lines
+
+-- the lines that are left
+abbrev pub decreases-loop-next : goal.decreases-loop-next
+decreases-loop-next l = length l.lines.lines

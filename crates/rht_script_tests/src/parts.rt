@@ -1,0 +1,194 @@
+//! The parts of scripts, read one by one, and numbers and ports that are written. What is wanted of
+//! each was worked out by hand from the rules of scripts.
+
+use crate::asserts::{assert_same, assert_text};
+use rht_io::MemSink;
+use rht_model::{Bindings, Call};
+use rht_script::{
+    TableLine, command_line, line_end, number_of, port_word, table_line, word_at, write_number,
+    write_port, write_ports,
+};
+use rht_words::{Config, Kind};
+use std::test::Fail;
+
+#[test]
+fn finds_ends_of_lines(rt: HostRuntime) {
+    // the text, a place, and where the line ends that begins there
+    let cases = [
+        ("", 0, 0),
+        ("\n", 0, 0),
+        ("\n", 1, 1),
+        ("ab\ncd", 0, 2),
+        ("ab\ncd", 2, 2),
+        ("ab\ncd", 3, 5),
+        ("ab\ncd\n", 4, 5),
+        ("ab\r\n", 1, 3),
+    ];
+    for (text, at, end) in cases {
+        let bytes = text.as_bytes();
+        let found = line_end(bytes, bytes.len().min(at));
+        assert_same(&rt, &found, &end, (text, at));
+    }
+}
+
+#[test]
+fn finds_words(rt: HostRuntime) {
+    // Two spaces, `ab` at 2, a tab, `c` at 5, and a space. A line feed is no blank.
+    let line = "  ab\tc ";
+    let cases = [
+        (line, 0, Some((2, 4))),
+        (line, 3, Some((3, 4))),
+        (line, 4, Some((5, 6))),
+        (line, 6, None),
+        (line, 7, None),
+        ("", 0, None),
+        ("#a", 0, Some((0, 2))),
+        ("a\nb", 0, Some((0, 3))),
+    ];
+    for (text, at, word) in cases {
+        let bytes = text.as_bytes();
+        let found = word_at(bytes, bytes.len().min(at));
+        assert_same(&rt, &found, &word, (text, at));
+    }
+}
+
+#[test]
+fn reads_numbers(rt: HostRuntime) {
+    // the word, the least and the greatest number, and what is read
+    let cases = [
+        ("0", 0, 0, Ok(0)),
+        ("00000000000000000007", 7, 7, Ok(7)),
+        ("000000000000000000007", 7, 7, Err(3)),
+        ("5", 6, 9, Err(4)),
+        ("10", 6, 9, Err(4)),
+        ("", 0, 9, Err(3)),
+        ("+1", 0, 9, Err(3)),
+        ("1x", 0, 0, Err(3)),
+        ("18446744073709551615", 0, u64::MAX, Ok(u64::MAX)),
+        ("18446744073709551616", 0, u64::MAX, Err(4)),
+        ("99999999999999999999", 0, u64::MAX, Err(4)),
+    ];
+    for (word, least, greatest, read) in cases {
+        let found = number_of(word.as_bytes(), least, greatest);
+        assert_same(&rt, &found, &read, word);
+    }
+}
+
+#[test]
+fn reads_ports(rt: HostRuntime) {
+    let cases = [
+        ("0", Ok(0)),
+        ("0080", Ok(80)),
+        ("4294967295", Ok(u32::MAX)),
+        ("4294967296", Err(4)),
+        ("1.80", Err(3)),
+        ("-1", Err(3)),
+    ];
+    for (word, read) in cases {
+        assert_same(&rt, &port_word(word.as_bytes(), 1), &read, word);
+    }
+}
+
+#[test]
+fn reads_table_lines(rt: HostRuntime) {
+    let plain = TableLine {
+        config: Config::plain(),
+        auto: true,
+        form: 1,
+    };
+    let listed = Config {
+        kind: Kind::Listed,
+        callers: 2,
+        ..plain.config
+    };
+    let manual = TableLine {
+        config: listed,
+        auto: false,
+        ..plain
+    };
+    let cases = [
+        ("table single", Ok(plain)),
+        (" table\tsingle seed 01\r", Ok(plain)),
+        ("table listed work manual workers 2", Ok(manual)),
+        ("", Err(1)),
+        (" \t", Err(1)),
+        ("# a", Err(1)),
+        ("1 find 80", Err(1)),
+        ("table", Err(2)),
+        ("table single nodes", Err(2)),
+        ("table single form 1", Err(2)),
+        ("table single nodes x form 1", Err(3)),
+        ("table single workers 0", Err(4)),
+        ("table single min 8 min 8", Err(8)),
+        ("table single hint 2 hint 2 seed x", Err(3)),
+    ];
+    for (line, read) in cases {
+        assert_same(&rt, &table_line(line.as_bytes()), &read, line);
+    }
+}
+
+#[test]
+fn reads_command_lines(rt: HostRuntime) -> Result<(), Fail> {
+    let single = table_line(b"table single workers 2")?;
+    let bind = Call::Bind {
+        port: 80,
+        owner: 100,
+        once: false,
+    };
+    let cases = [
+        (" 1 bind\t80 100", Ok((1, bind))),
+        ("02 find 80", Ok((2, Call::Find { port: 80 }))),
+        ("1 work", Ok((1, Call::Work))),
+        ("", Err(2)),
+        ("\r", Err(2)),
+        ("step 1 1", Err(2)),
+        ("skip 1 1", Err(2)),
+        ("finish", Err(2)),
+        ("1", Err(2)),
+        ("1 bind 80", Err(2)),
+        ("1 find 80 80", Err(2)),
+        ("# 1 find 80", Err(3)),
+        ("one find 80", Err(3)),
+        ("1 find x 80", Err(3)),
+        ("3 found 80", Err(4)),
+        ("1 all 4294967296", Err(4)),
+    ];
+    for (line, read) in cases {
+        let found = command_line(line.as_bytes(), &single);
+        assert_same(&rt, &found, &read, line);
+    }
+    Ok(())
+}
+
+#[test]
+fn the_kind_of_table_is_asked_last(rt: HostRuntime) -> Result<(), Fail> {
+    let listed = table_line(b"table listed")?;
+    let cases = [
+        ("1 rebind 80 1 2", 7),
+        ("1 rebind 80 1 x", 3),
+        ("1 rebind 80 1 2 3", 2),
+    ];
+    for (line, cause) in cases {
+        let found = command_line(line.as_bytes(), &listed).err();
+        assert_same(&rt, &found, &Some(cause), line);
+    }
+    Ok(())
+}
+
+#[test]
+fn writes_numbers_and_ports(rt: HostRuntime) -> Result<(), Fail> {
+    let alloc = rt.alloc();
+    let mut bindings = Bindings::with_room(alloc, 3)?;
+    bindings.add(7, 5);
+    bindings.add(7, 4);
+    bindings.add(80, 1);
+    let mut sink = MemSink::new(alloc, 128, vec![in alloc; 3]?)?;
+    let number = write_number(&mut sink, u64::MAX);
+    let ports = write_ports(&mut sink, &bindings);
+    let failed = write_number(&mut sink, 1);
+    let port = write_port(&mut sink, 0);
+    let ends = [number.is_ok(), ports.is_ok(), failed.is_ok(), port.is_ok()];
+    assert_same(&rt, &ends, &[true, true, false, true], "the third put");
+    assert_text(&rt, &sink, "18446744073709551615port 7: 5 4\nport 80: 1\n0");
+    Ok(())
+}
