@@ -1,18 +1,18 @@
 -- Claims judged one by one: the entries of those that were right so far, the commands that each worker has left behind them, and the
 -- bindings that the entries leave. From these the next claim is judged, and at the end all of them.
-use Rattle.std.proofs.Common.{◌≡◌, ◌≢◌, ℕ, ◌+◌, ◌<◌, ◌≤◌, ◌==◌, cond, Option, None, Some, List, [], ◌∷◌, ◌++◌, length, get_or, take, drop, take-append-drop, suc, zero, refl, sym, ◌∙◌, ap, subst, append_assoc, append-nil, add-one, add-zero, arith, inl, inr}
+use Rattle.std.proofs.Common.{◌≡◌, ◌≢◌, ℕ, ◌+◌, ◌<◌, ◌≤◌, ◌==◌, cond, None, Some, List, [], ◌∷◌, ◌++◌, length, get_or, take, drop, take-append-drop, suc, zero, refl, sym, ◌∙◌, ap, subst, append_assoc, append-nil, add-one, add-zero, arith, inl, inr}
 use Rattle.std.proofs.Math.ListN.{drop_of_length-le}
 use Rattle.std.proofs.lemmas.Bool.{cases_eq, cases_lt, eq-eqb, ne_eqb}
 use Rattle.std.proofs.lemmas.Grind.{common_steps}
 use Rattle.std.proofs.lemmas.List.{drop_more}
 use Rattle.std.proofs.lemmas.List.Sums.{sum_by_push}
-use Rattle.std.specs.List.{slice_get, count_by}
+use Rattle.std.specs.List.{slice_get}
 use Rattle.rht_words.specs.declared.config.Kind.{Kind}
 use Rattle.rht_model.specs.declared.history.Call.{Call}
 use Rattle.rht_model.specs.declared.history.Entry.{Entry}
 use Rattle.rht_model.specs.Multimap.{Port, unbound}
 use Rattle.rht_model.specs.Listing.{Lists}
-use Rattle.rht_model.specs.Histories.{IsLegal, IsLegalAt, left_by, bindings_left}
+use Rattle.rht_model.specs.Histories.{IsLegalAt, left_by, bindings_left}
 use Rattle.rht_model.proofs.LongerHistories.{IsLegalFrom-push, bindings_left-append}
 use Rattle.rht_check.specs.Claims.{Told, commands_of, claims_of, command_behind, entry_of, IsEntryOf, AreEntriesOf}
 use Rattle.rht_check.specs.CommandsLeft.{Left, left_of, TakesCommand, IsFirstLeft}
@@ -22,13 +22,13 @@ use Rattle.rht_check.specs.Verdicts.{AreRight, IsReached, IsExtra, IsWrong, IsUn
 -- ---- one claim more
 
 -- a claim of a worker is counted with those before it, and one of another worker isn't
-claims_of-own : (worker : ℕ) (claims : List Told) (told : Told) → told.0 ≡ worker
+pub claims_of-own : (worker : ℕ) (claims : List Told) (told : Told) → told.0 ≡ worker
     → claims_of worker (claims ++ told ∷ []) ≡ claims_of worker claims + 1
 claims_of-own worker claims told own =
     sum_by_push (λ t. cond (t.0 == worker) 1 0) claims told
     ∙ ap (λ b. claims_of worker claims + cond b 1 0) (eq-eqb told.0 worker own)
 
-claims_of-other : (worker : ℕ) (claims : List Told) (told : Told) → told.0 ≢ worker
+pub claims_of-other : (worker : ℕ) (claims : List Told) (told : Told) → told.0 ≢ worker
     → claims_of worker (claims ++ told ∷ []) ≡ claims_of worker claims
 claims_of-other worker claims told other =
     sum_by_push (λ t. cond (t.0 == worker) 1 0) claims told
@@ -52,7 +52,7 @@ AreEntriesOf-push commands before (claim ∷ claims) (first ∷ entries) told en
 -- ---- what stands at a place of a list
 
 -- what is left of a list begins with what stands at its place
-slice_get-of_rest : {X : Type 0} (xs : List X) (n : ℕ) (x : X) (rest : List X) → drop n xs ≡ x ∷ rest
+pub slice_get-of_rest : {X : Type 0} (xs : List X) (n : ℕ) (x : X) (rest : List X) → drop n xs ≡ x ∷ rest
     → (slice_get xs n ≡ Some x) × (drop (suc n) xs ≡ rest)
 slice_get-of_rest [] zero x rest is = absurd (cc)
 slice_get-of_rest [] (suc n) x rest is = absurd (cc)
@@ -60,7 +60,7 @@ slice_get-of_rest (y ∷ ys) zero x rest is = (cc, cc)
 slice_get-of_rest (y ∷ ys) (suc n) x rest is = slice_get-of_rest ys n x rest is
 
 -- and where nothing is left nothing stands there
-slice_get-of_none : {X : Type 0} (xs : List X) (n : ℕ) → drop n xs ≡ [] → (slice_get xs n ≡ None) × (length xs ≤ n)
+pub slice_get-of_none : {X : Type 0} (xs : List X) (n : ℕ) → drop n xs ≡ [] → (slice_get xs n ≡ None) × (length xs ≤ n)
 slice_get-of_none [] zero none = (refl, omega arith)
 slice_get-of_none [] (suc n) none = (refl, omega arith)
 slice_get-of_none (y ∷ ys) zero none = absurd (cc)

@@ -18,3 +18,13 @@ pub mod LinesRead
 pub mod OwnersRead
 -- what was read so far, before what the lines say that are left
 pub mod ClaimsRead
+-- a claimed history that is read can be judged
+pub mod SoundClaims
+-- the parts of a claimed history, read one after another
+pub mod ClaimReadings
+-- the entries of claims, told otherwise
+pub mod WholeHistories
+-- claims have one verdict
+pub mod OneVerdict
+-- claimed histories and their verdicts, as the definitions have them
+pub mod WorkedClaims

@@ -10,7 +10,7 @@ use Rattle.rht_script.specs.declared.script.ReadError.{ReadError}
 use Rattle.rht_script.specs.declared.script.ReadError.TheVariants.{Fault, Memory}
 use Rattle.rht_script.specs.declared.cause.Cause.{Cause}
 use Rattle.rht_script.specs.declared.cause.Cause.TheVariants.{UnknownWord}
-use Rattle.rht_script.specs.Spelling.{◌>>=◌, is_word, is_within, number_of}
+use Rattle.rht_script.specs.Spelling.{◌>>=◌, between, is_word, is_within, number_of}
 use Rattle.rht_script.specs.CommandLines.{command_of, worker_limits}
 use Rattle.rht_script.specs.Grammar.{coded, at_line, fault_at}
 use Rattle.rht_script.specs.Reading.{IsReasonFor}
@@ -82,6 +82,17 @@ pub number_of-most : (limits : Limits) (word : List ℕ) (line number : ℕ)
 number_of-most limits word line number is =
     let within = IfOk-at_ok (λ n. is_within limits n ≡ true) is (IfOk-at_line (λ n. is_within limits n ≡ true) line (number_of limits word) (number_within limits word)) in
     leb-true number limits.greatest (and_parts (nat_le limits.least number) (nat_le number limits.greatest) within).1
+
+-- what a number is read as, whose word and limits the code has found
+pub number_read : (line m k callers : ℕ) (word : List ℕ) (numbered : Result ℕ ℕ) (read : Result ℕ ScriptFault)
+    → read ≡ coded_at line numbered → numbered ≡ coded (number_of (between 1 k) (take m word)) → k ≡ callers → m ≡ length word - 1
+    → read ≡ at_line line (number_of (between 1 callers) (take (length word - 1) word))
+number_read line m k callers word numbered read is number limit front =
+    is
+    ∙ ap (coded_at line) (number
+    ∙ ap (λ n. coded (number_of (between 1 n) (take m word))) limit
+    ∙ ap (λ n. coded (number_of (between 1 callers) (take n word))) front)
+    ∙ coded_at-coded line (number_of (between 1 callers) (take (length word - 1) word))
 
 -- ---- a claim's first word
 

@@ -1,14 +1,13 @@
 -- An ordered map as bindings: what a look-up finds is what its entries say of the port, and what changes one key changes one port.
-use Rattle.std.proofs.Common.{◌≡◌, ◌≢◌, ℕ, ◌==◌, Bool, true, false, cond, Option, None, Some, List, [], ◌∷◌, refl, sym, ◌∙◌, ap, inl, inr, unwrap_or, IfSome, arith}
+use Rattle.std.proofs.Common.{◌≡◌, ℕ, ◌==◌, Option, None, Some, List, [], ◌∷◌, refl, sym, ◌∙◌, ap, inl, inr, unwrap_or, arith}
 use Rattle.std.proofs.lemmas.Bool.{cases_Bool, cases_eq, cases_order, eq-eqb, ne_eqb}
 use Rattle.std.specs.declared.cmp.Ordering.TheVariants.{Less, Equal, Greater}
 use Rattle.std.specs.Ordering.{nat_cmp, is_eq}
 use Rattle.std.specs.Cmp.{nat_cmp_is}
 use Rattle.std.specs.BTreeMap.{is_at}
-use Rattle.std.specs.Map.{lookup}
-use Rattle.rht_model.specs.Multimap.{Port, Multimap, with_owners}
+use Rattle.rht_model.specs.Multimap.{Port, with_owners}
 use Rattle.rht_model.specs.Listing.{listed_at}
-use Rattle.rht_check.specs.Updates.{found_at, owners_at, IsUpdated}
+use Rattle.rht_check.specs.Updates.{found_at, IsUpdated}
 use Rattle.rht_model.proofs.PlainPairs.{same_bindings}
 
 -- a key is at a port where it is that port

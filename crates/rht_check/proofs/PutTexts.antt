@@ -1,6 +1,6 @@
 -- Texts that are put one after another, each after those before it were put whole: what was put is theirs together, and where one
 -- fails a prefix of all was put.
-use Rattle.std.proofs.Common.{◌≡◌, ℕ, ◌≤◌, List, ◌++◌, Option, Result, Ok, Err, IsErr, refl, subst}
+use Rattle.std.proofs.Common.{◌≡◌, ℕ, List, ◌++◌, Option, Result, Ok, Err, IsErr, refl, subst}
 use Rattle.rht_io.specs.Told.{Puts}
 use Rattle.rht_io.proofs.ToldLemmas.{Puts-after, Puts-longer, Puts-passed_on}
 

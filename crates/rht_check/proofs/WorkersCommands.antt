@@ -1,11 +1,10 @@
 -- A worker's commands among those of all: none where no command is the worker's, and else the first that is, before those behind it.
-use Rattle.std.proofs.Common.{◌≡◌, ◌≢◌, ℕ, ◌+◌, ◌-◌, ◌<◌, ◌≤◌, ◌==◌, ◌⊎◌, Bool, true, false, None, Some, List, [], ◌∷◌, ◌++◌, length, map, filter, All, drop, get_or, set, suc, zero, refl, sym, ◌∙◌, ap, add-one, arith, inl, inr}
-use Rattle.std.proofs.lemmas.Bool.{cases_Bool, cases_eq, ne_eqb}
-use Rattle.std.proofs.lemmas.List.{get_or-set_other}
-use Rattle.std.proofs.lemmas.List.Elements.{All-head, All-tail, All-drop}
+use Rattle.std.proofs.Common.{◌≡◌, ℕ, ◌+◌, ◌<◌, ◌==◌, ◌⊎◌, Bool, true, false, None, Some, List, [], ◌∷◌, length, All, drop, get_or, suc, zero, refl, sym, ◌∙◌, add-one, arith, inl, inr}
+use Rattle.std.proofs.lemmas.Bool.{cases_Bool, ne_eqb}
+use Rattle.std.proofs.lemmas.List.Elements.{All-head, All-tail}
 use Rattle.std.proofs.lemmas.List.Quantifiers.{position-Some}
 use Rattle.std.proofs.lemmas.Iterator.Adapters.{position_from-zero}
-use Rattle.std.specs.List.{position, position_from, slice_index}
+use Rattle.std.specs.List.{position, position_from}
 use Rattle.rht_model.specs.declared.history.Call.{Call}
 use Rattle.rht_check.specs.Claims.{commands_of}
 use Rattle.rht_check.specs.CommandsLeft.{IsWorkerOf}

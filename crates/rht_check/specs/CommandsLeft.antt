@@ -1,5 +1,5 @@
 -- How a place for each worker stands for the commands that it has left.
-use Rattle.std.specs.Prelude.{◌≡◌, ◌≢◌, ℕ, ◌+◌, ◌-◌, ◌<◌, ◌≤◌, true, List, [], ◌∷◌, All, drop, length, slice_index, slice_index_or}
+use Rattle.std.specs.Prelude.{◌≡◌, ◌≢◌, ℕ, ◌+◌, ◌-◌, ◌<◌, ◌≤◌, List, [], ◌∷◌, drop, length, slice_index, slice_index_or}
 use Rattle.rht_model.specs.declared.history.Call.{Call}
 use Rattle.rht_check.specs.Claims.{commands_of}
 

@@ -12,3 +12,5 @@ pub mod Updates
 pub mod Verdicts
 -- the text of a verdict
 pub mod Text
+-- what follows from the definitions alone
+pub mod Laws

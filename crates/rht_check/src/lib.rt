@@ -8,6 +8,7 @@
 mod claim;
 mod commands_left;
 mod judging;
+pub mod laws;
 mod owner_list;
 mod port_map;
 mod reader;

@@ -19,7 +19,12 @@ pub fn write_verdict<O: Sink>(out: &mut O, verdict: &Verdict) -> Result<(), Fail
         Verdict::Legal { bindings } => write_accepted(out, bindings),
         Verdict::Extra { claim } => write_named(out, b"claim ", (*claim).into(), b": extra\n"),
         Verdict::Wrong { claim } => write_named(out, b"claim ", (*claim).into(), b": wrong\n"),
-        Verdict::Unfinished { worker } => write_named(out, b"worker ", (*worker).into(), b": unfinished\n"),
+        Verdict::Unfinished { worker } => write_named(
+            out,
+            b"worker ",
+            (*worker).into(),
+            b": unfinished\n",
+        ),
     }
 }
 

@@ -1,4 +1,4 @@
-use Rattle.std.proofs.Common.{◌≡◌, ℕ, ◌+◌, ◌<◌, ◌≤◌, List, [], ◌∷◌, ◌++◌, length, take, drop, get_or, true, false, sym, ◌∙◌, ap, subst, arith}
+use Rattle.std.proofs.Common.{◌≡◌, ◌+◌, ◌<◌, [], ◌∷◌, ◌++◌, length, take, drop, true, sym, ◌∙◌, ap, subst, arith}
 use Rattle.std.proofs.lemmas.Bool.{both_ways}
 use Rattle.std.proofs.lemmas.List.{take_more, take_all}
 use Rattle.std.specs.Bool.{OnTrue}
@@ -7,7 +7,7 @@ use Rattle.rht_model.specs.Histories.{left_by}
 use Rattle.rht_model.proofs.PlainPairs.{same_bindings}
 use Rattle.rht_check.specs.Claims.{Told, commands_of, entry_of}
 use Rattle.rht_check.specs.Updates.{owners_at}
-use Rattle.rht_check.specs.Verdicts.{IsReached, IsUnfinished, IsAccepted}
+use Rattle.rht_check.specs.Verdicts.{IsUnfinished, IsAccepted}
 use Rattle.rht_check.proofs.JudgedClaims.{AreJudged, AreJudged-none, AreJudged-push, parts_at, length_before, extra, wrong, unfinished, accepted}
 use Rattle.rht_check.proofs.judging.check.Goals as goal
 

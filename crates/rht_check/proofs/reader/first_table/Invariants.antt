@@ -1,4 +1,4 @@
-use Rattle.std.proofs.Common.{◌≡◌, ◌≤◌, length}
+use Rattle.std.proofs.Common.{◌≡◌, length}
 use Rattle.rht_check.specs.Reading.{claimed_from}
 use Rattle.rht_check.proofs.reader.first_table.Given as goal
 

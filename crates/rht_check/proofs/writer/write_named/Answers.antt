@@ -1,5 +1,4 @@
-use Rattle.std.proofs.Common.{◌≡◌, ℕ, List, ◌++◌, Result, Ok, Err, decimal, refl, sym, ◌∙◌, subst, append_assoc}
-use Rattle.rht_io.specs.declared.source.Failed.{Failed}
+use Rattle.std.proofs.Common.{◌++◌, Ok, Err, decimal, refl, sym, subst, append_assoc}
 use Rattle.rht_io.specs.Told.{Puts}
 use Rattle.rht_io.proofs.ToldLemmas.{Puts-after, Puts-longer, Puts-passed_on}
 use Rattle.rht_check.proofs.PutTexts.{Puts-stopped}

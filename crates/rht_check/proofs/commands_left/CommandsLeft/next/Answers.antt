@@ -1,4 +1,4 @@
-use Rattle.std.proofs.Common.{◌≡◌, ℕ, ◌+◌, ◌-◌, false, sym, subst, get_or, set}
+use Rattle.std.proofs.Common.{ℕ, ◌+◌, ◌-◌, false, sym, subst, get_or, set}
 use Rattle.rht_model.specs.declared.history.Call.{Call}
 use Rattle.rht_model.specs.declared.history.Call.TheVariants.{Bind}
 use Rattle.rht_check.specs.CommandsLeft.{Left, TakesCommand, IsNextAt}

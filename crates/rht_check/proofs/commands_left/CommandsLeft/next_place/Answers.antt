@@ -1,4 +1,4 @@
-use Rattle.std.proofs.Common.{◌≡◌, ℕ, ◌+◌, ◌-◌, ◌<◌, ◌≤◌, Some, None, List, [], drop, sym, ◌∙◌, ap, subst, arith, inl, inr, length}
+use Rattle.std.proofs.Common.{◌≡◌, ◌+◌, ◌-◌, ◌<◌, ◌≤◌, Some, [], drop, sym, ◌∙◌, subst, arith, inl, inr, length}
 use Rattle.std.proofs.lemmas.List.{get_or_default}
 use Rattle.std.specs.List.{slice_index, position}
 use Rattle.rht_check.specs.CommandsLeft.{Left, left_of, IsNextAt}

@@ -1,6 +1,6 @@
-use Rattle.std.proofs.Common.{◌≡◌, ℕ, ◌+◌, ◌-◌, ◌<◌, ◌≤◌, List, [], length, sym, ◌∙◌, ap, subst, arith, inl, inr}
+use Rattle.std.proofs.Common.{◌+◌, length, sym, ◌∙◌, ap, subst, arith, inl, inr}
 use Rattle.std.proofs.lemmas.Bool.{cases_lt}
-use Rattle.rht_check.specs.CommandsLeft.{Left, left_of, IsFirstLeft}
+use Rattle.rht_check.specs.CommandsLeft.{Left}
 use Rattle.rht_check.proofs.NextCommands.{HasWorkers, left_of-outside, is_left}
 use Rattle.rht_check.proofs.commands_left.CommandsLeft.unfinished.Goals as goal
 

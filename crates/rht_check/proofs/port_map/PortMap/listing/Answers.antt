@@ -1,8 +1,7 @@
-use Rattle.std.proofs.Common.{◌≡◌, ℕ, ◌+◌, List, [], ◌∷◌, ◌++◌, length, sym, ◌∙◌, ap, subst, append-nil, arith}
+use Rattle.std.proofs.Common.{◌≡◌, ◌++◌, sym, ◌∙◌, ap, append-nil, arith}
 use Rattle.std.proofs.lemmas.Map.Iter.{rest_more, rest_all}
 use Rattle.std.specs.Map.Iter.{deref_pair}
-use Rattle.rht_model.specs.Listing.{Lists}
-use Rattle.rht_check.specs.Updates.{owners_at, count_of_owners}
+use Rattle.rht_check.specs.Updates.{count_of_owners}
 use Rattle.rht_check.proofs.ListedPorts.{count_of_owners-cons, bound_entries, Lists-entries, listed_more}
 use Rattle.rht_check.proofs.port_map.PortMap.listing.Goals as goal
 

@@ -1,4 +1,4 @@
-use Rattle.std.proofs.Common.{◌≡◌, ◌+◌, ◌++◌}
+use Rattle.std.proofs.Common.{◌≡◌, ◌++◌}
 use Rattle.rht_check.specs.Updates.{count_of_owners}
 use Rattle.rht_check.proofs.port_map.PortMap.listing.Given as goal
 
