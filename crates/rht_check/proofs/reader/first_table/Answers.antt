@@ -7,5 +7,5 @@ use Rattle.rht_check.proofs.reader.first_table.Goals as goal
 
 pub returns-then-not-is_skipped-clause-sound : goal.returns-then-not-is_skipped-clause-sound
 returns-then-not-is_skipped-clause-sound c =
-    subst (λ r. IfOk r IsSoundTable) (sym (c.coded_at.ensures ∙ ap (coded_at c.in_ok-number.number) c.table_line.ensures))
+    subst (λ r. IfOk r IsSoundTable) (sym (c.coded_at.ensures ∙ ap (coded_at c.in_ok-number.number) c.table_line.ensures.value))
     (coded_table_sound c.in_ok-number.number (words_of c.in_ok-number.line.now))
