@@ -217,7 +217,8 @@ impl<M: Mix> Table<M> {
         self.drive_work::<R, Brand>(rt, &mut pass.seat, pass.number)
     }
 
-    /// Gives back the nodes that wait in the pass's batch, all at once, so that binds can take them again.
+    /// Gives back the nodes that wait in the pass's batch, all of them or none, so that binds can take them
+    /// again. Each takes an operation, so a bind may take the first while the call goes on.
     /// It waits for nobody, and takes no memory.
     ///
     /// A node that a release or a rebind took out comes into its pass's batch. Where none of these waits
