@@ -132,7 +132,7 @@ impl Scale {
         }
     }
 
-    /// A row of this scale. No row tidies, so a node that was taken out doesn't come back. What binds is
+    /// A row of this scale. No row tidies, so a node that was taken out doesn't come back. So what binds is
     /// done a few times in one table, and then in another one.
     pub fn row(self, workload: Workload, ports: u32, threads: u32) -> Row {
         let share = self.many / ports.max(1);

@@ -22,6 +22,7 @@ use Rattle.rht_core.specs.declared.event.Event.{Event}
 use Rattle.rht_core.specs.Causes.{CauseOf, HasCause}
 use Rattle.rht_core.specs.Serving.{Serves, calls_of}
 use Rattle.rht_core.specs.Traces.{Past}
+use Rattle.rht_core.proofs.Histories.ToldEntries.{tries-last}
 use Rattle.rht_run.specs.ServedRuns.{tag_of, HasRun}
 use Rattle.rht_registry.proofs.SoundCommands.{IsCommandFor}
 use Rattle.rht_script.specs.Generated.{generated_said, generated_commands, is_bind, is_find, is_release, how_many as how_many_ask}
@@ -153,8 +154,10 @@ module _ (of_call : Call → ℕ) where
     one_worker auto (call ∷ calls) [] dones serves plain counted = absurd serves
     one_worker auto (call ∷ calls) (ending ∷ endings) dones serves plain counted =
         let parts = AllByRecursion-cut IsCounted serves.first serves.rest (subst (AllByRecursion IsCounted) serves.whole counted) in
-        let own = subst (AllByRecursion IsCounted) serves.first_is.whole parts.0 in
-        let here : of_reply ending.answer.reply ≡ of_call call = own.0 plain.0 in
+        let for = serves.first_is in
+        let tried = AllByRecursion-cut IsCounted for.tries for.behind (subst (AllByRecursion IsCounted) for.whole parts.0) in
+        let here : of_reply ending.answer.reply ≡ of_call call =
+        tries-last IsCounted call ending for.tries for.are_tries tried.0 plain.0 in
         let others = one_worker auto calls endings serves.rest serves.rest_is plain.1 parts.1 in
         omega (arith, sums.more ending endings, here, others)
 

@@ -121,7 +121,7 @@ fn assert_cases<R: Threads + Wait + Sync + Abort>(
 
 #[test]
 fn scripts_are_served_and_others_refused(rt: HostRuntime) -> Result<(), Fail> {
-    let cases: [Case; 30] = [
+    let cases: [Case; 31] = [
         (&["run"], "table single\n", 0, "size 64 keys 0\n", ""),
         (
             &["run"],
@@ -176,7 +176,8 @@ fn scripts_are_served_and_others_refused(rt: HostRuntime) -> Result<(), Fail> {
             "",
         ),
         // Refusals: a table of at most 4 buckets holds 8 ports, all of them in 4 buckets; and of 1 node
-        // none is left once it was taken, also where it was taken out again.
+        // none is left while a port is bound. Once that was released, a bind tidies and has the node; where
+        // a command tidies before, there is nothing left to do.
         (
             &["run"],
             "table single max 4 hash low\n1 bind 0 9\n1 bind 1 9\n1 bind 2 9\n1 bind 3 9\n1 bind 4 9\n1 bind 5 9\n1 bind 6 9\n1 bind 7 9\n1 bind 8 9\n",
@@ -188,7 +189,14 @@ fn scripts_are_served_and_others_refused(rt: HostRuntime) -> Result<(), Fail> {
             &["run"],
             "table single nodes 1\n1 bind 80 1\n1 bind 81 1\n1 release 80 1\n1 bind 81 1\n",
             0,
-            "1: bound\n1: nonode\n1: released\n1: nonode\nsize 64 keys 0\n",
+            "1: bound\n1: nonode\n1: released\n1: bound\nport 81: 1\nsize 64 keys 1\n",
+            "",
+        ),
+        (
+            &["run"],
+            "table single nodes 1\n1 bind 80 1\n1 bind 81 2\n1 release 80 1\n1 tidy\n1 bind 81 2\n",
+            0,
+            "1: bound\n1: nonode\n1: released\n1: clear 1\n1: bound\nport 81: 2\nsize 64 keys 1\n",
             "",
         ),
         // The options, comments, blank lines, blanks between words, and a last line that the end of
@@ -487,6 +495,12 @@ fn schedules_are_replayed(rt: HostRuntime) -> Result<(), Fail> {
         (
             "table single nodes 8 pages 4 workers 2 hash low\n1 bind 5 9\n2 find 5\nstep 1 17\nstep 2 8\n",
             "1 load 280 255\n1 and 280 18446744073709551614 255\n1 store 283 5\n1 store 284 9\n1 store 285 0\n1 add 8 1 0\n1 load 0 0\n1 load 24 6\n1 load 25 1\n1 load 319 0\n1 cas 319 0 1 0\n1 load 26 0\n1 load 2 0\n1 store 282 639\n1 add 2 1 0\n1 store 319 2\n1 add 8 1 1\n1: bound\n2 add 9 1 0\n2 load 0 0\n2 load 24 6\n2 load 25 1\n2 load 319 2\n2 load 283 5\n2 load 284 9\n2 add 9 1 1\n2: found 9\nport 5: 9\nsize 64 keys 1\n",
+        ),
+        // Worker 1 opens its section, reads the current table and its shape, and stops. The node of port 80
+        // doesn't come back until it has ended its look-up. In a replay a bind doesn't tidy by itself.
+        (
+            "table single nodes 1 workers 2\n2 bind 80 1\n2 release 80 1\n2 tidy\n2 bind 81 2\n2 tidy\n2 bind 81 2\n1 find 80\nfinish 2 1\nskip 1 3\nfinish 2 3\nfinish 1 1\nfinish 2 2\n",
+            "2: bound\n2: released\n2: pending 0 1\n2: nonode\n1: missing\n2: clear 1\n2: bound\nport 81: 2\nsize 64 keys 1\n",
         ),
         // A worker that is in a call at the end is named.
         (

@@ -1,5 +1,5 @@
 -- What the count of ports counts, and what a table is like while nobody is in a call.
-use Rattle.std.specs.Prelude.{◌≡◌, ◌≢◌, ℕ, ◌+◌, ◌/◌, ◌%◌, ◌<◌, ◌≤◌, ◌⊎◌, Bool, Option, Some, List, [], ◌∷◌, ◌++◌, length, slice_index, sum_by, count_by}
+use Rattle.std.specs.Prelude.{◌≡◌, ◌≢◌, ℕ, ◌+◌, ◌/◌, ◌%◌, ◌<◌, ◌≤◌, ◌⊎◌, Bool, true, Option, Some, List, [], ◌∷◌, ◌++◌, length, slice_index, sum_by, count_by}
 use Rattle.std.specs.List.{AllByRecursion, flat_map, range_with_len}
 use Rattle.std.specs.Int.{bit_at}
 use Rattle.rht_words.specs.declared.env.Env.{Env}
@@ -12,6 +12,7 @@ use Rattle.rht_model.specs.declared.history.Call.{Call}
 use Rattle.rht_model.specs.declared.history.Call.TheVariants.{Bind, Release}
 use Rattle.rht_core.specs.declared.event.Event.{Event}
 use Rattle.rht_callers.specs.Batches.{nodes_in, batch_room}
+use Rattle.rht_callers.specs.Locals.{is_idle}
 use Rattle.rht_core.specs.Runs.{Core, World, local_of, run_of, IsAdmitted}
 use Rattle.rht_stands.specs.StandsFor.{in_force, shape_of, bucket_in, nodes_of, stands_for, AreAllBound}
 use Rattle.rht_core.specs.TablePages.{IsPageOfTable}
@@ -85,10 +86,12 @@ module _ (g : Geometry) (words : List ℕ) where
     pub attached : (slot : ℕ) → slot < 8 → word_at g words (Slot slot StateWord) ≢ 0
         → (word_at g words (Slot slot StateWord) ≡ 2) ⊎ In slot (in_force g words)
 
--- how many of the calls that have ended did so
+-- how many of this caller's calls that have ended did so, and of all callers'
+abbrev pub taken_out_by : {M : Type 0} → World M → ℕ → ℕ
+taken_out_by w c = count_by (λ done. takes_out done.reply) (w.books c).finished
+
 abbrev pub taken_out : {M : Type 0} → World M → ℕ
-taken_out w =
-    sum_by (λ c. count_by (λ done. takes_out done.reply) (w.books c).finished) (range_with_len 0 w.core.env.geometry.callers)
+taken_out w = sum_by (taken_out_by w) (range_with_len 0 w.core.env.geometry.callers)
 
 -- how many nodes a call gave back that ended with this reply
 abbrev pub returned_by : Reply → ℕ
@@ -113,10 +116,12 @@ returned_by Idle = 0
 returned_by (Clear returned) = returned
 returned_by (replies.Counted count) = 0
 
--- how many the calls gave back that have ended
+-- how many this caller's calls gave back that have ended, and all callers'
+abbrev pub given_back_by : {M : Type 0} → World M → ℕ → ℕ
+given_back_by w c = sum_by (λ done. returned_by done.reply) (w.books c).finished
+
 abbrev pub given_back : {M : Type 0} → World M → ℕ
-given_back w =
-    sum_by (λ c. sum_by (λ done. returned_by done.reply) (w.books c).finished) (range_with_len 0 w.core.env.geometry.callers)
+given_back w = sum_by (given_back_by w) (range_with_len 0 w.core.env.geometry.callers)
 
 -- the nodes in this caller's batch, wherever that lies, and those in anybody's
 abbrev pub in_batch : {M : Type 0} → Core M → ℕ → List ℕ
@@ -213,3 +218,10 @@ module _ (M : Type 0) (mix : ℕ → ℕ → ℕ → ℕ) where
   AtRest =
       (env : Env) (events : List Event) → IsAdmitted env.config.kind events → IsQuiet M mix env events
       → let w : World M = run_of mix env events in IsAtRest env w.core (taken_out w) (given_back w)
+
+  -- in every run, whoever else is in a call, a caller that is in none has as many nodes in its batch as its calls took out and didn't give back
+  abbrev pub OwnBatches : Type 0
+  OwnBatches =
+      (env : Env) (events : List Event) (c : ℕ) → IsAdmitted env.config.kind events
+      → let w : World M = run_of mix env events in
+      is_idle (local_of w.core c) ≡ true → length (in_batch w.core c) + given_back_by w c ≡ taken_out_by w c

@@ -1,5 +1,5 @@
 -- What holds of look-ups in every run: how many operations they take, and that a port which stays bound meanwhile is found. They read in one
--- read section. And what they, readings of the count and tidyings never do.
+-- read section. What they, readings of the count and tidyings never do. And how many operations tidyings take.
 use Rattle.std.specs.Prelude.{◌≡◌, ◌≢◌, ◌⊎◌, ℕ, ◌+◌, ◌<◌, ◌≤◌, List, [], ◌∷◌, ◌++◌, length, Some}
 use Rattle.std.specs.List.{AllByRecursion}
 use Rattle.rht_words.specs.declared.op.Op.TheVariants.{Load}
@@ -12,6 +12,7 @@ use Rattle.rht_model.specs.declared.history.Call.TheVariants.{Find, Count, Tidy}
 use Rattle.rht_model.specs.declared.history.Reply.TheVariants.{Found}
 use Rattle.rht_model.specs.Answers.{find_reply}
 use Rattle.rht_find.specs.FindBound.{find_bound}
+use Rattle.rht_grace.specs.TidyLaws.{tidy_bound}
 use Rattle.rht_core.specs.declared.event.Event.{Event}
 use Rattle.rht_core.specs.Runs.{IsAdmitted}
 use Rattle.rht_core.specs.Traces.{Did, Past, Traced, traced_of, behind_call}
@@ -23,6 +24,10 @@ use Rattle.rht_core.specs.RunHistories.{bindings_behind}
 -- a look-up has no more operations than the bound
 abbrev pub IsShort : Env → Call → List Did → Type 0
 IsShort env call steps = (port : ℕ) → call ≡ Find port → length steps ≤ find_bound env
+
+-- nor a tidying than two for each caller, one for each node, and one
+abbrev pub IsShortTidying : Env → Call → List Did → Type 0
+IsShortTidying env call steps = call ≡ Tidy → length steps ≤ tidy_bound env.geometry
 
 -- ---- what is never done
 
@@ -74,6 +79,12 @@ module _ (M : Type 0) (mix : ℕ → ℕ → ℕ → ℕ) where
   Bounded =
       (env : Env) (events : List Event) (c : ℕ) → IsAdmitted env.config.kind events
       → EachCall (IsShort env) (traced_of mix env events) c
+
+  -- and no tidying
+  abbrev pub TidiesSoon : Type 0
+  TidiesSoon =
+      (env : Env) (events : List Event) (c : ℕ) → IsAdmitted env.config.kind events
+      → EachCall (IsShortTidying env) (traced_of mix env events) c
 
   -- A look-up that has ended answered what was so at a moment of its call: behind one of the events from its beginning to its last operation
   -- the words stood for these owners of its port, whoever made the event. The look-up may be taken to take effect there.

@@ -1,21 +1,19 @@
 -- What a call that tidies gives back, and why one waits, in every run.
-use Rattle.std.specs.Prelude.{◌≡◌, ◌↔◌, ℕ, ◌%◌, ◌<◌, List, [], ◌∷◌, ◌++◌, length, take, slice_index_or, Option, Some, None}
+use Rattle.std.specs.Prelude.{◌≡◌, ◌↔◌, ℕ, ◌<◌, List, [], length, map, take, Option, Some, None}
 use Rattle.std.specs.List.{AllByRecursion, Any}
 use Rattle.rht_words.specs.declared.env.Env.{Env}
 use Rattle.rht_words.specs.declared.geometry.Geometry.{Geometry}
 use Rattle.rht_words.specs.Members.{In}
-use Rattle.rht_words.specs.Places.{Section}
 use Rattle.rht_model.specs.declared.history.Call.TheVariants.{Tidy}
 use Rattle.rht_model.specs.declared.history.Reply.TheVariants.{Clear, Pending}
 use Rattle.rht_grace.specs.Batch.{BatchModel, batch_new}
-use Rattle.rht_grace.specs.TidyLaws.{due_of, left_of}
+use Rattle.rht_grace.specs.TidyLaws.{due_of, left_of, EndsRightly}
 use Rattle.rht_arena.specs.Laws.{map_place, map_bit}
 use Rattle.rht_core.specs.declared.event.Event.{Event}
 use Rattle.rht_callers.specs.Batches.{batch_room}
 use Rattle.rht_core.specs.Runs.{Core, local_of, run_of, IsAdmitted}
 use Rattle.rht_core.specs.Reach.{SetsBit}
-use Rattle.rht_core.specs.Seen.{LoadsWord}
-use Rattle.rht_core.specs.Traces.{Did, Past, traced_of, behind_call}
+use Rattle.rht_core.specs.Traces.{Did, Past, performed_of, traced_of, behind_call}
 
 -- one of the operations sets the node's bit
 abbrev pub GivesNode : Geometry → List Did → ℕ → Type 0
@@ -47,27 +45,13 @@ module _ (M : Type 0) (mix : ℕ → ℕ → ℕ → ℕ) where
   abbrev pub batch_before : Env → List Event → ℕ → ℕ → BatchModel
   batch_before env events c index = batch_of (run_of {M = M} mix env (take index events)).core c
 
-  -- why one waits: it loaded another caller's section word, and found the odd word that it had kept
-  pub record FindsKept (env : Env) (events : List Event) (c caller section : ℕ) (did : Did) : Type 0 where
-    pub caller_in : caller < env.geometry.callers
-    pub loads : LoadsWord env.geometry (Section caller) did
-    pub found : did.old ≡ section
-    pub kept : slice_index_or (batch_before env events c did.index).kept caller 0 ≡ section
-    pub odd : section % 2 ≡ 1
-
-  -- and the last operation of the call did so
-  pub record SawPending (env : Env) (events : List Event) (c caller section : ℕ)
-      (steps : List Did) : Type 0 where
-    pub before : List Did
-    pub last : Did
-    pub are : steps ≡ before ++ last ∷ []
-    pub finds : FindsKept env events c caller section last
-
-  -- A tidying has given back what was due and leaves what it is to leave, and one that waits has seen why.
+  -- A tidying has given back what was due, and leaves what it is to leave. And it has done what it answers: for which words the nodes wait,
+  -- that each caller was asked, that each node is given back once and in order, and why one waits.
   pub record HasTidied (env : Env) (events : List Event) (c : ℕ) (past : Past) : Type 0 where
     pub rightly : TidiesRightly env.geometry (batch_before env events c past.begin)
         (batch_before env events c (behind_call past)) past
-    pub waits : (caller section : ℕ) → past.done.reply ≡ Pending caller section → SawPending env events c caller section past.steps
+    pub ends : EndsRightly (batch_before env events c past.begin)
+        (record { reply = past.done.reply; batch = batch_before env events c (behind_call past) }) (map performed_of past.steps)
 
   -- in every run each tidying that has ended
   abbrev pub Tidied : Type 0

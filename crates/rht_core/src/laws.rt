@@ -3,13 +3,13 @@
 ghost use Rattle.rht_core.specs.Alone.{Alone};
 ghost use Rattle.rht_core.specs.Attached.{Attached};
 ghost use Rattle.rht_core.specs.Causes.{Causes};
-ghost use Rattle.rht_core.specs.Counts.{Counted, AtRest};
+ghost use Rattle.rht_core.specs.Counts.{Counted, AtRest, OwnBatches};
 ghost use Rattle.rht_core.specs.Tidied.{Tidied};
 ghost use Rattle.rht_core.specs.FewPorts.{FewPorts, OneCaller};
 ghost use Rattle.rht_core.specs.Kicks.{Kicks};
 ghost use Rattle.rht_core.specs.LetGo.{LetGo};
 ghost use Rattle.rht_core.specs.ListedOwners.{ListedOwners};
-ghost use Rattle.rht_core.specs.Lookups.{Bounded, TakesEffect, FindsWhatStays, Harmless, ReadsInside};
+ghost use Rattle.rht_core.specs.Lookups.{Bounded, TidiesSoon, TakesEffect, FindsWhatStays, Harmless, ReadsInside};
 ghost use Rattle.rht_core.specs.NeverRefused.{RoomyTakesAll, OneWorkerAsModel};
 ghost use Rattle.rht_core.specs.NodesUsed.{Nodes};
 ghost use Rattle.rht_core.specs.Placed.{Placed, OwnPages};
@@ -245,17 +245,25 @@ pub fn counted<M: Mix>()
 /// a table that wasn't attached has been given back; and so has what was taken for an entry behind which another
 /// page was entered. Or it stands in a slot that was retired.
 ///
-/// It doesn't say which call took a node out, that a caller's batch has those of its own calls, that no table
-/// in force is retired, nor that such a moment comes.
+/// And in every run, whoever else is in a call, a caller that is in none has as many nodes in its batch as its
+/// own calls took out, and its tidyings didn't give back.
+///
+/// It doesn't say which call took a node out, that no table in force is retired, nor that such a moment comes.
 pub fn at_rest<M: Mix>()
-    ensures { AtRest M M.mix_of }
+    ensures rest { AtRest M M.mix_of }
+    ensures batches { OwnBatches M M.mix_of }
 {}
 
 /// In every run each tidying that has ended, beside its caller's batch before the call began. Where it was
 /// answered `Clear` it has given back just the nodes that were due: those that waited, or the fresh ones where
 /// none waited. So many it says, and none waits then. Where it was answered `Pending` it has given back none,
-/// and they wait. The fresh nodes of a batch in which some waited stay fresh. And its last operation found the
-/// odd section word that was kept of that caller.
+/// and they wait. The fresh nodes of a batch in which some waited stay fresh.
+///
+/// And its operations are in order. Where none waited before, it first loads each caller's section word, and the
+/// nodes wait for these words; else they wait for those that were kept before. Then it may load further ones.
+/// Where it was answered `Clear`, each of the words for which they wait is even, or one of these loads found
+/// another one. Then it gives the nodes back, each once, and does nothing else. Where it was answered `Pending`,
+/// the last load found of that caller the very word for which the nodes wait, and it is odd.
 ///
 /// It doesn't say that nobody could reach these nodes; that is `safe`.
 pub fn tidied<M: Mix>()
@@ -332,9 +340,11 @@ pub fn inside<M: Mix>()
 
 /// In every run a look-up, ended or in progress, has at most `4 + 8 * (4 + (rewalks + 1) * (4 + 2 * nodes))`
 /// operations, which is enough for `rewalks + 1` walks of `nodes` nodes in each of eight tables. That is so
-/// whatever other callers do or leave undone, also where one that holds a lock never steps again.
+/// whatever other callers do or leave undone, also where one that holds a lock never steps again. A tidying,
+/// ended or in progress, has at most two operations for each caller, one for each node, and one.
 pub fn bounded<M: Mix>()
-    ensures { Bounded M M.mix_of }
+    ensures lookups { Bounded M M.mix_of }
+    ensures tidyings { TidiesSoon M M.mix_of }
 {}
 
 /// In every run a look-up that has ended answered the first owner that the words stood for behind some event

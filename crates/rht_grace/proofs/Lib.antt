@@ -11,8 +11,8 @@ pub mod TidyRuns
 -- it gives back all nodes that wait
 mod TidyGiving
 -- it gives back what it says
-mod TidyAnswers
+pub mod TidyAnswers
 -- it ends soon
-mod TidyBounds
+pub mod TidyBounds
 -- each of its operations is one of two, on one of the table's words
 pub mod TidyPlanned

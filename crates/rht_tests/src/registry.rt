@@ -133,8 +133,8 @@ fn a_script_is_done_on_the_table(rt: HostRuntime) -> Result<(), Fail> {
     assert!(rt; script.is_sound());
     let outcome = run_workers::<Low, _, _>(&rt, rt.alloc(), &script, &NoGate)?;
     let (replies, closed) = closed(rt.alloc(), &script, outcome)?;
-    // There are four nodes, and those that were taken out don't return: the last bind finds none, and
-    // neither does the last rebind.
+    // There are four nodes. Before the last bind two were taken out, and two are of bindings: it finds none,
+    // tidies, and has one of the two at its second try. The last rebind has the other one.
     let want = [
         Reply::Bound { kick: false },
         Reply::Bound { kick: false },
@@ -143,15 +143,15 @@ fn a_script_is_done_on_the_table(rt: HostRuntime) -> Result<(), Fail> {
         Reply::Absent,
         Reply::Released { kick: false },
         Reply::Bound { kick: false },
-        Reply::NoNode,
-        Reply::NoNode,
+        Reply::Bound { kick: false },
+        Reply::Rebound,
         Reply::Found { owner: 8 },
         Reply::Missing,
-        Reply::Counted { count: 2 },
+        Reply::Counted { count: 3 },
     ];
     assert!(rt; replies.len() == 1);
     assert_replies(&rt, &replies[0], &want);
-    assert_bound(&rt, &closed, 64, &[(6, &[3]), (69, &[8])]);
+    assert_bound(&rt, &closed, 64, &[(6, &[4]), (7, &[1]), (69, &[8])]);
     Ok(())
 }
 

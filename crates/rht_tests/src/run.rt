@@ -286,10 +286,6 @@ fn a_node_that_was_tidied_is_bound_again(rt: HostRuntime) -> Result<(), Fail> {
         Reply::Bound { kick: false },
         Reply::Found { owner: 2 },
     ];
-    assert_same(
-        &rt,
-        hand_over(&rt, &table, &mut first, &mut second),
-        want,
-    );
+    assert_same(&rt, hand_over(&rt, &table, &mut first, &mut second), want);
     Ok(())
 }

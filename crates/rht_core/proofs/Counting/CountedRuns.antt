@@ -15,7 +15,7 @@ use Rattle.rht_core.specs.Runs.{IsAdmitted, Core, World, local_of, view_of, run_
 use Rattle.rht_stands.specs.StandsFor.{in_force, nodes_of}
 use Rattle.rht_core.proofs.Counting.RaisingCallers.{is_raising, raising, IsCountedBy}
 use Rattle.rht_core.proofs.Counting.AheadCalls.{are_ahead}
-use Rattle.rht_core.specs.Counts.{IsListed, IsPlaced, IsPageFree, IsPageOfSlot, IsPageInSlot, AreNoneHeld, AreBatched, taken_out, given_back, Counted, AtRest}
+use Rattle.rht_core.specs.Counts.{IsListed, IsPlaced, IsPageFree, IsPageOfSlot, IsPageInSlot, AreNoneHeld, AreBatched, taken_out, given_back, Counted, AtRest, OwnBatches}
 use Rattle.rht_core.specs.declared.event.Event.{Event}
 use Rattle.rht_core.specs.TablePages.{IsPageOfTable}
 use Rattle.rht_ghost.proofs.Theory.Ghosts.{Owner, Free, NodeHeld, First, Leaving, Behind, Taken, PageOwner, PageFree, PageHeld, PageOf, SlotOwner, SlotFree, SlotHeld, Live, Retired, Ghost, has_table, index_at, state_word, is_used, IsUsed, lock_bit, seat-used}
@@ -25,6 +25,9 @@ use Rattle.rht_ghost.proofs.Theory.Steps.{mem}
 use Rattle.rht_core.proofs.Machines.JobSteps.{KnowsNothing}
 use Rattle.rht_core.proofs.Events.Invariants.{Inv, idle_knows}
 use Rattle.rht_core.proofs.Events.InvariantRuns.{has_inv}
+use Rattle.rht_core.proofs.Events.OwnBatches.{held-idle}
+use Rattle.rht_core.proofs.Events.SaidOfNodes.{outs-idle}
+use Rattle.rht_callers.specs.declared.local.Local.{Local}
 use Rattle.rht_core.proofs.Events.BooksInRuns.{ended_outs, ended_given, idle-says, has_books}
 use Rattle.rht_core.specs.Alone.{IsQuiet}
 use Rattle.rht_core.proofs.Counting.BatchedNodes.{are_batched}
@@ -307,3 +310,15 @@ module _ (M : Type 0) (mix : ℕ → ℕ → ℕ → ℕ) where
             (λ c p is. (knows c).only.pages_in p is);
         sections = λ c below. in_no_section env mix M events admitted c below (quiet c);
       }
+
+  -- the ghost has the nodes that the caller's calls took out, which are those of its batch, and as many as its book says
+  pub own_batches : OwnBatches M mix
+  own_batches env events c admitted idle =
+      let has = has_books env mix M events admitted in
+      let w : World M = run_of mix env events in
+      let local : Local M = local_of w.core c in
+      let says = idle-says env mix M (view_of w c) (outs env mix has.ghost c) idle (has.says c) in
+      let many = (has.inv.batches c).many in
+      let held = ap length (held-idle M local.doing local.batch idle) in
+      let none = outs-idle local.doing idle in
+      omega (arith, says, many, held, none)

@@ -1,7 +1,8 @@
 -- In every run a tidying that has ended gave back just the nodes that were due, where it cleared, or none where they wait. It leaves its
--- caller the batch that it is to leave. Where they wait it has seen why.
--- Of each caller it is kept, event by event, what its tidying has given back beside the batch before the call began.
-use Rattle.std.proofs.Common.{◌≡◌, ◌↔◌, ℕ, suc, ◌+◌, ◌/◌, ◌<◌, ◌++◌, ◌∷◌, List, [], length, take, drop, get_or, map, true, false, Option, Some, None, refl, sym, ap, ◌∙◌, subst, inl, inr, append_assoc, drop-cons, length-append, arith}
+-- caller the batch that it is to leave. Its operations are those of the machine that begins with the batch before.
+-- Of each caller it is kept, event by event, what its tidying has given back beside the batch before the call began, and that the machine
+-- which begins with that batch goes on from the present state. That batch is sound, by the invariant.
+use Rattle.std.proofs.Common.{◌≡◌, ◌↔◌, ℕ, suc, ◌+◌, ◌/◌, ◌<◌, ◌≤◌, ◌++◌, ◌∷◌, List, [], length, take, drop, get_or, map, true, false, Option, Some, None, refl, sym, ap, ◌∙◌, subst, inl, inr, append_assoc, drop-cons, length-append, arith}
 use Rattle.std.specs.Int.{bit_at}
 use Rattle.std.specs.List.{AllByRecursion}
 use Rattle.std.proofs.lemmas.List.{append-nil}
@@ -10,7 +11,7 @@ use Rattle.rht_words.specs.declared.env.Env.{Env}
 use Rattle.rht_words.specs.declared.machine.Next.{Next}
 use Rattle.rht_words.specs.declared.machine.Next.TheVariants.{Go, Done}
 use Rattle.rht_words.specs.Operations.{old_of}
-use Rattle.rht_words.proofs.EachElement.{AllByRecursion-append}
+use Rattle.rht_words.proofs.EachElement.{AllByRecursion-append, AllByRecursion-weaker}
 use Rattle.rht_model.specs.declared.history.Call.{Call}
 use Rattle.rht_model.specs.declared.history.Call.TheVariants.{Tidy}
 use Rattle.rht_model.specs.declared.history.Reply.{Reply}
@@ -24,7 +25,7 @@ use Rattle.rht_release.specs.Release.{release_after}
 use Rattle.rht_release.specs.Rebind.{rebind_after}
 use Rattle.rht_move.specs.Work.{work_after}
 use Rattle.rht_grace.specs.Batch.{BatchModel}
-use Rattle.rht_grace.specs.Tidy.{TidyModel, tidy_new, plan_at, after_at, moved, begun}
+use Rattle.rht_grace.specs.Tidy.{TidyModel, tidy_new, plan_at, after_at, moved}
 use Rattle.rht_grace.specs.declared.tidy.TidyAt.TheVariants as at
 use Rattle.rht_callers.specs.declared.local.Local.{Local}
 use Rattle.rht_callers.specs.declared.local.Doing.{Doing}
@@ -38,10 +39,12 @@ use Rattle.rht_core.specs.declared.event.Event.{Event}
 use Rattle.rht_core.specs.declared.event.Event.TheVariants.{Begin, Step}
 use Rattle.rht_core.specs.Laws.{view_begun}
 use Rattle.rht_core.specs.Jobs.{tidies, job_of, job_plan}
-use Rattle.rht_core.specs.Runs.{Core, World, View, run_of, local_of, planned_in, view_of, finished_with, book_after}
-use Rattle.rht_core.specs.Tidied.{GivesNode, SawPending, HasTidied, Tidied, batch_of, batch_or, batch_before}
+use Rattle.rht_core.specs.Runs.{Core, World, View, run_of, local_of, planned_in, view_of, finished_with, book_after, IsAdmitted}
+use Rattle.rht_core.specs.Lookups.{TidiesSoon}
+use Rattle.rht_core.specs.Tidied.{GivesNode, TidiesRightly, HasTidied, Tidied, batch_of, batch_or, batch_before}
 use Rattle.rht_core.specs.Tidyings.{IsTidyingIn}
-use Rattle.rht_core.specs.Traces.{Did, Past, Trace, traced_of, trace_begun, trace_did, behind_call, behind_steps}
+use Rattle.rht_core.specs.Traces.{Did, Past, Trace, performed_of, traced_of, trace_begun, trace_did, behind_call, behind_steps}
+use Rattle.rht_core.proofs.Events.BatchesInRuns.{AreSound, sound_before}
 use Rattle.rht_core.proofs.Events.BusyCallers.{ends}
 use Rattle.rht_core.proofs.Events.OwnBatches.{is_tidying}
 use Rattle.rht_core.proofs.Events.Worlds.{run_of-push, step_self, planned-some}
@@ -51,13 +54,13 @@ use Rattle.rht_core.proofs.Machines.JobSteps.{JobIn, JobKnows}
 use Rattle.rht_core.proofs.Machines.TidyRanges.{Came, waiting_low}
 use Rattle.rht_core.proofs.Machines.TidySteps.{OwnsNodes}
 use Rattle.rht_core.proofs.Undoing.GoingBack.{clear_where}
-use Rattle.rht_core.proofs.Tracing.TidiedBatches.{HasCome, ComesTo, EndsSo, comes, begins_so as tidy_begins}
+use Rattle.rht_core.proofs.Tracing.TidiedBatches.{HasCome, ComesTo, EndsSo, RunsOn, comes, runs_on, ends_rightly, is_soon, begins_so as tidy_begins}
 use Rattle.rht_core.proofs.Tracing.TracedCallers.{IsMade, IsKeptTraced, traced_callers_keep}
 use Rattle.rht_core.proofs.Tracing.TracedRuns.{world-traced_of}
 use Rattle.rht_core.proofs.Tracing.TracesAtEvents.{behind_steps-push}
 use Rattle.rht_ghost.proofs.Theory.Ghosts.{Free, Taken}
 use Rattle.rht_ghost.proofs.Theory.Steps.{mem}
-use Rattle.rht_grace.specs.TidyLaws.{due_of, left_of}
+use Rattle.rht_grace.specs.TidyLaws.{due_of, left_of, EndsRightly, tidy_bound}
 use Rattle.rht_words.specs.Members.{In}
 use Rattle.rht_words.specs.Places.{NodeMap, word_at}
 use Rattle.rht_words.proofs.Members.{in-middle}
@@ -86,19 +89,30 @@ module _ (M : Type 0) (mix : ℕ → ℕ → ℕ → ℕ) (env : Env) where
   stays-other (Counting m) old none = next-other Counting (λ a m is. cc) (count_after m old)
   stays-other (Tidying m) old none = absurd (none m refl)
 
-  module _ (events : List Event) (c : ℕ) where
+  module _ (events : List Event) (c : ℕ) (sound : AreSound env mix M events c) where
     abbrev batch_at : ℕ → BatchModel
     batch_at index = batch_before M mix env events c index
 
+    -- what a tidying in progress has done, and what one has that has come so far
+    abbrev IsOn : BatchModel → TidyModel → List Did → Type 0
+    IsOn own m steps = HasCome env.geometry own m.batch m.at steps × RunsOn env.geometry own steps (m.batch, m.at, Go)
+
+    abbrev ComesOn : BatchModel → List Did → Came → Type 0
+    ComesOn own steps came = ComesTo env.geometry own steps came × RunsOn env.geometry own steps came
+
     -- ---- what is kept
 
+    record EndedSo (past : Past) : Type 0 where
+      tidied : HasTidied M mix env events c past
+      soon : length past.steps ≤ tidy_bound env.geometry
+
     abbrev PastTidied : Past → Type 0
-    PastTidied past = past.done.call ≡ Tidy → HasTidied M mix env events c past
+    PastTidied past = past.done.call ≡ Tidy → EndedSo past
 
     record Keeps (view : View M) (trace : Trace) : Type 0 where
       past : AllByRecursion PastTidied trace.past
       asked : view.book.call ≡ Some Tidy → (m : TidyModel) × (view.local.doing ≡ Tidying m)
-      now : (m : TidyModel) → view.local.doing ≡ Tidying m → HasCome env.geometry (batch_at trace.begin) m.batch m.at trace.steps
+      now : (m : TidyModel) → view.local.doing ≡ Tidying m → IsOn (batch_at trace.begin) m trace.steps
 
     abbrev KeepsSoFar : List Event → ℕ → View M → Trace → Type 0
     KeepsSoFar so_far caller view trace = caller ≡ c → (rest : List Event) → events ≡ so_far ++ rest → Keeps view trace
@@ -122,17 +136,17 @@ module _ (M : Type 0) (mix : ℕ → ℕ → ℕ → ℕ) (env : Env) where
 
     begun-come : (batch : Option BatchModel) (call : Call) (machine : Doing M) → machine_of env c batch call ≡ Some machine
         → (m : TidyModel) → machine ≡ Tidying m
-        → HasCome env.geometry (batch_or env.geometry batch) m.batch m.at []
+        → IsOn (batch_or env.geometry batch) m []
     begun-come batch =
         begins_so M env c batch
-        (λ call machine. (m : TidyModel) → machine ≡ Tidying m → HasCome env.geometry (batch_or env.geometry batch) m.batch m.at [])
+        (λ call machine. (m : TidyModel) → machine ≡ Tidying m → IsOn (batch_or env.geometry batch) m [])
         (λ port m is. absurd (cc)) (λ port owner once m is. absurd (cc)) (λ port m is. absurd (cc)) (λ port owner m is. absurd (cc))
         (λ port owner new single m is. absurd (cc)) (λ m is. absurd (cc)) (λ m is. absurd (cc))
         (λ own has m is.
         let here : tidy_new env.geometry own ≡ m = cc in
-        subst (λ (n : TidyModel). HasCome env.geometry (batch_or env.geometry batch) n.batch n.at []) here
-        (subst (λ b. HasCome env.geometry b (begun own).0 (begun own).1 []) (sym (ap (batch_or env.geometry) has))
-        (tidy_begins env.geometry own)))
+        subst (λ (n : TidyModel). IsOn (batch_or env.geometry batch) n []) here
+        (subst (λ b. IsOn b (tidy_new env.geometry own) []) (sym (ap (batch_or env.geometry) has))
+        (tidy_begins env.geometry own, λ olds. refl)))
 
     -- the batch of this caller, by what it does
     abbrev own_of : Local M → BatchModel
@@ -159,7 +173,7 @@ module _ (M : Type 0) (mix : ℕ → ℕ → ℕ → ℕ) (env : Env) where
           past = keeps.past;
           asked = begun-asked view.local.batch call machine is;
           now = λ m tidies_now.
-              subst (λ b. HasCome env.geometry b m.batch m.at []) (sym own) (begun-come view.local.batch call machine is m tidies_now);
+              subst (λ b. IsOn b m []) (sym own) (begun-come view.local.batch call machine is m tidies_now);
         }
 
     -- ---- an operation
@@ -183,11 +197,6 @@ module _ (M : Type 0) (mix : ℕ → ℕ → ℕ → ℕ) (env : Env) where
 
       found : did.old ≡ old_of run.words did.op
       found = made.known.found ∙ ap (λ (core : Core M). old_of core.words did.op) made.now
-
-      before-is : batch_at did.index ≡ own_of view.local
-      before-is =
-          batch-next so_far (Step c ∷ rest) all did.index made.index
-          ∙ of-core run view.local (runs-in M mix env so_far).same_env here
 
       planned : planned_in run c ≡ Some did.op
       planned =
@@ -264,9 +273,12 @@ module _ (M : Type 0) (mix : ℕ → ℕ → ℕ → ℕ) (env : Env) where
                   let both : Taken c ≡ Free = sym mine ∙ free in cc),
             )
 
-        came_so : ComesTo env.geometry (batch_at trace.begin) m.batch trace.steps did came
+        came_so : ComesOn (batch_at trace.begin) steps came
         came_so =
-            comes env.geometry (batch_at trace.begin) m.batch m.at trace.steps did within.at_in plan_is was_taken (keeps.now m same)
+            let now = keeps.now m same in (
+              comes env.geometry (batch_at trace.begin) m.batch m.at trace.steps did within.at_in plan_is was_taken now.0,
+              runs_on env.geometry (batch_at trace.begin) m.batch m.at trace.steps did plan_is now.1,
+            )
 
       -- ---- what is kept then
 
@@ -275,13 +287,13 @@ module _ (M : Type 0) (mix : ℕ → ℕ → ℕ → ℕ) (env : Env) where
           Keeps (record { local = local; book = book_after (ending_of local reply) view.book })
           (trace_did view.book.call did (ending_of local reply) trace)
 
-      left_come : (m : TidyModel) (came : Came) → ComesTo env.geometry (batch_at trace.begin) m.batch trace.steps did came
+      left_come : (m : TidyModel) (came : Came) → ComesOn (batch_at trace.begin) steps came
           → (doing_next {M = M} Tidying (moved m came)).1 ≡ None
           → (other : TidyModel) → (doing_next {M = M} Tidying (moved m came)).0 ≡ Tidying other
-          → HasCome env.geometry (batch_at trace.begin) other.batch other.at steps
+          → IsOn (batch_at trace.begin) other steps
       left_come m (batch, state, Go) come none other is =
           let here : record m { batch = batch; at = state } ≡ other = cc in
-          subst (λ (n : TidyModel). HasCome env.geometry (batch_at trace.begin) n.batch n.at steps) here come
+          subst (λ (n : TidyModel). IsOn (batch_at trace.begin) n steps) here come
       left_come m (batch, state, Done reply) come none other is = absurd (cc)
 
       left_tidies : (m : TidyModel) (came : Came) → (doing_next {M = M} Tidying (moved m came)).1 ≡ None
@@ -305,81 +317,83 @@ module _ (M : Type 0) (mix : ℕ → ℕ → ℕ → ℕ) (env : Env) where
         ];
       }
 
-      ended_so : (m : TidyModel) (came : Came) (reply : Reply) → ComesTo env.geometry (batch_at trace.begin) m.batch trace.steps did came
+      -- a call that began at this event and had these operations
+      abbrev EndsAs : ℕ → Reply → BatchModel → List Did → Type 0
+      EndsAs begin reply after did = EndsRightly (batch_at begin) (record { reply = reply; batch = after }) (map performed_of did)
+
+      -- what has ended with this reply, and leaves this batch
+      record HasEnded (after : BatchModel) (reply : Reply) : Type 0 where
+        so : EndsSo env.geometry (batch_at trace.begin) after reply steps
+        ends : EndsAs trace.begin reply after steps
+        soon : length steps ≤ tidy_bound env.geometry
+
+      ended_so : (m : TidyModel) (came : Came) (reply : Reply) → ComesOn (batch_at trace.begin) steps came
           → (doing_next {M = M} Tidying (moved m came)).1 ≡ Some reply
-          → EndsSo env.geometry (batch_at trace.begin) m.batch came.0 reply trace.steps did
+          → HasEnded came.0 reply
           × (batch_or env.geometry (batch_room (doing_next {M = M} Tidying (moved m came)).0 (batch_given (moved m came) view.local.batch)) ≡ came.0)
       ended_so m (batch, state, Go) reply come is = absurd (cc)
       ended_so m (batch, state, Done given) reply come is =
           let same : given ≡ reply = cc in
-          (subst (λ r. EndsSo env.geometry (batch_at trace.begin) m.batch batch r trace.steps did) same come, refl)
+          let own = batch_at trace.begin in
+          let right = sound trace.begin in (
+            subst (HasEnded batch) same
+                (record {
+                  so = come.0;
+                  ends = ends_rightly env.geometry own right.0 right.1 steps batch state given come.1;
+                  soon = is_soon env.geometry own right.0 right.1 steps (batch, state, Done given) come.1;
+                }),
+            refl,
+          )
 
-      rightly : (reply : Reply) (was after : BatchModel) (past : Past) → past.done.reply ≡ reply → past.begin ≡ trace.begin → past.steps ≡ steps
-          → was.kept ≡ (batch_at did.index).kept
-          → EndsSo env.geometry (batch_at trace.begin) was after reply trace.steps did → batch_at (behind_call past) ≡ after
-          → HasTidied M mix env events c past
-      rightly (Clear count) was after past replied began are kept so behind = record {
-        rightly = record {
-          cleared = λ many is.
-              let same : count ≡ many = let both = sym replied ∙ is in cc in (
-                sym same ∙ so.many ∙ ap (λ i. length (due_of (batch_at i).fresh (batch_at i).waiting)) (sym began),
-                ap (λ b. b.waiting) behind ∙ so.none_waits,
-                ap (λ b. b.fresh) behind ∙ so.fresh ∙ ap (λ i. left_of (batch_at i).fresh (batch_at i).waiting) (sym began),
-                λ node. subst (λ i. In node (due_of (batch_at i).fresh (batch_at i).waiting) ↔ GivesNode env.geometry past.steps node) (sym began)
-                    (subst (λ s. In node (due_of (batch_at trace.begin).fresh (batch_at trace.begin).waiting) ↔ GivesNode env.geometry s node) (sym are)
-                    (so.gave node)),
-              );
-          waits = λ caller section is. absurd (let both = sym replied ∙ is in cc);
-        };
+      rightly : (reply : Reply) (after : BatchModel) (past : Past) → past.done.reply ≡ reply → past.begin ≡ trace.begin → past.steps ≡ steps
+          → EndsSo env.geometry (batch_at trace.begin) after reply steps → batch_at (behind_call past) ≡ after
+          → TidiesRightly env.geometry (batch_at past.begin) (batch_at (behind_call past)) past
+      rightly (Clear count) after past replied began are so behind = record {
+        cleared = λ many is.
+            let same : count ≡ many = let both = sym replied ∙ is in cc in (
+              sym same ∙ so.many ∙ ap (λ i. length (due_of (batch_at i).fresh (batch_at i).waiting)) (sym began),
+              ap (λ b. b.waiting) behind ∙ so.none_waits,
+              ap (λ b. b.fresh) behind ∙ so.fresh ∙ ap (λ i. left_of (batch_at i).fresh (batch_at i).waiting) (sym began),
+              λ node. subst (λ i. In node (due_of (batch_at i).fresh (batch_at i).waiting) ↔ GivesNode env.geometry past.steps node) (sym began)
+                  (subst (λ s. In node (due_of (batch_at trace.begin).fresh (batch_at trace.begin).waiting) ↔ GivesNode env.geometry s node) (sym are)
+                  (so.gave node)),
+            );
         waits = λ caller section is. absurd (let both = sym replied ∙ is in cc);
       }
-      rightly (Pending caller section) was after past replied began are kept so behind = record {
-        rightly = record {
-          cleared = λ many is. absurd (let both = sym replied ∙ is in cc);
-          waits = λ other word is. (
-            ap (λ b. b.waiting) behind ∙ so.waiting ∙ ap (λ i. due_of (batch_at i).fresh (batch_at i).waiting) (sym began),
-            ap (λ b. b.fresh) behind ∙ so.fresh ∙ ap (λ i. left_of (batch_at i).fresh (batch_at i).waiting) (sym began),
-            λ node gives. so.gave node (subst (λ s. GivesNode env.geometry s node) are gives),
-          );
-        };
-        waits = λ other word is.
-            let caller_is : caller ≡ other = let both = sym replied ∙ is in cc in
-            let word_is : section ≡ word = let both = sym replied ∙ is in cc in
-            subst (λ d. SawPending M mix env events c d word past.steps) caller_is
-            (subst (λ w. SawPending M mix env events c caller w past.steps) word_is
-            (record {
-              before = trace.steps;
-              last = did;
-              are = are;
-              finds = record {
-                caller_in = so.caller_in;
-                loads = record {
-                  there = (let callers = env.geometry.within.callers_within in let low = so.caller_in in omega (arith, low, callers.1));
-                  loads = so.loads;
-                };
-                found = so.found;
-                kept = ap (λ words. get_or words caller 0) (sym kept) ∙ so.kept;
-                odd = so.odd;
-              };
-            }));
+      rightly (Pending caller section) after past replied began are so behind = record {
+        cleared = λ many is. absurd (let both = sym replied ∙ is in cc);
+        waits = λ other word is. (
+          ap (λ b. b.waiting) behind ∙ so.waiting ∙ ap (λ i. due_of (batch_at i).fresh (batch_at i).waiting) (sym began),
+          ap (λ b. b.fresh) behind ∙ so.fresh ∙ ap (λ i. left_of (batch_at i).fresh (batch_at i).waiting) (sym began),
+          λ node gives. so.gave node (subst (λ s. GivesNode env.geometry s node) are gives),
+        );
       }
-      rightly reply was after past replied began are kept so behind = absurd so
+      rightly reply after past replied began are so behind = absurd so
 
       entry_so : (reply : Reply) (call : Call) (past : Past) → next.1 ≡ Some reply → view.book.call ≡ Some call → past.done.call ≡ call
           → past.done.reply ≡ reply → past.begin ≡ trace.begin → past.steps ≡ steps → PastTidied past
       entry_so reply call past ends_with is called replied began are asked =
           let was = keeps.asked (is ∙ ap Some (sym called ∙ asked)) in
           let m = was.0 in
-          let so = ended_so m (came m was.1) reply (came_so m was.1) (sym (ap (λ d. d.1) (goes_so m was.1)) ∙ ends_with) in
-          let behind : batch_at (behind_call past) ≡ (came m was.1).0 =
+          let after = (came m was.1).0 in
+          let ended = ended_so m (came m was.1) reply (came_so m was.1) (sym (ap (λ d. d.1) (goes_so m was.1)) ∙ ends_with) in
+          let behind : batch_at (behind_call past) ≡ after =
           ap batch_at (ap (λ s. behind_steps (past.begin + 1) s) are ∙ behind_steps-push (past.begin + 1) trace.steps did)
           ∙ behind-is
           ∙ ap (λ (d : Doing M). batch_or env.geometry (batch_room d (batch_after mix view.local.doing view.local.batch did.old))) (ap (λ d. d.0) (goes_so m was.1))
           ∙ ap (λ b. batch_or env.geometry (batch_room (doing_next {M = M} Tidying (moved m (came m was.1))).0 b)) (batch_so m was.1)
-          ∙ so.1 in
-          let kept : m.batch.kept ≡ (batch_at did.index).kept =
-          sym (ap (λ (b : BatchModel). b.kept) (before-is ∙ ap (λ (d : Doing M). batch_or env.geometry (batch_room d view.local.batch)) was.1)) in
-          rightly reply m.batch (came m was.1).0 past replied began are kept so.0 behind
+          ∙ ended.1 in
+          record {
+            tidied = record {
+              rightly = rightly reply after past replied began are ended.0.so behind;
+              ends =
+                  subst (λ i. EndsAs i past.done.reply (batch_at (behind_call past)) past.steps) (sym began)
+                  (subst (EndsAs trace.begin past.done.reply (batch_at (behind_call past))) (sym are)
+                  (subst (λ r. EndsAs trace.begin r (batch_at (behind_call past)) steps) (sym replied)
+                  (subst (λ b. EndsAs trace.begin reply b steps) (sym behind) ended.0.ends)));
+            };
+            soon = subst (λ (s : List Did). length s ≤ tidy_bound env.geometry) (sym are) ended.0.soon;
+          }
 
       keep_end : (reply : Reply) → next.1 ≡ Some reply → Kept next.0 (Some reply)
       keep_end reply ends_with = record {
@@ -437,8 +451,30 @@ module _ (M : Type 0) (mix : ℕ → ℕ → ℕ → ℕ) (env : Env) where
           (subst (λ d. IsMade M mix env so_far d view.local did) mine made) (keeps mine (Step k ∷ rest) next);
     }
 
+  kept_so : (events : List Event) (c : ℕ) (admitted : IsAdmitted env.config.kind events)
+      → let r = traced_of {M = M} mix env events in Keeps events c (sound_before env mix M events c admitted) (view_of r.world c) (r.traces c)
+  kept_so events c admitted =
+      let sound = sound_before env mix M events c admitted in
+      traced_callers_keep M mix env (KeepsSoFar events c sound) (keeps_so events c sound) events c admitted refl [] (sym (append-nil events))
+
 pub tidied : (M : Type 0) (mix : ℕ → ℕ → ℕ → ℕ) → Tidied M mix
 tidied M mix env events c admitted =
-    let kept = traced_callers_keep M mix env (KeepsSoFar M mix env events c) (keeps_so M mix env events c) events c admitted refl []
-    (sym (append-nil events)) in
-    kept.past
+    let sound = sound_before env mix M events c admitted in
+    AllByRecursion-weaker (PastTidied M mix env events c sound) (λ past. past.done.call ≡ Tidy → HasTidied M mix env events c past)
+    (λ past so asked. (so asked).tidied) _ (kept_so M mix env events c admitted).past
+
+pub tidies_soon : (M : Type 0) (mix : ℕ → ℕ → ℕ → ℕ) → TidiesSoon M mix
+tidies_soon M mix env events c admitted =
+    let sound = sound_before env mix M events c admitted in
+    let kept = kept_so M mix env events c admitted in
+    let trace = (traced_of {M = M} mix env events).traces c in
+    record {
+      past =
+          AllByRecursion-weaker (PastTidied M mix env events c sound) (λ past. past.done.call ≡ Tidy → length past.steps ≤ tidy_bound env.geometry)
+          (λ past so asked. (so asked).soon) _ kept.past;
+      now = λ call is asked.
+          let was = kept.asked (is ∙ ap Some asked) in
+          let right = sound trace.begin in
+          is_soon env.geometry (batch_before M mix env events c trace.begin) right.0 right.1 trace.steps (was.0.batch, was.0.at, Go)
+          (kept.now was.0 was.1).1;
+    }

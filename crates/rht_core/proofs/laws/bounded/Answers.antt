@@ -1,5 +1,9 @@
 use Rattle.rht_core.proofs.Finding.LookupLaws.{bounded}
+use Rattle.rht_core.proofs.Tracing.TidiesInRuns.{tidies_soon}
 use Rattle.rht_core.proofs.laws.bounded.Goals as goal
 
-pub returns : goal.returns
-returns g c = bounded g.row.M.Denot g.M.Mix.mix_of
+pub returns-clause-lookups : goal.returns-clause-lookups
+returns-clause-lookups g c = bounded g.row.M.Denot g.M.Mix.mix_of
+
+pub returns-clause-tidyings : goal.returns-clause-tidyings
+returns-clause-tidyings g c = tidies_soon g.row.M.Denot g.M.Mix.mix_of
