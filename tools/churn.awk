@@ -44,16 +44,23 @@ function drawn_call(kind,    port, what) {
   return kind == "listed" ? "all " port : "rebind " port " " 1 + below(2) " " 1 + below(2)
 }
 
-# The other workers tidy and end. The first one waits for them by looking up a port, releases all that can be bound, tidies, and binds
-# a port of its own for each node.
+# The other workers tidy now and then, look up a port in between, and end. The first one waits for them by looking up that port, releases
+# all that can be bound, tidies, and binds a port of its own for each node.
 function draw_tail(kind,    worker, i, port, owner) {
-  for (worker = 2; worker <= workers; worker++) for (i = 0; i < 9; i++) if (tidies) print worker, "tidy"
-  for (i = workers > 1 ? lines / 2 : 0; i > 0; i--) print 1, "find 0"
+  for (worker = 2; worker <= workers; worker++) for (i = 0; i < 9 && tidies; i++) {
+    print worker, "tidy"
+    dawdle(worker, lines / 40)
+  }
+  if (workers > 1) dawdle(1, lines)
   for (port = 1; port <= ports; port++)
     for (owner = 1; owner <= 2; owner++)
       for (i = kind == "listed" ? 8 : 1; i > 0; i--) print 1, "release", port, owner
   for (i = 0; i < 9; i++) if (tidies) print 1, "tidy"
   for (i = 1; i <= nodes; i++) print 1, "bind", 1000 + i, 9
+}
+
+function dawdle(worker, many) {
+  while (many-- > 0) print worker, "find 0"
 }
 
 # ---- A script and what was printed --------------------------------------------------------------

@@ -33,7 +33,7 @@ function draw(    i, calls, kind, line, owners_differ, worker) {
   for (i = 1; i <= calls; i++) {
     worker = 1 + below(4)
     if (below(2)) dawdle(worker)
-    print worker, drawn_call(kind, owners_differ)
+    print worker, drawn_call(kind, owners_differ, drawn_port(worker))
   }
 }
 
@@ -53,14 +53,19 @@ function new_owner(port, owners_differ,    owner) {
 # An owner that the port gets by some line above, or one of three.
 function old_owner(port) { return times[port] ? had[port, 1 + below(times[port])] : 1 + below(3) }
 
-function drawn_call(kind, owners_differ,    port, what, old) {
-  port = 1 + below(ports)
+# Often the port of the worker's last call: what a worker does to one port says most about the order.
+function drawn_port(worker) {
+  if (!(worker in last_port) || below(2)) last_port[worker] = 1 + below(ports)
+  return last_port[worker]
+}
+
+function drawn_call(kind, owners_differ, port,    what, old) {
   what = below(100)
   if (what < (small ? 48 : 38)) return "bind " port " " new_owner(port, owners_differ)
   if (what < 62) return "release " port " " old_owner(port)
-  if (what < 74) return "find " port
-  if (what < 79) return "count"
-  if (what < 84 && tidies) return "tidy"
+  if (what < 80) return "find " port
+  if (what < 84) return "count"
+  if (what < 89 && tidies) return "tidy"
   if (kind == "listed") return "all " port
   old = old_owner(port)
   return "rebind " port " " old " " new_owner(port, owners_differ)
