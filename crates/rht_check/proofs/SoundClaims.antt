@@ -1,25 +1,24 @@
 -- A claimed history that is read can be judged: its config is settled, its commands are sound, and there are no more commands and no
 -- more claims than lines.
-use Rattle.std.proofs.Common.{◌≡◌, ℕ, ◌+◌, ◌<◌, ◌≤◌, nat_lt, true, Bool, Result, Ok, Err, List, [], ◌∷◌, length, codes, is_some, refl, sym, subst, arith}
+use Rattle.std.proofs.Common.{◌≡◌, ℕ, ◌+◌, ◌<◌, ◌≤◌, nat_lt, true, Result, Ok, Err, List, [], ◌∷◌, length, codes, is_some, refl, sym, subst, arith}
 use Rattle.std.specs.Prelude.{IfOk}
-use Rattle.std.specs.List.{AllByRecursion, list_all}
-use Rattle.std.proofs.lemmas.Bool.{and_from}
+use Rattle.std.specs.List.{AllByRecursion}
+use Rattle.std.proofs.lemmas.List.Elements.{All-from_recursion}
+use Rattle.std.proofs.lemmas.List.Sums.{list_all-from_AllPass}
 use Rattle.std.proofs.lemmas.Result.{IfOk-at_ok}
 use Rattle.rht_words.specs.Settled.{IsSettled}
-use Rattle.rht_model.specs.declared.history.Call.{Call}
 use Rattle.rht_model.specs.Answers.{port_of}
 use Rattle.rht_script.specs.declared.script.TableLine.{TableLine}
 use Rattle.rht_script.specs.declared.script.ScriptFault.{ScriptFault}
 use Rattle.rht_script.specs.declared.cause.Cause.{Cause}
-use Rattle.rht_script.specs.declared.cause.Cause.TheVariants.{NoTableLine, UnknownWord}
+use Rattle.rht_script.specs.declared.cause.Cause.TheVariants.{UnknownWord}
 use Rattle.rht_script.specs.Spelling.{is_word, lines_of, is_skipped}
-use Rattle.rht_script.specs.TableLines.{one_number, kind_of, no_options, options_from, config_of, table_of}
+use Rattle.rht_script.specs.TableLines.{table_of}
 use Rattle.rht_script.specs.CommandLines.{end_of, command_of}
 use Rattle.rht_script.specs.Grammar.{most_bytes, most_lines, at_line, words_at, coded}
-use Rattle.rht_script.specs.Plain.{IsSayableCommand}
 use Rattle.rht_script.specs.Sound.{is_sound_command}
 use Rattle.rht_script.proofs.ReadLines.{IfOk-then, IfOk-after, IfOk-cond, IfOk-at_line, words_few}
-use Rattle.rht_script.proofs.SayableScripts.{IsSettledTable, table_settled, command_sayable, is_sound_command-sayable}
+use Rattle.rht_script.proofs.SayableScripts.{IsSettledTable, HasOneNumber, table_settled, table_form, command_sound}
 use Rattle.rht_check.specs.declared.claim.Claim.{Claim}
 use Rattle.rht_check.specs.declared.reader.AskedLine.{AskedLine}
 use Rattle.rht_check.specs.declared.reader.AskedLine.TheVariants.{Command, History}
@@ -30,21 +29,7 @@ use Rattle.rht_check.proofs.LinesRead.{coded_at-coded}
 
 -- ---- the table line
 
-abbrev HasForm : TableLine → Type 0
-HasForm table = table.form ≡ one_number
-
-table_form : (words : List (List ℕ)) → IfOk (table_of words) HasForm
-unfolding table_of
-table_form [] = tt
-table_form (table ∷ []) = IfOk-cond HasForm (is_word table (codes "table")) _ (Err NoTableLine) tt tt
-table_form (table ∷ kind ∷ words) =
-    IfOk-cond HasForm (is_word table (codes "table")) _ (Err NoTableLine)
-    (IfOk-after HasForm (kind_of kind) _ (λ kind.
-    IfOk-after HasForm (options_from no_options words) _ (λ options.
-    IfOk-after HasForm (config_of kind options) _ (λ config. refl))))
-    tt
-
-both_hold : (read : Result TableLine Cause) → IfOk read IsSettledTable → IfOk read HasForm → IfOk read IsSoundTable
+both_hold : (read : Result TableLine Cause) → IfOk read IsSettledTable → IfOk read HasOneNumber → IfOk read IsSoundTable
 both_hold (Ok table) settled form = record { settled = settled; form = form }
 both_hold (Err cause) settled form = tt
 
@@ -65,14 +50,6 @@ module _ (table : TableLine) where
   IsSoundLine (Command command) = is_sound_command table.config command ≡ true
   IsSoundLine History = Unit {0}
 
-  command_sound : (words : List (List ℕ)) → IfOk (command_of table words) (λ command. is_sound_command table.config command ≡ true)
-  command_sound words = weaker (command_of table words) (command_sayable table words)
-    where
-      weaker : (read : Result (ℕ × Call) Cause) → IfOk read (IsSayableCommand table.config)
-          → IfOk read (λ command. is_sound_command table.config command ≡ true)
-      weaker (Ok command) sayable = is_sound_command-sayable table.config command sayable
-      weaker (Err cause) sayable = tt
-
   line_sound : (words : List (List ℕ)) → IfOk (asked_of table words) IsSoundLine
   unfolding asked_of
   line_sound [] = tt
@@ -80,7 +57,7 @@ module _ (table : TableLine) where
       IfOk-cond IsSoundLine (is_word word (codes "history")) _ _
       (IfOk-after IsSoundLine (end_of words) _ (λ end. tt))
       (IfOk-then (λ command. is_sound_command table.config command ≡ true) IsSoundLine (command_of table (word ∷ words)) about_bindings
-      (command_sound (word ∷ words))
+      (command_sound table (word ∷ words))
       (λ command sound. IfOk-cond IsSoundLine (is_some (port_of command.1)) (Ok (Command command)) (Err UnknownWord) sound tt))
 
   -- The commands from this number on are sound, and fewer than the lines up to the claims.
@@ -172,10 +149,6 @@ from_hold number (line ∷ lines) =
     (IfOk-at_line IsSoundTable number (table_of words) (table_sound words))
     (λ table sound. with_hold table (number + 1) lines sound)))
 
-all_pass : {X : Type 0} (test : X → Bool) (xs : List X) → AllByRecursion (λ x. test x ≡ true) xs → list_all test xs ≡ true
-all_pass test [] each = refl
-all_pass test (x ∷ xs) each = and_from (test x) (list_all test xs) each.0 (all_pass test xs each.1)
-
 pub IsSoundClaim-read : (bytes : List ℕ) (claim : Claim) → IsClaim bytes claim → IsSoundClaim claim
 unfolding claim_reading_of
 IsSoundClaim-read bytes claim read =
@@ -186,7 +159,9 @@ IsSoundClaim-read bytes claim read =
       script = record {
         settled = are.settled;
         few = (let few = are.few in omega (arith, claim.script.commands.ok.0));
-        commands = all_pass (is_sound_command claim.script.config) claim.script.commands.items are.commands;
+        commands =
+            list_all-from_AllPass (is_sound_command claim.script.config) claim.script.commands.items
+            (All-from_recursion (λ command. is_sound_command claim.script.config command ≡ true) claim.script.commands.items are.commands);
         schedule = rw are.schedule refl;
       };
       few = (let few = are.claims in omega (arith, claim.claims.ok.0));

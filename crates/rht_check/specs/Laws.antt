@@ -6,7 +6,8 @@ use Rattle.rht_model.specs.declared.history.Entry.{Entry}
 use Rattle.rht_model.specs.Multimap.{unbound}
 use Rattle.rht_model.specs.Listing.{Listing, Lists}
 use Rattle.rht_model.specs.Histories.{IsLegal, bindings_left}
-use Rattle.rht_check.specs.declared.claim.Verdict.TheVariants.{Legal, Wrong}
+use Rattle.rht_check.specs.declared.claim.Verdict.{Verdict}
+use Rattle.rht_check.specs.declared.claim.Verdict.TheVariants.{Legal, Extra, Wrong, Unfinished}
 use Rattle.rht_check.specs.Claims.{Told, commands_of, claims_of, AreEntriesOf}
 use Rattle.rht_check.specs.Verdicts.{IsVerdictOn}
 
@@ -47,3 +48,17 @@ JudgesHistories =
     → ((worker : ℕ) → length (commands_of worker commands) ≤ claims_of worker claims)
     → Lists bindings.pairs (bindings_left kind unbound entries)
     → IsVerdictOn kind commands claims (Legal bindings) ↔ IsLegal kind entries
+
+-- the verdict, but for how many more owners its bindings have room
+abbrev pub without_room : Verdict → Verdict
+without_room (Legal bindings) = Legal (record { pairs = bindings.pairs; room = 0 })
+without_room (Extra number) = Extra number
+without_room (Wrong number) = Wrong number
+without_room (Unfinished worker) = Unfinished worker
+
+-- two verdicts on the same claims are one
+abbrev pub HasOneVerdict : Type 0
+HasOneVerdict =
+    (kind : Kind) (commands : List (ℕ × Call)) (claims : List Told) (first second : Verdict)
+    → IsVerdictOn kind commands claims first → IsVerdictOn kind commands claims second
+    → without_room first ≡ without_room second
