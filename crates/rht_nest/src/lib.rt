@@ -4,9 +4,10 @@
 //! Stands on `rht_words`, `rht_policy` and `rht_arena`. The machines that read a table ask here where a
 //! port's bucket is, and those that attach one make it here.
 //! Read `specs/Place.antt` first, then `specs/Locate.antt`, `specs/Make.antt` and `specs/Grow.antt`.
-//! `laws` says what the other crates rely on.
+//! `laws` says what the other crates rely on. `GiveTable`, for retired tables, has no caller yet.
 #![tactic(auto)]
 
+mod give_table;
 mod grow;
 pub mod laws;
 mod locate;
@@ -16,6 +17,7 @@ mod reach;
 mod tables;
 mod unmake;
 
+pub use give_table::{GiveTable, GiveTableAt};
 pub use grow::{Grow, GrowAt};
 pub use locate::{Locate, LocateAt, Located, LocatedBucket};
 pub use make::{Make, MakeAt};
