@@ -46,3 +46,5 @@ pub mod GivesEnd
 pub mod GivesReturn
 -- and how often it has given each page
 pub mod GivesCounted
+-- the keeping of section words: where it stays, on which words it works, what it does, and that it ends
+pub mod KeepsSections

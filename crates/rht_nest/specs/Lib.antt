@@ -16,6 +16,8 @@ pub mod Make
 pub mod Unmake
 -- giving a retired one back
 pub mod GiveTable
+-- keeping section words in the slot of a table that is retired
+pub mod KeepSections
 -- what the other machines rely on
 pub mod Laws
 -- those that look for a bucket of a nested table
@@ -26,5 +28,7 @@ pub mod GrowLaws
 pub mod MakeLaws
 -- and those that give a retired one back
 pub mod GiveTableLaws
+-- and those that keep section words
+pub mod KeepLaws
 -- to which tables a way has come
 pub mod LocateTables

@@ -6,6 +6,7 @@ ghost use Rattle.rht_nest.specs.PlaceLaws.{FindsPlaceOfWords, AbsentWhereNoPage,
 ghost use Rattle.rht_nest.specs.GrowLaws.{GrownPageIsThere, NoneWherePagesTaken};
 ghost use Rattle.rht_nest.specs.MakeLaws.{MadeOfWhatWasFree, NoneWhereSlotsOrRunsTaken, GivesTableBack};
 ghost use Rattle.rht_nest.specs.GiveTableLaws.{ReturnsTable, GivesEachOnce, ReturnsSoon, ReturnsWithin};
+ghost use Rattle.rht_nest.specs.KeepLaws.{KeepsSections, KeepsSoon, KeepsWithin};
 
 /// A flat table's buckets stand in a row from its first page on. It says nothing of nested tables.
 pub fn buckets_stand_in_a_row()
@@ -101,4 +102,21 @@ pub fn returns_table_soon()
 /// sets bits in a word of the page map, or stores 0 in the slot's state; and it is on one of the words.
 pub fn returns_table_within()
     ensures { ReturnsWithin }
+{}
+
+/// A keeping of section words that has ended loaded the section word of each caller in order, and behind
+/// each load stored that very word in the slot's word for that caller. It did nothing else.
+pub fn keeps_sections()
+    ensures { KeepsSections }
+{}
+
+/// A keeping of section words ends within two operations for each caller.
+pub fn keeps_soon()
+    ensures { KeepsSoon }
+{}
+
+/// Each operation of a keeping loads the section word of a caller that there is, or stores a word in the
+/// slot's word for one, and is on one of the words: where the words that it finds are such of 64 bits.
+pub fn keeps_within()
+    ensures { KeepsWithin }
 {}
