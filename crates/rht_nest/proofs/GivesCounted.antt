@@ -1,5 +1,5 @@
--- Each page is given as often as it is found: of a flat table each page of its run once; of a nested one each page as often as an entry
--- leads to it, and the top page once more.
+-- Each page is given as often as it is found. Of a flat table that is each page of its run once. Of a nested one it is each page as
+-- often as an entry leads to it, and the top page once more.
 --
 -- An entry that leads to a page adds one to both numbers, of that page, and one that leads to none adds to neither. So both are the
 -- same over all entries of a page, by induction over these, and then over those of the top page.

@@ -1,7 +1,7 @@
 -- How many operations the giving back of a retired table makes at most, and that each is on one of the words on which it may work.
 --
--- Of each state it is said how many operations are left: 195 for each entry of the top page behind this one, three for each entry of
--- the page below it, and so on down to the one that frees the slot.
+-- Of each state it is said how many operations are left. There are 195 for each entry of the top page behind this one, and three for
+-- each entry of the page below that is still to come. Then there are those of this entry, and the two behind all of them.
 use Rattle.std.proofs.Common.{ℕ, ◌+◌, ◌-◌, ◌*◌, ◌/◌, ◌<◌, List, [], ◌∷◌, inl, inr, refl, ap, arith}
 use Rattle.std.specs.Prelude.{Option, Some, None, nat_lt}
 use Rattle.std.specs.List.{AllByRecursion}

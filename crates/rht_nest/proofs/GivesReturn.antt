@@ -1,8 +1,8 @@
 -- A giving back of a retired table that has ended has withdrawn each entry in order, and each page once nothing led to it, and has freed
 -- the slot last.
 --
--- By induction over the entries that are left, first of a page of entries and then of the top page: what comes from a state on begins
--- with what there is to do with these entries, and goes on from the state behind them.
+-- The induction is over the entries that are left, first of a page of entries and then of the top page. What comes from a state on
+-- begins with what there is to do with these entries, and goes on from the state behind them.
 use Rattle.std.proofs.Common.{◌≡◌, ℕ, zero, suc, ◌+◌, ◌-◌, ◌*◌, ◌/◌, ◌<◌, ◌≤◌, List, [], ◌∷◌, ◌++◌, map, Bool, true, false, append_assoc, inl, inr, refl, sym, ap, ◌∙◌, subst, arith}
 use Rattle.std.specs.Prelude.{Option, Some, None, nat_lt, if◌then◌else◌}
 use Rattle.std.specs.List.{range_with_len}

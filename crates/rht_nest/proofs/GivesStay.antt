@@ -1,5 +1,5 @@
--- Whatever words it is told, the giving back of a retired table stays among the pages that there are, and works on its slot's shape and
--- state, on entries of pages, and on words of the page map.
+-- Whatever words it is told, the giving back of a retired table stays among the pages that there are. It works on its slot's shape
+-- and state, on entries of pages, and on words of the page map.
 use Rattle.std.proofs.Common.{◌≡◌, ℕ, ◌+◌, ◌*◌, ◌<◌, refl, sym, subst, arith}
 use Rattle.std.specs.Prelude.{Option, Some, None, nat_lt}
 use Rattle.std.proofs.lemmas.Bool.{cond_both, ltb-true}

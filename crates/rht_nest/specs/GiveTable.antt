@@ -1,5 +1,5 @@
 -- Giving a retired table back: what each state performs, and what comes after it. A flat table's pages are given in a run. Of a
--- nested one each page is given once nothing leads to it: its entry is cleared first, and the pages to which its own entries lead
+-- nested one each page is given once nothing leads to it, so its entry is cleared first. The pages to which its own entries lead
 -- are given before that.
 use Rattle.std.specs.Prelude.{◌≡◌, ℕ, ◌+◌, ◌*◌, ◌<◌, nat_lt, Option, None, Some, if◌then◌else◌}
 use Rattle.rht_words.specs.declared.op.Op.{Op}

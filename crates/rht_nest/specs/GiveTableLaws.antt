@@ -151,8 +151,8 @@ abbrev pub times_found : Geometry → ℕ → List Performed → ℕ
 times_found g page [] = 0
 times_found g page (step ∷ steps) = once_if (finds_entry g page step.op step.old) + times_found g page steps
 
--- a flat table's pages are each given once, and no others; of a nested one each page is given as often as an entry was found that
--- leads to it, and the top page once more
+-- A flat table's pages are each given once, and no others. Of a nested one each page is given as often as an entry was found that
+-- leads to it, and the top page once more.
 abbrev pub IsGivenRightly : Geometry → ℕ → Bool → ℕ → List Performed → Type 0
 IsGivenRightly g shape false page steps =
     times_given g page steps
@@ -175,8 +175,8 @@ GivesEachOnce =
 
 -- ---- how long it takes, and where it works
 
--- as many operations as it makes at most: for each of 64 entries of the top page its load, its clearing and the giving of its page,
--- and between these the same for each of the 64 entries of that page; and three more
+-- As many operations as it makes at most. For each of 64 entries of the top page these are its load, its clearing and the giving of
+-- its page, and between these the same for each of the 64 entries of that page. There are three more.
 abbrev pub give_table_bound : ℕ
 give_table_bound = 64 * (3 + 64 * 3) + 3
 

@@ -1,5 +1,5 @@
-//! Giving a retired table back, which nobody can read any more: its pages, those to which entries of a
-//! nested one lead before the page with the entries, and then its slot.
+//! Giving a retired table back, which nobody can read any more: its pages, and then its slot. Of a nested
+//! one a page goes behind the pages to which its entries lead.
 
 ghost use Rattle.std.specs.Prelude.{◌≡◌, ◌<◌};
 ghost use Rattle.rht_words.specs.Operations.{op_place};
