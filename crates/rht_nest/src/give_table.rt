@@ -6,22 +6,16 @@ ghost use Rattle.rht_words.specs.Operations.{op_place};
 ghost use Rattle.rht_words.specs.Places.{words_in, IsBucketPlace};
 ghost use Rattle.rht_words.specs.Links.{page_of};
 ghost use Rattle.rht_arena.specs.GiveRun.{give_run_after};
-ghost use Rattle.rht_nest.specs.Place.{top_page, top_entries, is_deep};
 ghost use Rattle.rht_nest.specs.GiveTable.{give_table_new, give_table_plan, give_table_after, give_table_after_at, give_page, entry_at, shape_seen, run_returned, top_seen, leaf_seen, next_top, next_leaf, IsGiveTableAtIn};
 
+use crate::place::{is_deep, top_entries, top_page};
 use crate::tables::{is_nested, run_of};
 use rht_arena::GiveRun;
-use rht_words::{Geometry, Next, Op, Shape, page_of, places};
+use rht_words::{Geometry, Next, Op, page_of, places};
 use std::marker::Model;
 
 /// How many words a page has.
 const PAGE_WORDS: u32 = 64;
-
-/// The low bits of a bucket's number that pick a word of a page.
-const PAGE_BITS: u32 = 6;
-
-/// The binary exponent of the least size with two levels of entries.
-const DEEP: u32 = 13;
 
 /// Where the giving back of a retired table stands. Each state but the one that holds a piece has one
 /// operation. Nobody else works on the table's words meanwhile.
@@ -198,31 +192,6 @@ fn give_page(geometry: Geometry, page: u32) -> Op
     ensures place { op_place result < words_in geometry }
 {
     GiveRun::new(geometry, page, 1).plan()
-}
-
-/// The top page of the nested table of this shape. One past the last is read as the last.
-#[inline(always)]
-fn top_page(geometry: Geometry, shape: u64) -> u32
-    ensures page { result ≡ top_page geometry shape }
-    ensures within { result < geometry.pages }
-{
-    Shape::from(shape).page.min(geometry.pages - 1)
-}
-
-/// How many entries of its top page are in use.
-#[inline(always)]
-fn top_entries(shape: u64) -> u32
-    ensures entries { result ≡ top_entries shape }
-{
-    1 << Shape::from(shape).nest.min(PAGE_BITS)
-}
-
-/// Whether there is a page of entries between its top page and each page of buckets.
-#[inline(always)]
-fn is_deep(shape: u64) -> bool
-    ensures { result ≡ is_deep shape }
-{
-    DEEP <= Shape::from(shape).exponent
 }
 
 /// Where the giving back stands after a state that found this word, and what it says.
