@@ -18,7 +18,7 @@ use Rattle.rht_core.proofs.Counting.AheadCalls.{are_ahead}
 use Rattle.rht_core.specs.Counts.{IsListed, IsPlaced, IsPageFree, IsPageOfSlot, IsPageInSlot, AreNoneHeld, AreBatched, taken_out, given_back, Counted, AtRest, OwnBatches}
 use Rattle.rht_core.specs.declared.event.Event.{Event}
 use Rattle.rht_core.specs.TablePages.{IsPageOfTable}
-use Rattle.rht_ghost.proofs.Theory.Ghosts.{Owner, Free, NodeHeld, First, Leaving, Behind, Taken, PageOwner, PageFree, PageHeld, PageOf, SlotOwner, SlotFree, SlotHeld, Live, Retired, Ghost, has_table, index_at, state_word, is_used, IsUsed, lock_bit, seat-used}
+use Rattle.rht_ghost.proofs.Theory.Ghosts.{Owner, Free, NodeHeld, First, Leaving, Behind, Taken, PageOwner, PageFree, PageHeld, PageOf, SlotOwner, SlotFree, SlotHeld, Live, Retired, Ghost, has_table, index_at, table_of_slot, none-some, state_word, is_used, IsUsed, lock_bit, seat-used}
 use Rattle.rht_ghost.proofs.Theory.Wholes.{AreRetired, key_of, firsts, raisers, outs, IsBuilt, Whole}
 use Rattle.rht_ghost.proofs.Theory.Entries.{page_within}
 use Rattle.rht_ghost.proofs.Theory.Steps.{mem}
@@ -174,10 +174,9 @@ module _ (env : Env) (mix : ℕ → ℕ → ℕ → ℕ) (words : List ℕ) (G :
           let is = whole.tables.slots s (ap has_table e) in
           let σ = index_at G s in
           elim (cases_lt σ G.current) [
-            | inl before ↦ elim (retired σ before) [
-              | inl none ↦ absurd (cc)
-              | inr done ↦ let both : Live τ ≡ Retired σ = sym e ∙ ap G.slot (sym is.slot) ∙ done in absurd (cc)
-            ]
+            | inl before ↦
+                let index : σ ≡ τ = ap table_of_slot e in
+                absurd (none-some refl (retired s τ e (omega (arith, index, before))))
             | inr from ↦
                 inr (subst (λ t. In t (in_force env.geometry words)) is.slot
                 (table_in_force env mix words G whole σ from is.attached))

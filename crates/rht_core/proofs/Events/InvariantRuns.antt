@@ -165,7 +165,7 @@ module _ (env : Env) (mix : ℕ → ℕ → ℕ → ℕ) where
     slots = record {
       states = opening_states;
       worker_is = opened WorkLock tt;
-      retired = λ idle τ l. absurd (omega (arith, l));
+      retired = λ idle s τ live l. absurd (omega (arith, l));
     };
     pages = opening_pages;
     moving = record { armed = λ j c is. absurd (cc); out = λ j entry is. absurd (cc) };

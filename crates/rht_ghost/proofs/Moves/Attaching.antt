@@ -93,6 +93,8 @@ module _ (env : Env) (mix : ℕ → ℕ → ℕ → ℕ) where
     pub attached_kept : TablesKept env mix G tables (G.attached + 1) slots page
     attached_kept = same_kept env mix G tables (G.attached + 1) slots page table_same (omega arith)
         (λ s has. put-other G.slot slot (Live G.attached) s (no_table s has))
+        (λ s σ. put-all (λ t o. o ≡ Live σ → σ < G.attached → G.slot t ≡ Live σ) G.slot slot (Live G.attached)
+        (λ is k. let same : G.attached ≡ σ = cc in absurd (omega (arith, same, k))) (λ t ne is k. is) s)
         (λ p σ. put_in-all (λ q o. G.page q ≡ PageOf σ → o ≡ PageOf σ) (is_page_for shape) (PageOf G.attached) G.page
         (λ q there is. let z : PageHeld d ≡ PageOf σ = sym (mine q there) ∙ is in absurd (cc)) (λ q there is. is) p)
 
@@ -262,8 +264,7 @@ module _ (env : Env) (mix : ℕ → ℕ → ℕ → ℕ) where
           (λ s ne k. other_word s StateWord k tt (λ e. cc) ∙ whole.slots.states s k);
       worker_is = write.others WorkLock tt (λ e. cc) ∙ whole.slots.worker_is;
       retired = λ idle. retired_stay G G' None refl
-          (λ σ k. ap (λ (t : Table). t.slot) (table_same σ (omega (arith, k, whole.tables.current_in))))
-          (λ s σ is. attached_kept.slots s (ap has_table is) ∙ is) (whole.slots.retired idle);
+          (λ s σ is k. attached_kept.live s σ is (omega (arith, k, whole.tables.current_in))) (whole.slots.retired idle);
     }
 
     -- a word that is no bucket's was none before, or was one of the caller's pages

@@ -115,6 +115,7 @@ module _ (env : Env) (mix : ℕ → ℕ → ℕ → ℕ) where
       ];
       more = omega arith;
       slots = λ s has. refl;
+      live = λ s σ is l. is;
       pages = page_stays;
     }
 
@@ -229,7 +230,7 @@ module _ (env : Env) (mix : ℕ → ℕ → ℕ → ℕ) where
     slots_right = record {
       states = λ s l. slot_word s StateWord l tt ∙ whole.slots.states s l;
       worker_is = write.others WorkLock tt (λ e. cc) ∙ whole.slots.worker_is;
-      retired = λ idle. retired_stay G G' None refl (λ σ l. slot_same σ) (λ s σ is. is) (whole.slots.retired idle);
+      retired = λ idle. retired_stay G G' None refl (λ s σ is l. is) (whole.slots.retired idle);
     }
 
     -- a word that is no bucket's was none before, or is in the page

@@ -5,7 +5,7 @@ use Rattle.rht_words.specs.declared.env.Env.{Env}
 use Rattle.rht_words.specs.Places.{WorkLock, NextSerial, Slot, SlotWord, StateWord}
 use Rattle.rht_words.proofs.Memory.{Memory, IsWrite}
 use Rattle.rht_words.specs.TableWords.{IsTableWord}
-use Rattle.rht_ghost.proofs.Theory.Ghosts.{put, put-other, put-all, SlotOwner, SlotFree, SlotHeld, Ghost, state_word, has_table, with_slot}
+use Rattle.rht_ghost.proofs.Theory.Ghosts.{put, put-other, put-all, SlotOwner, SlotFree, SlotHeld, Live, Ghost, state_word, has_table, with_slot}
 use Rattle.rht_ghost.proofs.Theory.Wholes.{retired_stay, SlotsRight, Whole}
 use Rattle.rht_ghost.proofs.Theory.Knowledge.{HasSlot}
 use Rattle.rht_ghost.proofs.Theory.Frames.{Others, Made, same_tables, stale_write, same_owners}
@@ -43,15 +43,17 @@ module _ (env : Env) (mix : ℕ → ℕ → ℕ → ℕ) where
 
     pub slots_kept : TablesKept env mix G G.table G.attached slot G.page
     slots_kept = same_kept env mix G G.table G.attached slot G.page (λ τ l. refl) (omega arith)
-        (λ t has. put-other G.slot s owner t (no_table t has)) (λ p τ is. is)
+        (λ t has. put-other G.slot s owner t (no_table t has))
+        (λ t τ. put-all (λ i o. o ≡ Live τ → τ < G.attached → G.slot i ≡ Live τ) G.slot s owner
+        (λ is k. let z : true ≡ false = sym (ap has_table is) ∙ now in absurd (cc)) (λ i ne is k. is) t) (λ p τ is. is)
 
     slots_right : SlotsRight env mix M' G'
     slots_right = record {
       states = put-all (λ t o. t < 8 → M' (Slot t StateWord) ≡ state_word o) G.slot s owner (λ k. write.same)
           (λ t ne k. write.others (Slot t StateWord) (k, tt) (λ e. ne (cc)) ∙ whole.slots.states t k);
       worker_is = write.others WorkLock tt (λ e. cc) ∙ whole.slots.worker_is;
-      retired = λ idle. retired_stay G G' None refl (λ τ l. refl)
-          (λ t τ is. slots_kept.slots t (ap has_table is) ∙ is) (whole.slots.retired idle);
+      retired = λ idle. retired_stay G G' None refl
+          (λ t τ is k. slots_kept.live t τ is (omega (arith, k, whole.tables.current_in))) (whole.slots.retired idle);
     }
 
     reslotted : Whole env mix M' G'
@@ -120,7 +122,7 @@ module _ (env : Env) (mix : ℕ → ℕ → ℕ → ℕ) where
       → Made env mix d M G M' G
   fill_slot d s w v M M' G whole has of_table write =
       let kept : TablesKept env mix G G.table G.attached G.slot G.page =
-      same_kept env mix G G.table G.attached G.slot G.page (λ τ l. refl) (omega arith) (λ t is. refl) (λ p τ is. is) in
+      same_kept env mix G G.table G.attached G.slot G.page (λ τ l. refl) (omega arith) (λ t is. refl) (λ t τ is l. is) (λ p τ is. is) in
       let words = slot_word-apart G s w in
       let no_table : (t : ℕ) → has_table (G.slot t) ≡ true → t ≢ s = λ t is e.
       (let z : true ≡ false = sym is ∙ ap (λ i. has_table (G.slot i)) e ∙ ap has_table has.mine in cc) in

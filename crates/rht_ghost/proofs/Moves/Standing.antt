@@ -5,7 +5,7 @@ use Rattle.rht_words.specs.declared.env.Env.{Env}
 use Rattle.rht_words.specs.Places.{Address, CurrentTable, WorkLock, PortCount, Slot, SlotWord, ShapeWord, SeedWord, FutureWord, SerialWord, StateWord, NodeMap, PageMap, Node, NodeWord, ChainLink, KeyWord, ListLink, PageWord}
 use Rattle.rht_words.proofs.Memory.{Memory, IsWrite}
 use Rattle.rht_words.proofs.ChainLemmas.{IsSegment-members}
-use Rattle.rht_ghost.proofs.Theory.Ghosts.{Ghost, First, Leaving, SlotOwner, SlotHeld, Live, Retired, lock_bit, state_word, has_table, index_at, table_of_slot, table_at, is_used, seat_of}
+use Rattle.rht_ghost.proofs.Theory.Ghosts.{Ghost, First, Leaving, SlotOwner, SlotHeld, Live, lock_bit, state_word, has_table, index_at, table_of_slot, table_at, is_used, seat_of}
 use Rattle.rht_ghost.proofs.Theory.Wholes.{AreRetired, list_of, key_of, TablesRight, PagesRight, OutRight, MovingRight, IsLeavingAt, Owned, Whole}
 use Rattle.rht_ghost.proofs.Theory.Passed.{TablesGrow, Passed-stays, same-TableStays}
 use Rattle.rht_ghost.proofs.Theory.Reliance.{TablesStay}
@@ -18,7 +18,7 @@ pub record SlotsStand (G : Ghost) (current : ℕ) (slot : ℕ → SlotOwner) : T
   pub has : (s : ℕ) → has_table (slot s) ≡ has_table (G.slot s)
   pub index : (s : ℕ) → has_table (G.slot s) ≡ true → table_of_slot (slot s) ≡ index_at G s
   pub live : (τ : ℕ) → τ < G.attached → current ≤ τ → slot (G.table τ).slot ≡ Live τ
-  pub retired : (s τ : ℕ) → G.slot s ≡ Retired τ → slot s ≡ Retired τ
+  pub was_live : (s τ : ℕ) → slot s ≡ Live τ → G.slot s ≡ Live τ
   pub held : (s c : ℕ) → G.slot s ≡ SlotHeld c → slot s ≡ SlotHeld c
   pub not_held : (s c : ℕ) → slot s ≡ SlotHeld c → G.slot s ≡ SlotHeld c
 
@@ -44,7 +44,7 @@ module _ (env : Env) (mix : ℕ → ℕ → ℕ → ℕ) where
     has = λ s. refl;
     index = λ s has. refl;
     live = λ τ l from. (whole.tables.each τ l).live (omega (arith, later, from));
-    retired = λ s τ is. is;
+    was_live = λ s τ is. is;
     held = λ s c is. is;
     not_held = λ s c is. is;
   }
@@ -242,7 +242,7 @@ module _ (env : Env) (mix : ℕ → ℕ → ℕ → ℕ) where
         current = is.later;
         slots = λ s has. is.slots.has s ∙ has;
         indices = is.slots.index;
-        retired = is.slots.retired;
+        live = λ s τ now l. is.slots.was_live s τ now;
         pages = λ p τ of. of;
       }
 

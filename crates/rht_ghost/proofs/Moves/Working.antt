@@ -8,8 +8,8 @@ use Rattle.rht_words.specs.Places.{CurrentTable, WorkLock, Slot, StateWord, Node
 use Rattle.rht_words.specs.Members.{In}
 use Rattle.rht_words.proofs.Memory.{Memory, IsWrite}
 use Rattle.rht_words.proofs.Members.{in-middle}
-use Rattle.rht_ghost.proofs.Theory.Ghosts.{put, put-same, put-other, put-all, Bucket, Owner, First, Leaving, SlotOwner, Retired, Ghost, has_table, index_at, table_at, held_by, with_holder, none-some, some-same}
-use Rattle.rht_ghost.proofs.Theory.Wholes.{key_of, place_at, word_index, place_at-index, index-place_at, index-within, home, IsNoBucket, MovesNone, Whole}
+use Rattle.rht_ghost.proofs.Theory.Ghosts.{put, put-same, put-other, put-all, Bucket, Owner, First, Leaving, Live, Retired, Ghost, has_table, index_at, table_of_slot, table_at, held_by, with_holder, none-some, some-same}
+use Rattle.rht_ghost.proofs.Theory.Wholes.{AreRetired, key_of, place_at, word_index, place_at-index, index-place_at, index-within, home, IsNoBucket, MovesNone, Whole}
 use Rattle.rht_ghost.proofs.Theory.Passed.{place-table, home-table, home-bucket, place-bucket}
 use Rattle.rht_ghost.proofs.Theory.Knowns.{last_of, KnownAim, NoAim, KnownRehash, KnownPlace, KnownEntry, KnownWork, NoWork, Works, Empties, LeavesBehind, InBucket, Brings, TakesOut, HasBrought}
 use Rattle.rht_ghost.proofs.Theory.Knowledge.{DoesWork, IsEmptied, IsEmptying, IsLeftBehind, IsFacing, IsNext, IsInBucket, IsBare, IsEntry, IsAim, IsAiming, IsTarget, IsBringing, IsTakenOut, IsBrought, WorkMeans}
@@ -470,12 +470,12 @@ module _ (env : Env) (mix : ℕ → ℕ → ℕ → ℕ) (c : ℕ) where
           means = record {
             works = (
               works.0,
-              λ τ l. elim (cases_eq τ G.current) [
-                | inl e ↦ inl (ap Some (sym root_is ∙ ap (λ σ. (G.table σ).slot) (sym e)))
-                | inr ne ↦ elim (works.1 τ (omega (arith, l, ne))) [
-                  | inl none ↦ absurd (cc)
-                  | inr done ↦ inr done
-                ]
+              λ s τ live l. elim (cases_eq τ G.current) [
+                | inl e ↦
+                    let index : index_at G s ≡ G.current = ap table_of_slot live ∙ e in
+                    let slot = (whole.tables.slots s (ap has_table live)).slot in
+                    ap Some (sym root_is ∙ ap (λ σ. (G.table σ).slot) (sym index) ∙ slot)
+                | inr ne ↦ absurd (none-some refl (works.1 s τ live (omega (arith, l, ne))))
               ],
             );
             more = record {
@@ -490,21 +490,14 @@ module _ (env : Env) (mix : ℕ → ℕ → ℕ → ℕ) (c : ℕ) where
         → IsWrite env.geometry M M' (Slot slot StateWord) 2 → Worked M G M' (retired G slot) Works
     retire_work slot works M' is write = record {
       made = retire env mix c slot M G whole (can_retire slot works is) M' write;
-      means = record { works = (works.0, λ τ l. inr (all_retired τ l)); more = tt };
+      means = record { works = (works.0, all_retired); more = tt };
     }
       where
-        owner : SlotOwner
-        owner = Retired (index_at G slot)
-
-        all_retired : (τ : ℕ) → τ < G.current → put G.slot slot owner (G.table τ).slot ≡ Retired τ
-        all_retired τ l =
-            let right = whole.tables.each τ (omega (arith, l, whole.tables.current_in)) in
-            put-all (λ s o. s ≡ (G.table τ).slot → o ≡ Retired τ) G.slot slot owner
-            (λ same. ap Retired (ap (index_at G) same ∙ right.index))
-            (λ s ne same. elim (works.1 τ l) [
-              | inl left ↦ absurd (ne (same ∙ sym (some-same slot (G.table τ).slot left)))
-              | inr done ↦ ap G.slot same ∙ done
-            ]) (G.table τ).slot refl
+        all_retired : AreRetired (retired G slot) None
+        all_retired s τ =
+            put-all (λ k o. o ≡ Live τ → τ < G.current → None ≡ Some k) G.slot slot (Retired (index_at G slot))
+            (λ live l. absurd (cc))
+            (λ k ne live l. absurd (ne (sym (some-same slot k (works.1 k τ live l))))) s
 
     -- ---- the work lock
 

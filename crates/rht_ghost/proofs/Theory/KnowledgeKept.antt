@@ -326,8 +326,7 @@ module _ (env : Env) (mix : ℕ → ℕ → ℕ → ℕ) where
           works = (
             stays.worker,
             retired_stay G G' slot stays.current
-                (λ τ l. (keeps.grow.tables τ (omega (arith, l, whole.tables.current_in))).slot) keeps.grow.retired
-                means.works.1,
+                (λ s τ is l. keeps.grow.live s τ is (omega (arith, l, whole.tables.current_in))) means.works.1,
           );
           more = go works means.more;
         }

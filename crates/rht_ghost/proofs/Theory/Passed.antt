@@ -12,7 +12,7 @@ use Rattle.rht_words.proofs.Memory.{Memory}
 use Rattle.rht_words.proofs.ShapeSizes.{IsSizeUpTo-size_of}
 use Rattle.rht_words.specs.Members.{In}
 use Rattle.rht_policy.specs.Mix.{bucket_of}
-use Rattle.rht_ghost.proofs.Theory.Ghosts.{Table, Bucket, blank_bucket, is_entry, Ghost, First, PageOwner, PageFree, PageHeld, PageOf, Retired, seat_in, seat, seated, table_of_page, table_at, has_table, index_at, none-some, some-same}
+use Rattle.rht_ghost.proofs.Theory.Ghosts.{Table, Bucket, blank_bucket, is_entry, Ghost, First, PageOwner, PageFree, PageHeld, PageOf, Live, seat_in, seat, seated, table_of_page, table_at, has_table, index_at, none-some, some-same}
 use Rattle.rht_ghost.proofs.Theory.Wholes.{key_of, home, hash_in, IsNoBucket, MovesNone, seated_at, Whole}
 use Rattle.rht_ghost.proofs.Theory.Entries.{IsWordOf, word_of, bucket-no_entry}
 
@@ -412,7 +412,7 @@ module _ (env : Env) (mix : ℕ → ℕ → ℕ → ℕ) where
     pub current : G.current ≤ G'.current
     pub slots : (s : ℕ) → has_table (G.slot s) ≡ true → has_table (G'.slot s) ≡ true
     pub indices : (s : ℕ) → has_table (G.slot s) ≡ true → index_at G' s ≡ index_at G s
-    pub retired : (s τ : ℕ) → G.slot s ≡ Retired τ → G'.slot s ≡ Retired τ
+    pub live : (s τ : ℕ) → G'.slot s ≡ Live τ → τ < G.attached → G.slot s ≡ Live τ
     pub pages : (p τ : ℕ) → G.page p ≡ PageOf τ → G'.page p ≡ PageOf τ
 
   -- so everything stays from the first table on

@@ -8,7 +8,7 @@ use Rattle.rht_words.specs.Places.{Address, CurrentTable, PortCount, Slot, SlotW
 use Rattle.rht_words.specs.Members.{In}
 use Rattle.rht_words.proofs.Memory.{Memory, IsWrite}
 use Rattle.rht_words.proofs.ChainLemmas.{IsSegment-members}
-use Rattle.rht_ghost.proofs.Theory.Ghosts.{has_entries, Table, blank_bucket, PageOwner, PageFree, PageHeld, PageOf, SlotOwner, SlotHeld, Ghost, table_of_page, table_of_slot, table_at, has_table, index_at, is_entry, is_entry_of, entry_word}
+use Rattle.rht_ghost.proofs.Theory.Ghosts.{has_entries, Table, blank_bucket, PageOwner, PageFree, PageHeld, PageOf, SlotOwner, SlotHeld, Live, Ghost, table_of_page, table_of_slot, table_at, has_table, index_at, is_entry, is_entry_of, entry_word}
 use Rattle.rht_ghost.proofs.Theory.Wholes.{key_of, list_of, home, future_in, IsNoBucket, PlacedRight, EntriesRight, TableRight, TablesRight, SlotsRight, PagesRight, MovingRight, OutRight, IsHomeOf, IsFirstAt, IsLeavingAt, Owned, Whole, seated_at}
 use Rattle.rht_nest.specs.Tables.{table_seed}
 use Rattle.rht_ghost.proofs.Theory.Entries.{PlacedRight-pages}
@@ -41,18 +41,21 @@ module _ (env : Env) (mix : ℕ → ℕ → ℕ → ℕ) where
         → ((G.table τ).place b ≡ Some j) ⊎ (G.bucket j ≡ blank_bucket)
     pub more : G.attached ≤ attached
     pub slots : (s : ℕ) → has_table (G.slot s) ≡ true → slot s ≡ G.slot s
+    pub live : (s τ : ℕ) → slot s ≡ Live τ → τ < G.attached → G.slot s ≡ Live τ
     pub pages : (p τ : ℕ) → G.page p ≡ PageOf τ → page p ≡ PageOf τ
 
   -- so it is where they are what they were
   pub same_kept : (G : Ghost) (table : ℕ → Table) (attached : ℕ) (slot : ℕ → SlotOwner) (page : ℕ → PageOwner)
       → ((τ : ℕ) → τ < G.attached → table τ ≡ G.table τ) → G.attached ≤ attached
       → ((s : ℕ) → has_table (G.slot s) ≡ true → slot s ≡ G.slot s)
+      → ((s τ : ℕ) → slot s ≡ Live τ → τ < G.attached → G.slot s ≡ Live τ)
       → ((p τ : ℕ) → G.page p ≡ PageOf τ → page p ≡ PageOf τ) → TablesKept G table attached slot page
-  same_kept G table attached slot page same more slots pages = record {
+  same_kept G table attached slot page same more slots live pages = record {
     tables = λ τ l. same-TableStays G.page τ (G.table τ) (table τ) (same τ l);
     placed = λ τ b j l is. inl (ap (λ (t : Table). t.place b) (sym (same τ l)) ∙ is);
     more = more;
     slots = slots;
+    live = live;
     pages = pages;
   }
 
@@ -77,7 +80,7 @@ module _ (env : Env) (mix : ℕ → ℕ → ℕ → ℕ) where
       current = omega arith;
       slots = λ s has. ap has_table (kept.slots s has) ∙ has;
       indices = λ s has. ap table_of_slot (kept.slots s has);
-      retired = λ s τ is. kept.slots s (ap has_table is) ∙ is;
+      live = kept.live;
       pages = kept.pages;
     }
 

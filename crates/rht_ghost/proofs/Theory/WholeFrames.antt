@@ -99,8 +99,8 @@ module _ (env : Env) (mix : ℕ → ℕ → ℕ → ℕ) where
     states = λ s l. write.others (Slot s StateWord) (l, tt) (states s) ∙ right.states s l
         ∙ sym (ap (λ slot. state_word (slot s)) same.slot);
     worker_is = write.others WorkLock tt lock ∙ right.worker_is ∙ sym (ap lock_bit same.worker);
-    retired = λ idle. retired_stay G G' None same.current (λ τ l. ap (λ t. (t τ).slot) same.table)
-        (λ s τ is. ap (λ slot. slot s) same.slot ∙ is) (right.retired (sym same.worker ∙ idle));
+    retired = λ idle. retired_stay G G' None same.current (λ s τ is l. ap (λ slot. slot s) (sym same.slot) ∙ is)
+        (right.retired (sym same.worker ∙ idle));
   }
 
   -- a bucket's table is what it was

@@ -28,22 +28,15 @@ key_of M node = M (Node node KeyWord)
 abbrev pub list_of : Memory → ℕ → ℕ
 list_of M node = M (Node node ListLink)
 
--- each table before the current one is retired, but for the one in this slot
+-- no slot has a table before the current one that isn't retired, but for this slot
 abbrev pub AreRetired : Ghost → Option ℕ → Type 0
-AreRetired G slot =
-    (τ : ℕ) → τ < G.current → (slot ≡ Some (G.table τ).slot) ⊎ (G.slot (G.table τ).slot ≡ Retired τ)
+AreRetired G slot = (s τ : ℕ) → G.slot s ≡ Live τ → τ < G.current → slot ≡ Some s
 
--- it is so still where the same table is the current one, those before it keep their slots, and those that are retired are so still
+-- it is so still where the same table is the current one, and those before it that aren't retired were so before, in the same slots
 pub retired_stay : (G G' : Ghost) (slot : Option ℕ) → G'.current ≡ G.current
-    → ((τ : ℕ) → τ < G.current → (G'.table τ).slot ≡ (G.table τ).slot)
-    → ((s τ : ℕ) → G.slot s ≡ Retired τ → G'.slot s ≡ Retired τ) → AreRetired G slot → AreRetired G' slot
-retired_stay G G' slot current tables slots is τ l =
-    let before : τ < G.current = omega (arith, l, current) in
-    let same = tables τ before in
-    elim (is τ before) [
-      | inl left ↦ inl (left ∙ ap Some (sym same))
-      | inr done ↦ inr (ap G'.slot same ∙ slots (G.table τ).slot τ done)
-    ]
+    → ((s τ : ℕ) → G'.slot s ≡ Live τ → τ < G.current → G.slot s ≡ Live τ) → AreRetired G slot → AreRetired G' slot
+retired_stay G G' slot current live is s τ now l =
+    let before : τ < G.current = omega (arith, l, current) in is s τ (live s τ now before) before
 
 module _ (env : Env) (mix : ℕ → ℕ → ℕ → ℕ) where
   -- the place of the word of a bucket, and which of the words of all pages stands at a place
@@ -141,7 +134,7 @@ module _ (env : Env) (mix : ℕ → ℕ → ℕ → ℕ) where
     pub slots : (s : ℕ) → has_table (G.slot s) ≡ true → SlotIsOf G s
 
   -- The state word of each slot says who has it, and the work lock is set exactly while a caller has it. While none has it each table
-  -- before the current one is retired.
+  -- before the current one that has a slot is retired.
   pub record SlotsRight (M : Memory) (G : Ghost) : Type 0 where
     pub states : (s : ℕ) → s < 8 → M (Slot s StateWord) ≡ state_word (G.slot s)
     pub worker_is : M WorkLock ≡ lock_bit G.worker
