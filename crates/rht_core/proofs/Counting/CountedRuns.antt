@@ -19,7 +19,7 @@ use Rattle.rht_core.specs.Counts.{IsListed, IsPlaced, IsPageFree, IsPageOfSlot, 
 use Rattle.rht_core.specs.declared.event.Event.{Event}
 use Rattle.rht_core.specs.TablePages.{IsPageOfTable}
 use Rattle.rht_ghost.proofs.Theory.Ghosts.{Owner, Free, NodeHeld, First, Leaving, Behind, Taken, PageOwner, PageFree, PageHeld, PageOf, SlotOwner, SlotFree, SlotHeld, Live, Retired, Ghost, has_table, index_at, table_of_slot, none-some, state_word, is_used, IsUsed, lock_bit, seat-used}
-use Rattle.rht_ghost.proofs.Theory.Wholes.{AreRetired, key_of, firsts, raisers, outs, IsBuilt, Whole}
+use Rattle.rht_ghost.proofs.Theory.Wholes.{AreRetired, key_of, firsts, raisers, outs, IsBuilt, Whole, slot-there}
 use Rattle.rht_ghost.proofs.Theory.Entries.{page_within}
 use Rattle.rht_ghost.proofs.Theory.Steps.{mem}
 use Rattle.rht_core.proofs.Machines.JobSteps.{KnowsNothing}
@@ -133,12 +133,13 @@ module _ (env : Env) (mix : ℕ → ℕ → ℕ → ℕ) (words : List ℕ) (G :
       go (PageHeld c) e = absurd (unheld c e)
       go (PageOf τ) e =
           let attached = whole.pages.page_of p τ e in
-          let right = whole.tables.each τ attached in
+          let there = whole.tables.there τ attached in
+          let right = whole.tables.each τ there in
           let s = (G.table τ).slot in
           inr (record {
             slot = s;
             slot_in = right.slot_in;
-            taken = λ free. has_state (G.slot s) right.has_slot (sym (whole.slots.states s right.slot_in) ∙ free);
+            taken = λ free. has_state (G.slot s) there.has_slot (sym (whole.slots.states s right.slot_in) ∙ free);
             there = subst (λ w. IsPageOfTable env.geometry words w p) (sym right.shape_is)
                 ((pages_in_words env mix words G whole τ attached p).1 e);
           })
@@ -149,7 +150,7 @@ module _ (env : Env) (mix : ℕ → ℕ → ℕ → ℕ) (words : List ℕ) (G :
       let has = state_has (G.slot s) unheld (λ e. taken (whole.slots.states s l ∙ e)) in
       let is = whole.tables.slots s has in
       let τ = index_at G s in
-      let right = whole.tables.each τ is.attached in
+      let right = whole.tables.each τ (slot-there env mix whole.tables s has) in
       let shape_is : word_at env.geometry words (Slot s ShapeWord) ≡ (G.table τ).shape =
       subst (λ t. word_at env.geometry words (Slot t ShapeWord) ≡ (G.table τ).shape) is.slot right.shape_is in
       let of : G.page p ≡ PageOf τ =

@@ -38,7 +38,7 @@ module _ (env : Env) (mix : ℕ → ℕ → ℕ → ℕ) (words : List ℕ) (G :
       → G.page page ≡ PageOf has.table
   page_owner slot page has is =
       let shape : shape_of env.geometry words slot ≡ (G.table has.table).shape =
-      ap (shape_of env.geometry words) has.slot_is ∙ (whole.tables.each has.table has.attached).shape_is in
+      ap (shape_of env.geometry words) has.slot_is ∙ (whole.tables.each has.table (whole.tables.there has.table has.attached)).shape_is in
       (pages_in_words env mix words G whole has.table has.attached page).0
       (subst (λ s. IsPageOfTable env.geometry words s page) shape is)
 
@@ -48,7 +48,7 @@ module _ (env : Env) (mix : ℕ → ℕ → ℕ → ℕ) (words : List ℕ) (G :
         let in_slot = own_table slot has in
         let of = page_owner slot page in_slot is in
         let within = page_within env mix (G.table in_slot.table) G.page in_slot.table
-        (whole.tables.each in_slot.table in_slot.attached).placed page of in
+        (whole.tables.each in_slot.table (whole.tables.there in_slot.table in_slot.attached)).placed page of in
         let both = sym ((whole.pages.bits page within).0 free) ∙ of in cc;
     apart = λ one other page has_one has_other of_one of_other.
         let first = own_table one has_one in

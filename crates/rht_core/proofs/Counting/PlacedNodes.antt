@@ -12,7 +12,7 @@ use Rattle.rht_core.specs.Runs.{run_of}
 use Rattle.rht_core.specs.Placed.{AreNodesPlaced, Placed}
 use Rattle.rht_stands.specs.StandsFor.{in_force, bucket_nodes}
 use Rattle.rht_ghost.proofs.Theory.Ghosts.{Ghost, lock_bit, is_entry}
-use Rattle.rht_ghost.proofs.Theory.Wholes.{key_of, hash_in, home, place_at, Whole}
+use Rattle.rht_ghost.proofs.Theory.Wholes.{key_of, hash_in, home, place_at, Whole, force-there}
 use Rattle.rht_ghost.proofs.Theory.Passed.{hash-below, place-word, place-table, place-bucket}
 use Rattle.rht_ghost.proofs.Theory.Entries.{one_bucket, bucket-no_entry}
 use Rattle.rht_ghost.proofs.Theory.Steps.{mem}
@@ -47,14 +47,14 @@ module _ (env : Env) (mix : ℕ → ℕ → ℕ → ℕ) (words : List ℕ) (G :
       let at = (whole.owned.first_at node j (whole.owned.member j node member)).at_home in
       let there : home env mix G (key_of M node) τ ≡ Some j =
       subst (λ σ. home env mix G (key_of M node) σ ≡ Some j) (place-table env mix M G whole τ bucket j l below here) at.here in
-      one_bucket env mix (G.table τ) G.page τ (whole.tables.each τ l).placed (hash_in env mix G (key_of M node) τ) bucket j
+      one_bucket env mix (G.table τ) G.page τ (whole.tables.each τ (whole.tables.there τ l)).placed (hash_in env mix G (key_of M node) τ) bucket j
       (hash-below env mix M G whole (key_of M node) τ) below there here
 
   nodes_placed : (slot : ℕ) → In slot (in_force env.geometry words) → AreNodesPlaced mix env.geometry words slot
   nodes_placed slot i bucket place node within there even met =
       let is = in_force_is env mix words G whole slot i in
       let τ = is.table in
-      let right = whole.tables.each τ is.attached in
+      let right = whole.tables.each τ (force-there env mix whole.tables τ is.current is.attached) in
       let key = key_of M node in
       let word = word_in env mix words G whole slot place
       (record { table = τ; attached = is.attached; slot_is = is.slot_is }) (record { bucket = bucket; within = within; there = there }) in

@@ -52,7 +52,7 @@ module _ (env : Env) (mix : ℕ → ℕ → ℕ → ℕ) (words : List ℕ) (G :
   word_in slot place has is = (below, go ((G.table has.table).place is.bucket) refl there)
     where
       shape_is : shape_of g words slot ≡ (G.table has.table).shape
-      shape_is = ap (shape_of g words) has.slot_is ∙ (whole.tables.each has.table has.attached).shape_is
+      shape_is = ap (shape_of g words) has.slot_is ∙ (whole.tables.each has.table (whole.tables.there has.table has.attached)).shape_is
 
       below : is.bucket < size_of (unpacked (G.table has.table).shape)
       below = subst (λ s. is.bucket < size_of (unpacked s)) shape_is is.within
@@ -117,11 +117,10 @@ module _ (env : Env) (mix : ℕ → ℕ → ℕ → ℕ) (words : List ℕ) (G :
       let τ = in_slot.table in
       let word = word_in env mix words G whole slot place in_slot is in
       let plain = plain_word τ is.bucket place in_slot.attached word.0 word.1 in
-      let right = whole.tables.each τ in_slot.attached in
       let state : state_word (G.slot slot) ≡ 2 = sym (whole.slots.states slot low) ∙ retired in
       let behind : τ < G.current = elim (cases_lt τ G.current) [
         | inl before ↦ before
-        | inr from ↦ absurd (retired_not_live (G.slot slot) τ state (ap G.slot in_slot.slot_is ∙ right.live from))
+        | inr from ↦ absurd (retired_not_live (G.slot slot) τ state (ap G.slot in_slot.slot_is ∙ whole.tables.force τ from in_slot.attached))
       ] in
       plain.0
       ∙ ap (λ (b : Bucket). b.plain)

@@ -178,7 +178,7 @@ module _ (env : Env) (mix : ℕ → ℕ → ℕ → ℕ) (words : List ℕ) wher
 
   pub pages_in_words : (G : Ghost) → Whole env mix (mem env mix words) G → (τ : ℕ) → τ < G.attached → (p : ℕ)
       → IsPageOfTable g words (G.table τ).shape p ↔ (G.page p ≡ PageOf τ)
-  pages_in_words G whole τ l p = elim (whole.tables.each τ l).placed [
+  pages_in_words G whole τ l p = elim (whole.tables.each τ (whole.tables.there τ l)).placed [
     | inl flat ↦ (
       λ is. elim is [
         | inl run ↦ (flat_pages (G.table τ) G.page τ flat p).0 run.1

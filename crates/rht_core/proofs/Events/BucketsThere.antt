@@ -68,7 +68,7 @@ module _ (env : Env) (mix : ℕ → ℕ → ℕ → ℕ) where
     only_now other m is =
         let at = place_of_bucket env mix (mem env mix M) G whole τ other l m (place_at env mix j)
         (sym (in_words other m) ∙ is) in
-        one_bucket env mix (G.table τ) G.page τ (whole.tables.each τ l).placed other number j m below
+        one_bucket env mix (G.table τ) G.page τ (whole.tables.each τ (whole.tables.there τ l)).placed other number j m below
         (at.here ∙ ap Some (index-place_at env mix j)) here
 
   -- ---- a run
@@ -126,7 +126,7 @@ module _ (env : Env) (mix : ℕ → ℕ → ℕ → ℕ) where
       has-seed : (core : Core L) → HasBucket core → word_at env.geometry core.words (Slot slot SeedWord) ≡ seed
       has-seed core has =
           ap (λ s. word_at env.geometry core.words (Slot s SeedWord)) (sym has.slot_is)
-          ∙ (has.inv.whole.tables.each τ has.attached).seed_is ∙ has.seed_is
+          ∙ (has.inv.whole.tables.each τ (has.inv.whole.tables.there τ has.attached)).seed_is ∙ has.seed_is
 
       module _ (core : Core L) (has : HasBucket core) (below : number < size_of (unpacked shape)) where
         has-there : bucket_in env.geometry core.words shape number ≡ Some (place_at env mix j)

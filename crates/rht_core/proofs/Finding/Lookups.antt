@@ -25,7 +25,7 @@ use Rattle.rht_find.specs.declared.find.Head.{Head}
 use Rattle.rht_find.specs.declared.find.FindAt.{FindAt}
 use Rattle.rht_find.specs.declared.find.FindAt.TheVariants as at
 use Rattle.rht_ghost.proofs.Theory.Ghosts.{Ghost, lock_bit, index_at, none-some}
-use Rattle.rht_ghost.proofs.Theory.Wholes.{chain_of, key_of, place_at, word_index, place_at-index, Whole}
+use Rattle.rht_ghost.proofs.Theory.Wholes.{chain_of, key_of, place_at, word_index, place_at-index, Whole, current-there}
 use Rattle.rht_ghost.proofs.Theory.Passed.{TablesGrow, home-within, home-no_entry}
 use Rattle.rht_ghost.proofs.Theory.Steps.{mem}
 use Rattle.rht_ghost.proofs.Pieces.TableLoads.{LeadsBehind, future_leads}
@@ -75,12 +75,13 @@ module _ (env : Env) (mix : ℕ → ℕ → ℕ → ℕ) (port : ℕ) (seen : �
 
     current_known : Means (Reaching (table_of (M CurrentTable)))
     current_known =
-        let right_now = whole.tables.each G.current whole.tables.current_in in
+        let there = current-there env mix whole.tables in
+        let right_now = whole.tables.each G.current there in
         let slot = (G.table G.current).slot in
         let is : table_of (M CurrentTable) ≡ slot =
         (let word = whole.tables.current_is in omega (arith, right_now.slot_in, word)) in
-        rw is (at_current env mix port seen since now M G P whole right deaths (Says Missing) slot right_now.has_slot
-        right_now.index absent)
+        rw is (at_current env mix port seen since now M G P whole right deaths (Says Missing) slot there.has_slot
+        there.index absent)
 
     -- ---- the end of a chain
 

@@ -209,7 +209,7 @@ module _ (env : Env) (mix : ℕ → ℕ → ℕ → ℕ) (words : List ℕ) (G :
       → bucket_in g words (shape_of g words (G.table τ).slot) bucket ≡ Some place → IsBucketAt place
   unfolding size
   bucket-within τ bucket place l below there =
-      let shape = (whole.tables.each τ l).shape_is in
+      let shape = (whole.tables.each τ (whole.tables.there τ l)).shape_is in
       bucket_word τ bucket place l (subst (λ s. bucket < size_of (unpacked s)) shape below)
       (subst (λ s. bucket_in g words s bucket ≡ Some place) shape there)
 
@@ -279,7 +279,7 @@ module _ (env : Env) (mix : ℕ → ℕ → ℕ → ℕ) (words : List ℕ) (G :
       let shape = (G.table τ).shape in
       let there : In n (flat_map (buckets_in shape) (range_with_len 0 (size τ))) =
       subst (λ s. In n (flat_map (buckets_in s) (range_with_len 0 (size_of (unpacked s)))))
-      (whole.tables.each τ l).shape_is i in
+      (whole.tables.each τ (whole.tables.there τ l)).shape_is i in
       let from = flat_map-In (buckets_in shape) n (range_with_len 0 (size τ)) there in
       let below : from.0 < size τ = (let is = range_with_len-In 0 (size τ) from.0 from.1 in omega (arith, is)) in
       go from.0 below (bucket_in g words shape from.0) refl from.2
@@ -313,7 +313,7 @@ module _ (env : Env) (mix : ℕ → ℕ → ℕ → ℕ) (words : List ℕ) (G :
       let here : In n (buckets_in shape b) =
       subst (λ place. In n (bucket_nodes g words place)) (sym (place-index τ b j l below is)) there in
       subst (λ s. In n (flat_map (buckets_in s) (range_with_len 0 (size_of (unpacked s)))))
-      (sym (whole.tables.each τ l).shape_is)
+      (sym (whole.tables.each τ (whole.tables.there τ l)).shape_is)
       (In-flat_map (buckets_in shape) n b (range_with_len 0 (size τ))
       (In-range_with_len 0 (size τ) b (omega arith) (omega (arith, below))) here)
 

@@ -12,7 +12,7 @@ use Rattle.rht_words.specs.Members.{In, IsDistinct, NotIn}
 use Rattle.rht_words.proofs.Members.{count_below-most, length-count_below}
 use Rattle.rht_stands.specs.StandsFor.{in_force, tables_from}
 use Rattle.rht_ghost.proofs.Theory.Ghosts.{Ghost, has_table, index_at}
-use Rattle.rht_ghost.proofs.Theory.Wholes.{Whole}
+use Rattle.rht_ghost.proofs.Theory.Wholes.{Whole, force-there, current-there, one_slot}
 use Rattle.rht_ghost.proofs.Theory.Knowledge.{IsFollowed}
 use Rattle.rht_ghost.proofs.Theory.Steps.{mem}
 
@@ -36,11 +36,11 @@ module _ (env : Env) (mix : ℕ → ℕ → ℕ → ℕ) (words : List ℕ) (G :
   pub future-leads : (τ count : ℕ) → τ + 1 + count ≡ G.attached
       → slot_of (M (Slot (G.table τ).slot FutureWord)) ≡ next_slot (τ + 1) count
   future-leads τ zero all =
-      ap slot_of ((whole.tables.each τ (omega (arith, all))).future_is
+      ap slot_of ((whole.tables.each τ (whole.tables.there τ (omega (arith, all)))).future_is
       ∙ ap (λ t. cond t (future_of (G.table (τ + 1)).slot) 0) (le-ltb (τ + 1) G.attached (omega (arith, all))))
   future-leads τ (suc count) all =
-      let next = whole.tables.each (τ + 1) (omega (arith, all)) in
-      ap slot_of ((whole.tables.each τ (omega (arith, all))).future_is
+      let next = whole.tables.each (τ + 1) (whole.tables.there (τ + 1) (omega (arith, all))) in
+      ap slot_of ((whole.tables.each τ (whole.tables.there τ (omega (arith, all)))).future_is
       ∙ ap (λ t. cond t (future_of (G.table (τ + 1)).slot) 0) (lt-ltb (τ + 1) G.attached (omega (arith, all))))
       ∙ entries_come_back.future_names (G.table (τ + 1)).slot next.slot_in
 
@@ -49,8 +49,8 @@ module _ (env : Env) (mix : ℕ → ℕ → ℕ → ℕ) (words : List ℕ) (G :
   next_apart root next is same =
       let index : index_at G (G.table (G.current + 1)).slot ≡ index_at G (G.table G.current).slot =
       ap (index_at G) (is.future_is ∙ same ∙ sym is.root_is) in
-      let later = (whole.tables.each (G.current + 1) is.more).index in
-      let now = (whole.tables.each G.current whole.tables.current_in).index in
+      let later = (force-there env mix whole.tables (G.current + 1) (omega arith) is.more).index in
+      let now = (current-there env mix whole.tables).index in
       omega (arith, index, later, now)
 
   -- so where the future of a table names a slot, that is the next table's
@@ -81,8 +81,7 @@ module _ (env : Env) (mix : ℕ → ℕ → ℕ → ℕ) (words : List ℕ) (G :
 
   -- tables have slots of their own, of which there are eight
   own_slot : (τ σ : ℕ) → τ < G.attached → σ < G.attached → (G.table τ).slot ≡ (G.table σ).slot → τ ≡ σ
-  own_slot τ σ l m same =
-      sym (whole.tables.each τ l).index ∙ ap (index_at G) same ∙ (whole.tables.each σ m).index
+  own_slot τ σ l m = one_slot env mix G τ σ (whole.tables.there τ l) (whole.tables.there σ m)
 
   slots_apart : (τ σ count : ℕ) → τ < σ → σ + count ≡ G.attached → NotIn (G.table τ).slot (slots_from σ count)
   slots_apart τ σ zero less all = tt
@@ -99,7 +98,7 @@ module _ (env : Env) (mix : ℕ → ℕ → ℕ → ℕ) (words : List ℕ) (G :
   slots_below : (τ count : ℕ) → τ + count ≡ G.attached → AllByRecursion (λ s. s < 8) (slots_from τ count)
   slots_below τ zero all = tt
   slots_below τ (suc count) all =
-      ((whole.tables.each τ (omega (arith, all))).slot_in, slots_below (τ + 1) count (omega (arith, all)))
+      ((whole.tables.each τ (whole.tables.there τ (omega (arith, all)))).slot_in, slots_below (τ + 1) count (omega (arith, all)))
 
   slots_many : (τ count : ℕ) → length (slots_from τ count) ≡ count
   slots_many τ zero = refl
@@ -127,7 +126,7 @@ module _ (env : Env) (mix : ℕ → ℕ → ℕ → ℕ) (words : List ℕ) (G :
 
   pub current_slot : table_of (M CurrentTable) ≡ (G.table G.current).slot
   current_slot =
-      let right = whole.tables.each G.current whole.tables.current_in in
+      let right = whole.tables.each G.current (current-there env mix whole.tables) in
       let word = whole.tables.current_is in omega (arith, right.slot_in, word)
 
   tables_in_force : in_force g words ≡ slots_from G.current in_use
@@ -165,7 +164,7 @@ module _ (env : Env) (mix : ℕ → ℕ → ℕ → ℕ) (words : List ℕ) (G :
             front = slots_from G.current count;
             split = tables_in_force ∙ ap (slots_from G.current) is ∙ slots_last G.current count
                 ∙ ap (λ σ. slots_from G.current count ++ (G.table σ).slot ∷ []) at;
-            none = (whole.tables.each (G.attached - 1) (omega (arith, l))).future_is
+            none = (whole.tables.each (G.attached - 1) (force-there env mix whole.tables (G.attached - 1) (omega (arith, l)) (omega (arith, l)))).future_is
                 ∙ ap (λ t. cond t (future_of (G.table (G.attached - 1 + 1)).slot) 0)
                 (le-ltb (G.attached - 1 + 1) G.attached (omega (arith, l)));
           }

@@ -66,16 +66,16 @@ module _ (env : Env) (mix : ℕ → ℕ → ℕ → ℕ) where
     -- the last table has no future
     future_none : (τ : ℕ) → τ + 1 ≡ G.attached → M (Slot (G.table τ).slot FutureWord) ≡ 0
     future_none τ last =
-        (whole.tables.each τ (omega (arith, last))).future_is
+        (whole.tables.each τ (whole.tables.there τ (omega (arith, last)))).future_is
         ∙ ap (λ t. cond t (future_of (G.table (τ + 1)).slot) 0) (le-ltb (τ + 1) G.attached (omega (arith, last)))
 
     -- another one has the next table
     future_some : (τ : ℕ) → τ + 1 < G.attached
         → slot_of (M (Slot (G.table τ).slot FutureWord)) ≡ Some (G.table (τ + 1)).slot
     future_some τ more =
-        ap slot_of ((whole.tables.each τ (omega (arith, more))).future_is
+        ap slot_of ((whole.tables.each τ (whole.tables.there τ (omega (arith, more)))).future_is
         ∙ ap (λ t. cond t (future_of (G.table (τ + 1)).slot) 0) (lt-ltb (τ + 1) G.attached more))
-        ∙ slot_named (G.table (τ + 1)).slot (whole.tables.each (τ + 1) more).slot_in
+        ∙ slot_named (G.table (τ + 1)).slot (whole.tables.each (τ + 1) (whole.tables.there (τ + 1) more)).slot_in
 
     -- so one with no future is the last
     pub none_last : (τ : ℕ) → τ < G.attached → slot_of (M (Slot (G.table τ).slot FutureWord)) ≡ None → τ + 1 ≡ G.attached
@@ -89,7 +89,7 @@ module _ (env : Env) (mix : ℕ → ℕ → ℕ → ℕ) where
     last_shape slot shape last =
         let l = last.last in
         ap (λ s. M (Slot s ShapeWord)) (sym last.slot_is)
-        ∙ (whole.tables.each last.table (omega (arith, l))).shape_is ∙ last.shape_is
+        ∙ (whole.tables.each last.table (whole.tables.there last.table (omega (arith, l)))).shape_is ∙ last.shape_is
 
     pub last_future : (slot shape : ℕ) → IsLast G slot shape → M (Slot slot FutureWord) ≡ 0
     last_future slot shape last =
@@ -103,7 +103,7 @@ module _ (env : Env) (mix : ℕ → ℕ → ℕ → ℕ) where
         → mem env mix now (Slot (G'.table τ').slot FutureWord) ≡ mem env mix words (Slot (G.table τ).slot FutureWord)
     same_future τ τ' l slots =
         ap (λ s. mem env mix now (Slot s FutureWord)) slots
-        ∙ same.future (G.table τ).slot (whole.tables.each τ l).slot_in
+        ∙ same.future (G.table τ).slot (whole.tables.each τ (whole.tables.there τ l)).slot_in
 
     same_walk : (left τ τ' : ℕ) → τ + left + 1 ≡ G.attached → τ' < G'.attached → (G'.table τ').slot ≡ (G.table τ).slot
         → (slot shape : ℕ) → IsLast G slot shape → IsLast G' slot shape
@@ -116,8 +116,8 @@ module _ (env : Env) (mix : ℕ → ℕ → ℕ → ℕ) where
           last = none_last (mem env mix now) G' whole' τ' l
               (ap slot_of (same_future τ τ' below slots ∙ future_none (mem env mix words) G whole τ ends));
           slot_is = slots ∙ ap (λ t. (G.table t).slot) (sym here) ∙ last.slot_is;
-          shape_is = sym (whole'.tables.each τ' l).shape_is ∙ ap (λ s. mem env mix now (Slot s ShapeWord)) slots
-              ∙ same.shape (G.table τ).slot (whole.tables.each τ below).slot_in ∙ (whole.tables.each τ below).shape_is
+          shape_is = sym (whole'.tables.each τ' (whole'.tables.there τ' l)).shape_is ∙ ap (λ s. mem env mix now (Slot s ShapeWord)) slots
+              ∙ same.shape (G.table τ).slot (whole.tables.each τ (whole.tables.there τ below)).slot_in ∙ (whole.tables.each τ (whole.tables.there τ below)).shape_is
               ∙ ap (λ t. (G.table t).shape) (sym here) ∙ last.shape_is;
         }
     same_walk (suc left) τ τ' is l slots slot shape last =

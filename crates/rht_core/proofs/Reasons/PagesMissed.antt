@@ -246,7 +246,7 @@ module _ (env : Env) (words_at : ℕ → List ℕ) where
               (ap (λ (m : PlaceModel). page_of g.pages (read m.entry)) (sym first) ∙ none)
               ∙ ap (λ (m : PlaceModel). Some m.entry) (sym first)
           | inr second ↦
-              let leads = middle_behind env mix (G.table τ) G.page τ (whole.tables.each τ l).placed read
+              let leads = middle_behind env mix (G.table τ) G.page τ (whole.tables.each τ (whole.tables.there τ l)).placed read
               (entries_in_words env mix M G whole τ l) (nested_placed env mix M G whole τ l nested) number second.page second.of
               second.part_is in
               ap (missing_behind (missing_or_last read) begins) leads

@@ -78,7 +78,7 @@ module _ (env : Env) (mix : ℕ → ℕ → ℕ → ℕ) (words : List ℕ) (G :
       → ReachesNode env.geometry words at node
   first_reached j node is leads =
       let τ = is.table in
-      let right = whole.tables.each τ is.attached in
+      let right = whole.tables.each τ (whole.tables.there τ is.attached) in
       let shape : shape_of env.geometry words is.slot ≡ (G.table τ).shape =
       ap (shape_of env.geometry words) (sym is.slot_is) ∙ right.shape_is in
       let place : bucket_in env.geometry words (G.table τ).shape is.number ≡ Some (place_at env mix j) =

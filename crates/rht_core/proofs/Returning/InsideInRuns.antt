@@ -55,7 +55,7 @@ module _ (env : Env) (mix : ℕ → ℕ → ℕ → ℕ) (words : List ℕ) (G :
   page_reached at page is =
       let τ = is.table in
       let few = whole.pages.page_of page τ is.of in
-      let shape : shape_of env.geometry words (G.table τ).slot ≡ (G.table τ).shape = (whole.tables.each τ few).shape_is in
+      let shape : shape_of env.geometry words (G.table τ).slot ≡ (G.table τ).shape = (whole.tables.each τ (whole.tables.there τ few)).shape_is in
       record {
         slot = (G.table τ).slot;
         table = is.there;

@@ -130,7 +130,7 @@ module _ (env : Env) (mix : ℕ → ℕ → ℕ → ℕ) (words : List ℕ) (G :
   reaches-slot slot reached =
       let meets = reaches-table slot reached in
       subst (λ s. has_table (G.slot s) ≡ true) (sym meets.slot_is)
-      (whole.tables.each meets.table meets.attached).has_slot
+      (whole.tables.there meets.table meets.attached).has_slot
 
   pub reaches-page : (page : ℕ) → ReachesPage env.geometry words at page
       → (τ : ℕ) × (G.page page ≡ PageOf τ)
@@ -138,7 +138,7 @@ module _ (env : Env) (mix : ℕ → ℕ → ℕ → ℕ) (words : List ℕ) (G :
       let meets = reaches-table reached.slot reached.table in
       let τ = meets.table in
       let shape : shape_of env.geometry words reached.slot ≡ (G.table τ).shape =
-      ap (shape_of env.geometry words) meets.slot_is ∙ (whole.tables.each τ meets.attached).shape_is in (
+      ap (shape_of env.geometry words) meets.slot_is ∙ (whole.tables.each τ (whole.tables.there τ meets.attached)).shape_is in (
         τ,
         (pages_in_words env mix words G whole τ meets.attached page).0
             (subst (λ s. IsPageOfTable env.geometry words s page) shape reached.of),

@@ -133,13 +133,13 @@ module _ (env : Env) (mix : ℕ → ℕ → ℕ → ℕ) (words : List ℕ) (G :
   not_free (PageAt page) free reached =
       let is = reaches-page env mix words G whole c r right reads at stands page reached in
       let few = whole.pages.page_of page is.0 is.1 in
-      let within = page_within env mix (G.table is.0) G.page is.0 (whole.tables.each is.0 few).placed page is.1 in
+      let within = page_within env mix (G.table is.0) G.page is.0 (whole.tables.each is.0 (whole.tables.there is.0 few)).placed page is.1 in
       let none : G.page page ≡ PageFree = (whole.pages.bits page within).0 free in
       let both : PageOf is.0 ≡ PageFree = sym is.1 ∙ none in cc
   not_free (TableIn slot) free reached =
       let meets = reaches-table env mix words G whole c r right reads at stands slot reached in
       let has = reaches-slot env mix words G whole c r right reads at stands slot reached in
-      let low = (whole.tables.each meets.table meets.attached).slot_in in
+      let low = (whole.tables.each meets.table (whole.tables.there meets.table meets.attached)).slot_in in
       let none = free_state (G.slot slot) (sym (whole.slots.states slot (subst (λ s. s < 8) (sym meets.slot_is) low)) ∙ free) in
       let both : true ≡ false = sym has ∙ ap has_table none in cc
 

@@ -47,7 +47,7 @@ module _ (env : Env) (mix : ℕ → ℕ → ℕ → ℕ) where
       → NoTable before → TablesKept env mix G G.table G.attached G.slot (put_in (has_bit index bits) after G.page)
   pages_kept index bits before after G was none =
       same_kept env mix G G.table G.attached G.slot (put_in (has_bit index bits) after G.page) (λ τ l. refl) (omega arith)
-      (λ s has. refl) (λ s τ is l. is)
+      (λ s has. refl) (λ s has l. refl)
       (λ p τ. put_in-all (λ q o. G.page q ≡ PageOf τ → o ≡ PageOf τ) (has_bit index bits) after G.page
       (λ q there is. absurd (none τ (sym (was.owned q there) ∙ is))) (λ q there is. is) p)
 

@@ -34,7 +34,7 @@ module _ (env : Env) (mix : ℕ → ℕ → ℕ → ℕ) where
       go (PageHeld c) is bucket = absurd (bucket tt)
       go (PageOf τ) is bucket =
           let l = whole.pages.page_of (j / 64) τ is in
-          let of = bucket_of_word env mix (G.table τ) G.page τ (whole.tables.each τ l).placed j is bucket in
+          let of = bucket_of_word env mix (G.table τ) G.page τ (whole.tables.each τ (whole.tables.there τ l)).placed j is bucket in
           record { number = number_in (G.table τ) j; below = of.below; here = of.here }
 
   -- ---- the next table becomes the current one
@@ -147,10 +147,10 @@ module _ (env : Env) (mix : ℕ → ℕ → ℕ → ℕ) where
           index = put-all (λ i o. has_table (G.slot i) ≡ true → table_of_slot o ≡ index_at G i) G.slot s owner
               (λ has. refl) (λ i ne has. refl);
           live = λ τ l from.
-              let right = whole.tables.each τ l in
+              let live = whole.tables.force τ from l in
               put-other G.slot s owner (G.table τ).slot
-              (λ e. let index : index_at G s ≡ τ = ap (index_at G) (sym e) ∙ right.index in
-              omega (arith, index, from, can.left_behind)) ∙ right.live from;
+              (λ e. let index : index_at G s ≡ τ = ap (index_at G) (sym e) ∙ ap table_of_slot live in
+              omega (arith, index, from, can.left_behind)) ∙ live;
           was_live = λ i τ. put-all (λ k o. o ≡ Live τ → G.slot k ≡ Live τ) G.slot s owner (λ is. absurd (cc))
               (λ k ne is. is) i;
           held = λ i c. put-all (λ k o. G.slot k ≡ SlotHeld c → o ≡ SlotHeld c) G.slot s owner

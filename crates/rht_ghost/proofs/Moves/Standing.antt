@@ -43,7 +43,7 @@ module _ (env : Env) (mix : ℕ → ℕ → ℕ → ℕ) where
   slots_stand M G current whole later = record {
     has = λ s. refl;
     index = λ s has. refl;
-    live = λ τ l from. (whole.tables.each τ l).live (omega (arith, later, from));
+    live = λ τ l from. whole.tables.force τ (omega (arith, later, from)) l;
     was_live = λ s τ is. is;
     held = λ s c is. is;
     not_held = λ s c is. is;
@@ -81,14 +81,17 @@ module _ (env : Env) (mix : ℕ → ℕ → ℕ → ℕ) where
       restated_tables = record {
         current_in = is.current_in;
         current_is = is.current_is;
-        each = λ τ l.
-            let r = whole.tables.each τ l in
+        force = λ τ from l. is.slots.live τ l from;
+        there = λ τ l.
+            let was = whole.tables.there τ l in
             let s = (G.table τ).slot in
+            record { has_slot = is.slots.has s ∙ was.has_slot; index = is.slots.index s was.has_slot ∙ was.index };
+        each = λ τ now.
+            let s = (G.table τ).slot in
+            let has = sym (is.slots.has s) ∙ now.has_slot in
+            let r = whole.tables.each τ (record { has_slot = has; index = sym (is.slots.index s has) ∙ now.index }) in
             record {
               slot_in = r.slot_in;
-              has_slot = is.slots.has s ∙ r.has_slot;
-              index = is.slots.index s r.has_slot ∙ r.index;
-              live = is.slots.live τ l;
               shape_is = is.write.others (Slot s ShapeWord) (r.slot_in, tt) (is.word.no_shape s) ∙ r.shape_is;
               seed_is = is.write.others (Slot s SeedWord) (r.slot_in, tt) (is.word.no_seed s) ∙ r.seed_is;
               serial_is = is.write.others (Slot s SerialWord) (r.slot_in, tt) (is.word.no_serial s) ∙ r.serial_is;

@@ -9,7 +9,7 @@ use Rattle.rht_words.specs.Members.{In}
 use Rattle.rht_words.proofs.Memory.{Memory, IsWrite}
 use Rattle.rht_words.proofs.Members.{in-middle}
 use Rattle.rht_ghost.proofs.Theory.Ghosts.{put, put-same, put-other, put-all, Bucket, Owner, First, Leaving, Live, Retired, Ghost, has_table, index_at, table_of_slot, table_at, held_by, with_holder, none-some, some-same}
-use Rattle.rht_ghost.proofs.Theory.Wholes.{AreRetired, key_of, place_at, word_index, place_at-index, index-place_at, index-within, home, IsNoBucket, MovesNone, Whole}
+use Rattle.rht_ghost.proofs.Theory.Wholes.{AreRetired, current-there, key_of, place_at, word_index, place_at-index, index-place_at, index-within, home, IsNoBucket, MovesNone, Whole}
 use Rattle.rht_ghost.proofs.Theory.Passed.{place-table, home-table, home-bucket, place-bucket}
 use Rattle.rht_ghost.proofs.Theory.Knowns.{last_of, KnownAim, NoAim, KnownRehash, KnownPlace, KnownEntry, KnownWork, NoWork, Works, Empties, LeavesBehind, InBucket, Brings, TakesOut, HasBrought}
 use Rattle.rht_ghost.proofs.Theory.Knowledge.{DoesWork, IsEmptied, IsEmptying, IsLeftBehind, IsFacing, IsNext, IsInBucket, IsBare, IsEntry, IsAim, IsAiming, IsTarget, IsBringing, IsTakenOut, IsBrought, WorkMeans}
@@ -461,9 +461,9 @@ module _ (env : Env) (mix : ℕ → ℕ → ℕ → ℕ) (c : ℕ) where
         → IsEmptying env mix G root count → count ≡ size_of (unpacked root.shape)
         → IsWrite env.geometry M M' CurrentTable root.future → Worked M G M' (published G) (LeavesBehind root.root)
     publish_work works root count M' is all write =
-        let right = whole.tables.each G.current whole.tables.current_in in
+        let here = current-there env mix whole.tables in
         let root_is = is.followed.root_is in
-        let index : index_at G root.root ≡ G.current = ap (index_at G) (sym root_is) ∙ right.index in
+        let index : index_at G root.root ≡ G.current = ap (index_at G) (sym root_is) ∙ here.index in
         record {
           made = publish env mix c M G whole (can_publish works root count is all) M'
               (subst (IsWrite env.geometry M M' CurrentTable) (sym is.followed.future_is) write);
@@ -479,7 +479,7 @@ module _ (env : Env) (mix : ℕ → ℕ → ℕ → ℕ) (c : ℕ) where
               ],
             );
             more = record {
-              table = ap (λ s. has_table (G.slot s)) (sym root_is) ∙ right.has_slot;
+              table = ap (λ s. has_table (G.slot s)) (sym root_is) ∙ here.has_slot;
               earlier = omega (arith, index);
             };
           };

@@ -46,7 +46,7 @@ module _ (env : Env) (mix : ℕ → ℕ → ℕ → ℕ) (M : Memory) (G : Ghost
 
   module _ (τ number : ℕ) (l : τ < G.attached) (nested : is_nested (G.table τ).shape ≡ true) where
     placed : PlacedRight env mix (G.table τ) G.page τ
-    placed = (whole.tables.each τ l).placed
+    placed = (whole.tables.each τ (whole.tables.there τ l)).placed
 
     is : IsNested env mix (G.table τ) G.page τ
     is = nested_placed env mix M G whole τ l nested

@@ -21,7 +21,7 @@ use Rattle.rht_policy.specs.Mix.{bucket_of}
 use Rattle.rht_nest.specs.Place.{PlaceModel, flat_place, nested_place, entered, behind_entry, place_or_last}
 use Rattle.rht_nest.specs.Tables.{is_nested}
 use Rattle.rht_ghost.proofs.Theory.Ghosts.{Ghost, has_table, index_at, lock_bit, none-some}
-use Rattle.rht_ghost.proofs.Theory.Wholes.{chain_of, key_of, place_at, word_index, place_at-index, index-within, hash_in, future_in, stop, PlacedRight, Whole}
+use Rattle.rht_ghost.proofs.Theory.Wholes.{chain_of, key_of, place_at, word_index, place_at-index, index-within, hash_in, future_in, stop, PlacedRight, Whole, current-there}
 use Rattle.rht_ghost.proofs.Theory.Passed.{hash-below, held-no_entry}
 use Rattle.rht_ghost.proofs.Theory.Knowns.{KnownAim, NoAim, Onward, From, Beyond, KnownRehash, KnownPlace, KnownEntry, KnownWork, Works, Rooted, Follows, Empties, Nears, Faces, InBucket, Bare, AtEntry, AtTail, Aims}
 use Rattle.rht_ghost.proofs.Theory.Knowledge.{DoesWork, HasLock, IsEmptying, IsNearing, IsInBucket, WorkMeans}
@@ -91,7 +91,7 @@ module _ (env : Env) (mix : ℕ → ℕ → ℕ → ℕ) (c : ℕ) (M : Memory) 
   -- the current table
   pub root_seen : Knows Works → Knows (Rooted (table_of (M CurrentTable)) NoAim)
   root_seen knows =
-      let right = whole.tables.each G.current whole.tables.current_in in
+      let right = whole.tables.each G.current (current-there env mix whole.tables) in
       let slot = (G.table G.current).slot in
       let is : table_of (M CurrentTable) ≡ slot = (let word = whole.tables.current_is in omega
       (arith, right.slot_in, word)) in
@@ -101,8 +101,8 @@ module _ (env : Env) (mix : ℕ → ℕ → ℕ → ℕ) (c : ℕ) (M : Memory) 
   root_has : (root : ℕ) → (G.table G.current).slot ≡ root
       → (has_table (G.slot root) ≡ true) × (index_at G root ≡ G.current)
   root_has root is =
-      let right = whole.tables.each G.current whole.tables.current_in in
-      (ap (λ s. has_table (G.slot s)) (sym is) ∙ right.has_slot, ap (index_at G) (sym is) ∙ right.index)
+      let there = current-there env mix whole.tables in
+      (ap (λ s. has_table (G.slot s)) (sym is) ∙ there.has_slot, ap (index_at G) (sym is) ∙ there.index)
 
   pub from_root : (root : ℕ) → Knows (Rooted root NoAim) → Knows (Rooted root (From root))
   from_root root knows =

@@ -88,7 +88,7 @@ module _ (env : Env) (mix : ℕ → ℕ → ℕ → ℕ) where
     -- the word of a bucket of a table is in one of the table's pages, and is no entry
     pub place-word : (τ b j : ℕ) → τ < G.attached → b < size_of (unpacked (G.table τ).shape)
         → (G.table τ).place b ≡ Some j → IsWordOf env mix (G.table τ) G.page τ b j
-    place-word τ b j l below is = word_of env mix (G.table τ) G.page τ (whole.tables.each τ l).placed b j below is
+    place-word τ b j l below is = word_of env mix (G.table τ) G.page τ (whole.tables.each τ (whole.tables.there τ l)).placed b j below is
 
     pub place-table : (τ b j : ℕ) → τ < G.attached → b < size_of (unpacked (G.table τ).shape)
         → (G.table τ).place b ≡ Some j → table_at G j ≡ τ

@@ -199,7 +199,7 @@ module _ (env : Env) (mix : ℕ → ℕ → ℕ → ℕ) where
       → G.page (j / 64) ≡ PageOf τ → has_entries ((G.table τ).part (j / 64)) ≡ true
       → M (PageWord j) ≡ entry_word ((G.table τ).entry j)
   entries_in_words M G whole τ l j of has =
-      let within = page_within env mix (G.table τ) G.page τ (whole.tables.each τ l).placed (j / 64) of in
+      let within = page_within env mix (G.table τ) G.page τ (whole.tables.each τ (whole.tables.there τ l)).placed (j / 64) of in
       let is : is_entry G j ≡ true = ap (λ o. is_entry_of G.table o (j / 64)) of ∙ has in
       whole.entries j (omega (arith, within)) is
       ∙ ap (λ o. entry_word ((G.table (table_of_page o)).entry j)) of
@@ -210,5 +210,5 @@ module _ (env : Env) (mix : ℕ → ℕ → ℕ → ℕ) where
       → place_in (λ j. M (PageWord j)) env.geometry (G.table τ).shape b
       ≡ option_map (place_at env mix) ((G.table τ).place b)
   placed_in_words M G whole τ b l below =
-      placed_in_read (G.table τ) G.page τ (whole.tables.each τ l).placed (λ j. M (PageWord j))
+      placed_in_read (G.table τ) G.page τ (whole.tables.each τ (whole.tables.there τ l)).placed (λ j. M (PageWord j))
       (entries_in_words M G whole τ l) b below

@@ -77,7 +77,7 @@ module _ (env : Env) (mix : ℕ → ℕ → ℕ → ℕ) where
 
   pub nested_placed : (M : Memory) (G : Ghost) → Whole env mix M G → (τ : ℕ) → τ < G.attached
       → is_nested (G.table τ).shape ≡ true → IsNested env mix (G.table τ) G.page τ
-  nested_placed M G whole τ l is = elim (whole.tables.each τ l).placed [
+  nested_placed M G whole τ l is = elim (whole.tables.each τ (whole.tables.there τ l)).placed [
     | inl flat ↦ absurd (both_ways (is_nested (G.table τ).shape)
         (le-ltb 0 (unpacked (G.table τ).shape).nest (omega (arith, flat.flat))) is)
     | inr nested ↦ nested
@@ -128,7 +128,7 @@ module _ (env : Env) (mix : ℕ → ℕ → ℕ → ℕ) where
       way_read = elim to.way [
         | inl first ↦ ap (read_place read) first ∙ first_read to.nested
         | inr second ↦
-            let led = middle_behind env mix (G.table τ) G.page τ (whole.tables.each τ l).placed read
+            let led = middle_behind env mix (G.table τ) G.page τ (whole.tables.each τ (whole.tables.there τ l)).placed read
             (entries_in_words env mix M G whole τ l) is number second.page second.of second.part_is in
             read_behind read at_first place second.page led second.place_is
             ∙ first_read to.nested
@@ -144,7 +144,7 @@ module _ (env : Env) (mix : ℕ → ℕ → ℕ → ℕ) where
               let two = first_of_two place next page e in
               let deep : is_deep shape_of_table ≡ true = ap (λ (m : PlaceModel). m.deep) (sym first) ∙ two.deep in
               let led = ap (λ (m : PlaceModel). page_of env.geometry.pages (read m.entry)) (sym first) ∙ leads in
-              let middle = leads_to_middle env mix (G.table τ) G.page τ (whole.tables.each τ l).placed read
+              let middle = leads_to_middle env mix (G.table τ) G.page τ (whole.tables.each τ (whole.tables.there τ l)).placed read
               (entries_in_words env mix M G whole τ l) is number page led deep in
               inr (record {
                 page = page;
