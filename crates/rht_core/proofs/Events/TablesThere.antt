@@ -80,7 +80,7 @@ module _ (env : Env) (mix : ℕ → ℕ → ℕ → ℕ) where
         → has_table (G.slot slot) ≡ true
     future_has front slot has leads =
         let of = whole.tables.slots front has in
-        let next = next_named env mix words G whole (index_at G front) slot of.attached
+        let next = next_named env mix words G whole (index_at G front) slot (λ σ from. whole.tables.there σ) of.attached
         (subst (λ s. slot_of (word_at g words (Slot s FutureWord)) ≡ Some slot) (sym of.slot) leads) in
         subst (λ s. has_table (G.slot s) ≡ true) next.slot_is (whole.tables.there (index_at G front + 1) next.attached).has_slot
 

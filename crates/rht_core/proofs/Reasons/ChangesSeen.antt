@@ -306,7 +306,8 @@ module _ (M : Type 0) (mix : ℕ → ℕ → ℕ → ℕ) (env : Env) (events : 
               let current = table.current in
               absurd (omega (arith, same, left, current));
           left = subst (λ s. In (table_of (word_at g words CurrentTable)) (tables_from g words 8 (Some s))) of.slot
-              (leads_to_current env mix words G whole τ (let left = can.left_behind in omega (arith, left)));
+              (leads_to_current env mix words G whole τ (λ σ from. whole.tables.there σ)
+              (let left = can.left_behind in omega (arith, left)));
         })
 
     stated : (job : Job) (slot : ℕ) (performs : Performs mix env job did) → performs.words ≡ words_at did.index

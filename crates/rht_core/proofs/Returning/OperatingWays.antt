@@ -100,7 +100,8 @@ module _ (env : Env) (mix : ℕ → ℕ → ℕ → ℕ) (words : List ℕ) (G :
     further τ zero few there = subst (λ σ. ReachesTable env.geometry words at (G.table σ).slot) (omega arith) there
     further τ (suc count) few there =
         let next = further τ count (omega (arith, few)) there in
-        let more = future-leads env mix words G whole (τ + count) (suc (G.attached - (τ + count + 2))) (omega (arith, few)) in
+        let more = future-leads env mix words G whole (τ + count) (suc (G.attached - (τ + count + 2))) (omega (arith, few))
+        (λ σ from. whole.tables.there σ) in
         subst (λ σ. ReachesTable env.geometry words at (G.table σ).slot) (omega arith)
         (by_future (G.table (τ + count)).slot (G.table (τ + count + 1)).slot next more)
 

@@ -56,7 +56,7 @@ module _ (env : Env) (mix : ℕ → ℕ → ℕ → ℕ) (words : List ℕ) (G :
       → MeetsTable G r next
   next_table slot next meets leads =
       let named =
-      next_named env mix words G whole meets.table next meets.attached
+      next_named env mix words G whole meets.table next (λ σ from. whole.tables.there σ) meets.attached
       (subst (λ s. slot_of (mem env mix words (Slot s FutureWord)) ≡ Some next) meets.slot_is leads) in
       record {
         table = meets.table + 1;
