@@ -141,7 +141,7 @@ module _ (env : Env) (mix : ℕ → ℕ → ℕ → ℕ) (words : List ℕ) (G :
             slot_in = right.slot_in;
             taken = λ free. has_state (G.slot s) there.has_slot (sym (whole.slots.states s right.slot_in) ∙ free);
             there = subst (λ w. IsPageOfTable env.geometry words w p) (sym right.shape_is)
-                ((pages_in_words env mix words G whole τ attached p).1 e);
+                ((pages_in_words env mix words G whole τ there p).1 e);
           })
 
   no_page_free : (s p : ℕ) → s < 8 → ((c : ℕ) → G.slot s ≢ SlotHeld c) → word_at env.geometry words (Slot s StateWord) ≢ 0
@@ -150,11 +150,12 @@ module _ (env : Env) (mix : ℕ → ℕ → ℕ → ℕ) (words : List ℕ) (G :
       let has = state_has (G.slot s) unheld (λ e. taken (whole.slots.states s l ∙ e)) in
       let is = whole.tables.slots s has in
       let τ = index_at G s in
-      let right = whole.tables.each τ (slot-there env mix whole.tables s has) in
+      let there_is = slot-there env mix whole.tables s has in
+      let right = whole.tables.each τ there_is in
       let shape_is : word_at env.geometry words (Slot s ShapeWord) ≡ (G.table τ).shape =
       subst (λ t. word_at env.geometry words (Slot t ShapeWord) ≡ (G.table τ).shape) is.slot right.shape_is in
       let of : G.page p ≡ PageOf τ =
-      (pages_in_words env mix words G whole τ is.attached p).0
+      (pages_in_words env mix words G whole τ there_is p).0
       (subst (λ w. IsPageOfTable env.geometry words w p) shape_is there) in
       let within = page_within env mix (G.table τ) G.page τ right.placed p of in
       let none : PageOf τ ≡ PageFree = sym of ∙ (whole.pages.bits p within).0 free in

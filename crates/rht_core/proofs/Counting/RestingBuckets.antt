@@ -10,7 +10,7 @@ use Rattle.rht_words.specs.Shapes.{unpacked, size_of}
 use Rattle.rht_stands.specs.StandsFor.{bucket_in, shape_of}
 use Rattle.rht_core.specs.Counts.{HasTable, IsBucketOfSlot}
 use Rattle.rht_ghost.proofs.Theory.Ghosts.{SlotOwner, SlotFree, SlotHeld, Live, Retired, Bucket, Ghost, has_table, index_at, state_word, lock_bit, some-same}
-use Rattle.rht_ghost.proofs.Theory.Wholes.{place_at, Whole}
+use Rattle.rht_ghost.proofs.Theory.Wholes.{place_at, Whole, IsThere, force-there, slot-there}
 use Rattle.rht_ghost.proofs.Theory.Passed.{place-word, place-bucket}
 use Rattle.rht_ghost.proofs.Theory.Entries.{bucket-no_entry}
 use Rattle.rht_ghost.proofs.Theory.Steps.{mem}
@@ -35,10 +35,11 @@ module _ (env : Env) (mix : ℕ → ℕ → ℕ → ℕ) (words : List ℕ) (G :
   abbrev g : Geometry
   g = env.geometry
 
-  -- the table in a slot was attached
+  -- the table in a slot was attached, and has the slot
   pub record IsTableIn (slot : ℕ) : Type 0 where
     pub table : ℕ
     pub attached : table < G.attached
+    pub there : IsThere G table
     pub slot_is : slot ≡ (G.table table).slot
 
   -- the word of a bucket is that of one of the words of all pages
@@ -52,7 +53,7 @@ module _ (env : Env) (mix : ℕ → ℕ → ℕ → ℕ) (words : List ℕ) (G :
   word_in slot place has is = (below, go ((G.table has.table).place is.bucket) refl there)
     where
       shape_is : shape_of g words slot ≡ (G.table has.table).shape
-      shape_is = ap (shape_of g words) has.slot_is ∙ (whole.tables.each has.table (whole.tables.there has.table has.attached)).shape_is
+      shape_is = ap (shape_of g words) has.slot_is ∙ (whole.tables.each has.table has.there).shape_is
 
       below : is.bucket < size_of (unpacked (G.table has.table).shape)
       below = subst (λ s. is.bucket < size_of (unpacked s)) shape_is is.within
@@ -81,11 +82,13 @@ module _ (env : Env) (mix : ℕ → ℕ → ℕ → ℕ) (words : List ℕ) (G :
   table_in : (slot : ℕ) → HasTable env.geometry words slot → IsTableIn env mix words G whole slot
   table_in slot (inl i) =
       let is = in_force_is env mix words G whole slot i in
-      record { table = is.table; attached = is.attached; slot_is = is.slot_is }
+      let there = force-there env mix whole.tables is.table is.current is.attached in
+      record { table = is.table; attached = is.attached; there = there; slot_is = is.slot_is }
   table_in slot (inr (low, taken)) =
       let has = state_has (G.slot slot) (λ c. unheld c slot) (λ e. taken (whole.slots.states slot low ∙ e)) in
       let is = whole.tables.slots slot has in
-      record { table = index_at G slot; attached = is.attached; slot_is = sym is.slot }
+      let there = slot-there env mix whole.tables slot has in
+      record { table = index_at G slot; attached = is.attached; there = there; slot_is = sym is.slot }
 
   -- the word of a bucket has its plain part alone
   plain_word : (τ bucket place : ℕ) → τ < G.attached → bucket < size_of (unpacked (G.table τ).shape)
