@@ -60,7 +60,7 @@ module _ (env : Env) (mix : ℕ → ℕ → ℕ → ℕ) (words : List ℕ) (G :
 
       there : option_map (place_at env mix) ((G.table has.table).place is.bucket) ≡ Some place
       there =
-          sym (placed_in_words env mix (mem env mix words) G whole has.table is.bucket has.attached below)
+          sym (placed_in_words env mix (mem env mix words) G whole has.table is.bucket has.there below)
           ∙ subst (λ s. bucket_in g words s is.bucket ≡ Some place) shape_is is.there
 
       go : (o : Option ℕ) → (G.table has.table).place is.bucket ≡ o → option_map (place_at env mix) o ≡ Some place
@@ -91,13 +91,13 @@ module _ (env : Env) (mix : ℕ → ℕ → ℕ → ℕ) (words : List ℕ) (G :
       record { table = index_at G slot; attached = is.attached; there = there; slot_is = sym is.slot }
 
   -- the word of a bucket has its plain part alone
-  plain_word : (τ bucket place : ℕ) → τ < G.attached → bucket < size_of (unpacked (G.table τ).shape)
+  plain_word : (τ bucket place : ℕ) → IsThere G τ → bucket < size_of (unpacked (G.table τ).shape)
       → (word : IsWordIn env mix words G whole τ bucket place)
       → (slice_index words place ≡ (G.bucket word.index).plain) × ((G.bucket word.index).plain % 2 ≡ 0)
-  plain_word τ bucket place l below word =
+  plain_word τ bucket place is_there below word =
       let j = word.index in
-      let within = (place-word env mix (mem env mix words) G whole τ bucket j l below word.here).within in
-      let plain = bucket-no_entry env mix G j (place-bucket env mix (mem env mix words) G whole τ bucket j l below word.here) in
+      let within = (place-word env mix (mem env mix words) G whole τ bucket j is_there below word.here).within in
+      let plain = bucket-no_entry env mix G j (place-bucket env mix (mem env mix words) G whole τ bucket j is_there below word.here) in
       let right = (whole.buckets j within plain).locked in
       let free : (G.bucket j).plain + lock_bit (G.bucket j).holder ≡ (G.bucket j).plain =
       ap (λ h. (G.bucket j).plain + lock_bit h) (nobody j) ∙ omega arith in (
@@ -110,7 +110,7 @@ module _ (env : Env) (mix : ℕ → ℕ → ℕ → ℕ) (words : List ℕ) (G :
   bucket_unlocked slot place has is =
       let in_slot = table_in slot has in
       let word = word_in env mix words G whole slot place in_slot is in
-      let plain = plain_word in_slot.table is.bucket place in_slot.attached word.0 word.1 in
+      let plain = plain_word in_slot.table is.bucket place in_slot.there word.0 word.1 in
       ap (λ w. w % 2) plain.0 ∙ plain.1
 
   pub bucket_emptied : (slot place : ℕ) → slot < 8 → word_at env.geometry words (Slot slot StateWord) ≡ 2
@@ -119,7 +119,7 @@ module _ (env : Env) (mix : ℕ → ℕ → ℕ → ℕ) (words : List ℕ) (G :
       let in_slot = table_in slot (inr (low, λ e. let both = sym retired ∙ e in cc)) in
       let τ = in_slot.table in
       let word = word_in env mix words G whole slot place in_slot is in
-      let plain = plain_word τ is.bucket place in_slot.attached word.0 word.1 in
+      let plain = plain_word τ is.bucket place in_slot.there word.0 word.1 in
       let state : state_word (G.slot slot) ≡ 2 = sym (whole.slots.states slot low) ∙ retired in
       let behind : τ < G.current = elim (cases_lt τ G.current) [
         | inl before ↦ before

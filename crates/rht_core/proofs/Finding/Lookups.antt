@@ -25,7 +25,7 @@ use Rattle.rht_find.specs.declared.find.Head.{Head}
 use Rattle.rht_find.specs.declared.find.FindAt.{FindAt}
 use Rattle.rht_find.specs.declared.find.FindAt.TheVariants as at
 use Rattle.rht_ghost.proofs.Theory.Ghosts.{Ghost, lock_bit, index_at, none-some}
-use Rattle.rht_ghost.proofs.Theory.Wholes.{chain_of, key_of, place_at, word_index, place_at-index, Whole, current-there}
+use Rattle.rht_ghost.proofs.Theory.Wholes.{chain_of, key_of, place_at, word_index, place_at-index, Whole, current-there, slot-there}
 use Rattle.rht_ghost.proofs.Theory.Passed.{TablesGrow, home-within, home-no_entry}
 use Rattle.rht_ghost.proofs.Theory.Steps.{mem}
 use Rattle.rht_ghost.proofs.Pieces.TableLoads.{LeadsBehind, future_leads}
@@ -140,8 +140,9 @@ module _ (env : Env) (mix : ℕ → ℕ → ℕ → ℕ) (port : ℕ) (seen : �
         let j = bucket_of_head head in
         let τ = index_at G head.table in
         let of = home_is.of in
-        let locked = (whole.buckets j (home-within env mix M G whole port τ j of.attached home_is.here)
-        (home-no_entry env mix M G whole port τ j of.attached home_is.here)).locked in
+        let is_there = slot-there env mix whole.tables head.table of.table in
+        let locked = (whole.buckets j (home-within env mix M G whole port τ j is_there home_is.here)
+        (home-no_entry env mix M G whole port τ j is_there home_is.here)).locked in
         let place : place_at env mix j ≡ head.place = place_at-index env mix head.place there in
         subst (λ p. head_of p (old_of words (Load p)) ≡ head_of (place_at env mix j) (G.bucket j).plain) place
         (ap (head_of (place_at env mix j)) locked.word_is

@@ -9,7 +9,7 @@ use Rattle.rht_words.specs.Members.{In}
 use Rattle.rht_words.proofs.Memory.{Memory, IsWrite}
 use Rattle.rht_words.proofs.Members.{in-middle}
 use Rattle.rht_ghost.proofs.Theory.Ghosts.{put, put-same, put-other, put-all, Bucket, Owner, First, Leaving, Live, Retired, Ghost, has_table, index_at, table_of_slot, table_at, held_by, with_holder, none-some, some-same}
-use Rattle.rht_ghost.proofs.Theory.Wholes.{AreRetired, current-there, key_of, place_at, word_index, place_at-index, index-place_at, index-within, home, IsNoBucket, MovesNone, Whole}
+use Rattle.rht_ghost.proofs.Theory.Wholes.{AreRetired, current-there, key_of, place_at, word_index, place_at-index, index-place_at, index-within, home, IsNoBucket, MovesNone, Whole, force-there}
 use Rattle.rht_ghost.proofs.Theory.Passed.{place-table, home-table, home-bucket, place-bucket}
 use Rattle.rht_ghost.proofs.Theory.Knowns.{last_of, KnownAim, NoAim, KnownRehash, KnownPlace, KnownEntry, KnownWork, NoWork, Works, Empties, LeavesBehind, InBucket, Brings, TakesOut, HasBrought}
 use Rattle.rht_ghost.proofs.Theory.Knowledge.{DoesWork, IsEmptied, IsEmptying, IsLeftBehind, IsFacing, IsNext, IsInBucket, IsBare, IsEntry, IsAim, IsAiming, IsTarget, IsBringing, IsTakenOut, IsBrought, WorkMeans}
@@ -47,11 +47,12 @@ module _ (env : Env) (mix : ℕ → ℕ → ℕ → ℕ) (c : ℕ) where
 
     next_table : (root : KnownRehash) (at : KnownPlace) → IsNext env mix c G root at → table_at G (index at.place) ≡ G.current
     next_table root at is =
-        place-table env mix M G whole G.current at.number (index at.place) whole.tables.current_in is.below is.here
+        place-table env mix M G whole G.current at.number (index at.place) (current-there env mix whole.tables) is.below is.here
 
     aim_table : (entry place : ℕ) → (aim : IsAim env mix M G entry place) → table_at G (index place) ≡ aim.table
     aim_table entry place aim =
-        home-table env mix M G whole (key_of M entry) aim.table (index place) aim.attached aim.here
+        home-table env mix M G whole (key_of M entry) aim.table (index place)
+        (force-there env mix whole.tables aim.table (let later = aim.later in omega (arith, later)) aim.attached) aim.here
 
     next_place : (entry place word : ℕ) → IsTarget env mix c M G entry place word
         → IsNextPlace env mix c entry (index place) M G
@@ -123,7 +124,7 @@ module _ (env : Env) (mix : ℕ → ℕ → ℕ → ℕ) (c : ℕ) where
       };
       shape_is = is.shape_is;
       within = is.within;
-      each = λ b k l at. stays k (place-table env mix M G whole G.current b k whole.tables.current_in
+      each = λ b k l at. stays k (place-table env mix M G whole G.current b k (current-there env mix whole.tables)
           (omega (arith, l, is.within)) at) (is.each b k l at);
     }
 
@@ -294,7 +295,7 @@ module _ (env : Env) (mix : ℕ → ℕ → ℕ → ℕ) (c : ℕ) where
     faced_bucket : (root : KnownRehash) (number place : ℕ) → IsFacing env mix G root number place
         → IsNoBucket env mix G (G.page (index place / 64)) (index place) → ⊥
     faced_bucket root number place is bucketless =
-        place-bucket env mix M G whole G.current number (index place) whole.tables.current_in is.below is.here bucketless
+        place-bucket env mix M G whole G.current number (index place) (current-there env mix whole.tables) is.below is.here bucketless
 
     -- it is locked
     pub lock_work : DoesWork c G None → (root : KnownRehash) (number place word : ℕ) (M' : Memory)
@@ -344,7 +345,8 @@ module _ (env : Env) (mix : ℕ → ℕ → ℕ → ℕ) (c : ℕ) where
         let stands = is.tail.stands in
         let next = stands.bucket.next in
         let taken = take_lock env mix c i word M M' G whole (index-within env mix place aim.bucket)
-        (home-bucket env mix M G whole (key_of M entry.node) aim.table i aim.attached aim.here) found even write in
+        (home-bucket env mix M G whole (key_of M entry.node) aim.table i
+        (force-there env mix whole.tables aim.table (let later = aim.later in omega (arith, later)) aim.attached) aim.here) found even write in
         let held = held_by (G.bucket i) (Some c) in
         let G' = with_holder G i (Some c) in
         let there : G'.bucket i ≡ held = put-same G.bucket i held in

@@ -13,7 +13,7 @@ use Rattle.rht_words.specs.Members.{In, IsDistinct}
 use Rattle.rht_words.proofs.Members.{count_below}
 use Rattle.rht_policy.specs.Mix.{bucket_of}
 use Rattle.rht_nest.specs.Tables.{table_seed}
-use Rattle.rht_ghost.proofs.Theory.Ghosts.{Part, Row, Top, has_entries, Table, Bucket, blank_bucket, Owner, Free, NodeHeld, First, Leaving, Behind, Taken, Ghost, Live, Retired, lock_bit, state_word, is_first, is_taken_by, seat_of, seated, table_at, has_table, table_of_slot, index_at, PageOwner, PageFree, PageHeld, PageOf, is_entry, entry_word}
+use Rattle.rht_ghost.proofs.Theory.Ghosts.{Part, Row, Top, has_entries, Table, Bucket, blank_bucket, Owner, Free, NodeHeld, First, Leaving, Behind, Taken, Ghost, Live, lock_bit, state_word, is_first, is_taken_by, seat_of, seated, table_at, has_table, table_of_slot, index_at, PageOwner, PageFree, PageHeld, PageOf, is_entry, entry_word}
 use Rattle.rht_ghost.proofs.Theory.Ways.{first_page, child, followed, IsSpareIn, StandsAs, IsNestedShape}
 
 -- the links behind nodes
