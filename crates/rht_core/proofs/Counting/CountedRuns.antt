@@ -132,8 +132,7 @@ module _ (env : Env) (mix : ℕ → ℕ → ℕ → ℕ) (words : List ℕ) (G :
       go PageFree e = inl ((whole.pages.bits p l).1 e)
       go (PageHeld c) e = absurd (unheld c e)
       go (PageOf τ) e =
-          let attached = whole.pages.page_of p τ e in
-          let there = whole.tables.there τ attached in
+          let there = whole.pages.there p τ e in
           let right = whole.tables.each τ there in
           let s = (G.table τ).slot in
           inr (record {

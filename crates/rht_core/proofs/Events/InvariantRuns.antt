@@ -150,6 +150,9 @@ module _ (env : Env) (mix : ℕ → ℕ → ℕ → ℕ) where
   opening_pages = record {
     bits = λ p l. rw (opened (PageMap (p / 64)) (omega arith)) (page_bit p l);
     page_of = λ p τ is. let zero = (page_below p τ is).1 in omega (arith, zero);
+    there = λ p τ is.
+        let zero = (page_below p τ is).1 in
+        live-there env mix (opening_ghost env) τ (opening_live τ (omega (arith, zero)));
     blank = λ j is. refl;
   }
     where

@@ -54,8 +54,7 @@ module _ (env : Env) (mix : ℕ → ℕ → ℕ → ℕ) (words : List ℕ) (G :
   page_reached : (at : Standing) (page : ℕ) → PageThere env.geometry words G at page → ReachesPage env.geometry words at page
   page_reached at page is =
       let τ = is.table in
-      let few = whole.pages.page_of page τ is.of in
-      let there = whole.tables.there τ few in
+      let there = whole.pages.there page τ is.of in
       let shape : shape_of env.geometry words (G.table τ).slot ≡ (G.table τ).shape = (whole.tables.each τ there).shape_is in
       record {
         slot = (G.table τ).slot;

@@ -132,8 +132,7 @@ module _ (env : Env) (mix : ℕ → ℕ → ℕ → ℕ) (words : List ℕ) (G :
       let both : true ≡ false = sym (right.used node met) ∙ ap is_used none in cc
   not_free (PageAt page) free reached =
       let is = reaches-page env mix words G whole c r right reads at stands page reached in
-      let few = whole.pages.page_of page is.0 is.1 in
-      let within = page_within env mix (G.table is.0) G.page is.0 (whole.tables.each is.0 (whole.tables.there is.0 few)).placed page is.1 in
+      let within = page_within env mix (G.table is.0) G.page is.0 (whole.tables.each is.0 (whole.pages.there page is.0 is.1)).placed page is.1 in
       let none : G.page page ≡ PageFree = (whole.pages.bits page within).0 free in
       let both : PageOf is.0 ≡ PageFree = sym is.1 ∙ none in cc
   not_free (TableIn slot) free reached =

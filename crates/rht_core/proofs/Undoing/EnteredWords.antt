@@ -38,8 +38,7 @@ module _ (env : Env) (mix : ℕ → ℕ → ℕ → ℕ) where
       let at = entry_in env mix G j ready.entry in
       let τ = table_at G j in
       let table = G.table τ in
-      let attached : τ < G.attached = whole.pages.page_of (j / 64) τ at.of in
-      let there = whole.tables.there τ attached in
+      let there = whole.pages.there (j / 64) τ at.of in
       let right = whole.tables.each τ there in
       let nested : IsNested env mix table G.page τ = entry_nested env mix M G whole j at in
       let missed = missed_at env mix table G.page τ nested (λ i. M (PageWord i))

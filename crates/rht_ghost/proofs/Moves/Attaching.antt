@@ -318,6 +318,10 @@ module _ (env : Env) (mix : ℕ → ℕ → ℕ → ℕ) where
       page_of = λ p σ. put_in-all (λ q o. o ≡ PageOf σ → σ < G.attached + 1) (is_page_for shape) (PageOf G.attached)
           G.page (λ q there is. let same : G.attached ≡ σ = cc in omega (arith, same))
           (λ q there is. omega (arith, whole.pages.page_of q σ is)) p;
+      there = λ p σ. put_in-all (λ q o. o ≡ PageOf σ → IsThere G' σ) (is_page_for shape) (PageOf G.attached) G.page
+          (λ q own is. let same : σ ≡ G.attached = cc in live-there env mix G' σ (new_live σ same))
+          (λ q own is. there_kept env mix G tables (G.attached + 1) slots page attached_kept σ (whole.pages.page_of q σ is)
+          (whole.pages.there q σ is)) p;
       blank = blank_right;
     }
       where

@@ -263,6 +263,13 @@ module _ (env : Env) (mix : ℕ → ℕ → ℕ → ℕ) where
       page_of = λ q σ. put-all (λ k o. o ≡ PageOf σ → σ < G.attached) G.page p (PageOf τ)
           (λ of. let same : τ ≡ σ = cc in subst (λ k. k < G.attached) same attached)
           (λ k ne of. whole.pages.page_of k σ of) q;
+      there = λ q σ. put-all (λ k o. o ≡ PageOf σ → IsThere G' σ) G.page p (PageOf τ)
+          (λ of.
+          let same : τ ≡ σ = cc in
+          subst (λ k. IsThere G' k) same (there_kept env mix G tables G.attached G.slot page entered_kept τ attached
+          (whole.pages.there (j / 64) τ at.of)))
+          (λ k ne of. there_kept env mix G tables G.attached G.slot page entered_kept σ (whole.pages.page_of k σ of)
+          (whole.pages.there k σ of)) q;
       blank = λ i is. elim (cases_eq (i / 64) p) [
         | inl inside ↦ blank_in i inside
         | inr outside ↦

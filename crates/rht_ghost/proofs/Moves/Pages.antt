@@ -102,6 +102,8 @@ module _ (env : Env) (mix : ℕ → ℕ → ℕ → ℕ) where
     pages_right = record {
       bits = bits_right;
       page_of = λ p τ is. whole.pages.page_of p τ (page_before p τ is);
+      there = λ p τ is.
+          let t = whole.pages.there p τ (page_before p τ is) in record { has_slot = t.has_slot; index = t.index };
       blank = blank_right;
     }
 

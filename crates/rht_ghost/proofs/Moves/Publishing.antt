@@ -33,8 +33,7 @@ module _ (env : Env) (mix : ℕ → ℕ → ℕ → ℕ) where
       go PageFree is bucket = absurd (bucket tt)
       go (PageHeld c) is bucket = absurd (bucket tt)
       go (PageOf τ) is bucket =
-          let l = whole.pages.page_of (j / 64) τ is in
-          let of = bucket_of_word env mix (G.table τ) G.page τ (whole.tables.each τ (whole.tables.there τ l)).placed j is bucket in
+          let of = bucket_of_word env mix (G.table τ) G.page τ (whole.tables.each τ (whole.pages.there (j / 64) τ is)).placed j is bucket in
           record { number = number_in (G.table τ) j; below = of.below; here = of.here }
 
   -- ---- the next table becomes the current one

@@ -65,7 +65,7 @@ module _ (env : Env) (mix : ℕ → ℕ → ℕ → ℕ) where
         (put-all (λ t o. has_table o ≡ true → o ≡ G.slot t) G.slot s owner
         (λ has. let z : true ≡ false = sym has ∙ now in absurd (cc)) (λ t ne has. refl)) (λ p τ is. is))
         slots_right
-        (PagesRight-kept env mix M M' G slot (Slot s StateWord) (state_word owner) write (λ i e. cc) whole.pages)
+        (PagesRight-kept env mix M M' G slot slots_kept (Slot s StateWord) (state_word owner) write (λ i e. cc) whole.pages)
         (EntriesRight-kept env mix M M' G G.table G.attached slot G.page whole slots_kept (Slot s StateWord)
         (state_word owner) write (slot_word-apart G s StateWord) (λ τ l. refl) (λ p τ of has. of) (λ j e. cc))
 
@@ -132,7 +132,7 @@ module _ (env : Env) (mix : ℕ → ℕ → ℕ → ℕ) where
             (record { current = λ e. cc; slots = λ t u is e. no_table t is (cc) }) (λ t is. refl) (λ p τ is. is))
             (SlotsRight-write env mix M M' G G (Slot s w) v write (λ e. cc)
             (λ t e. state_differs w of_table (cc)) (same_tables env mix G G.bucket G.node G.bound G.raised) whole.slots)
-            (PagesRight-kept env mix M M' G G.slot (Slot s w) v write (λ i e. cc) whole.pages)
+            (PagesRight-kept env mix M M' G G.slot kept (Slot s w) v write (λ i e. cc) whole.pages)
             (EntriesRight-kept env mix M M' G G.table G.attached G.slot G.page whole kept (Slot s w) v write words
             (λ τ l. refl) (λ p τ of has. of) (λ j e. cc));
         stale = stale_write env mix M M' G G (Slot s w) v write (same_owners env mix G G refl) (λ n u f e. cc)

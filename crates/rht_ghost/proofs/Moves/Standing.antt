@@ -111,6 +111,10 @@ module _ (env : Env) (mix : ℕ → ℕ → ℕ → ℕ) where
         bits = λ p l. rw (is.write.others (PageMap (p / 64)) (omega arith) (is.word.no_page_map (p / 64)))
             (whole.pages.bits p l);
         page_of = whole.pages.page_of;
+        there = λ p τ of.
+            let was = whole.pages.there p τ of in
+            let s = (G.table τ).slot in
+            record { has_slot = is.slots.has s ∙ was.has_slot; index = is.slots.index s was.has_slot ∙ was.index };
         blank = λ j blank. whole.pages.blank j (no_bucket env mix G after refl (G.page (j / 64)) j blank);
       }
 

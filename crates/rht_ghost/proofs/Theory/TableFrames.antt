@@ -464,11 +464,12 @@ module _ (env : Env) (mix : ℕ → ℕ → ℕ → ℕ) where
       }
 
   -- and pages are, where only slots change
-  pub PagesRight-kept : (M M' : Memory) (G : Ghost) (slot : ℕ → SlotOwner) (a : Address) (v : ℕ)
-      → IsWrite env.geometry M M' a v → ((i : ℕ) → PageMap i ≢ a) → PagesRight env mix M G
+  pub PagesRight-kept : (M M' : Memory) (G : Ghost) (slot : ℕ → SlotOwner) → TablesKept G G.table G.attached slot G.page
+      → (a : Address) (v : ℕ) → IsWrite env.geometry M M' a v → ((i : ℕ) → PageMap i ≢ a) → PagesRight env mix M G
       → PagesRight env mix M' (retabled G G.table G.attached slot G.page)
-  PagesRight-kept M M' G slot a v write apart right = record {
+  PagesRight-kept M M' G slot kept a v write apart right = record {
     bits = λ p l. rw (write.others (PageMap (p / 64)) (omega arith) (apart (p / 64))) (right.bits p l);
     page_of = right.page_of;
+    there = λ p τ of. there_kept G G.table G.attached slot G.page kept τ (right.page_of p τ of) (right.there p τ of);
     blank = λ j is. right.blank j (no_bucket env mix G (retabled G G.table G.attached slot G.page) refl (G.page (j / 64)) j is);
   }

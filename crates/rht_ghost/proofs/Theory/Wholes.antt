@@ -179,12 +179,13 @@ module _ (env : Env) (mix : ℕ → ℕ → ℕ → ℕ) where
   IsNoBucket G (PageHeld c) j = Unit {0}
   IsNoBucket G (PageOf τ) j = IsSpareIn (G.table τ).shape ((G.table τ).part (j / 64)) j
 
-  -- A page's bit is set exactly where nobody has the page. A table that has a page was attached, and each word of a page that is no
-  -- bucket's is blank.
+  -- A page's bit is set exactly where nobody has the page. A table that has a page was attached and is there, and each word of a
+  -- page that is no bucket's is blank.
   pub record PagesRight (M : Memory) (G : Ghost) : Type 0 where
     pub bits : (p : ℕ) → p < env.geometry.pages
         → (bit_at (M (PageMap (p / 64))) (p % 64) ≡ 1) ↔ (G.page p ≡ PageFree)
     pub page_of : (p τ : ℕ) → G.page p ≡ PageOf τ → τ < G.attached
+    pub there : (p τ : ℕ) → G.page p ≡ PageOf τ → IsThere G τ
     pub blank : (j : ℕ) → IsNoBucket G (G.page (j / 64)) j → G.bucket j ≡ blank_bucket
 
   -- a bucket's word is odd exactly while somebody holds its lock
