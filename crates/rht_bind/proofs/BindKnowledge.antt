@@ -225,7 +225,7 @@ module _ (env : Env) (mix : ℕ → ℕ → ℕ → ℕ) (c : ℕ) (port owner :
         → ArePairsWith reply [] → reply ≢ NoNode
         → IsRight (calls.Bind port owner once) (Some n) (plain reply)
     with_node n reply is none_named no_pairs other = record {
-      replied = record { reply = is; owners = none_named; pairs = no_pairs };
+      replied = record { reply = is; owners = none_named };
       tells = (λ none. absurd (cc), λ no_node. absurd (other no_node));
     }
 

@@ -87,7 +87,7 @@ module _ (env : Env) (mix : ℕ → ℕ → ℕ → ℕ) (c : ℕ) (port owner :
       (learns env.config.kind c (calls.Bind port owner once) (node_of_new new.at)
       (owners env mix M G) (plain NoNode)
       (record {
-        replied = record { reply = tt; owners = refl; pairs = refl };
+        replied = record { reply = tt; owners = refl };
         tells = (λ none. refl, λ no_node. had refl);
       })
       refl (binds.refusal env mix c port owner once words G NoNode tt refl))

@@ -35,7 +35,7 @@ pub says : {kind : Kind} {c : ℕ} {now : Multimap} (reply : Reply) → IsWorkRe
     → Tells kind c calls.Work None now None (Some (plain reply))
 says reply is none_named no_pairs none = inr (record {
   learns = record { unknown = refl; answer = plain reply; known = refl; said = inr refl };
-  right = record { replied = record { reply = is; owners = none_named; pairs = no_pairs }; tells = refl };
+  right = record { replied = record { reply = is; owners = none_named }; tells = refl };
   takes_none = none;
 })
 

@@ -78,7 +78,7 @@ pub with_node : {port owner new : ℕ} (n : ℕ) (reply : Reply) → IsRebindRep
     → ArePairsWith reply []
     → reply ≢ NoNode → IsRight (calls.Rebind port owner new) (Some n) (plain reply)
 with_node n reply is none_named no_pairs other = record {
-  replied = record { reply = is; owners = none_named; pairs = no_pairs };
+  replied = record { reply = is; owners = none_named };
   tells = (λ none. absurd (cc), λ no_node. absurd (other no_node));
 }
 
