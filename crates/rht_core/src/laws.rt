@@ -9,7 +9,7 @@ ghost use Rattle.rht_core.specs.FewPorts.{FewPorts, OneCaller};
 ghost use Rattle.rht_core.specs.Kicks.{Kicks};
 ghost use Rattle.rht_core.specs.LetGo.{LetGo};
 ghost use Rattle.rht_core.specs.ListedOwners.{ListedOwners};
-ghost use Rattle.rht_core.specs.Lookups.{Bounded, TidiesSoon, TakesEffect, FindsWhatStays, Harmless, ReadsInside};
+ghost use Rattle.rht_core.specs.Lookups.{Bounded, TidiesSoon, WalksSoon, TakesEffect, FindsWhatStays, Harmless, ReadsInside};
 ghost use Rattle.rht_core.specs.NeverRefused.{RoomyTakesAll, OneWorkerAsModel};
 ghost use Rattle.rht_core.specs.NodesUsed.{Nodes};
 ghost use Rattle.rht_core.specs.Placed.{Placed, OwnPages};
@@ -341,10 +341,13 @@ pub fn inside<M: Mix>()
 /// In every run a look-up, ended or in progress, has at most `4 + 8 * (4 + (rewalks + 1) * (4 + 2 * nodes))`
 /// operations, which is enough for `rewalks + 1` walks of `nodes` nodes in each of eight tables. That is so
 /// whatever other callers do or leave undone, also where one that holds a lock never steps again. A tidying,
-/// ended or in progress, has at most two operations for each caller, one for each node, and one.
+/// ended or in progress, has at most two operations for each caller, one for each node, and one. A walk, ended
+/// or in progress, has at most six, and for each bucket of the table whose shape it found four and three for each
+/// node.
 pub fn bounded<M: Mix>()
     ensures lookups { Bounded M M.mix_of }
     ensures tidyings { TidiesSoon M M.mix_of }
+    ensures walks { WalksSoon M M.mix_of }
 {}
 
 /// In every run a look-up that has ended answered the first owner that the words stood for behind some event
