@@ -196,7 +196,7 @@ module _ (g : Geometry) where
   }
 
   -- the run that is read from a shape is one
-  run_of-in : (shape : ℕ) → IsRunIn g (run_first g shape) (run_pages g shape)
+  pub run_of-in : (shape : ℕ) → IsRunIn g (run_first g shape) (run_pages g shape)
   run_of-in shape =
       let some = g.within.pages_within in
       let takes = table_pages-some (unpacked shape) in

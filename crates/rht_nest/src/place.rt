@@ -1,10 +1,10 @@
 //! Where the word of a bucket is. A flat table's bucket is found without an operation; the way to a
 //! nested table's leads over entries, each of which is a word of a page.
 
-ghost use Rattle.std.specs.Prelude.{◌≡◌, ◌<◌};
+ghost use Rattle.std.specs.Prelude.{◌≡◌, ◌<◌, ◌≤◌};
 ghost use Rattle.rht_words.specs.Operations.{op_place};
 ghost use Rattle.rht_words.specs.Places.{words_in, IsBucketPlace};
-ghost use Rattle.rht_nest.specs.Place.{flat_place, nested_place, place_new, place_plan, entry_place, entered, place_after, IsPlaceStartIn, IsPlaceEndIn, IsEnteredIn};
+ghost use Rattle.rht_nest.specs.Place.{flat_place, top_page, top_entries, is_deep, nested_place, place_new, place_plan, entry_place, entered, place_after, IsPlaceStartIn, IsPlaceEndIn, IsEnteredIn};
 
 use crate::tables::is_nested;
 use rht_words::{Geometry, Next, Op, Shape, Start, page_of};
@@ -70,13 +70,12 @@ impl Place {
     pub fn nested(geometry: Geometry, shape: u64, bucket: u32) -> Place
         ensures { result ≡ nested_place geometry shape bucket }
     {
-        let shape = Shape::from(shape);
-        let entries = 1 << shape.nest.min(PAGE_BITS);
+        let entries = top_entries(shape);
         Place {
             geometry,
-            entry: 64 * shape.page.min(geometry.pages - 1) + bucket % entries,
+            entry: 64 * top_page(geometry, shape) + bucket % entries,
             rest: bucket / entries,
-            deep: DEEP <= shape.exponent,
+            deep: is_deep(shape),
         }
     }
 
@@ -145,6 +144,34 @@ impl Place {
             Start::Done(self.geometry.page_word(0, word))
         }
     }
+}
+
+/// The top page of the nested table of this shape. One past the last is read as the last.
+#[inline(always)]
+pub(crate) fn top_page(geometry: Geometry, shape: u64) -> u32
+    ensures page { result ≡ top_page geometry shape }
+    ensures within { result < geometry.pages }
+{
+    Shape::from(shape).page.min(geometry.pages - 1)
+}
+
+/// How many entries of its top page are in use.
+#[inline(always)]
+#[tactic(auto, using(crate::proofs::Places::few_entries, crate::proofs::Places::some_entries))]
+pub(crate) fn top_entries(shape: u64) -> u32
+    ensures entries { result ≡ top_entries shape }
+    ensures some { 0 < result }
+    ensures few { result ≤ 64 }
+{
+    1 << Shape::from(shape).nest.min(PAGE_BITS)
+}
+
+/// Whether there is a page of entries between its top page and each page of buckets.
+#[inline(always)]
+pub(crate) fn is_deep(shape: u64) -> bool
+    ensures { result ≡ is_deep shape }
+{
+    DEEP <= Shape::from(shape).exponent
 }
 
 /// The place of a bucket's word in a flat table of this shape. Behind the last page, where no table
