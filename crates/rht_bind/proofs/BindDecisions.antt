@@ -29,7 +29,7 @@ use Rattle.rht_bind.specs.declared.bind.growth.Full.TheVariants as full
 use Rattle.rht_bind.specs.declared.bind.BindAt.{BindAt}
 use Rattle.rht_bind.specs.declared.bind.BindAt.TheVariants as at
 use Rattle.rht_ghost.proofs.Theory.Ghosts.{put-same, put-all, Ghost, index_at, table_at, with_armed, armed_by}
-use Rattle.rht_ghost.proofs.Theory.Wholes.{key_of, place_at, word_index, Whole}
+use Rattle.rht_ghost.proofs.Theory.Wholes.{key_of, place_at, word_index, Whole, slot-there}
 use Rattle.rht_ghost.proofs.Theory.Passed.{home-table, Passed-stays}
 use Rattle.rht_ghost.proofs.Theory.Knowns.{KnownBucket}
 use Rattle.rht_ghost.proofs.Theory.Knowledge.{plainly, HasLock, IsMember, Knowing, has_lock, idle_moves_none}
@@ -81,7 +81,7 @@ module _ (env : Env) (mix : ℕ → ℕ → ℕ → ℕ) (c : ℕ) (port owner :
       let j = word_index env mix claimed.bucket.place in
       let τ = index_at G claimed.table in
       let table : table_at G j ≡ τ =
-      home-table env mix M G whole port τ j home_is.passing.passed.attached home_is.here in
+      home-table env mix M G whole port τ j (slot-there env mix whole.tables claimed.table home_is.passing.table) home_is.here in
       let ready : IsArming env mix c j G = record {
         holder = lock.holder;
         current = omega (arith, whole.tables.current_in, table, last);

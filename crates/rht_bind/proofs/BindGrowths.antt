@@ -37,7 +37,7 @@ use Rattle.rht_bind.specs.declared.bind.growth.Refusal.TheVariants as refusals
 use Rattle.rht_bind.specs.declared.bind.BindAt.{BindAt}
 use Rattle.rht_bind.specs.declared.bind.BindAt.TheVariants as at
 use Rattle.rht_ghost.proofs.Theory.Ghosts.{put_in, put_in-all, PageOf, PageHeld, SlotHeld, Live, is_page_for, made_table, put, put-all, Ghost, index_at}
-use Rattle.rht_ghost.proofs.Theory.Wholes.{Whole}
+use Rattle.rht_ghost.proofs.Theory.Wholes.{Whole, slot-there}
 use Rattle.rht_ghost.proofs.Theory.Knowns.{Nowhere, Unlocked, MakesNothing, HasMade}
 use Rattle.rht_ghost.proofs.Theory.Knowledge.{plainly, Knowing}
 use Rattle.rht_ghost.proofs.Theory.Answering.{Tells, keeps}
@@ -273,6 +273,7 @@ module _ (env : Env) (mix : ℕ → ℕ → ℕ → ℕ) (c : ℕ) (port owner :
         (behind_attempt (has_attached growing.attempt) (ended_attempt once slot), Go)
     won none =
         let is = whole.tables.slots growing.table known.knowing.means.table in
+        let is_there = slot-there env mix whole.tables growing.table known.knowing.means.table in
         let made_is = known.knowing.means.making in
         let M' = mem env mix (applied words op) in
         let ready : IsAttaching env mix c slot shape seed serial M G = record { made = made_is; seed_is = refl; serial_is = refl } in
@@ -286,9 +287,9 @@ module _ (env : Env) (mix : ℕ → ℕ → ℕ → ℕ) (c : ℕ) (port owner :
         let write : IsWrite env.geometry M M' (Slot (G.table τ).slot FutureWord) (future_of slot) =
         subst (λ s. IsWrite env.geometry M M' (Slot s FutureWord) (future_of slot)) (sym is.slot) here in
         let made =
-        attach env mix c slot shape seed serial τ M M' G whole ready is.attached none_there write in
+        attach env mix c slot shape seed serial τ M M' G whole ready is_there none_there write in
         let kept =
-        attached_kept env mix c slot shape seed serial τ M M' G whole ready is.attached none_there write in
+        attached_kept env mix c slot shape seed serial τ M M' G whole ready is_there none_there write in
         let answer = ended_attempt once slot in
         let attempt = has_attached growing.attempt in
         let next = behind_attempt attempt answer in

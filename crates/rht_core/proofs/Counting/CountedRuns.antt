@@ -18,8 +18,8 @@ use Rattle.rht_core.proofs.Counting.AheadCalls.{are_ahead}
 use Rattle.rht_core.specs.Counts.{IsListed, IsPlaced, IsPageFree, IsPageOfSlot, IsPageInSlot, AreNoneHeld, AreBatched, taken_out, given_back, Counted, AtRest, OwnBatches}
 use Rattle.rht_core.specs.declared.event.Event.{Event}
 use Rattle.rht_core.specs.TablePages.{IsPageOfTable}
-use Rattle.rht_ghost.proofs.Theory.Ghosts.{Owner, Free, NodeHeld, First, Leaving, Behind, Taken, PageOwner, PageFree, PageHeld, PageOf, SlotOwner, SlotFree, SlotHeld, Live, Retired, Ghost, has_table, index_at, state_word, is_used, IsUsed, lock_bit, seat-used}
-use Rattle.rht_ghost.proofs.Theory.Wholes.{AreRetired, key_of, firsts, raisers, outs, IsBuilt, Whole}
+use Rattle.rht_ghost.proofs.Theory.Ghosts.{Owner, Free, NodeHeld, First, Leaving, Behind, Taken, PageOwner, PageFree, PageHeld, PageOf, SlotOwner, SlotFree, SlotHeld, Live, Retired, Ghost, has_table, index_at, table_of_slot, none-some, state_word, is_used, IsUsed, lock_bit, seat-used}
+use Rattle.rht_ghost.proofs.Theory.Wholes.{AreRetired, key_of, firsts, raisers, outs, IsBuilt, Whole, slot-there}
 use Rattle.rht_ghost.proofs.Theory.Entries.{page_within}
 use Rattle.rht_ghost.proofs.Theory.Steps.{mem}
 use Rattle.rht_core.proofs.Machines.JobSteps.{KnowsNothing}
@@ -132,15 +132,15 @@ module _ (env : Env) (mix : ℕ → ℕ → ℕ → ℕ) (words : List ℕ) (G :
       go PageFree e = inl ((whole.pages.bits p l).1 e)
       go (PageHeld c) e = absurd (unheld c e)
       go (PageOf τ) e =
-          let attached = whole.pages.page_of p τ e in
-          let right = whole.tables.each τ attached in
+          let there = whole.pages.there p τ e in
+          let right = whole.tables.each τ there in
           let s = (G.table τ).slot in
           inr (record {
             slot = s;
             slot_in = right.slot_in;
-            taken = λ free. has_state (G.slot s) right.has_slot (sym (whole.slots.states s right.slot_in) ∙ free);
+            taken = λ free. has_state (G.slot s) there.has_slot (sym (whole.slots.states s right.slot_in) ∙ free);
             there = subst (λ w. IsPageOfTable env.geometry words w p) (sym right.shape_is)
-                ((pages_in_words env mix words G whole τ attached p).1 e);
+                ((pages_in_words env mix words G whole τ there p).1 e);
           })
 
   no_page_free : (s p : ℕ) → s < 8 → ((c : ℕ) → G.slot s ≢ SlotHeld c) → word_at env.geometry words (Slot s StateWord) ≢ 0
@@ -149,11 +149,12 @@ module _ (env : Env) (mix : ℕ → ℕ → ℕ → ℕ) (words : List ℕ) (G :
       let has = state_has (G.slot s) unheld (λ e. taken (whole.slots.states s l ∙ e)) in
       let is = whole.tables.slots s has in
       let τ = index_at G s in
-      let right = whole.tables.each τ is.attached in
+      let there_is = slot-there env mix whole.tables s has in
+      let right = whole.tables.each τ there_is in
       let shape_is : word_at env.geometry words (Slot s ShapeWord) ≡ (G.table τ).shape =
       subst (λ t. word_at env.geometry words (Slot t ShapeWord) ≡ (G.table τ).shape) is.slot right.shape_is in
       let of : G.page p ≡ PageOf τ =
-      (pages_in_words env mix words G whole τ is.attached p).0
+      (pages_in_words env mix words G whole τ there_is p).0
       (subst (λ w. IsPageOfTable env.geometry words w p) shape_is there) in
       let within = page_within env mix (G.table τ) G.page τ right.placed p of in
       let none : PageOf τ ≡ PageFree = sym of ∙ (whole.pages.bits p within).0 free in
@@ -174,10 +175,9 @@ module _ (env : Env) (mix : ℕ → ℕ → ℕ → ℕ) (words : List ℕ) (G :
           let is = whole.tables.slots s (ap has_table e) in
           let σ = index_at G s in
           elim (cases_lt σ G.current) [
-            | inl before ↦ elim (retired σ before) [
-              | inl none ↦ absurd (cc)
-              | inr done ↦ let both : Live τ ≡ Retired σ = sym e ∙ ap G.slot (sym is.slot) ∙ done in absurd (cc)
-            ]
+            | inl before ↦
+                let index : σ ≡ τ = ap table_of_slot e in
+                absurd (none-some refl (retired s τ e (omega (arith, index, before))))
             | inr from ↦
                 inr (subst (λ t. In t (in_force env.geometry words)) is.slot
                 (table_in_force env mix words G whole σ from is.attached))

@@ -29,7 +29,7 @@ use Rattle.rht_move.specs.declared.work.WorkAt.TheVariants as at
 use Rattle.rht_move.specs.Work.{after_at, IsWorkAtIn}
 use Rattle.rht_ghost.proofs.Theory.Ghosts.{Ghost, has_table, index_at, table_at, put-all, made_table}
 use Rattle.rht_ghost.proofs.Theory.Ways.{entered_table}
-use Rattle.rht_ghost.proofs.Theory.Wholes.{Whole}
+use Rattle.rht_ghost.proofs.Theory.Wholes.{Whole, slot-there}
 use Rattle.rht_ghost.proofs.Theory.Steps.{Move, Attaches, Enters, ghost_after, mem, by_test}
 use Rattle.rht_core.proofs.Counting.MakingWorks.{MakeGoes, WorkMakes, work-leads}
 use Rattle.rht_core.proofs.Counting.MakingBinds.{BindMakes, bind-leads}
@@ -166,5 +166,5 @@ module _ (env : Env) (mix : ℕ → ℕ → ℕ → ℕ) (Good : ℕ → Type 0)
       → has_table (G.slot slot) ≡ true → Good (mem env mix words (Slot slot ShapeWord))
   slot-good words G whole good slot has =
       let of = whole.tables.slots slot has in
-      let right = whole.tables.each (index_at G slot) of.attached in
+      let right = whole.tables.each (index_at G slot) (slot-there env mix whole.tables slot has) in
       subst Good (sym right.shape_is ∙ ap (λ s. mem env mix words (Slot s ShapeWord)) of.slot) (good (index_at G slot) of.attached)

@@ -10,7 +10,7 @@ use Rattle.rht_core.specs.declared.event.Event.{Event}
 use Rattle.rht_core.specs.Runs.{World, opening, world_step, run_from, run_of, IsAdmitted, IsAdmittedEvent}
 use Rattle.rht_core.specs.Tables.{AreNumbered, next_serial, drawn_from, drawn_in, NeverAgain}
 use Rattle.rht_ghost.proofs.Theory.Ghosts.{Ghost, index_at}
-use Rattle.rht_ghost.proofs.Theory.Wholes.{Whole}
+use Rattle.rht_ghost.proofs.Theory.Wholes.{Whole, force-there}
 use Rattle.rht_ghost.proofs.Theory.Steps.{mem}
 use Rattle.rht_stands.specs.StandsFor.{in_force}
 use Rattle.rht_core.proofs.Meaning.TablesInForce.{in_force_is, table_in_force}
@@ -26,7 +26,7 @@ module _ (env : Env) (mix : ℕ → ℕ → ℕ → ℕ) (words : List ℕ) (G :
   here : (slot : ℕ) → (i : Force slot) → index_at G slot ≡ (in_force_is env mix words G whole slot i).table
   here slot i =
       let at = in_force_is env mix words G whole slot i in
-      ap (index_at G) at.slot_is ∙ (whole.tables.each at.table at.attached).index
+      ap (index_at G) at.slot_is ∙ (force-there env mix whole.tables at.table at.current at.attached).index
 
   numbered-by : (C : ℕ → Option ℕ) → AreDrawn drawn (mem env mix words NextSerial) G T C → AreNumbered env words drawn
   numbered-by C are = record {
@@ -37,7 +37,7 @@ module _ (env : Env) (mix : ℕ → ℕ → ℕ → ℕ) (words : List ℕ) (G :
         subst (λ τ. T τ < drawn) (sym (here slot i)) (are.before at.table at.attached);
     serial = λ slot i.
         let at = in_force_is env mix words G whole slot i in
-        let right = whole.tables.each at.table at.attached in
+        let right = whole.tables.each at.table (force-there env mix whole.tables at.table at.current at.attached) in
         ap (λ s. mem env mix words (Slot s SerialWord)) at.slot_is ∙ right.serial_is ∙ are.serials at.table at.attached
         ∙ ap (λ τ. T τ % 2 ^ 64) (sym (here slot i));
     apart = λ one other i j same.
@@ -85,8 +85,10 @@ module _ (M : Type 0) (mix : ℕ → ℕ → ℕ → ℕ) (env : Env) (start bet
   stays few less one other i j same =
       let at = in_force_is env mix start.core.words has.ghost has.inv.whole one i in
       let to = in_force_is env mix end.core.words last.now.ghost last.now.inv.whole other j in
-      let right = has.inv.whole.tables.each at.table at.attached in
-      let right_then = last.now.inv.whole.tables.each to.table to.attached in
+      let tables = has.inv.whole.tables in
+      let right = tables.each at.table (force-there env mix tables at.table at.current at.attached) in
+      let tables_then = last.now.inv.whole.tables in
+      let right_then = tables_then.each to.table (force-there env mix tables_then to.table to.current to.attached) in
       let serial : has.of_table at.table % 2 ^ 64 ≡ last.now.of_table to.table % 2 ^ 64 =
       sym (ap (λ s. mem env mix start.core.words (Slot s SerialWord)) at.slot_is ∙ right.serial_is
       ∙ has.drawn_are.serials at.table at.attached)

@@ -8,7 +8,7 @@ use Rattle.rht_core.specs.Placed.{HasItsPages, ArePagesOwn, OwnPages}
 use Rattle.rht_core.specs.TablePages.{IsPageOfTable}
 use Rattle.rht_stands.specs.StandsFor.{shape_of}
 use Rattle.rht_ghost.proofs.Theory.Ghosts.{SlotOwner, SlotFree, SlotHeld, Live, Retired, PageOf, Ghost, has_table, index_at, state_word, table_of_page}
-use Rattle.rht_ghost.proofs.Theory.Wholes.{Whole}
+use Rattle.rht_ghost.proofs.Theory.Wholes.{Whole, force-there, slot-there}
 use Rattle.rht_ghost.proofs.Theory.Entries.{page_within}
 use Rattle.rht_ghost.proofs.Theory.Steps.{mem}
 use Rattle.rht_core.proofs.Events.InvariantRuns.{has_inv}
@@ -28,18 +28,21 @@ module _ (env : Env) (mix : ℕ → ℕ → ℕ → ℕ) (words : List ℕ) (G :
   own_table : (slot : ℕ) → HasItsPages env.geometry words slot → IsTableIn env mix words G whole slot
   own_table slot (inl i) =
       let is = in_force_is env mix words G whole slot i in
-      record { table = is.table; attached = is.attached; slot_is = is.slot_is }
+      let there = force-there env mix whole.tables is.table is.current is.attached in
+      record { table = is.table; attached = is.attached; there = there; slot_is = is.slot_is }
   own_table slot (inr (low, retired, free)) =
-      let is = whole.tables.slots slot (retired_has (G.slot slot) (sym (whole.slots.states slot low) ∙ retired)) in
-      record { table = index_at G slot; attached = is.attached; slot_is = sym is.slot }
+      let has = retired_has (G.slot slot) (sym (whole.slots.states slot low) ∙ retired) in
+      let is = whole.tables.slots slot has in
+      let there = slot-there env mix whole.tables slot has in
+      record { table = index_at G slot; attached = is.attached; there = there; slot_is = sym is.slot }
 
   -- so by the ghost a page of it is its own
   page_owner : (slot page : ℕ) → (has : IsTableIn env mix words G whole slot) → IsPageOfSlot env.geometry words slot page
       → G.page page ≡ PageOf has.table
   page_owner slot page has is =
       let shape : shape_of env.geometry words slot ≡ (G.table has.table).shape =
-      ap (shape_of env.geometry words) has.slot_is ∙ (whole.tables.each has.table has.attached).shape_is in
-      (pages_in_words env mix words G whole has.table has.attached page).0
+      ap (shape_of env.geometry words) has.slot_is ∙ (whole.tables.each has.table has.there).shape_is in
+      (pages_in_words env mix words G whole has.table has.there page).0
       (subst (λ s. IsPageOfTable env.geometry words s page) shape is)
 
   pages_own : ArePagesOwn env.geometry words
@@ -48,7 +51,7 @@ module _ (env : Env) (mix : ℕ → ℕ → ℕ → ℕ) (words : List ℕ) (G :
         let in_slot = own_table slot has in
         let of = page_owner slot page in_slot is in
         let within = page_within env mix (G.table in_slot.table) G.page in_slot.table
-        (whole.tables.each in_slot.table in_slot.attached).placed page of in
+        (whole.tables.each in_slot.table in_slot.there).placed page of in
         let both = sym ((whole.pages.bits page within).0 free) ∙ of in cc;
     apart = λ one other page has_one has_other of_one of_other.
         let first = own_table one has_one in

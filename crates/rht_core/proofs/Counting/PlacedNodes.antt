@@ -12,7 +12,7 @@ use Rattle.rht_core.specs.Runs.{run_of}
 use Rattle.rht_core.specs.Placed.{AreNodesPlaced, Placed}
 use Rattle.rht_stands.specs.StandsFor.{in_force, bucket_nodes}
 use Rattle.rht_ghost.proofs.Theory.Ghosts.{Ghost, lock_bit, is_entry}
-use Rattle.rht_ghost.proofs.Theory.Wholes.{key_of, hash_in, home, place_at, Whole}
+use Rattle.rht_ghost.proofs.Theory.Wholes.{key_of, hash_in, home, place_at, Whole, force-there, IsThere}
 use Rattle.rht_ghost.proofs.Theory.Passed.{hash-below, place-word, place-table, place-bucket}
 use Rattle.rht_ghost.proofs.Theory.Entries.{one_bucket, bucket-no_entry}
 use Rattle.rht_ghost.proofs.Theory.Steps.{mem}
@@ -41,26 +41,27 @@ module _ (env : Env) (mix : ℕ → ℕ → ℕ → ℕ) (words : List ℕ) (G :
           absurd (omega (arith, odd, free, pair))
 
   -- a node of the chain of the word of a bucket has that bucket's number, by its key
-  home_number : (τ bucket j node : ℕ) → τ < G.attached → bucket < size_of (unpacked (G.table τ).shape)
+  home_number : (τ bucket j node : ℕ) → IsThere G τ → bucket < size_of (unpacked (G.table τ).shape)
       → (G.table τ).place bucket ≡ Some j → In node (G.bucket j).nodes → hash_in env mix G (key_of M node) τ ≡ bucket
-  home_number τ bucket j node l below here member =
+  home_number τ bucket j node is_there below here member =
       let at = (whole.owned.first_at node j (whole.owned.member j node member)).at_home in
       let there : home env mix G (key_of M node) τ ≡ Some j =
-      subst (λ σ. home env mix G (key_of M node) σ ≡ Some j) (place-table env mix M G whole τ bucket j l below here) at.here in
-      one_bucket env mix (G.table τ) G.page τ (whole.tables.each τ l).placed (hash_in env mix G (key_of M node) τ) bucket j
+      subst (λ σ. home env mix G (key_of M node) σ ≡ Some j) (place-table env mix M G whole τ bucket j is_there below here) at.here in
+      one_bucket env mix (G.table τ) G.page τ (whole.tables.each τ is_there).placed (hash_in env mix G (key_of M node) τ) bucket j
       (hash-below env mix M G whole (key_of M node) τ) below there here
 
   nodes_placed : (slot : ℕ) → In slot (in_force env.geometry words) → AreNodesPlaced mix env.geometry words slot
   nodes_placed slot i bucket place node within there even met =
       let is = in_force_is env mix words G whole slot i in
       let τ = is.table in
-      let right = whole.tables.each τ is.attached in
+      let is_there = force-there env mix whole.tables τ is.current is.attached in
+      let right = whole.tables.each τ is_there in
       let key = key_of M node in
       let word = word_in env mix words G whole slot place
-      (record { table = τ; attached = is.attached; slot_is = is.slot_is }) (record { bucket = bucket; within = within; there = there }) in
+      (record { table = τ; attached = is.attached; there = is_there; slot_is = is.slot_is }) (record { bucket = bucket; within = within; there = there }) in
       let j = word.1.index in
-      let at = place-word env mix M G whole τ bucket j is.attached word.0 word.1.here in
-      let plain = bucket-no_entry env mix G j (place-bucket env mix M G whole τ bucket j is.attached word.0 word.1.here) in
+      let at = place-word env mix M G whole τ bucket j is_there word.0 word.1.here in
+      let plain = bucket-no_entry env mix G j (place-bucket env mix M G whole τ bucket j is_there word.0 word.1.here) in
       let still = even_still j at.within plain (subst (λ p. slice_index words p % 2 ≡ 0) word.1.place_is even) in
       let member : In node (G.bucket j).nodes =
       subst (In node)
@@ -69,7 +70,7 @@ module _ (env : Env) (mix : ℕ → ℕ → ℕ → ℕ) (words : List ℕ) (G :
       ap (λ s. bucket_of mix key (M (Slot s ShapeWord)) (M (Slot s SeedWord))) is.slot_is
       ∙ ap (λ shape. bucket_of mix key shape (M (Slot (G.table τ).slot SeedWord))) right.shape_is
       ∙ ap (bucket_of mix key (G.table τ).shape) right.seed_is
-      ∙ home_number τ bucket j node is.attached word.0 word.1.here member
+      ∙ home_number τ bucket j node is_there word.0 word.1.here member
 
 pub placed : (M : Type 0) (mix : ℕ → ℕ → ℕ → ℕ) → Placed M mix
 placed M mix env events admitted =

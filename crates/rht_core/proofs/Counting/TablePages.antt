@@ -17,7 +17,7 @@ use Rattle.rht_stands.specs.StandsFor.{page_word}
 use Rattle.rht_core.specs.TablePages.{LeadsOn, IsNestedPage, IsPageOfTable}
 use Rattle.rht_ghost.proofs.Theory.Ghosts.{Part, Row, Leaf, Middle, Top, has_entries, Table, PageOwner, PageOf, Ghost, entry_word, none-some}
 use Rattle.rht_ghost.proofs.Theory.Ways.{first_page, entries_in, behind_top, StandsAs}
-use Rattle.rht_ghost.proofs.Theory.Wholes.{pages_of, IsFlat, IsNested, Whole}
+use Rattle.rht_ghost.proofs.Theory.Wholes.{pages_of, IsFlat, IsNested, Whole, IsThere}
 use Rattle.rht_ghost.proofs.Theory.Entries.{few_entries, some_entries, word_leads, top_leads}
 use Rattle.rht_ghost.proofs.Theory.PlacesRead.{entry_read}
 use Rattle.rht_words.proofs.FilteredLists.{range_with_len-from}
@@ -174,11 +174,11 @@ module _ (env : Env) (mix : ℕ → ℕ → ℕ → ℕ) (words : List ℕ) wher
         go (Middle low) at = inr (inl (top_leads_to low p at.below at.entered))
         go Top at = inl (at ∙ sym top_is)
 
-  -- ---- a table that was attached
+  -- ---- a table that is there
 
-  pub pages_in_words : (G : Ghost) → Whole env mix (mem env mix words) G → (τ : ℕ) → τ < G.attached → (p : ℕ)
+  pub pages_in_words : (G : Ghost) → Whole env mix (mem env mix words) G → (τ : ℕ) → IsThere G τ → (p : ℕ)
       → IsPageOfTable g words (G.table τ).shape p ↔ (G.page p ≡ PageOf τ)
-  pages_in_words G whole τ l p = elim (whole.tables.each τ l).placed [
+  pages_in_words G whole τ there p = elim (whole.tables.each τ there).placed [
     | inl flat ↦ (
       λ is. elim is [
         | inl run ↦ (flat_pages (G.table τ) G.page τ flat p).0 run.1
@@ -187,7 +187,7 @@ module _ (env : Env) (mix : ℕ → ℕ → ℕ → ℕ) (words : List ℕ) wher
       λ of. inl (flat_kind (G.table τ) G.page τ flat, (flat_pages (G.table τ) G.page τ flat p).1 of),
     )
     | inr nested ↦
-        let reads = entries_read env mix (mem env mix words) G whole τ l in (
+        let reads = entries_read env mix (mem env mix words) G whole τ there in (
           λ is. elim is [
             | inl other ↦ absurd (both_ways (is_nested (G.table τ).shape) other.0 (nested_kind (G.table τ) G.page τ nested reads))
             | inr named ↦ nested_of (G.table τ) G.page τ nested reads p named.1

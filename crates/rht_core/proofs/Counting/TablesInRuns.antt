@@ -16,7 +16,7 @@ use Rattle.rht_nest.specs.Tables.{table_seed, table_pages}
 use Rattle.rht_core.specs.Runs.{run_of}
 use Rattle.rht_core.specs.Tables.{table_size, IsShapeRight, IsTableRight, AreTablesRight, Tables}
 use Rattle.rht_ghost.proofs.Theory.Ghosts.{Ghost, Table, PageOwner, state_word}
-use Rattle.rht_ghost.proofs.Theory.Wholes.{Whole, PlacedRight}
+use Rattle.rht_ghost.proofs.Theory.Wholes.{Whole, PlacedRight, live-there, current-there}
 use Rattle.rht_ghost.proofs.Theory.Steps.{mem}
 use Rattle.rht_stands.specs.StandsFor.{in_force}
 use Rattle.rht_core.proofs.Meaning.TablesInForce.{in_force_is, in_force_distinct, last_in_force}
@@ -100,7 +100,8 @@ module _ (env : Env) (mix : ℕ → ℕ → ℕ → ℕ) (words : List ℕ) (G :
   table-right : (slot : ℕ) → In slot (in_force env.geometry words) → IsTableRight env words slot
   table-right slot i =
       let at = in_force_is env mix words G whole slot i in
-      let right = whole.tables.each at.table at.attached in
+      let live = whole.tables.force at.table at.current at.attached in
+      let right = whole.tables.each at.table (live-there env mix G at.table live) in
       let M = mem env mix words in
       let size : table_size env words slot ≡ size_of (unpacked (G.table at.table).shape) =
       ap (λ s. size_of (unpacked (M (Slot s ShapeWord)))) at.slot_is ∙ ap (λ s. size_of (unpacked s)) right.shape_is in
@@ -114,7 +115,7 @@ module _ (env : Env) (mix : ℕ → ℕ → ℕ → ℕ) (words : List ℕ) (G :
         most = bounds.most;
         greatest = bounds.greatest;
         state = ap (λ s. M (Slot s StateWord)) at.slot_is ∙ whole.slots.states (G.table at.table).slot right.slot_in
-            ∙ ap state_word (right.live at.current);
+            ∙ ap state_word live;
         seed = ap (λ s. M (Slot s SeedWord)) at.slot_is ∙ right.seed_is ∙ right.seeded
             ∙ ap (table_seed env.config.seed) (sym right.serial_is ∙ ap (λ s. M (Slot s SerialWord)) (sym at.slot_is));
       }
@@ -122,7 +123,7 @@ module _ (env : Env) (mix : ℕ → ℕ → ℕ → ℕ) (words : List ℕ) (G :
   tables-right : AreTablesRight env words
   tables-right =
       let last = last_in_force env mix words G whole in
-      let now = whole.tables.each G.current whole.tables.current_in in
+      let now = whole.tables.each G.current (current-there env mix whole.tables) in
       record {
         current = let slot_in = now.slot_in in let is = whole.tables.current_is in omega (arith, slot_in, is);
         each = table-right;

@@ -18,7 +18,7 @@ use Rattle.rht_core.specs.Runs.{Core, World, planned_in, world_step, run_of, ope
 use Rattle.rht_core.specs.Seen.{words_before}
 use Rattle.rht_stands.specs.StandsFor.{bucket_in}
 use Rattle.rht_ghost.proofs.Theory.Ghosts.{Ghost}
-use Rattle.rht_ghost.proofs.Theory.Wholes.{place_at, index-place_at, Whole}
+use Rattle.rht_ghost.proofs.Theory.Wholes.{place_at, index-place_at, Whole, IsThere}
 use Rattle.rht_ghost.proofs.Theory.Entries.{one_bucket}
 use Rattle.rht_ghost.proofs.Theory.Passed.{TablesGrow}
 use Rattle.rht_ghost.proofs.Theory.PlacesRead.{placed_in_words}
@@ -51,14 +51,14 @@ module _ (env : Env) (mix : ℕ → ℕ → ℕ → ℕ) where
 
   -- ---- a bucket in the words
 
-  module _ (M : List ℕ) (G : Ghost) (whole : Whole env mix (mem env mix M) G) (τ number j : ℕ) (l : τ < G.attached)
+  module _ (M : List ℕ) (G : Ghost) (whole : Whole env mix (mem env mix M) G) (τ number j : ℕ) (is_there : IsThere G τ)
       (below : number < size_of (unpacked (G.table τ).shape)) (here : (G.table τ).place number ≡ Some j) where
     abbrev shape : ℕ
     shape = (G.table τ).shape
 
     in_words : (other : ℕ) → other < size_of (unpacked shape)
         → bucket_in env.geometry M shape other ≡ option_map (place_at env mix) ((G.table τ).place other)
-    in_words other m = placed_in_words env mix (mem env mix M) G whole τ other l m
+    in_words other m = placed_in_words env mix (mem env mix M) G whole τ other is_there m
 
     there_now : bucket_in env.geometry M shape number ≡ Some (place_at env mix j)
     there_now = in_words number below ∙ ap (option_map (place_at env mix)) here
@@ -66,9 +66,9 @@ module _ (env : Env) (mix : ℕ → ℕ → ℕ → ℕ) where
     only_now : (other : ℕ) → other < size_of (unpacked shape)
         → bucket_in env.geometry M shape other ≡ Some (place_at env mix j) → other ≡ number
     only_now other m is =
-        let at = place_of_bucket env mix (mem env mix M) G whole τ other l m (place_at env mix j)
+        let at = place_of_bucket env mix (mem env mix M) G whole τ other is_there m (place_at env mix j)
         (sym (in_words other m) ∙ is) in
-        one_bucket env mix (G.table τ) G.page τ (whole.tables.each τ l).placed other number j m below
+        one_bucket env mix (G.table τ) G.page τ (whole.tables.each τ is_there).placed other number j m below
         (at.here ∙ ap Some (index-place_at env mix j)) here
 
   -- ---- a run
@@ -126,19 +126,19 @@ module _ (env : Env) (mix : ℕ → ℕ → ℕ → ℕ) where
       has-seed : (core : Core L) → HasBucket core → word_at env.geometry core.words (Slot slot SeedWord) ≡ seed
       has-seed core has =
           ap (λ s. word_at env.geometry core.words (Slot s SeedWord)) (sym has.slot_is)
-          ∙ (has.inv.whole.tables.each τ has.attached).seed_is ∙ has.seed_is
+          ∙ (has.inv.whole.tables.each τ (has.inv.whole.tables.there τ has.attached)).seed_is ∙ has.seed_is
 
       module _ (core : Core L) (has : HasBucket core) (below : number < size_of (unpacked shape)) where
         has-there : bucket_in env.geometry core.words shape number ≡ Some (place_at env mix j)
         has-there =
             subst (λ s. bucket_in env.geometry core.words s number ≡ Some (place_at env mix j)) has.shape_is
-            (there_now core.words has.ghost has.inv.whole τ number j has.attached
+            (there_now core.words has.ghost has.inv.whole τ number j (has.inv.whole.tables.there τ has.attached)
             (subst (λ s. number < size_of (unpacked s)) (sym has.shape_is) below) has.here)
 
         has-only : (other : ℕ) → other < size_of (unpacked shape)
             → bucket_in env.geometry core.words shape other ≡ Some (place_at env mix j) → other ≡ number
         has-only other m is =
-            only_now core.words has.ghost has.inv.whole τ number j has.attached
+            only_now core.words has.ghost has.inv.whole τ number j (has.inv.whole.tables.there τ has.attached)
             (subst (λ s. number < size_of (unpacked s)) (sym has.shape_is) below) has.here other (subst (λ s. other < size_of (unpacked s)) (sym has.shape_is) m)
             (subst (λ s. bucket_in env.geometry core.words s other ≡ Some (place_at env mix j)) (sym has.shape_is) is)
 

@@ -18,8 +18,8 @@ use Rattle.rht_callers.specs.Locals.{fresh}
 use Rattle.rht_core.specs.Runs.{Core, World, local_in, opening, opening_core, run_of, IsAdmitted}
 use Rattle.rht_core.proofs.Events.Worlds.{run_keeps_admitted}
 use Rattle.rht_core.proofs.Events.RangesInRuns.{AllIn, opens-all, event-all}
-use Rattle.rht_ghost.proofs.Theory.Ghosts.{Free, is_taken_by, Ghost, Table, PageOf, SlotFree, Live, is_first, has_table, put, put-same, put-other, blank_bucket, PageOwner, PageFree, PageHeld, SlotHeld, state_word, put-all, Row, is_entry, is_entry_of}
-use Rattle.rht_ghost.proofs.Theory.Wholes.{Whole, TableRight, PagesRight}
+use Rattle.rht_ghost.proofs.Theory.Ghosts.{Free, is_taken_by, Ghost, Table, PageOf, SlotFree, Live, is_first, has_table, table_of_slot, put, put-same, put-other, blank_bucket, PageOwner, PageFree, PageHeld, SlotHeld, state_word, put-all, Row, is_entry, is_entry_of}
+use Rattle.rht_ghost.proofs.Theory.Wholes.{Whole, TableRight, PagesRight, IsThere, live-there}
 use Rattle.rht_ghost.proofs.Theory.Steps.{mem}
 use Rattle.rht_core.proofs.Events.Invariants.{Inv, kept}
 
@@ -89,16 +89,22 @@ module _ (env : Env) (mix : ℕ → ℕ → ℕ → ℕ) where
       go (PageHeld c) is = cc
       go (PageOf τ) is = cc
 
-  opening_table : (τ : ℕ) → τ < 1 → TableRight env mix (mem env mix (opening_words env)) (opening_ghost env) τ
-  opening_table τ first =
+  -- it is the only table
+  opening_live : (τ : ℕ) → τ < 1 → (opening_ghost env).slot ((opening_ghost env).table τ).slot ≡ Live τ
+  opening_live τ first =
       let zero : τ ≡ 0 = omega arith in
+      put-same (λ s. SlotFree) 0 (Live 0) ∙ ap Live (sym zero)
+
+  only_there : (τ : ℕ) → IsThere (opening_ghost env) τ → τ ≡ 0
+  only_there τ there = sym there.index ∙ ap table_of_slot (put-same (λ s. SlotFree) 0 (Live 0))
+
+  opening_table : (τ : ℕ) → IsThere (opening_ghost env) τ
+      → TableRight env mix (mem env mix (opening_words env)) (opening_ghost env) τ
+  opening_table τ there =
+      let zero : τ ≡ 0 = only_there τ there in
       let opens = opens_flat env in
-      let live = put-same (λ s. SlotFree) 0 (Live 0) in
       rw zero (record {
         slot_in = omega arith;
-        has_slot = rw live refl;
-        index = rw live refl;
-        live = λ l. live;
         shape_is = opened (Slot 0 ShapeWord) (omega arith, tt);
         seed_is = opened (Slot 0 SeedWord) (omega arith, tt);
         serial_is = opened (Slot 0 SerialWord) (omega arith, tt);
@@ -144,6 +150,9 @@ module _ (env : Env) (mix : ℕ → ℕ → ℕ → ℕ) where
   opening_pages = record {
     bits = λ p l. rw (opened (PageMap (p / 64)) (omega arith)) (page_bit p l);
     page_of = λ p τ is. let zero = (page_below p τ is).1 in omega (arith, zero);
+    there = λ p τ is.
+        let zero = (page_below p τ is).1 in
+        live-there env mix (opening_ghost env) τ (opening_live τ (omega (arith, zero)));
     blank = λ j is. refl;
   }
     where
@@ -165,13 +174,15 @@ module _ (env : Env) (mix : ℕ → ℕ → ℕ → ℕ) where
     slots = record {
       states = opening_states;
       worker_is = opened WorkLock tt;
-      retired = λ idle τ l. absurd (omega (arith, l));
+      retired = λ idle s τ live l. absurd (omega (arith, l));
     };
     pages = opening_pages;
     moving = record { armed = λ j c is. absurd (cc); out = λ j entry is. absurd (cc) };
     tables = record {
       current_in = omega arith;
       current_is = opened CurrentTable tt;
+      force = λ τ from l. opening_live τ l;
+      there = λ τ l. live-there env mix (opening_ghost env) τ (opening_live τ l);
       each = opening_table;
       slots = λ s has. rw (slots_at_opening s has) (record {
         attached =

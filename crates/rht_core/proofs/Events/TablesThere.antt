@@ -14,7 +14,7 @@ use Rattle.rht_core.specs.declared.event.Event.{Event}
 use Rattle.rht_core.specs.Runs.{World, run_of, IsAdmitted, IsAdmittedEvent}
 use Rattle.rht_core.specs.Seen.{words_before}
 use Rattle.rht_ghost.proofs.Theory.Ghosts.{Ghost, has_table, index_at}
-use Rattle.rht_ghost.proofs.Theory.Wholes.{Whole}
+use Rattle.rht_ghost.proofs.Theory.Wholes.{Whole, current-there, slot-there}
 use Rattle.rht_ghost.proofs.Theory.Passed.{TablesGrow}
 use Rattle.rht_ghost.proofs.Theory.Steps.{mem}
 use Rattle.rht_core.proofs.Meaning.TablesInForce.{current_slot, next_named}
@@ -74,21 +74,21 @@ module _ (env : Env) (mix : ℕ → ℕ → ℕ → ℕ) where
     current_has : (slot : ℕ) → table_of (word_at g words CurrentTable) ≡ slot → has_table (G.slot slot) ≡ true
     current_has slot is =
         subst (λ s. has_table (G.slot s) ≡ true) (sym (current_slot env mix words G whole) ∙ is)
-        (whole.tables.each G.current whole.tables.current_in).has_slot
+        (current-there env mix whole.tables).has_slot
 
     future_has : (front slot : ℕ) → has_table (G.slot front) ≡ true → slot_of (word_at g words (Slot front FutureWord)) ≡ Some slot
         → has_table (G.slot slot) ≡ true
     future_has front slot has leads =
         let of = whole.tables.slots front has in
-        let next = next_named env mix words G whole (index_at G front) slot of.attached
+        let next = next_named env mix words G whole (index_at G front) slot (λ σ from. whole.tables.there σ) of.attached
         (subst (λ s. slot_of (word_at g words (Slot s FutureWord)) ≡ Some slot) (sym of.slot) leads) in
-        subst (λ s. has_table (G.slot s) ≡ true) next.slot_is (whole.tables.each (index_at G front + 1) next.attached).has_slot
+        subst (λ s. has_table (G.slot s) ≡ true) next.slot_is (whole.tables.there (index_at G front + 1) next.attached).has_slot
 
     -- the word of its slot is the table's shape
     shape_in : (slot : ℕ) → has_table (G.slot slot) ≡ true → word_at g words (Slot slot ShapeWord) ≡ (G.table (index_at G slot)).shape
     shape_in slot has =
         let of = whole.tables.slots slot has in
-        ap (λ s. word_at g words (Slot s ShapeWord)) (sym of.slot) ∙ (whole.tables.each (index_at G slot) of.attached).shape_is
+        ap (λ s. word_at g words (Slot s ShapeWord)) (sym of.slot) ∙ (whole.tables.each (index_at G slot) (slot-there env mix whole.tables slot has)).shape_is
 
   -- where tables grow from one moment to another
   grown : (was now : List ℕ) (G G' : Ghost) → Whole env mix (mem env mix was) G → Whole env mix (mem env mix now) G'

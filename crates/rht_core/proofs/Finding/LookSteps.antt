@@ -1,6 +1,6 @@
 -- How many operations a look-up has made in each of its states. In a table each operation leaves fewer to come (`lessens`), tables come in
 -- the order in which they were attached, and there are at most eight.
-use Rattle.std.proofs.Common.{◌≡◌, ℕ, ◌+◌, ◌*◌, ◌<◌, ◌≤◌, nat_lt, Bool, List, true, Option, Some, None, refl, sym, ap, ◌∙◌, subst, arith}
+use Rattle.std.proofs.Common.{◌≡◌, ℕ, ◌+◌, ◌*◌, ◌<◌, ◌≤◌, nat_lt, Bool, List, true, Option, Some, None, refl, sym, subst, arith}
 use Rattle.std.specs.Prelude.{◌==◌}
 use Rattle.std.proofs.Math.Nat.{mul-le-mul_right}
 use Rattle.std.proofs.lemmas.Bool.{cond_both}
@@ -24,7 +24,7 @@ use Rattle.rht_find.specs.declared.find.FindAt.{FindAt}
 use Rattle.rht_find.specs.declared.find.FindAt.TheVariants as at
 use Rattle.rht_find.proofs.FindBounds.{lessens}
 use Rattle.rht_ghost.proofs.Theory.Ghosts.{Ghost, has_table, index_at}
-use Rattle.rht_ghost.proofs.Theory.Wholes.{Whole}
+use Rattle.rht_ghost.proofs.Theory.Wholes.{Whole, one_slot}
 use Rattle.rht_ghost.proofs.Theory.Passed.{TablesGrow}
 use Rattle.rht_ghost.proofs.Theory.Steps.{mem}
 use Rattle.rht_ghost.proofs.Pieces.TableLoads.{LeadsBehind, future_leads}
@@ -163,11 +163,11 @@ module _ (env : Env) where
     few_attached : G.attached ≤ 8
     few_attached =
         few_tables (λ τ. (G.table τ).slot) 0 G.attached (record {
-          within = λ τ low l. (whole.tables.each τ (omega (arith, l))).slot_in;
+          within = λ τ low l. (whole.tables.each τ (whole.tables.there τ (omega (arith, l)))).slot_in;
           own = λ τ σ low less l same.
-              let first = (whole.tables.each τ (omega (arith, less, l))).index in
-              let second = (whole.tables.each σ (omega (arith, l))).index in
-              let both : τ ≡ σ = sym first ∙ ap (index_at G) same ∙ second in
+              let first = whole.tables.there τ (omega (arith, less, l)) in
+              let second = whole.tables.there σ (omega (arith, l)) in
+              let both = one_slot env mix G τ σ first second same in
               omega (arith, less, both);
         })
 

@@ -25,7 +25,7 @@ use Rattle.rht_find.specs.declared.find.Head.{Head}
 use Rattle.rht_find.specs.declared.find.FindAt.{FindAt}
 use Rattle.rht_find.specs.declared.find.FindAt.TheVariants as at
 use Rattle.rht_ghost.proofs.Theory.Ghosts.{Ghost, lock_bit, index_at, none-some}
-use Rattle.rht_ghost.proofs.Theory.Wholes.{chain_of, key_of, place_at, word_index, place_at-index, Whole}
+use Rattle.rht_ghost.proofs.Theory.Wholes.{chain_of, key_of, place_at, word_index, place_at-index, Whole, current-there, slot-there}
 use Rattle.rht_ghost.proofs.Theory.Passed.{TablesGrow, home-within, home-no_entry}
 use Rattle.rht_ghost.proofs.Theory.Steps.{mem}
 use Rattle.rht_ghost.proofs.Pieces.TableLoads.{LeadsBehind, future_leads}
@@ -75,12 +75,13 @@ module _ (env : Env) (mix : ℕ → ℕ → ℕ → ℕ) (port : ℕ) (seen : �
 
     current_known : Means (Reaching (table_of (M CurrentTable)))
     current_known =
-        let right_now = whole.tables.each G.current whole.tables.current_in in
+        let there = current-there env mix whole.tables in
+        let right_now = whole.tables.each G.current there in
         let slot = (G.table G.current).slot in
         let is : table_of (M CurrentTable) ≡ slot =
         (let word = whole.tables.current_is in omega (arith, right_now.slot_in, word)) in
-        rw is (at_current env mix port seen since now M G P whole right deaths (Says Missing) slot right_now.has_slot
-        right_now.index absent)
+        rw is (at_current env mix port seen since now M G P whole right deaths (Says Missing) slot there.has_slot
+        there.index absent)
 
     -- ---- the end of a chain
 
@@ -139,8 +140,9 @@ module _ (env : Env) (mix : ℕ → ℕ → ℕ → ℕ) (port : ℕ) (seen : �
         let j = bucket_of_head head in
         let τ = index_at G head.table in
         let of = home_is.of in
-        let locked = (whole.buckets j (home-within env mix M G whole port τ j of.attached home_is.here)
-        (home-no_entry env mix M G whole port τ j of.attached home_is.here)).locked in
+        let is_there = slot-there env mix whole.tables head.table of.table in
+        let locked = (whole.buckets j (home-within env mix M G whole port τ j is_there home_is.here)
+        (home-no_entry env mix M G whole port τ j is_there home_is.here)).locked in
         let place : place_at env mix j ≡ head.place = place_at-index env mix head.place there in
         subst (λ p. head_of p (old_of words (Load p)) ≡ head_of (place_at env mix j) (G.bucket j).plain) place
         (ap (head_of (place_at env mix j)) locked.word_is

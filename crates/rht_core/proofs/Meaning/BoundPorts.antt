@@ -20,7 +20,7 @@ use Rattle.rht_words.specs.Members.{In, IsDistinct, NotIn}
 use Rattle.rht_words.proofs.Members.{In-flat_map, flat_map-In, In-range_with_len, range_with_len-In, find-Some, find-None, In-AllByRecursion, count_below-most, length-count_below, not_in_from, In-append_cases, In-append_right, IsDistinct-with}
 use Rattle.rht_stands.specs.StandsFor.{in_force, chain_from, bucket_in, bucket_nodes, table_nodes, has_key, first_node, list_from, nodes_of, stands_for, shape_of}
 use Rattle.rht_ghost.proofs.Theory.Ghosts.{Ghost, HasSeat, lock_bit, table_at, some-same, First, Leaving, seat_of, seated, is_entry}
-use Rattle.rht_ghost.proofs.Theory.Wholes.{chain_of, list_of, key_of, hash_in, home, place_at, Whole, stop, seated_at}
+use Rattle.rht_ghost.proofs.Theory.Wholes.{chain_of, list_of, key_of, hash_in, home, place_at, Whole, stop, seated_at, IsThere, force-there}
 use Rattle.rht_ghost.proofs.Theory.Passed.{hash-below, home-within, held-no_entry, member-no_entry, place-word, place-bucket}
 use Rattle.rht_ghost.proofs.Theory.SeatedLinks.{link-next_of, head-seated, chain-seated}
 use Rattle.rht_ghost.proofs.Pieces.Lists.{list_among, list_few}
@@ -172,14 +172,14 @@ module _ (env : Env) (mix : ℕ → ℕ → ℕ → ℕ) (words : List ℕ) (G :
   size τ = size_of (unpacked (G.table τ).shape)
 
   -- the place of its bucket, as the words have it
-  place_read : (τ bucket : ℕ) → τ < G.attached → bucket < size τ
+  place_read : (τ bucket : ℕ) → IsThere G τ → bucket < size τ
       → bucket_in g words (G.table τ).shape bucket ≡ option_map (place_at env mix) ((G.table τ).place bucket)
   unfolding size
-  place_read τ bucket l below = placed_in_words env mix M G whole τ bucket l below
+  place_read τ bucket is_there below = placed_in_words env mix M G whole τ bucket is_there below
 
-  place-index : (τ bucket j : ℕ) → τ < G.attached → bucket < size τ → (G.table τ).place bucket ≡ Some j
+  place-index : (τ bucket j : ℕ) → IsThere G τ → bucket < size τ → (G.table τ).place bucket ≡ Some j
       → bucket_in g words (G.table τ).shape bucket ≡ Some (place_at env mix j)
-  place-index τ bucket j l below here = place_read τ bucket l below ∙ ap (option_map (place_at env mix)) here
+  place-index τ bucket j is_there below here = place_read τ bucket is_there below ∙ ap (option_map (place_at env mix)) here
 
   -- a bucket that has a word has it among those of the pages, and it is no entry
   pub record IsBucketAt (place : ℕ) : Type 0 where
@@ -188,29 +188,29 @@ module _ (env : Env) (mix : ℕ → ℕ → ℕ → ℕ) (words : List ℕ) (G :
     pub plain : is_entry G index ≡ false
     pub place_is : place ≡ place_at env mix index
 
-  bucket_word : (τ bucket place : ℕ) → τ < G.attached → bucket < size τ
+  bucket_word : (τ bucket place : ℕ) → IsThere G τ → bucket < size τ
       → bucket_in g words (G.table τ).shape bucket ≡ Some place → IsBucketAt place
   unfolding size
-  bucket_word τ bucket place l below there = go ((G.table τ).place bucket) refl
-      (sym (place_read τ bucket l below) ∙ there)
+  bucket_word τ bucket place is_there below there = go ((G.table τ).place bucket) refl
+      (sym (place_read τ bucket is_there below) ∙ there)
     where
       go : (word : Option ℕ) → (G.table τ).place bucket ≡ word → option_map (place_at env mix) word ≡ Some place
           → IsBucketAt place
       go None e is = absurd (cc)
       go (Some j) e is = record {
         index = j;
-        within = (place-word env mix M G whole τ bucket j l below e).within;
-        plain = bucket-no_entry env mix G j (place-bucket env mix M G whole τ bucket j l below e);
+        within = (place-word env mix M G whole τ bucket j is_there below e).within;
+        plain = bucket-no_entry env mix G j (place-bucket env mix M G whole τ bucket j is_there below e);
         place_is = sym (some-same (place_at env mix j) place is);
       }
 
-  pub bucket-within : (τ bucket place : ℕ) → τ < G.attached
+  pub bucket-within : (τ bucket place : ℕ) → IsThere G τ
       → bucket < size_of (unpacked (shape_of g words (G.table τ).slot))
       → bucket_in g words (shape_of g words (G.table τ).slot) bucket ≡ Some place → IsBucketAt place
   unfolding size
-  bucket-within τ bucket place l below there =
-      let shape = (whole.tables.each τ l).shape_is in
-      bucket_word τ bucket place l (subst (λ s. bucket < size_of (unpacked s)) shape below)
+  bucket-within τ bucket place is_there below there =
+      let shape = (whole.tables.each τ is_there).shape_is in
+      bucket_word τ bucket place is_there (subst (λ s. bucket < size_of (unpacked s)) shape below)
       (subst (λ s. bucket_in g words s bucket ≡ Some place) shape there)
 
   -- ---- a bucket that is locked
@@ -248,11 +248,11 @@ module _ (env : Env) (mix : ℕ → ℕ → ℕ → ℕ) (words : List ℕ) (G :
       (links_tell_apart.marker_names_no_node g.nodes place)
 
   -- the bucket of a port in a table is the one with this number
-  pub home_place : (port τ j : ℕ) → τ < G.attached → home env mix G port τ ≡ Some j
+  pub home_place : (port τ j : ℕ) → IsThere G τ → home env mix G port τ ≡ Some j
       → bucket_in g words (G.table τ).shape (hash_in env mix G port τ) ≡ Some (place_at env mix j)
   unfolding size
-  home_place port τ j l here =
-      place-index τ (hash_in env mix G port τ) j l (hash-below env mix M G whole port τ) here
+  home_place port τ j is_there here =
+      place-index τ (hash_in env mix G port τ) j is_there (hash-below env mix M G whole port τ) here
 
   -- ---- all nodes that are met
 
@@ -262,7 +262,7 @@ module _ (env : Env) (mix : ℕ → ℕ → ℕ → ℕ) (words : List ℕ) (G :
       → bucket_in g words (shape_of g words slot) bucket ≡ Some place → IsBucketAt place
   bucket_in_force slot bucket place i below there =
       let is = in_force_is env mix words G whole slot i in
-      bucket-within is.table bucket place is.attached
+      bucket-within is.table bucket place (force-there env mix whole.tables is.table is.current is.attached)
       (subst (λ s. bucket < size_of (unpacked (shape_of g words s))) is.slot_is below)
       (subst (λ s. bucket_in g words (shape_of g words s) bucket ≡ Some place) is.slot_is there)
 
@@ -273,13 +273,13 @@ module _ (env : Env) (mix : ℕ → ℕ → ℕ → ℕ) (words : List ℕ) (G :
   abbrev buckets_in : ℕ → ℕ → List ℕ
   buckets_in shape bucket = bucket_nodes g words (bucket_in g words shape bucket)
 
-  table_seats : (τ n : ℕ) → τ < G.attached → In n (table_nodes g words (G.table τ).slot) → HasSeat G n
+  table_seats : (τ n : ℕ) → IsThere G τ → In n (table_nodes g words (G.table τ).slot) → HasSeat G n
   unfolding size
-  table_seats τ n l i =
+  table_seats τ n is_there i =
       let shape = (G.table τ).shape in
       let there : In n (flat_map (buckets_in shape) (range_with_len 0 (size τ))) =
       subst (λ s. In n (flat_map (buckets_in s) (range_with_len 0 (size_of (unpacked s)))))
-      (whole.tables.each τ l).shape_is i in
+      (whole.tables.each τ is_there).shape_is i in
       let from = flat_map-In (buckets_in shape) n (range_with_len 0 (size τ)) there in
       let below : from.0 < size τ = (let is = range_with_len-In 0 (size τ) from.0 from.1 in omega (arith, is)) in
       go from.0 below (bucket_in g words shape from.0) refl from.2
@@ -289,7 +289,7 @@ module _ (env : Env) (mix : ℕ → ℕ → ℕ → ℕ) (words : List ℕ) (G :
           → HasSeat G n
       go bucket below None is met = absurd met
       go bucket below (Some place) is met =
-          let at = bucket_word τ bucket place l below is in
+          let at = bucket_word τ bucket place is_there below is in
           bucket_seats at.index n at.within at.plain
           (subst (λ p. In n (bucket_nodes g words (Some p))) at.place_is met)
 
@@ -298,22 +298,22 @@ module _ (env : Env) (mix : ℕ → ℕ → ℕ → ℕ) (words : List ℕ) (G :
   met_bound n i =
       let from = flat_map-In (table_nodes g words) n (in_force g words) i in
       let is = in_force_is env mix words G whole from.0 from.1 in
-      let has = table_seats is.table n is.attached
+      let has = table_seats is.table n (force-there env mix whole.tables is.table is.current is.attached)
       (subst (λ s. In n (table_nodes g words s)) is.slot_is from.2) in
       let at = seated_at env mix M G whole n has.bucket has.seat in
       (at.behind, at.bound_to)
 
   -- a node that belongs to a table in force is met there
-  table_met : (τ b j n : ℕ) → τ < G.attached → b < size τ → (G.table τ).place b ≡ Some j
+  table_met : (τ b j n : ℕ) → IsThere G τ → b < size τ → (G.table τ).place b ≡ Some j
       → In n (bucket_nodes g words (Some (place_at env mix j)))
       → In n (table_nodes g words (G.table τ).slot)
   unfolding size
-  table_met τ b j n l below is there =
+  table_met τ b j n is_there below is there =
       let shape = (G.table τ).shape in
       let here : In n (buckets_in shape b) =
-      subst (λ place. In n (bucket_nodes g words place)) (sym (place-index τ b j l below is)) there in
+      subst (λ place. In n (bucket_nodes g words place)) (sym (place-index τ b j is_there below is)) there in
       subst (λ s. In n (flat_map (buckets_in s) (range_with_len 0 (size_of (unpacked s)))))
-      (sym (whole.tables.each τ l).shape_is)
+      (sym (whole.tables.each τ is_there).shape_is)
       (In-flat_map (buckets_in shape) n b (range_with_len 0 (size τ))
       (In-range_with_len 0 (size τ) b (omega arith) (omega (arith, below))) here)
 
@@ -328,12 +328,11 @@ module _ (env : Env) (mix : ℕ → ℕ → ℕ → ℕ) (words : List ℕ) (G :
       let τ = table_at G to.bucket in
       let bucket = hash_in env mix G key τ in
       let below : bucket < size τ = hash-below env mix M G whole key τ in
-      let seat = seat_met n to.bucket
-      (home-within env mix M G whole key
-      (table_at G to.bucket) to.bucket at.attached at.here) to.first in (
+      let is_there = force-there env mix whole.tables τ at.current at.attached in
+      let seat = seat_met n to.bucket (home-within env mix M G whole key τ to.bucket is_there at.here) to.first in (
         In-flat_map (table_nodes g words) n (G.table τ).slot (in_force g words)
             (table_in_force env mix words G whole τ at.current at.attached)
-            (table_met τ bucket to.bucket n at.attached below at.here seat),
+            (table_met τ bucket to.bucket n is_there below at.here seat),
         to.key_is,
       )
 

@@ -12,9 +12,14 @@ use Rattle.rht_words.specs.Members.{In, IsDistinct, NotIn}
 use Rattle.rht_words.proofs.Members.{count_below-most, length-count_below}
 use Rattle.rht_stands.specs.StandsFor.{in_force, tables_from}
 use Rattle.rht_ghost.proofs.Theory.Ghosts.{Ghost, has_table, index_at}
-use Rattle.rht_ghost.proofs.Theory.Wholes.{Whole}
+use Rattle.rht_ghost.proofs.Theory.Wholes.{Whole, force-there, current-there, one_slot, IsThere, slot-there}
 use Rattle.rht_ghost.proofs.Theory.Knowledge.{IsFollowed}
 use Rattle.rht_ghost.proofs.Theory.Steps.{mem}
+use Rattle.rht_ghost.proofs.Moves.Attaching.{last_of_future}
+
+-- this table and all behind it are there
+abbrev pub AreThereFrom : Ghost → ℕ → Type 0
+AreThereFrom G τ = (σ : ℕ) → τ ≤ σ → σ < G.attached → IsThere G σ
 
 module _ (env : Env) (mix : ℕ → ℕ → ℕ → ℕ) (words : List ℕ) (G : Ghost)
     (whole : Whole env mix (mem env mix words) G) where
@@ -23,6 +28,13 @@ module _ (env : Env) (mix : ℕ → ℕ → ℕ → ℕ) (words : List ℕ) (G :
 
   abbrev M : Memory
   M = mem env mix words
+
+  -- so it is of the current one, and of the next one where it is of this
+  pub current_on : AreThereFrom G G.current
+  current_on = force-there env mix whole.tables
+
+  next_on : (τ : ℕ) → AreThereFrom G τ → AreThereFrom G (τ + 1)
+  next_on τ there σ from = there σ (omega (arith, from))
 
   -- the slots of the tables from this one on, where the last ones are attached
   abbrev slots_from : ℕ → ℕ → List ℕ
@@ -33,14 +45,14 @@ module _ (env : Env) (mix : ℕ → ℕ → ℕ → ℕ) (words : List ℕ) (G :
   next_slot τ zero = None
   next_slot τ (suc count) = Some (G.table τ).slot
 
-  pub future-leads : (τ count : ℕ) → τ + 1 + count ≡ G.attached
+  pub future-leads : (τ count : ℕ) → τ + 1 + count ≡ G.attached → AreThereFrom G τ
       → slot_of (M (Slot (G.table τ).slot FutureWord)) ≡ next_slot (τ + 1) count
-  future-leads τ zero all =
-      ap slot_of ((whole.tables.each τ (omega (arith, all))).future_is
+  future-leads τ zero all there =
+      ap slot_of ((whole.tables.each τ (there τ (omega arith) (omega (arith, all)))).future_is
       ∙ ap (λ t. cond t (future_of (G.table (τ + 1)).slot) 0) (le-ltb (τ + 1) G.attached (omega (arith, all))))
-  future-leads τ (suc count) all =
-      let next = whole.tables.each (τ + 1) (omega (arith, all)) in
-      ap slot_of ((whole.tables.each τ (omega (arith, all))).future_is
+  future-leads τ (suc count) all there =
+      let next = whole.tables.each (τ + 1) (there (τ + 1) (omega arith) (omega (arith, all))) in
+      ap slot_of ((whole.tables.each τ (there τ (omega arith) (omega (arith, all)))).future_is
       ∙ ap (λ t. cond t (future_of (G.table (τ + 1)).slot) 0) (lt-ltb (τ + 1) G.attached (omega (arith, all))))
       ∙ entries_come_back.future_names (G.table (τ + 1)).slot next.slot_in
 
@@ -49,8 +61,8 @@ module _ (env : Env) (mix : ℕ → ℕ → ℕ → ℕ) (words : List ℕ) (G :
   next_apart root next is same =
       let index : index_at G (G.table (G.current + 1)).slot ≡ index_at G (G.table G.current).slot =
       ap (index_at G) (is.future_is ∙ same ∙ sym is.root_is) in
-      let later = (whole.tables.each (G.current + 1) is.more).index in
-      let now = (whole.tables.each G.current whole.tables.current_in).index in
+      let later = (force-there env mix whole.tables (G.current + 1) (omega arith) is.more).index in
+      let now = (current-there env mix whole.tables).index in
       omega (arith, index, later, now)
 
   -- so where the future of a table names a slot, that is the next table's
@@ -58,48 +70,52 @@ module _ (env : Env) (mix : ℕ → ℕ → ℕ → ℕ) (words : List ℕ) (G :
     pub attached : τ + 1 < G.attached
     pub slot_is : (G.table (τ + 1)).slot ≡ slot
 
-  pub next_named : (τ slot : ℕ) → τ < G.attached → slot_of (M (Slot (G.table τ).slot FutureWord)) ≡ Some slot → IsNextTable τ slot
-  next_named τ slot l named = go (G.attached - (τ + 1)) refl
+  pub next_named : (τ slot : ℕ) → AreThereFrom G τ → τ < G.attached
+      → slot_of (M (Slot (G.table τ).slot FutureWord)) ≡ Some slot → IsNextTable τ slot
+  next_named τ slot there l named = go (G.attached - (τ + 1)) refl
     where
       go : (count : ℕ) → G.attached - (τ + 1) ≡ count → IsNextTable τ slot
       go zero is =
-          let none : ◌≡◌ {A = Option ℕ} None (Some slot) = sym (future-leads τ zero (omega (arith, is, l))) ∙ named in absurd (cc)
+          let none : ◌≡◌ {A = Option ℕ} None (Some slot) = sym (future-leads τ zero (omega (arith, is, l)) there) ∙ named in absurd (cc)
       go (suc count) is =
           let same : ◌≡◌ {A = Option ℕ} (Some (G.table (τ + 1)).slot) (Some slot) =
-          sym (future-leads τ (suc count) (omega (arith, is, l))) ∙ named in
+          sym (future-leads τ (suc count) (omega (arith, is, l)) there) ∙ named in
           record { attached = omega (arith, is); slot_is = cc }
 
-  tables_met : (left τ count : ℕ) → count ≤ left → τ + count ≡ G.attached
+  tables_met : (left τ count : ℕ) → count ≤ left → τ + count ≡ G.attached → AreThereFrom G τ
       → tables_from g words left (next_slot τ count) ≡ slots_from τ count
-  tables_met zero τ zero fuel all = refl
-  tables_met (suc left) τ zero fuel all = refl
-  tables_met zero τ (suc count) fuel all = absurd (omega (arith, fuel))
-  tables_met (suc left) τ (suc count) fuel all =
+  tables_met zero τ zero fuel all there = refl
+  tables_met (suc left) τ zero fuel all there = refl
+  tables_met zero τ (suc count) fuel all there = absurd (omega (arith, fuel))
+  tables_met (suc left) τ (suc count) fuel all there =
       ap (λ rest. (G.table τ).slot ∷ rest)
-      (ap (tables_from g words left) (future-leads τ count (omega (arith, all)))
-      ∙ tables_met left (τ + 1) count (omega (arith, fuel)) (omega (arith, all)))
+      (ap (tables_from g words left) (future-leads τ count (omega (arith, all)) there)
+      ∙ tables_met left (τ + 1) count (omega (arith, fuel)) (omega (arith, all)) (next_on τ there))
 
-  -- tables have slots of their own, of which there are eight
-  own_slot : (τ σ : ℕ) → τ < G.attached → σ < G.attached → (G.table τ).slot ≡ (G.table σ).slot → τ ≡ σ
-  own_slot τ σ l m same =
-      sym (whole.tables.each τ l).index ∙ ap (index_at G) same ∙ (whole.tables.each σ m).index
-
-  slots_apart : (τ σ count : ℕ) → τ < σ → σ + count ≡ G.attached → NotIn (G.table τ).slot (slots_from σ count)
-  slots_apart τ σ zero less all = tt
-  slots_apart τ σ (suc count) less all = (
-    (λ same. let e = own_slot τ σ (omega (arith, less, all)) (omega (arith, all)) same in absurd (omega (arith, e, less))),
-    slots_apart τ (σ + 1) count (omega (arith, less)) (omega (arith, all)),
+  -- tables that are there have slots of their own, of which there are eight
+  slots_apart : (τ σ count : ℕ) → τ < σ → σ + count ≡ G.attached → AreThereFrom G τ → NotIn (G.table τ).slot (slots_from σ count)
+  slots_apart τ σ zero less all there = tt
+  slots_apart τ σ (suc count) less all there = (
+    (λ same.
+        let first = there τ (omega arith) (omega (arith, less, all)) in
+        let second = there σ (omega (arith, less)) (omega (arith, all)) in
+        let e = one_slot env mix G τ σ first second same in absurd (omega (arith, e, less))),
+    slots_apart τ (σ + 1) count (omega (arith, less)) (omega (arith, all)) there,
   )
 
-  slots_distinct : (τ count : ℕ) → τ + count ≡ G.attached → IsDistinct (slots_from τ count)
-  slots_distinct τ zero all = tt
-  slots_distinct τ (suc count) all =
-      (slots_apart τ (τ + 1) count (omega arith) (omega (arith, all)), slots_distinct (τ + 1) count (omega (arith, all)))
+  slots_distinct : (τ count : ℕ) → τ + count ≡ G.attached → AreThereFrom G τ → IsDistinct (slots_from τ count)
+  slots_distinct τ zero all there = tt
+  slots_distinct τ (suc count) all there = (
+    slots_apart τ (τ + 1) count (omega arith) (omega (arith, all)) there,
+    slots_distinct (τ + 1) count (omega (arith, all)) (next_on τ there),
+  )
 
-  slots_below : (τ count : ℕ) → τ + count ≡ G.attached → AllByRecursion (λ s. s < 8) (slots_from τ count)
-  slots_below τ zero all = tt
-  slots_below τ (suc count) all =
-      ((whole.tables.each τ (omega (arith, all))).slot_in, slots_below (τ + 1) count (omega (arith, all)))
+  slots_below : (τ count : ℕ) → τ + count ≡ G.attached → AreThereFrom G τ → AllByRecursion (λ s. s < 8) (slots_from τ count)
+  slots_below τ zero all there = tt
+  slots_below τ (suc count) all there = (
+    (whole.tables.each τ (there τ (omega arith) (omega (arith, all)))).slot_in,
+    slots_below (τ + 1) count (omega (arith, all)) (next_on τ there),
+  )
 
   slots_many : (τ count : ℕ) → length (slots_from τ count) ≡ count
   slots_many τ zero = refl
@@ -110,9 +126,9 @@ module _ (env : Env) (mix : ℕ → ℕ → ℕ → ℕ) (words : List ℕ) (G :
   in_use = G.attached - G.current
 
   -- futures lead from each table to those that were attached behind it
-  tables_behind : (τ : ℕ) → τ < G.attached
+  tables_behind : (τ : ℕ) → τ < G.attached → AreThereFrom G τ
       → tables_from g words 8 (Some (G.table τ).slot) ≡ slots_from τ (G.attached - τ)
-  tables_behind τ l = go (G.attached - τ) refl
+  tables_behind τ l there = go (G.attached - τ) refl
     where
       go : (count : ℕ) → G.attached - τ ≡ count
           → tables_from g words 8 (Some (G.table τ).slot) ≡ slots_from τ count
@@ -120,24 +136,25 @@ module _ (env : Env) (mix : ℕ → ℕ → ℕ → ℕ) (words : List ℕ) (G :
       go (suc count) is =
           let all : τ + suc count ≡ G.attached = omega (arith, is, l) in
           let few = length-count_below (λ s. true) 8 (slots_from τ (suc count))
-          (slots_distinct τ (suc count) all) (slots_below τ (suc count) all) (λ s i. refl) in
+          (slots_distinct τ (suc count) all there) (slots_below τ (suc count) all there) (λ s i. refl) in
           let most = count_below-most (λ s. true) 8 in
           let fuel : suc count ≤ 8 = omega (arith, few, most, slots_many τ (suc count)) in
-          tables_met 8 τ (suc count) fuel all
+          tables_met 8 τ (suc count) fuel all there
 
   pub current_slot : table_of (M CurrentTable) ≡ (G.table G.current).slot
   current_slot =
-      let right = whole.tables.each G.current whole.tables.current_in in
+      let right = whole.tables.each G.current (current-there env mix whole.tables) in
       let word = whole.tables.current_is in omega (arith, right.slot_in, word)
 
   tables_in_force : in_force g words ≡ slots_from G.current in_use
   tables_in_force =
-      ap (λ s. tables_from g words 8 (Some s)) current_slot ∙ tables_behind G.current whole.tables.current_in
+      ap (λ s. tables_from g words 8 (Some s)) current_slot ∙ tables_behind G.current whole.tables.current_in current_on
 
   -- none of them is met twice
   pub in_force_distinct : IsDistinct (in_force g words)
   in_force_distinct =
-      subst IsDistinct (sym tables_in_force) (slots_distinct G.current in_use (let l = whole.tables.current_in in omega (arith, l)))
+      subst IsDistinct (sym tables_in_force) (slots_distinct G.current in_use (let l = whole.tables.current_in in omega (arith, l))
+      current_on)
 
   -- the last one is the one that was attached last, and it has no future
   slots_last : (τ count : ℕ) → slots_from τ (suc count) ≡ slots_from τ count ++ (G.table (τ + count)).slot ∷ []
@@ -165,7 +182,7 @@ module _ (env : Env) (mix : ℕ → ℕ → ℕ → ℕ) (words : List ℕ) (G :
             front = slots_from G.current count;
             split = tables_in_force ∙ ap (slots_from G.current) is ∙ slots_last G.current count
                 ∙ ap (λ σ. slots_from G.current count ++ (G.table σ).slot ∷ []) at;
-            none = (whole.tables.each (G.attached - 1) (omega (arith, l))).future_is
+            none = (whole.tables.each (G.attached - 1) (force-there env mix whole.tables (G.attached - 1) (omega (arith, l)) (omega (arith, l)))).future_is
                 ∙ ap (λ t. cond t (future_of (G.table (G.attached - 1 + 1)).slot) 0)
                 (le-ltb (G.attached - 1 + 1) G.attached (omega (arith, l)));
           }
@@ -203,27 +220,19 @@ module _ (env : Env) (mix : ℕ → ℕ → ℕ → ℕ) (words : List ℕ) (G :
 
   -- so is one that has no future
   pub last_stands : (slot : ℕ) → has_table (G.slot slot) ≡ true → M (Slot slot FutureWord) ≡ 0 → In slot (in_force g words)
-  last_stands slot has none = go (G.attached - (τ + 1)) refl
-    where
-      τ : ℕ
-      τ = index_at G slot
-
-      go : (count : ℕ) → G.attached - (τ + 1) ≡ count → In slot (in_force g words)
-      go zero is =
-          let of = whole.tables.slots slot has in
-          let here = whole.tables.current_in in
-          subst (λ s. In s (in_force g words)) of.slot (table_in_force τ (omega (arith, is, here)) of.attached)
-      go (suc count) is =
-          let of = whole.tables.slots slot has in
-          let l = of.attached in
-          let named : ◌≡◌ {A = Option ℕ} None (Some (G.table (τ + 1)).slot) =
-          ap slot_of (sym none ∙ ap (λ s. M (Slot s FutureWord)) (sym of.slot)) ∙ future-leads τ (suc count) (omega (arith, is, l)) in
-          absurd (cc)
-
-  -- from a table that is no more in force they lead to the current one
-  pub leads_to_current : (τ : ℕ) → τ ≤ G.current → In (table_of (M CurrentTable)) (tables_from g words 8 (Some (G.table τ).slot))
-  leads_to_current τ low =
+  last_stands slot has none =
+      let τ = index_at G slot in
+      let of = whole.tables.slots slot has in
+      let last = last_of_future env mix M G whole τ (slot-there env mix whole.tables slot has)
+      (ap (λ s. M (Slot s FutureWord)) of.slot ∙ none) in
       let here = whole.tables.current_in in
-      subst (In (table_of (M CurrentTable))) (sym (tables_behind τ (omega (arith, low, here))))
+      subst (λ s. In s (in_force g words)) of.slot (table_in_force τ (omega (arith, last, here)) of.attached)
+
+  -- from a table that is no more in force they lead to the current one, where it and all behind it are there
+  pub leads_to_current : (τ : ℕ) → AreThereFrom G τ → τ ≤ G.current
+      → In (table_of (M CurrentTable)) (tables_from g words 8 (Some (G.table τ).slot))
+  leads_to_current τ there low =
+      let here = whole.tables.current_in in
+      subst (In (table_of (M CurrentTable))) (sym (tables_behind τ (omega (arith, low, here)) there))
       (subst (λ s. In s (slots_from τ (G.attached - τ))) (sym current_slot)
       (in_slots G.current τ (G.attached - τ) low (omega (arith, low, here))))

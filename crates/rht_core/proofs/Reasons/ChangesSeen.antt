@@ -27,7 +27,7 @@ use Rattle.rht_core.specs.Seen.{words_before}
 use Rattle.rht_core.specs.ResizeCauses.{Attaches}
 use Rattle.rht_core.specs.Attached.{ChangesMissing, EnterCause, HasGoneOn, ChangesWorkLock, HasWorkLock, WorkLockCause, ChangesTable, ChangesCurrent, MovesOn, HasTakenSlot, EachBehind, AttachesDue, IsOwnTable, ChangesState, StateCause, MakesTables, RetiresTable}
 use Rattle.rht_ghost.proofs.Theory.Ghosts.{Ghost, PageHeld, has_table, SlotHeld, index_at}
-use Rattle.rht_ghost.proofs.Theory.Wholes.{Whole}
+use Rattle.rht_ghost.proofs.Theory.Wholes.{Whole, force-there}
 use Rattle.rht_ghost.proofs.Theory.Steps.{mem, ghost_after, Holding, Does}
 use Rattle.rht_words.specs.Operations.{op_value}
 use Rattle.rht_words.specs.Planned.{IsWord}
@@ -137,7 +137,7 @@ module _ (M : Type 0) (mix : ℕ → ℕ → ℕ → ℕ) (env : Env) (events : 
       → ¬ In slot (in_force g words)
   held_apart words G whole caller slot held i =
       let table = in_force_is env mix words G whole slot i in
-      let has = (whole.tables.each table.table table.attached).has_slot in
+      let has = (force-there env mix whole.tables table.table table.current table.attached).has_slot in
       let both : has_table (SlotHeld caller) ≡ true = sym (ap has_table held) ∙ ap (λ s. has_table (G.slot s)) table.slot_is ∙ has in
       absurd (cc)
 
@@ -300,13 +300,14 @@ module _ (M : Type 0) (mix : ℕ → ℕ → ℕ → ℕ) (env : Env) (events : 
           stores = stores;
           apart = λ i.
               let table = in_force_is env mix words G whole slot i in
-              let index = (whole.tables.each table.table table.attached).index in
+              let index = (force-there env mix whole.tables table.table table.current table.attached).index in
               let same : τ ≡ table.table = ap (index_at G) table.slot_is ∙ index in
               let left = can.left_behind in
               let current = table.current in
               absurd (omega (arith, same, left, current));
           left = subst (λ s. In (table_of (word_at g words CurrentTable)) (tables_from g words 8 (Some s))) of.slot
-              (leads_to_current env mix words G whole τ (let left = can.left_behind in omega (arith, left)));
+              (leads_to_current env mix words G whole τ (λ σ from. whole.tables.there σ)
+              (let left = can.left_behind in omega (arith, left)));
         })
 
     stated : (job : Job) (slot : ℕ) (performs : Performs mix env job did) → performs.words ≡ words_at did.index

@@ -17,7 +17,8 @@ use Rattle.rht_move.specs.declared.work.WorkAt.TheVariants as at
 use Rattle.rht_core.specs.Traces.{Did}
 use Rattle.rht_core.specs.Jobs.{Job, works, held_of, held_next, job_after}
 use Rattle.rht_ghost.proofs.Theory.Ghosts.{Table, Ghost, put-same, made_table, some-same}
-use Rattle.rht_ghost.proofs.Theory.Wholes.{Whole}
+use Rattle.rht_core.proofs.Meaning.TablesInForce.{AreThereFrom}
+use Rattle.rht_ghost.proofs.Theory.Wholes.{Whole, IsThere, force-there}
 use Rattle.rht_ghost.proofs.Theory.Readiness.{IsAttaching}
 use Rattle.rht_ghost.proofs.Theory.Steps.{bare, Move, Attaches, Holding, DoesAttach, ReadyFor, Does, ghost_after, mem}
 use Rattle.rht_core.proofs.Tracing.TracedJobs.{Performs}
@@ -60,36 +61,43 @@ module _ (env : Env) (mix : ℕ → ℕ → ℕ → ℕ) where
   -- ---- along the futures
 
   module _ (M : Memory) (G : Ghost) (whole : Whole env mix M G) where
+    -- the tables from the current one on are there
+    current_on : AreThereFrom G G.current
+    current_on = force-there env mix whole.tables
+
     slot_named : (next : ℕ) → next < 8 → slot_of (future_of next) ≡ Some next
     slot_named next l = grind (arith, nat_tests)
 
     -- the last table has no future
     future_none : (τ : ℕ) → τ + 1 ≡ G.attached → M (Slot (G.table τ).slot FutureWord) ≡ 0
     future_none τ last =
-        (whole.tables.each τ (omega (arith, last))).future_is
+        let l = whole.tables.current_in in
+        (whole.tables.each τ (current_on τ (omega (arith, last, l)) (omega (arith, last)))).future_is
         ∙ ap (λ t. cond t (future_of (G.table (τ + 1)).slot) 0) (le-ltb (τ + 1) G.attached (omega (arith, last)))
 
     -- another one has the next table
-    future_some : (τ : ℕ) → τ + 1 < G.attached
+    future_some : (τ : ℕ) → AreThereFrom G τ → τ + 1 < G.attached
         → slot_of (M (Slot (G.table τ).slot FutureWord)) ≡ Some (G.table (τ + 1)).slot
-    future_some τ more =
-        ap slot_of ((whole.tables.each τ (omega (arith, more))).future_is
+    future_some τ there more =
+        ap slot_of ((whole.tables.each τ (there τ (omega arith) (omega (arith, more)))).future_is
         ∙ ap (λ t. cond t (future_of (G.table (τ + 1)).slot) 0) (lt-ltb (τ + 1) G.attached more))
-        ∙ slot_named (G.table (τ + 1)).slot (whole.tables.each (τ + 1) more).slot_in
+        ∙ slot_named (G.table (τ + 1)).slot (whole.tables.each (τ + 1) (there (τ + 1) (omega arith) more)).slot_in
 
     -- so one with no future is the last
-    pub none_last : (τ : ℕ) → τ < G.attached → slot_of (M (Slot (G.table τ).slot FutureWord)) ≡ None → τ + 1 ≡ G.attached
-    none_last τ l none = elim (cases_lt (τ + 1) G.attached) [
-      | inl more ↦ let both = sym none ∙ future_some τ more in absurd (cc)
+    pub none_last : (τ : ℕ) → AreThereFrom G τ → τ < G.attached → slot_of (M (Slot (G.table τ).slot FutureWord)) ≡ None → τ + 1 ≡ G.attached
+    none_last τ there l none = elim (cases_lt (τ + 1) G.attached) [
+      | inl more ↦ let both = sym none ∙ future_some τ there more in absurd (cc)
       | inr last ↦ omega (arith, l, last)
     ]
 
     -- the last one's words
     pub last_shape : (slot shape : ℕ) → IsLast G slot shape → M (Slot slot ShapeWord) ≡ shape
     last_shape slot shape last =
-        let l = last.last in
+        let ends = last.last in
+        let l = whole.tables.current_in in
         ap (λ s. M (Slot s ShapeWord)) (sym last.slot_is)
-        ∙ (whole.tables.each last.table (omega (arith, l))).shape_is ∙ last.shape_is
+        ∙ (whole.tables.each last.table (current_on last.table (omega (arith, ends, l)) (omega (arith, ends)))).shape_is
+        ∙ last.shape_is
 
     pub last_future : (slot shape : ℕ) → IsLast G slot shape → M (Slot slot FutureWord) ≡ 0
     last_future slot shape last =
@@ -99,36 +107,37 @@ module _ (env : Env) (mix : ℕ → ℕ → ℕ → ℕ) where
 
   module _ (words now : List ℕ) (G G' : Ghost) (whole : Whole env mix (mem env mix words) G)
       (whole' : Whole env mix (mem env mix now) G') (same : AreSame env words now) where
-    same_future : (τ τ' : ℕ) → τ < G.attached → (G'.table τ').slot ≡ (G.table τ).slot
+    same_future : (τ τ' : ℕ) → IsThere G τ → (G'.table τ').slot ≡ (G.table τ).slot
         → mem env mix now (Slot (G'.table τ').slot FutureWord) ≡ mem env mix words (Slot (G.table τ).slot FutureWord)
-    same_future τ τ' l slots =
+    same_future τ τ' there slots =
         ap (λ s. mem env mix now (Slot s FutureWord)) slots
-        ∙ same.future (G.table τ).slot (whole.tables.each τ l).slot_in
+        ∙ same.future (G.table τ).slot (whole.tables.each τ there).slot_in
 
-    same_walk : (left τ τ' : ℕ) → τ + left + 1 ≡ G.attached → τ' < G'.attached → (G'.table τ').slot ≡ (G.table τ).slot
-        → (slot shape : ℕ) → IsLast G slot shape → IsLast G' slot shape
-    same_walk zero τ τ' is l slots slot shape last =
+    same_walk : (left τ τ' : ℕ) → τ + left + 1 ≡ G.attached → τ' < G'.attached → AreThereFrom G τ → AreThereFrom G' τ'
+        → (G'.table τ').slot ≡ (G.table τ).slot → (slot shape : ℕ) → IsLast G slot shape → IsLast G' slot shape
+    same_walk zero τ τ' is l on on' slots slot shape last =
         let here : last.table ≡ τ = omega (arith, is, last.last) in
         let ends : τ + 1 ≡ G.attached = omega (arith, is) in
-        let below : τ < G.attached = omega (arith, is) in
+        let there = on τ (omega arith) (omega (arith, is)) in
         record {
           table = τ';
-          last = none_last (mem env mix now) G' whole' τ' l
-              (ap slot_of (same_future τ τ' below slots ∙ future_none (mem env mix words) G whole τ ends));
+          last = none_last (mem env mix now) G' whole' τ' on' l
+              (ap slot_of (same_future τ τ' there slots ∙ future_none (mem env mix words) G whole τ ends));
           slot_is = slots ∙ ap (λ t. (G.table t).slot) (sym here) ∙ last.slot_is;
-          shape_is = sym (whole'.tables.each τ' l).shape_is ∙ ap (λ s. mem env mix now (Slot s ShapeWord)) slots
-              ∙ same.shape (G.table τ).slot (whole.tables.each τ below).slot_in ∙ (whole.tables.each τ below).shape_is
+          shape_is = sym (whole'.tables.each τ' (on' τ' (omega arith) l)).shape_is ∙ ap (λ s. mem env mix now (Slot s ShapeWord)) slots
+              ∙ same.shape (G.table τ).slot (whole.tables.each τ there).slot_in ∙ (whole.tables.each τ there).shape_is
               ∙ ap (λ t. (G.table t).shape) (sym here) ∙ last.shape_is;
         }
-    same_walk (suc left) τ τ' is l slots slot shape last =
-        let below : τ < G.attached = omega (arith, is) in
+    same_walk (suc left) τ τ' is l on on' slots slot shape last =
+        let there = on τ (omega arith) (omega (arith, is)) in
         let more : τ + 1 < G.attached = omega (arith, is) in
-        let leads = ap slot_of (same_future τ τ' below slots) ∙ future_some (mem env mix words) G whole τ more in
+        let leads = ap slot_of (same_future τ τ' there slots) ∙ future_some (mem env mix words) G whole τ on more in
         elim (cases_lt (τ' + 1) G'.attached) [
           | inl more' ↦
               same_walk left (τ + 1) (τ' + 1) (omega (arith, is)) more'
+              (λ σ from. on σ (omega (arith, from))) (λ σ from. on' σ (omega (arith, from)))
               (some-same (G'.table (τ' + 1)).slot (G.table (τ + 1)).slot
-              (sym (future_some (mem env mix now) G' whole' τ' more') ∙ leads)) slot shape last
+              (sym (future_some (mem env mix now) G' whole' τ' on' more') ∙ leads)) slot shape last
           | inr last' ↦
               let none = ap slot_of (future_none (mem env mix now) G' whole' τ' (omega (arith, l, last'))) in
               let both = sym none ∙ leads in
@@ -139,6 +148,7 @@ module _ (env : Env) (mix : ℕ → ℕ → ℕ → ℕ) where
     same_last slot shape last =
         let within = whole.tables.current_in in
         same_walk (G.attached - 1 - G.current) G.current G'.current (omega (arith, within)) whole'.tables.current_in
+        (current_on (mem env mix words) G whole) (current_on (mem env mix now) G' whole')
         (sym whole'.tables.current_is ∙ same.current ∙ whole.tables.current_is) slot shape last
 
   -- so one ghost shows it of all

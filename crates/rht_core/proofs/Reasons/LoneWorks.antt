@@ -284,7 +284,7 @@ module _ (env : Env) (c : ℕ) (words_at : ℕ → List ℕ) (mix : ℕ → ℕ 
       let G = does.ghost in
       let τ = index_at G slot in
       let of = does.whole.tables.slots slot has in
-      let last = none_last env mix (mem env mix does.words) G does.whole τ of.attached
+      let last = none_last env mix (mem env mix does.words) G does.whole τ (λ σ from. does.whole.tables.there σ) of.attached
       (ap (λ s. slot_of (mem env mix does.words (Slot s FutureWord))) of.slot ∙ none) in (
         (G.table τ).shape,
         last_in env mix does.words G does.whole slot (G.table τ).shape

@@ -6,7 +6,7 @@ use Rattle.rht_words.specs.declared.env.Env.{Env}
 use Rattle.rht_words.specs.Places.{Slot, FutureWord}
 use Rattle.rht_words.specs.Links.{slot_of, table_of, future_of}
 use Rattle.rht_ghost.proofs.Theory.Ghosts.{Ghost, has_table, index_at}
-use Rattle.rht_ghost.proofs.Theory.Wholes.{future_in, Whole}
+use Rattle.rht_ghost.proofs.Theory.Wholes.{future_in, Whole, slot-there}
 use Rattle.rht_ghost.proofs.Theory.Steps.{mem, by_test}
 
 -- a word of a future that names no slot is 0
@@ -51,12 +51,12 @@ pub future_few : (env : Env) (mix : ℕ → ℕ → ℕ → ℕ) (words : List �
 future_few env mix words G slot whole table =
     let τ = index_at G slot in
     let is = whole.tables.slots slot table in
-    let word = (whole.tables.each τ is.attached).future_is in
+    let word = (whole.tables.each τ (slot-there env mix whole.tables slot table)).future_is in
     let here : mem env mix words (Slot slot FutureWord) ≡ future_in env mix G τ =
     ap (λ s. mem env mix words (Slot s FutureWord)) (sym is.slot) ∙ word in
     elim (cases_lt (τ + 1) G.attached) [
       | inl more ↦
-          let low = (whole.tables.each (τ + 1) more).slot_in in
+          let low = (whole.tables.each (τ + 1) (whole.tables.there (τ + 1) more)).slot_in in
           let next = ap (λ t. cond t (future_of (G.table (τ + 1)).slot) 0) (lt-ltb (τ + 1) G.attached more) in
           omega (arith, here, next, low)
       | inr last ↦

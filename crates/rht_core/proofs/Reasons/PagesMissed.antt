@@ -34,7 +34,7 @@ use Rattle.rht_core.specs.Traces.{Did, performed_of, IsRising}
 use Rattle.rht_core.proofs.Tracing.StepsInTraces.{rising-behind, rising_around}
 use Rattle.rht_core.proofs.Reasons.UnboundSeen.{SeesNoFuture, unbound-missed}
 use Rattle.rht_ghost.proofs.Theory.Ghosts.{Ghost, index_at}
-use Rattle.rht_ghost.proofs.Theory.Wholes.{hash_in, Whole}
+use Rattle.rht_ghost.proofs.Theory.Wholes.{hash_in, Whole, IsThere, slot-there}
 use Rattle.rht_ghost.proofs.Theory.Passed.{hash-below}
 use Rattle.rht_ghost.proofs.Theory.PlacesRead.{middle_behind, entries_in_words}
 use Rattle.rht_ghost.proofs.Theory.WaysRead.{words_of_pages, nested_placed}
@@ -234,10 +234,10 @@ module _ (env : Env) (words_at : ℕ → List ℕ) where
     M = mem env mix words
 
     -- the way to a bucket ends at an entry on it that leads to no page
-    way_ends : (τ number : ℕ) → τ < G.attached → is_nested (G.table τ).shape ≡ true → (place : PlaceModel)
+    way_ends : (τ number : ℕ) → IsThere G τ → is_nested (G.table τ).shape ≡ true → (place : PlaceModel)
         → place.geometry ≡ g → IsWay env mix G number τ (G.table τ).shape place → page_of g.pages (M (PageWord place.entry)) ≡ None
         → missing_at (words_of_pages M) (nested_place g (G.table τ).shape number) ≡ Some place.entry
-    way_ends τ number l nested place same way none =
+    way_ends τ number is_there nested place same way none =
         let read = words_of_pages M in
         let begins = nested_place g (G.table τ).shape number in
         elim way [
@@ -246,8 +246,8 @@ module _ (env : Env) (words_at : ℕ → List ℕ) where
               (ap (λ (m : PlaceModel). page_of g.pages (read m.entry)) (sym first) ∙ none)
               ∙ ap (λ (m : PlaceModel). Some m.entry) (sym first)
           | inr second ↦
-              let leads = middle_behind env mix (G.table τ) G.page τ (whole.tables.each τ l).placed read
-              (entries_in_words env mix M G whole τ l) (nested_placed env mix M G whole τ l nested) number second.page second.of
+              let leads = middle_behind env mix (G.table τ) G.page τ (whole.tables.each τ is_there).placed read
+              (entries_in_words env mix M G whole τ is_there) (nested_placed env mix M G whole τ is_there nested) number second.page second.of
               second.part_is in
               ap (missing_behind (missing_or_last read) begins) leads
               ∙ ap (missing_or_last read) second.place_is
@@ -263,10 +263,10 @@ module _ (env : Env) (words_at : ℕ → List ℕ) where
         let j = place.entry in
         let τ = index_at G slot in
         let number = hash_in env mix G port τ in
-        let here = whole.tables.slots slot on.shaped.passing.table in
+        let is_there = slot-there env mix whole.tables slot on.shaped.passing.table in
         let shape_is = on.shaped.shape_is in
         let number_is = hash_in-words env mix words G whole port slot shape on.shaped.passing.table shape_is in
-        let ends = way_ends τ number here.attached on.to.nested place same on.to.way none in
+        let ends = way_ends τ number is_there on.to.nested place same on.to.way none in
         record {
           entry_in = (open_on_way env mix M G whole port slot shape place on).within;
           loads = is;

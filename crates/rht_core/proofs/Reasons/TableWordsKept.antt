@@ -21,11 +21,11 @@ use Rattle.rht_core.specs.ResizeCauses.{Attaches}
 use Rattle.rht_core.specs.Attached.{ChangesTable, ChangesCurrent, MovesOn, ChangesState, ChangesWorkLock}
 use Rattle.rht_core.specs.WorkCauses.{TakesWorkLock}
 use Rattle.rht_ghost.proofs.Theory.Ghosts.{Ghost}
-use Rattle.rht_ghost.proofs.Theory.Wholes.{Whole}
+use Rattle.rht_ghost.proofs.Theory.Wholes.{Whole, force-there}
 use Rattle.rht_ghost.proofs.Theory.Departures.{CanPublish, published, CanRetire}
 use Rattle.rht_ghost.proofs.Theory.Steps as steps
 use Rattle.rht_ghost.proofs.Theory.Steps.{mem, ghost_after, LeavesBits, DoesPublish, Holding, Does, ReadyFor, DoesQuiet, IsAside, Move, Quiet, TakesNode, GivesNode, TakesLock, DropsLock, Raises, Links, Lowers, Rebinds, LinksBehind, Arms, TakesSlot, GivesSlot, TakesPages, GivesPages, Enters, TakesWork, GivesWork, BeginsMoving, TakesSecond, Leaves, Arrives, CutsOff, Publishes, Retires, Opens, Closes, ReturnsNode, IsOnOwnSlot, DoesAttach, DoesTakeSlot, DoesGiveSlot, DoesRetire, DoesTakeWork, DoesGiveWork}
-use Rattle.rht_core.proofs.Meaning.TablesInForce.{current_slot, future-leads}
+use Rattle.rht_core.proofs.Meaning.TablesInForce.{current_slot, future-leads, current_on}
 use Rattle.rht_nest.specs.MakeLaws.{slot_taking, TakesSlot as TakesSlotNow}
 use Rattle.rht_ghost.proofs.Theory.Readiness.{IsAttaching}
 use Rattle.std.specs.Int.{bit_at}
@@ -354,11 +354,12 @@ module _ (env : Env) (mix : ℕ → ℕ → ℕ → ℕ) (c : ℕ) (words : List
         moves = does.moves;
         on = record {
           table = (G.table (G.current + 1)).slot;
-          table_in = (whole.tables.each (G.current + 1) followed.more).slot_in;
+          table_in = (whole.tables.each (G.current + 1) (force-there env mix whole.tables (G.current + 1) (omega arith) followed.more)).slot_in;
           becomes = ap (λ w. word_after w did.op) old ∙ sym write.same ∙ then.tables.current_is;
           followed =
               ap (λ s. slot_of (mem env mix words (Slot s FutureWord))) (ap table_of old ∙ current_slot env mix words G whole)
-              ∙ future-leads env mix words G whole G.current (suc (G.attached - G.current - 2)) (let l = followed.more in omega (arith, l));
+              ∙ future-leads env mix words G whole G.current (suc (G.attached - G.current - 2)) (let l = followed.more in omega (arith, l))
+              (current_on env mix words G whole);
         };
       }
 

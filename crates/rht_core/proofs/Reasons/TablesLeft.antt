@@ -1,5 +1,5 @@
 -- A resizing retires no table but that from which it has gone on: it knows that each other one before the current one is retired already.
-use Rattle.std.proofs.Common.{◌≡◌, ◌≢◌, ℕ, ◌<◌, Bool, true, false, List, None, inl, inr, sym, ap, ◌∙◌, subst, arith}
+use Rattle.std.proofs.Common.{◌≡◌, ◌≢◌, ℕ, ◌<◌, Bool, true, false, List, Option, Some, None, sym, refl, ap, ◌∙◌, subst, arith}
 use Rattle.rht_words.specs.declared.env.Env.{Env}
 use Rattle.rht_words.specs.declared.geometry.Geometry.{Geometry}
 use Rattle.rht_words.specs.declared.op.Op.TheVariants.{Store}
@@ -12,7 +12,7 @@ use Rattle.rht_move.proofs.WorkKnowledge.{known_at_work, known_unlocking}
 use Rattle.rht_core.specs.Jobs.{Job, works, job_plan, held_of}
 use Rattle.rht_core.specs.Traces.{Did}
 use Rattle.rht_core.specs.Attached.{HasGoneOn}
-use Rattle.rht_ghost.proofs.Theory.Ghosts.{Ghost, index_at, state_word}
+use Rattle.rht_ghost.proofs.Theory.Ghosts.{Ghost, SlotOwner, SlotFree, SlotHeld, Live, Retired, has_table, index_at, table_of_slot, state_word}
 use Rattle.rht_ghost.proofs.Theory.Wholes.{Whole, AreRetired}
 use Rattle.rht_ghost.proofs.Theory.Departures.{CanRetire}
 use Rattle.rht_ghost.proofs.Theory.Knowns.{KnownPlace}
@@ -32,15 +32,18 @@ module _ (env : Env) (own : ℕ) (words_at : ℕ → List ℕ) (mix : ℕ → �
 
   -- the slot's table isn't retired yet, so not all before the current one are
   one_left : AreRetired G None → ⊥
-  one_left retired =
-      let of = whole.tables.slots slot can.table in
-      elim (retired (index_at G slot) can.left_behind) [
-        | inl left ↦ absurd (cc)
-        | inr done ↦
-            let state = whole.slots.states slot slot_in ∙ ap state_word (ap G.slot (sym of.slot) ∙ done) in
-            let old : did.old ≡ 2 = found ∙ ap (old_of words) stores ∙ state in
-            other (ap (word_after did.old) stores ∙ sym old)
-      ]
+  one_left retired = go (G.slot slot) refl
+    where
+      go : (owner : SlotOwner) → G.slot slot ≡ owner → ⊥
+      go SlotFree is = absurd (let has = sym can.table ∙ ap has_table is in cc)
+      go (SlotHeld d) is = absurd (let has = sym can.table ∙ ap has_table is in cc)
+      go (Live τ) is =
+          let index : index_at G slot ≡ τ = ap table_of_slot is in
+          let none : ◌≡◌ {A = Option ℕ} None (Some slot) = retired slot τ is (omega (arith, index, can.left_behind)) in cc
+      go (Retired τ) is =
+          let state = whole.slots.states slot slot_in ∙ ap state_word is in
+          let old : did.old ≡ 2 = found ∙ ap (old_of words) stores ∙ state in
+          other (ap (word_after did.old) stores ∙ sym old)
 
   -- nor are they while a bucket is unlocked
   unlocking-left : (rehash : Rehash) (place : KnownPlace) (stop : Bool)

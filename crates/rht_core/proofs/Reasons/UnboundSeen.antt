@@ -66,7 +66,7 @@ module _ (env : Env) (mix : ℕ → ℕ → ℕ → ℕ) (words : List ℕ) (G :
   no_future : (slot : ℕ) → has_table (G.slot slot) ≡ true → slot_of (M (Slot slot FutureWord)) ≡ None → index_at G slot + 1 ≡ G.attached
   no_future slot has none =
       let of = whole.tables.slots slot has in
-      none_last env mix M G whole (index_at G slot) of.attached
+      none_last env mix M G whole (index_at G slot) (λ σ from. whole.tables.there σ) of.attached
       (ap (λ s. slot_of (M (Slot s FutureWord))) of.slot ∙ none)
 
   -- behind a walk of the port's bucket in vain

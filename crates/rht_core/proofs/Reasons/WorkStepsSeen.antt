@@ -44,6 +44,7 @@ use Rattle.rht_core.specs.ResizeCauses.{FindsSlotsTaken, AreSlotsTaken, AreRunsT
 use Rattle.rht_core.specs.Seen.{TurnsSection}
 use Rattle.rht_core.specs.WorkCauses.{StoresOther, SawNoTableDue}
 use Rattle.rht_ghost.proofs.Theory.Ghosts.{index_at}
+use Rattle.rht_ghost.proofs.Theory.Wholes.{force-there, current-there}
 use Rattle.rht_ghost.proofs.Theory.Steps.{mem}
 use Rattle.rht_ghost.proofs.Theory.Knowns.{Onward, Rooted}
 use Rattle.rht_ghost.proofs.Theory.Knowledge.{WorkMeans}
@@ -97,8 +98,8 @@ module _ (env : Env) (mix : ℕ → ℕ → ℕ → ℕ) where
       let follows = (future_seen env mix does.caller (mem env mix does.words) G does.whole root future _
       does.knows.knowing.means.work (sym (ap slot_of found) ∙ finds)).more in
       let tables = does.whole.tables in
-      let one = (tables.each G.current tables.current_in).index in
-      let two = (tables.each (G.current + 1) follows.more).index in
+      let one = (current-there env mix tables).index in
+      let two = (force-there env mix tables (G.current + 1) (omega arith) follows.more).index in
       let both = sym one ∙ ap (index_at G) (follows.root_is ∙ same ∙ sym follows.future_is) ∙ two in
       absurd (omega (arith, both))
 
@@ -119,7 +120,7 @@ module _ (env : Env) (mix : ℕ → ℕ → ℕ → ℕ) where
       let G = does.ghost in
       let is = does.knows.knowing.means.work.more in
       let tables = does.whole.tables in
-      let one = (tables.each G.current tables.current_in).index in
+      let one = (current-there env mix tables).index in
       let both : index_at G slot ≡ G.current = ap (index_at G)
       (sym same ∙ sym is.next.empties.followed.root_is) ∙ one in
       let later = is.aim_is.later in
@@ -131,7 +132,7 @@ module _ (env : Env) (mix : ℕ → ℕ → ℕ → ℕ) where
       → table_of (word_at env.geometry does.words CurrentTable) ≡ emptying.rehash.root
   still_root emptying seek did does =
       let tables = does.whole.tables in
-      let right = tables.each does.ghost.current tables.current_in in
+      let right = tables.each does.ghost.current (current-there env mix tables) in
       let slot = (does.ghost.table does.ghost.current).slot in
       let is : table_of (mem env mix does.words CurrentTable) ≡ slot =
       (let word = tables.current_is in omega (arith, right.slot_in, word)) in

@@ -78,11 +78,12 @@ module _ (env : Env) (mix : ℕ → ℕ → ℕ → ℕ) (words : List ℕ) (G :
       → ReachesNode env.geometry words at node
   first_reached j node is leads =
       let τ = is.table in
-      let right = whole.tables.each τ is.attached in
+      let is_there = whole.tables.there τ is.attached in
+      let right = whole.tables.each τ is_there in
       let shape : shape_of env.geometry words is.slot ≡ (G.table τ).shape =
       ap (shape_of env.geometry words) (sym is.slot_is) ∙ right.shape_is in
       let place : bucket_in env.geometry words (G.table τ).shape is.number ≡ Some (place_at env mix j) =
-      placed_in_words env mix (mem env mix words) G whole τ is.number is.attached is.below
+      placed_in_words env mix (mem env mix words) G whole τ is.number is_there is.below
       ∙ ap (option_map (place_at env mix)) is.here in
       in_bucket is.slot is.number (place_at env mix j) node is.there
       (subst (λ s. is.number < size_of (unpacked s)) (sym shape) is.below)

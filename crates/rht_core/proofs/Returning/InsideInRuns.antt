@@ -54,12 +54,12 @@ module _ (env : Env) (mix : ℕ → ℕ → ℕ → ℕ) (words : List ℕ) (G :
   page_reached : (at : Standing) (page : ℕ) → PageThere env.geometry words G at page → ReachesPage env.geometry words at page
   page_reached at page is =
       let τ = is.table in
-      let few = whole.pages.page_of page τ is.of in
-      let shape : shape_of env.geometry words (G.table τ).slot ≡ (G.table τ).shape = (whole.tables.each τ few).shape_is in
+      let there = whole.pages.there page τ is.of in
+      let shape : shape_of env.geometry words (G.table τ).slot ≡ (G.table τ).shape = (whole.tables.each τ there).shape_is in
       record {
         slot = (G.table τ).slot;
         table = is.there;
-        of = subst (λ s. IsPageOfTable env.geometry words s page) (sym shape) ((pages_in_words env mix words G whole τ few page).1 is.of);
+        of = subst (λ s. IsPageOfTable env.geometry words s page) (sym shape) ((pages_in_words env mix words G whole τ there page).1 is.of);
       }
 
 -- a word that says something of a slot's table is one of the slot's

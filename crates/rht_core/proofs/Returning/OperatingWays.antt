@@ -31,7 +31,7 @@ use Rattle.rht_ghost.proofs.Theory.Knowledge.{NodeMeans, MakingMeans, IsWayIn, T
 use Rattle.rht_ghost.proofs.Theory.Knowns.{KnownNode}
 use Rattle.rht_ghost.proofs.Theory.Passed.{home-word}
 use Rattle.rht_ghost.proofs.Theory.Steps.{mem}
-use Rattle.rht_ghost.proofs.Theory.Wholes.{Whole, home, word_index}
+use Rattle.rht_ghost.proofs.Theory.Wholes.{Whole, home, word_index, slot-there}
 use Rattle.rht_core.proofs.Meaning.TablesInForce.{future-leads}
 use Rattle.rht_core.proofs.Returning.TiedBuckets.{IsTied, tied_of_seek}
 use Rattle.rht_core.proofs.Returning.Operating.{PageThere, EntryThere, Lies, locate_lies, probe_lies, unlock_lies}
@@ -77,7 +77,7 @@ module _ (env : Env) (mix : ℕ → ℕ → ℕ → ℕ) (words : List ℕ) (G :
         → home env mix G port (index_at G slot) ≡ Some j → Page (j / 64)
     home_page port slot j has there here = record {
       table = index_at G slot;
-      of = (home-word env mix M G whole port (index_at G slot) j (whole.tables.slots slot has).attached here).of;
+      of = (home-word env mix M G whole port (index_at G slot) j (slot-there env mix whole.tables slot has) here).of;
       there = table_of_slot slot has there;
     }
 
@@ -85,7 +85,7 @@ module _ (env : Env) (mix : ℕ → ℕ → ℕ → ℕ) (words : List ℕ) (G :
         → IsWayIn env mix G number (index_at G slot) place → Entry place.entry
     way_entry number slot place has there to = record {
       table = index_at G slot;
-      open_in = way_open env mix M G whole (index_at G slot) number (whole.tables.slots slot has).attached to.nested place to.way;
+      open_in = way_open env mix M G whole (index_at G slot) number (slot-there env mix whole.tables slot has) to.nested place to.way;
       there = table_of_slot slot has there;
     }
 
@@ -100,7 +100,8 @@ module _ (env : Env) (mix : ℕ → ℕ → ℕ → ℕ) (words : List ℕ) (G :
     further τ zero few there = subst (λ σ. ReachesTable env.geometry words at (G.table σ).slot) (omega arith) there
     further τ (suc count) few there =
         let next = further τ count (omega (arith, few)) there in
-        let more = future-leads env mix words G whole (τ + count) (suc (G.attached - (τ + count + 2))) (omega (arith, few)) in
+        let more = future-leads env mix words G whole (τ + count) (suc (G.attached - (τ + count + 2))) (omega (arith, few))
+        (λ σ from. whole.tables.there σ) in
         subst (λ σ. ReachesTable env.geometry words at (G.table σ).slot) (omega arith)
         (by_future (G.table (τ + count)).slot (G.table (τ + count + 1)).slot next more)
 

@@ -25,7 +25,7 @@ use Rattle.rht_chain.specs.LockedWalk.{IsNodeOrNone}
 use Rattle.rht_ghost.proofs.Theory.Ghosts.{Ghost}
 use Rattle.rht_ghost.proofs.Theory.Passed.{home-word, place-word}
 use Rattle.rht_ghost.proofs.Theory.Steps.{mem}
-use Rattle.rht_ghost.proofs.Theory.Wholes.{Whole, key_of, word_index}
+use Rattle.rht_ghost.proofs.Theory.Wholes.{Whole, key_of, word_index, force-there, current-there}
 use Rattle.rht_ghost.proofs.Pieces.OpenEntries.{way_open}
 use Rattle.rht_core.proofs.Returning.Operating.{Lies, entry_lies, lock_lies, unlock_lies, page_lies, make_lies, unmake_lies, PageThere}
 use Rattle.rht_core.proofs.Returning.OperatingWays.{OwnOf, make_mine, further}
@@ -81,7 +81,7 @@ module _ (env : Env) (mix : ℕ → ℕ → ℕ → ℕ) (words : List ℕ) (G :
         → PageThere env.geometry words G from (word_index env mix at.place / 64)
     emptied_page rehash at next = record {
       table = G.current;
-      of = (place-word env mix (mem env mix words) G whole G.current at.number _ whole.tables.current_in next.below next.here).of;
+      of = (place-word env mix (mem env mix words) G whole G.current at.number _ (current-there env mix whole.tables) next.below next.here).of;
       there = current_there;
     }
 
@@ -89,7 +89,8 @@ module _ (env : Env) (mix : ℕ → ℕ → ℕ → ℕ) (words : List ℕ) (G :
         → PageThere env.geometry words G from (word_index env mix place / 64)
     aimed_page entry place aim = record {
       table = aim.table;
-      of = (home-word env mix (mem env mix words) G whole (key_of (mem env mix words) entry) aim.table _ aim.attached aim.here).of;
+      of = (home-word env mix (mem env mix words) G whole (key_of (mem env mix words) entry) aim.table _
+          (force-there env mix whole.tables aim.table (let later = aim.later in omega (arith, later)) aim.attached) aim.here).of;
       there = later_there aim.table aim.later aim.attached;
     }
 
@@ -119,7 +120,7 @@ module _ (env : Env) (mix : ℕ → ℕ → ℕ → ℕ) (words : List ℕ) (G :
       entry_lies env mix words G _ from (Own (at.Entry rehash number place)) place within.place_in refl
       (record {
         table = G.current;
-        open_in = way_open env mix (mem env mix words) G whole G.current number whole.tables.current_in near.to.nested place near.to.way;
+        open_in = way_open env mix (mem env mix words) G whole G.current number (current-there env mix whole.tables) near.to.nested place near.to.way;
         there = current_there from rehash.root near.empties.followed.root_is (at_table rehash.root (inl refl));
       })
   work_lies (at.Locking rehash number lock) within knows =
@@ -128,7 +129,7 @@ module _ (env : Env) (mix : ℕ → ℕ → ℕ → ℕ) (words : List ℕ) (G :
       lock_lies env mix words G _ from (Own (at.Locking rehash number lock)) lock within.lock_in.place_in refl
       (record {
         table = G.current;
-        of = (place-word env mix (mem env mix words) G whole G.current number _ whole.tables.current_in facing.below facing.here).of;
+        of = (place-word env mix (mem env mix words) G whole G.current number _ (current-there env mix whole.tables) facing.below facing.here).of;
         there = current_there from rehash.root facing.empties.followed.root_is (at_table rehash.root (inl refl));
       })
   work_lies (at.EntryTable emptying seek) within knows =

@@ -17,7 +17,7 @@ use Rattle.rht_ghost.proofs.Theory.Ghosts.{Ghost, NodeHeld, SlotOwner, SlotHeld,
 use Rattle.rht_ghost.proofs.Theory.Wholes.{place_at, Whole}
 use Rattle.rht_ghost.proofs.Theory.SeatedLinks.{next_of, link-next_of, head-seated}
 use Rattle.rht_ghost.proofs.Theory.Steps.{mem}
-use Rattle.rht_core.proofs.Meaning.TablesInForce.{current_slot, next_named}
+use Rattle.rht_core.proofs.Meaning.TablesInForce.{current_slot, next_named, AreThereFrom}
 use Rattle.rht_core.proofs.Meaning.BoundPorts.{bucket-within, first_link}
 use Rattle.rht_core.proofs.Returning.Readers.{Reader, IsOpen, ReaderRight}
 
@@ -50,13 +50,17 @@ held_no_page o d τ held of = let both : PageHeld d ≡ PageOf τ = sym held ∙
 module _ (env : Env) (mix : ℕ → ℕ → ℕ → ℕ) (words : List ℕ) (G : Ghost)
     (whole : Whole env mix (mem env mix words) G) (c : ℕ) (r : Reader)
     (right : ReaderRight env mix (mem env mix words) G c r) (reads : IsOpen r) (at : Standing) (stands : StandsRight G r at) where
+  -- a table that the section may come to is there, and so are those behind it
+  pub meets-there : (slot : ℕ) (meets : MeetsTable G r slot) → AreThereFrom G meets.table
+  meets-there slot meets σ from = whole.tables.there σ
+
   -- where the words of a table lead to a next one, this is the one behind it
   next_table : (slot next : ℕ) → MeetsTable G r slot
       → slot_of (mem env mix words (Slot slot FutureWord)) ≡ Some next
       → MeetsTable G r next
   next_table slot next meets leads =
       let named =
-      next_named env mix words G whole meets.table next meets.attached
+      next_named env mix words G whole meets.table next (meets-there slot meets) meets.attached
       (subst (λ s. slot_of (mem env mix words (Slot s FutureWord)) ≡ Some next) meets.slot_is leads) in
       record {
         table = meets.table + 1;
@@ -82,7 +86,8 @@ module _ (env : Env) (mix : ℕ → ℕ → ℕ → ℕ) (words : List ℕ) (G :
       → bucket_in env.geometry words (shape_of env.geometry words slot) bucket ≡ Some place
       → next_of env (head_of place (slice_index words place)) ≡ Some node → is_first (G.node node) ≡ true
   bucket-first slot bucket place node meets below there leads =
-      let is = bucket-within env mix words G whole meets.table bucket place meets.attached
+      let is = bucket-within env mix words G whole meets.table bucket place
+      (meets-there slot meets meets.table (omega arith) meets.attached)
       (subst (λ t. bucket < size_of (unpacked (shape_of env.geometry words t))) meets.slot_is below)
       (subst (λ t. bucket_in env.geometry words
       (shape_of env.geometry words t) bucket ≡ Some place) meets.slot_is there) in
@@ -130,17 +135,18 @@ module _ (env : Env) (mix : ℕ → ℕ → ℕ → ℕ) (words : List ℕ) (G :
   reaches-slot slot reached =
       let meets = reaches-table slot reached in
       subst (λ s. has_table (G.slot s) ≡ true) (sym meets.slot_is)
-      (whole.tables.each meets.table meets.attached).has_slot
+      (meets-there slot meets meets.table (omega arith) meets.attached).has_slot
 
   pub reaches-page : (page : ℕ) → ReachesPage env.geometry words at page
       → (τ : ℕ) × (G.page page ≡ PageOf τ)
   reaches-page page reached =
       let meets = reaches-table reached.slot reached.table in
       let τ = meets.table in
+      let there = meets-there reached.slot meets τ (omega arith) meets.attached in
       let shape : shape_of env.geometry words reached.slot ≡ (G.table τ).shape =
-      ap (shape_of env.geometry words) meets.slot_is ∙ (whole.tables.each τ meets.attached).shape_is in (
+      ap (shape_of env.geometry words) meets.slot_is ∙ (whole.tables.each τ there).shape_is in (
         τ,
-        (pages_in_words env mix words G whole τ meets.attached page).0
+        (pages_in_words env mix words G whole τ there page).0
             (subst (λ s. IsPageOfTable env.geometry words s page) shape reached.of),
       )
 

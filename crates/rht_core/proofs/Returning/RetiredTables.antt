@@ -12,7 +12,7 @@ use Rattle.rht_words.specs.Places.{Section}
 use Rattle.rht_words.specs.Shapes.{unpacked, size_of}
 use Rattle.rht_words.proofs.Memory.{Memory}
 use Rattle.rht_ghost.proofs.Theory.Ghosts.{Bucket, blank_bucket, Ghost, table_at}
-use Rattle.rht_ghost.proofs.Theory.Wholes.{chain_of, place_at, stop, Whole}
+use Rattle.rht_ghost.proofs.Theory.Wholes.{chain_of, place_at, stop, Whole, IsThere}
 use Rattle.rht_ghost.proofs.Theory.Passed.{place-table, place-word, place-bucket}
 use Rattle.rht_ghost.proofs.Theory.Entries.{bucket-no_entry}
 use Rattle.rht_core.proofs.Returning.Readers.{Reader, is_open, ReaderRight}
@@ -64,12 +64,12 @@ module _ (env : Env) (mix : ℕ → ℕ → ℕ → ℕ) where
 
   module _ (M : Memory) (G : Ghost) (whole : Whole env mix M G) (τ b j : ℕ) (behind : τ < G.current)
       (below : b < size_of (unpacked (G.table τ).shape)) (here : (G.table τ).place b ≡ Some j) where
-    -- its table has been attached, and is the bucket's
-    attached : τ < G.attached
-    attached = omega (arith, behind, whole.tables.current_in)
+    -- its table is there, and is the bucket's
+    is_there : IsThere G τ
+    is_there = whole.tables.there τ (omega (arith, behind, whole.tables.current_in))
 
     table : table_at G j ≡ τ
-    table = place-table env mix M G whole τ b j attached below here
+    table = place-table env mix M G whole τ b j is_there below here
 
     -- it has no node, no entry is on its way out of it, and nobody is armed there
     none : (nodes : List ℕ) → (G.bucket j).nodes ≡ nodes → nodes ≡ []
@@ -94,8 +94,8 @@ module _ (env : Env) (mix : ℕ → ℕ → ℕ → ℕ) where
     behind-blank holder =
         let nodes : (G.bucket j).nodes ≡ [] = none (G.bucket j).nodes refl in
         let out : (G.bucket j).out ≡ None = still (G.bucket j).out refl in
-        let within = (place-word env mix M G whole τ b j attached below here).within in
-        let plain = bucket-no_entry env mix G j (place-bucket env mix M G whole τ b j attached below here) in
+        let within = (place-word env mix M G whole τ b j is_there below here).within in
+        let plain = bucket-no_entry env mix G j (place-bucket env mix M G whole τ b j is_there below here) in
         let right = whole.buckets j within plain in
         let ends : head_of (place_at env mix j) (G.bucket j).plain ≡ marker_of (place_at env mix j) =
         subst (λ o. head_of (place_at env mix j) (G.bucket j).plain ≡ stop env mix (place_at env mix j) o) out

@@ -27,7 +27,7 @@ use Rattle.rht_core.proofs.Returning.MetInRuns.{Met, has_met}
 use Rattle.rht_words.specs.Standing.{Standing}
 use Rattle.rht_ghost.proofs.Theory.Entries.{page_within}
 use Rattle.rht_core.proofs.Returning.Readers.{Reader, IsOpen, ReaderRight}
-use Rattle.rht_core.proofs.Returning.Reached.{safe-taken, IsTakenBy, StandsRight, reaches-listed, reaches-page, reaches-table, reaches-slot}
+use Rattle.rht_core.proofs.Returning.Reached.{safe-taken, IsTakenBy, StandsRight, reaches-listed, reaches-page, reaches-table, reaches-slot, meets-there}
 
 -- a slot whose state is 0 is nobody's
 free_state : (o : SlotOwner) → state_word o ≡ 0 → o ≡ SlotFree
@@ -132,14 +132,14 @@ module _ (env : Env) (mix : ℕ → ℕ → ℕ → ℕ) (words : List ℕ) (G :
       let both : true ≡ false = sym (right.used node met) ∙ ap is_used none in cc
   not_free (PageAt page) free reached =
       let is = reaches-page env mix words G whole c r right reads at stands page reached in
-      let few = whole.pages.page_of page is.0 is.1 in
-      let within = page_within env mix (G.table is.0) G.page is.0 (whole.tables.each is.0 few).placed page is.1 in
+      let within = page_within env mix (G.table is.0) G.page is.0 (whole.tables.each is.0 (whole.pages.there page is.0 is.1)).placed page is.1 in
       let none : G.page page ≡ PageFree = (whole.pages.bits page within).0 free in
       let both : PageOf is.0 ≡ PageFree = sym is.1 ∙ none in cc
   not_free (TableIn slot) free reached =
       let meets = reaches-table env mix words G whole c r right reads at stands slot reached in
       let has = reaches-slot env mix words G whole c r right reads at stands slot reached in
-      let low = (whole.tables.each meets.table meets.attached).slot_in in
+      let there = meets-there env mix words G whole c r right reads at stands slot meets meets.table (omega arith) meets.attached in
+      let low = (whole.tables.each meets.table there).slot_in in
       let none = free_state (G.slot slot) (sym (whole.slots.states slot (subst (λ s. s < 8) (sym meets.slot_is) low)) ∙ free) in
       let both : true ≡ false = sym has ∙ ap has_table none in cc
 

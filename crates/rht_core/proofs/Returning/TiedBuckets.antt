@@ -80,7 +80,7 @@ use Rattle.rht_ghost.proofs.Theory.Knowledge.{IsAtHome, TableMeans}
 use Rattle.rht_ghost.proofs.Theory.Knowns.{KnownNode}
 use Rattle.rht_ghost.proofs.Theory.Passed.{home-word}
 use Rattle.rht_ghost.proofs.Theory.Steps.{mem}
-use Rattle.rht_ghost.proofs.Theory.Wholes.{Whole, word_index}
+use Rattle.rht_ghost.proofs.Theory.Wholes.{Whole, word_index, slot-there}
 
 module _ (env : Env) (mix : ℕ → ℕ → ℕ → ℕ) (G : Ghost) where
   -- the bucket with this word is in a page of the table in this slot
@@ -393,7 +393,7 @@ module _ (env : Env) (mix : ℕ → ℕ → ℕ → ℕ) (words : List ℕ) (G :
   home_tied : (slot place : ℕ) (shape : Option ℕ) → IsAtHome env mix G port slot shape place → IsTied env mix G slot place
   home_tied slot place shape is = record {
     table = is.passing.table;
-    of = (home-word env mix (mem env mix words) G whole port (index_at G slot) _ (whole.tables.slots slot is.passing.table).attached is.here).of;
+    of = (home-word env mix (mem env mix words) G whole port (index_at G slot) _ (slot-there env mix whole.tables slot is.passing.table) is.here).of;
   }
 
   seek_ties_at : (own : Option KnownNode) (state : SeekAt) (word : ℕ) → TableMeans env mix G (known_of_seek port own state).table

@@ -12,7 +12,7 @@ use Rattle.rht_core.specs.Traces.{Did}
 use Rattle.rht_core.specs.Seen.{CameTo}
 use Rattle.rht_core.specs.Refused.{IsMissingEntry, IsWaysEnd}
 use Rattle.rht_ghost.proofs.Theory.Ghosts.{PageOf, has_entries, Ghost, has_table, index_at, is_entry, is_entry_of, entry_word, table_of_page, table_at}
-use Rattle.rht_ghost.proofs.Theory.Wholes.{IsNested, Whole}
+use Rattle.rht_ghost.proofs.Theory.Wholes.{IsNested, Whole, slot-there, IsThere}
 use Rattle.rht_ghost.proofs.Theory.Entries.{page_within, entry_in, entry_nested}
 use Rattle.rht_ghost.proofs.Theory.MissingEntries.{missed_at, ends_at_entry}
 use Rattle.rht_ghost.proofs.Theory.Readiness.{IsEntering}
@@ -20,11 +20,11 @@ use Rattle.rht_ghost.proofs.Theory.Steps.{mem}
 
 module _ (env : Env) (mix : ℕ → ℕ → ℕ → ℕ) where
   -- entries of a table lead where their words do
-  pub entries_read : (M : Memory) (G : Ghost) → Whole env mix M G → (τ : ℕ) → τ < G.attached
+  pub entries_read : (M : Memory) (G : Ghost) → Whole env mix M G → (τ : ℕ) → IsThere G τ
       → (j : ℕ) → G.page (j / 64) ≡ PageOf τ → has_entries ((G.table τ).part (j / 64)) ≡ true
       → M (PageWord j) ≡ entry_word ((G.table τ).entry j)
-  entries_read M G whole τ l j of has =
-      let within = page_within env mix (G.table τ) G.page τ (whole.tables.each τ l).placed (j / 64) of in
+  entries_read M G whole τ there j of has =
+      let within = page_within env mix (G.table τ) G.page τ (whole.tables.each τ there).placed (j / 64) of in
       let is : is_entry G j ≡ true = ap (λ o. is_entry_of G.table o (j / 64)) of ∙ has in
       whole.entries j (omega (arith, within)) is
       ∙ ap (λ o. entry_word ((G.table (table_of_page o)).entry j)) of
@@ -38,11 +38,11 @@ module _ (env : Env) (mix : ℕ → ℕ → ℕ → ℕ) where
       let at = entry_in env mix G j ready.entry in
       let τ = table_at G j in
       let table = G.table τ in
-      let attached : τ < G.attached = whole.pages.page_of (j / 64) τ at.of in
-      let right = whole.tables.each τ attached in
+      let there = whole.pages.there (j / 64) τ at.of in
+      let right = whole.tables.each τ there in
       let nested : IsNested env mix table G.page τ = entry_nested env mix M G whole j at in
       let missed = missed_at env mix table G.page τ nested (λ i. M (PageWord i))
-      (entries_read M G whole τ attached) j unset at.of ready.used in
+      (entries_read M G whole τ there) j unset at.of ready.used in
       let shape = right.shape_is in
       record {
         table = table.slot;
@@ -66,7 +66,8 @@ module _ (env : Env) (mix : ℕ → ℕ → ℕ → ℕ) where
       let of = whole.tables.slots slot has in
       let τ = index_at G slot in
       let table = G.table τ in
-      let right = whole.tables.each τ of.attached in
+      let there = slot-there env mix whole.tables slot has in
+      let right = whole.tables.each τ there in
       let shape : M (Slot slot ShapeWord) ≡ table.shape =
       ap (λ s. M (Slot s ShapeWord)) (sym of.slot) ∙ right.shape_is in
       elim right.placed [
@@ -75,7 +76,7 @@ module _ (env : Env) (mix : ℕ → ℕ → ℕ → ℕ) where
             let none : is_nested table.shape ≡ false = le-ltb 0 (unpacked table.shape).nest (let f = flat.flat in omega (arith, f)) in
             absurd (both_ways (is_nested table.shape) none is)
         | inr nested ↦
-            let at = ends_at_entry env mix table G.page τ nested (λ i. M (PageWord i)) (entries_read M G whole τ of.attached)
+            let at = ends_at_entry env mix table G.page τ nested (λ i. M (PageWord i)) (entries_read M G whole τ there)
             way.bucket j
             (subst (λ s. missing_at (λ i. M (PageWord i)) (nested_place env.geometry s way.bucket) ≡ Some j) shape way.ends) in
             ap (λ o. is_entry_of G.table o (j / 64)) at.of ∙ at.has

@@ -15,11 +15,11 @@ use Rattle.rht_words.proofs.Memory.{Memory, IsWrite}
 use Rattle.rht_nest.specs.Tables.{table_pages, is_nested, table_seed}
 use Rattle.rht_nest.proofs.MakesMade.{size_of-fits}
 use Rattle.rht_ghost.proofs.Theory.Ghosts.{has_entries, Table, blank_bucket, put, put-same, put-other, put-all, put_in, put_in-there, put_in-all, PageOwner, PageFree, PageHeld, PageOf, SlotOwner, SlotHeld, Live, Ghost, state_word, table_of_slot, has_table, index_at, made_table, is_page_for, with_table, Row, Top, lock_bit, is_entry, is_entry_of, entry_word, table_at, table_of_page}
-use Rattle.rht_ghost.proofs.Theory.Wholes.{retired_stay, IsNoBucket, EntriesRight, SlotIsOf, TableRight, TablesRight, SlotsRight, PagesRight, PlacedRight, future_in, Whole, IsFlat, IsNested}
+use Rattle.rht_ghost.proofs.Theory.Wholes.{IsThere, live-there, there-attached, one_slot, retired_stay, IsNoBucket, EntriesRight, SlotIsOf, TableRight, TablesRight, SlotsRight, PagesRight, PlacedRight, future_in, Whole, IsFlat, IsNested}
 use Rattle.rht_ghost.proofs.Theory.Ways.{IsSpareIn, StandsAs}
 use Rattle.rht_ghost.proofs.Theory.Readiness.{IsAttaching}
 use Rattle.rht_ghost.proofs.Theory.Frames.{Others, Made, stale_write, same_owners}
-use Rattle.rht_ghost.proofs.Theory.TableFrames.{TablesKept, same_kept, no_table-no_bucket, Whole-retabled, Rely-retabled, TableRight-kept, placed_kept, entry_word-kept}
+use Rattle.rht_ghost.proofs.Theory.TableFrames.{TablesKept, same_kept, live_kept, there_kept, there_before, no_table-no_bucket, Whole-retabled, Rely-retabled, TableRight-kept, placed_kept, entry_word-kept}
 use Rattle.rht_ghost.proofs.Moves.Slots.{slot_word-apart, held_by_two}
 use Rattle.rht_ghost.proofs.Theory.Knowledge.{IsFlatMade, IsNestedMade}
 use Rattle.rht_ghost.proofs.Theory.Entries.{entry_in}
@@ -38,19 +38,19 @@ is_page-for shape p from below = grind (arith, nat_tests, from, below)
 
 module _ (env : Env) (mix : ℕ → ℕ → ℕ → ℕ) where
   -- the table whose future says that none is behind it is the last one
-  pub last_of_future : (M : Memory) (G : Ghost) → Whole env mix M G → (τ : ℕ) → τ < G.attached
+  pub last_of_future : (M : Memory) (G : Ghost) → Whole env mix M G → (τ : ℕ) → IsThere G τ
       → M (Slot (G.table τ).slot FutureWord) ≡ 0 → τ + 1 ≡ G.attached
-  last_of_future M G whole τ l none = elim (cases_lt (τ + 1) G.attached) [
+  last_of_future M G whole τ there none = elim (cases_lt (τ + 1) G.attached) [
     | inl more ↦
         let leads : future_in env mix G τ ≡ future_of (G.table (τ + 1)).slot =
         ap (λ t. cond t (future_of (G.table (τ + 1)).slot) 0) (lt-ltb (τ + 1) G.attached more) in
-        let is : future_of (G.table (τ + 1)).slot ≡ 0 = sym leads ∙ sym (whole.tables.each τ l).future_is ∙ none in
+        let is : future_of (G.table (τ + 1)).slot ≡ 0 = sym leads ∙ sym (whole.tables.each τ there).future_is ∙ none in
         absurd (omega (arith, is))
-    | inr least ↦ omega (arith, l, least)
+    | inr least ↦ let l = there-attached env mix whole.tables τ there in omega (arith, l, least)
   ]
 
   module _ (d slot shape seed serial τ : ℕ) (M M' : Memory) (G : Ghost) (whole : Whole env mix M G)
-      (ready : IsAttaching env mix d slot shape seed serial M G) (l : τ < G.attached)
+      (ready : IsAttaching env mix d slot shape seed serial M G) (there : IsThere G τ)
       (none : M (Slot (G.table τ).slot FutureWord) ≡ 0)
       (write : IsWrite env.geometry M M' (Slot (G.table τ).slot FutureWord) (future_of slot)) where
     abbrev new : Table
@@ -71,8 +71,11 @@ module _ (env : Env) (mix : ℕ → ℕ → ℕ → ℕ) where
     abbrev last : ℕ
     last = (G.table τ).slot
 
+    l : τ < G.attached
+    l = there-attached env mix whole.tables τ there
+
     is_last : τ + 1 ≡ G.attached
-    is_last = last_of_future M G whole τ l none
+    is_last = last_of_future M G whole τ there none
 
     -- the caller has the pages of the run, and the slot
     mine : (p : ℕ) → is_page_for shape p ≡ true → G.page p ≡ PageHeld d
@@ -93,22 +96,23 @@ module _ (env : Env) (mix : ℕ → ℕ → ℕ → ℕ) where
     pub attached_kept : TablesKept env mix G tables (G.attached + 1) slots page
     attached_kept = same_kept env mix G tables (G.attached + 1) slots page table_same (omega arith)
         (λ s has. put-other G.slot slot (Live G.attached) s (no_table s has))
+        (put-all (λ t o. has_table o ≡ true → table_of_slot o < G.attached → o ≡ G.slot t) G.slot slot (Live G.attached)
+        (λ has k. let less : G.attached < G.attached = k in absurd (omega (arith, less))) (λ t ne has k. refl))
         (λ p σ. put_in-all (λ q o. G.page q ≡ PageOf σ → o ≡ PageOf σ) (is_page_for shape) (PageOf G.attached) G.page
         (λ q there is. let z : PageHeld d ≡ PageOf σ = sym (mine q there) ∙ is in absurd (cc)) (λ q there is. is) p)
 
     -- ---- the tables
 
     -- tables have different slots
-    slot_differs : (σ : ℕ) → σ < G.attached → (G.table σ).slot ≡ last → σ ≡ τ
-    slot_differs σ k same =
-        sym (whole.tables.each σ k).index ∙ ap (index_at G) same ∙ (whole.tables.each τ l).index
+    slot_differs : (σ : ℕ) → IsThere G σ → (G.table σ).slot ≡ last → σ ≡ τ
+    slot_differs σ here = one_slot env mix G σ τ here there
 
     other_word : (s : ℕ) (w : SlotWord) → s < 8 → IsSlotWord w → Slot s w ≢ Slot last FutureWord
         → M' (Slot s w) ≡ M (Slot s w)
     other_word s w k is ne = write.others (Slot s w) (k, is) ne
 
-    old_future : (σ : ℕ) (k : σ < G.attached) → M' (Slot (G.table σ).slot FutureWord) ≡ future_in env mix G' σ
-    old_future σ k = elim (cases_eq σ τ) [
+    old_future : (σ : ℕ) → σ < G.attached → IsThere G σ → M' (Slot (G.table σ).slot FutureWord) ≡ future_in env mix G' σ
+    old_future σ k is_there = elim (cases_eq σ τ) [
       | inl e ↦
           let now : future_in env mix G' τ ≡ future_of slot =
           ap (λ t. cond t (future_of (tables (τ + 1)).slot) 0) (lt-ltb (τ + 1) (G.attached + 1) (omega (arith, l)))
@@ -122,23 +126,23 @@ module _ (env : Env) (mix : ℕ → ℕ → ℕ → ℕ) where
           ap (λ t. cond t (future_of (G.table (σ + 1)).slot) 0) (lt-ltb (σ + 1) G.attached more) in
           let now : future_in env mix G' σ ≡ future_of (tables (σ + 1)).slot =
           ap (λ t. cond t (future_of (tables (σ + 1)).slot) 0) (lt-ltb (σ + 1) (G.attached + 1) (omega (arith, more))) in
-          let here = whole.tables.each σ k in
-          other_word (G.table σ).slot FutureWord here.slot_in tt (λ e. ne (slot_differs σ k (cc)))
+          let here = whole.tables.each σ is_there in
+          other_word (G.table σ).slot FutureWord here.slot_in tt (λ e. ne (slot_differs σ is_there (cc)))
           ∙ here.future_is ∙ was
           ∙ ap (λ (t : Table). future_of t.slot) (sym (table_same (σ + 1) more)) ∙ sym now
     ]
 
-    old_table : (σ : ℕ) → σ < G.attached → TableRight env mix M' G' σ
-    old_table σ k =
-        let here = whole.tables.each σ k in
+    old_table : (σ : ℕ) → σ < G.attached → IsThere G σ → TableRight env mix M' G' σ
+    old_table σ k is_there =
+        let here = whole.tables.each σ is_there in
         TableRight-kept env mix M M' G tables (G.attached + 1) slots page whole attached_kept
-        (Slot last FutureWord) (future_of slot) write (slot_word-apart G last FutureWord) σ k
+        (Slot last FutureWord) (future_of slot) write (slot_word-apart G last FutureWord) σ k is_there
         (other_word (G.table σ).slot ShapeWord here.slot_in tt (λ e. cc))
         (other_word (G.table σ).slot SeedWord here.slot_in tt (λ e. cc))
         (other_word (G.table σ).slot SerialWord here.slot_in tt (λ e. cc))
-        (old_future σ k)
+        (old_future σ k is_there)
         (placed_kept env mix M M' G tables (G.attached + 1) slots page whole attached_kept (Slot last FutureWord)
-        (future_of slot) write (slot_word-apart G last FutureWord) σ k (table_same σ k) (λ p. page_before p σ k))
+        (future_of slot) write (slot_word-apart G last FutureWord) σ is_there (table_same σ k) (λ p. page_before p σ k))
 
     -- the new one
     same_new : tables G.attached ≡ new
@@ -149,7 +153,7 @@ module _ (env : Env) (mix : ℕ → ℕ → ℕ → ℕ) where
 
     own_word : (w : SlotWord) → IsSlotWord w → M' (Slot slot w) ≡ M (Slot slot w)
     own_word w is = other_word slot w ready.made.has.within is
-        (λ e. let same : last ≡ slot = cc in no_table last (whole.tables.each τ l).has_slot same)
+        (λ e. let same : last ≡ slot = cc in no_table last there.has_slot same)
 
     -- its pages are those of which it is made
     own_page : (p : ℕ) → is_page_for shape p ≡ true → page p ≡ PageOf G.attached
@@ -203,9 +207,6 @@ module _ (env : Env) (mix : ℕ → ℕ → ℕ → ℕ) where
     new_table : TableRight env mix M' G' G.attached
     new_table = record {
       slot_in = subst (λ (t : Table). t.slot < 8) (sym same_new) ready.made.has.within;
-      has_slot = ap (λ (t : Table). has_table (slots t.slot)) same_new ∙ ap has_table live;
-      index = ap (λ (t : Table). table_of_slot (slots t.slot)) same_new ∙ ap table_of_slot live;
-      live = λ k. ap (λ (t : Table). slots t.slot) same_new ∙ live;
       shape_is = ap (λ (t : Table). M' (Slot t.slot ShapeWord)) same_new ∙ own_word ShapeWord tt
           ∙ ready.made.shape_is ∙ sym (ap (λ (t : Table). t.shape) same_new);
       seed_is = ap (λ (t : Table). M' (Slot t.slot SeedWord)) same_new ∙ own_word SeedWord tt
@@ -220,6 +221,10 @@ module _ (env : Env) (mix : ℕ → ℕ → ℕ → ℕ) where
           (le-ltb (G.attached + 1) (G.attached + 1) (omega arith)));
       placed = subst (λ t. PlacedRight env mix t page G.attached) (sym same_new) new_placed;
     }
+
+    new_live : (σ : ℕ) → σ ≡ G.attached → slots (tables σ).slot ≡ Live σ
+    new_live σ e =
+        ap (λ i. slots (tables i).slot) e ∙ ap (λ (t : Table). slots t.slot) same_new ∙ live ∙ ap Live (sym e)
 
     slot_is : (s : ℕ) → has_table (slots s) ≡ true → SlotIsOf env mix G' s
     slot_is s has = elim (cases_eq s slot) [
@@ -245,9 +250,26 @@ module _ (env : Env) (mix : ℕ → ℕ → ℕ → ℕ) where
       current_in = omega (arith, whole.tables.current_in);
       current_is = write.others CurrentTable tt (λ e. cc) ∙ whole.tables.current_is
           ∙ sym (ap (λ (t : Table). t.slot) (table_same G.current whole.tables.current_in));
-      each = λ σ k. elim (cases_eq σ G.attached) [
+      force = λ σ from k. elim (cases_eq σ G.attached) [
+        | inl e ↦ new_live σ e
+        | inr ne ↦
+            let before : σ < G.attached = omega (arith, k, ne) in
+            let was = whole.tables.force σ from before in
+            ap (λ (t : Table). slots t.slot) (table_same σ before)
+            ∙ attached_kept.slots (G.table σ).slot (ap has_table was) ∙ was
+      ];
+      there = λ σ k. elim (cases_eq σ G.attached) [
+        | inl e ↦ live-there env mix G' σ (new_live σ e)
+        | inr ne ↦
+            let before : σ < G.attached = omega (arith, k, ne) in
+            there_kept env mix G tables (G.attached + 1) slots page attached_kept σ before (whole.tables.there σ before)
+      ];
+      each = λ σ now. elim (cases_eq σ G.attached) [
         | inl e ↦ subst (TableRight env mix M' G') (sym e) new_table
-        | inr ne ↦ old_table σ (omega (arith, k, ne))
+        | inr ne ↦
+            let of = (slot_is (tables σ).slot now.has_slot).attached in
+            let before : σ < G.attached = omega (arith, of, now.index, ne) in
+            old_table σ before (there_before env mix G tables (G.attached + 1) slots page attached_kept σ before now)
       ];
       slots = slot_is;
     }
@@ -262,8 +284,8 @@ module _ (env : Env) (mix : ℕ → ℕ → ℕ → ℕ) where
           (λ s ne k. other_word s StateWord k tt (λ e. cc) ∙ whole.slots.states s k);
       worker_is = write.others WorkLock tt (λ e. cc) ∙ whole.slots.worker_is;
       retired = λ idle. retired_stay G G' None refl
-          (λ σ k. ap (λ (t : Table). t.slot) (table_same σ (omega (arith, k, whole.tables.current_in))))
-          (λ s σ is. attached_kept.slots s (ap has_table is) ∙ is) (whole.slots.retired idle);
+          (λ s σ is k. live_kept env mix G tables (G.attached + 1) slots page attached_kept s σ is
+          (omega (arith, k, whole.tables.current_in))) (whole.slots.retired idle);
     }
 
     -- a word that is no bucket's was none before, or was one of the caller's pages
@@ -296,6 +318,10 @@ module _ (env : Env) (mix : ℕ → ℕ → ℕ → ℕ) where
       page_of = λ p σ. put_in-all (λ q o. o ≡ PageOf σ → σ < G.attached + 1) (is_page_for shape) (PageOf G.attached)
           G.page (λ q there is. let same : G.attached ≡ σ = cc in omega (arith, same))
           (λ q there is. omega (arith, whole.pages.page_of q σ is)) p;
+      there = λ p σ. put_in-all (λ q o. o ≡ PageOf σ → IsThere G' σ) (is_page_for shape) (PageOf G.attached) G.page
+          (λ q own is. let same : σ ≡ G.attached = cc in live-there env mix G' σ (new_live σ same))
+          (λ q own is. there_kept env mix G tables (G.attached + 1) slots page attached_kept σ (whole.pages.page_of q σ is)
+          (whole.pages.there q σ is)) p;
       blank = blank_right;
     }
       where
@@ -348,7 +374,7 @@ module _ (env : Env) (mix : ℕ → ℕ → ℕ → ℕ) where
               (λ e. held_by_two c d ne (G.slot slot) ready.made.has.mine (ap G.slot (sym e) ∙ is)) ∙ is;
           slot_words = λ s w has is. other_word s w has.within is (λ e.
               let same : s ≡ last = cc in
-              let z : true ≡ false = sym (whole.tables.each τ l).has_slot ∙ ap (λ i. has_table (G.slot i)) (sym same)
+              let z : true ≡ false = sym there.has_slot ∙ ap (λ i. has_table (G.slot i)) (sym same)
               ∙ ap has_table has.mine in cc);
           no_slot = put-all (λ s o. o ≡ SlotHeld c → G.slot s ≡ SlotHeld c) G.slot slot (Live G.attached)
               (λ is. absurd (cc)) (λ s other is. is);

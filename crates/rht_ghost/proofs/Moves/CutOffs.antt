@@ -8,7 +8,7 @@ use Rattle.rht_words.specs.Places.{Address, Node, ChainLink, PageWord}
 use Rattle.rht_words.specs.Members.{In}
 use Rattle.rht_words.proofs.Memory.{Memory, IsWrite}
 use Rattle.rht_ghost.proofs.Theory.Ghosts.{none-some, put-all, Bucket, NodeHeld, First, Ghost, lock_bit, seat_of, table_at, some-same}
-use Rattle.rht_ghost.proofs.Theory.Wholes.{chain_of, key_of, place_at, stop, BucketRight, OutRight, Whole}
+use Rattle.rht_ghost.proofs.Theory.Wholes.{chain_of, key_of, place_at, stop, BucketRight, OutRight, Whole, current-there}
 use Rattle.rht_ghost.proofs.Theory.Passed.{home-within, held-no_entry}
 use Rattle.rht_ghost.proofs.Theory.Knowns.{last_of}
 use Rattle.rht_ghost.proofs.Theory.Frames.{Made}
@@ -45,7 +45,7 @@ module _ (env : Env) (mix : ℕ → ℕ → ℕ → ℕ) where
       its_holder = was_out.holder ∙ sym was_out.works ∙ can.works
 
       cut_within : j < 64 * env.geometry.pages
-      cut_within = home-within env mix M G whole (key_of M entry) G.current j whole.tables.current_in was_out.here
+      cut_within = home-within env mix M G whole (key_of M entry) G.current j (current-there env mix whole.tables) was_out.here
 
       -- the node before it is in the bucket still
       before_first : (p : ℕ) → Some p ≡ last_of (G.bucket j).nodes → G.node p ≡ First j

@@ -11,7 +11,7 @@ use Rattle.rht_words.proofs.LinksRead.{heads_come_back, plain_of-link}
 use Rattle.rht_words.proofs.ChainLemmas.{IsSegment-cut, IsSegment-members}
 use Rattle.rht_words.proofs.Members.{not_in_from, in_and_not, in-middle, In-append_left, In-append_cases, IsDistinct-cut, IsDistinct-left}
 use Rattle.rht_ghost.proofs.Theory.Ghosts.{put-same, put-other, put-all, Bucket, NodeHeld, First, Leaving, Ghost, seat_of, table_at, none-some, some-same}
-use Rattle.rht_ghost.proofs.Theory.Wholes.{chain_of, key_of, place_at, home, stop, BucketRight, OutRight, IsHomeOf, IsFirstAt, IsLeavingAt, Whole}
+use Rattle.rht_ghost.proofs.Theory.Wholes.{chain_of, key_of, place_at, home, stop, BucketRight, OutRight, IsHomeOf, IsFirstAt, IsLeavingAt, Whole, force-there}
 use Rattle.rht_ghost.proofs.Theory.Passed.{home-within, held-no_entry, member-no_entry}
 use Rattle.rht_ghost.proofs.Theory.Frames.{Made}
 use Rattle.rht_ghost.proofs.Theory.Readiness.{linked_bucket}
@@ -38,7 +38,8 @@ module _ (env : Env) (mix : ℕ → ℕ → ℕ → ℕ) where
       at = whole.owned.first_at entry j first
 
       within : j < 64 * env.geometry.pages
-      within = home-within env mix M G whole (key_of M entry) (table_at G j) j at.at_home.attached at.at_home.here
+      within = home-within env mix M G whole (key_of M entry) (table_at G j) j
+          (force-there env mix whole.tables (table_at G j) at.at_home.current at.at_home.attached) at.at_home.here
 
       old : BucketRight env mix M j (G.bucket j)
       old = whole.buckets j within (member-no_entry env mix M G whole j entry there)
@@ -225,7 +226,8 @@ module _ (env : Env) (mix : ℕ → ℕ → ℕ → ℕ) where
     next_apart e = let same = ap (table_at G) e in omega (arith, same, can.next.later, out.table)
 
     next_within : i < 64 * env.geometry.pages
-    next_within = home-within env mix M G whole (key_of M entry) (table_at G i) i can.next.attached can.next.here
+    next_within = home-within env mix M G whole (key_of M entry) (table_at G i) i
+        (force-there env mix whole.tables (table_at G i) (let later = can.next.later in omega (arith, later)) can.next.attached) can.next.here
 
     -- nothing else is on its way
     out_only : (k x : ℕ) → (G.bucket k).out ≡ Some x → (k ≡ j) × (x ≡ entry)

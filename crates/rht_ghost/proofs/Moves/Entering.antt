@@ -7,15 +7,15 @@ use Rattle.rht_words.specs.declared.env.Env.{Env}
 use Rattle.rht_words.specs.Links.{entry_of, future_of}
 use Rattle.rht_words.specs.Places.{CurrentTable, WorkLock, Slot, SlotWord, ShapeWord, SeedWord, FutureWord, SerialWord, StateWord, PageMap, PageWord, IsSlotWord}
 use Rattle.rht_words.proofs.Memory.{Memory, IsWrite}
-use Rattle.rht_ghost.proofs.Theory.Ghosts.{Table, blank_bucket, put, put-same, put-other, put-all, PageOwner, PageFree, PageHeld, PageOf, Ghost, has_entries, lock_bit, index_at, is_entry, is_entry_of, entry_word, table_at, table_of_page}
+use Rattle.rht_ghost.proofs.Theory.Ghosts.{Table, blank_bucket, put, put-same, put-other, put-all, PageOwner, PageFree, PageHeld, PageOf, Ghost, has_entries, lock_bit, has_table, index_at, is_entry, is_entry_of, entry_word, table_at, table_of_page}
 use Rattle.rht_ghost.proofs.Theory.Ways.{followed, IsSpareIn, StandsAs, entered_table}
-use Rattle.rht_ghost.proofs.Theory.Wholes.{retired_stay, IsNoBucket, IsNested, IsBehind, EntriesRight, TablesRight, SlotsRight, PagesRight, PlacedRight, future_in, Whole}
+use Rattle.rht_ghost.proofs.Theory.Wholes.{retired_stay, IsNoBucket, IsNested, IsBehind, EntriesRight, TablesRight, SlotsRight, PagesRight, PlacedRight, future_in, Whole, IsThere, there-attached}
 use Rattle.rht_ghost.proofs.Theory.Entries.{IsEntryIn, entry_in, entry_nested}
 use Rattle.rht_ghost.proofs.Theory.EnteredPages.{entry-here, entry-inside, entry-other, entry-stays, part-here, part-other, followed-stays, followed-new, stands-stay, stands-here}
 use Rattle.rht_ghost.proofs.Theory.Passed.{TableStays, same-TableStays}
 use Rattle.rht_ghost.proofs.Theory.Readiness.{entered, IsEntering}
 use Rattle.rht_ghost.proofs.Theory.Frames.{Others, Made, stale_write, same_owners}
-use Rattle.rht_ghost.proofs.Theory.TableFrames.{TablesKept, IsNoBucketWord, no_table-no_bucket, Whole-retabled, Rely-retabled, TableRight-kept, placed_kept}
+use Rattle.rht_ghost.proofs.Theory.TableFrames.{TablesKept, there_kept, IsNoBucketWord, no_table-no_bucket, Whole-retabled, Rely-retabled, TableRight-kept, placed_kept}
 
 -- an entry whose word is 0 leads to no page
 no_page : (entry : Option ℕ) → entry_word entry ≡ 0 → entry ≡ None
@@ -115,6 +115,7 @@ module _ (env : Env) (mix : ℕ → ℕ → ℕ → ℕ) where
       ];
       more = omega arith;
       slots = λ s has. refl;
+      back = λ s has l. refl;
       pages = page_stays;
     }
 
@@ -194,12 +195,12 @@ module _ (env : Env) (mix : ℕ → ℕ → ℕ → ℕ) where
     slot_same : (σ : ℕ) → (tables σ).slot ≡ (G.table σ).slot
     slot_same = put-all (λ σ (t : Table). t.slot ≡ (G.table σ).slot) G.table τ new refl (λ σ ne. refl)
 
-    placed_now : (σ : ℕ) → σ < G.attached → PlacedRight env mix (tables σ) page σ
-    placed_now σ l = elim (cases_eq σ τ) [
+    placed_now : (σ : ℕ) → IsThere G σ → PlacedRight env mix (tables σ) page σ
+    placed_now σ there = elim (cases_eq σ τ) [
       | inl e ↦ subst (λ i. PlacedRight env mix (tables i) page i) (sym e)
           (subst (λ t. PlacedRight env mix t page τ) (sym same_new) (inr new_placed))
       | inr ne ↦ placed_kept env mix M M' G tables G.attached G.slot page whole entered_kept (PageWord j) (entry_of p)
-          write words_apart σ l (other_table σ ne)
+          write words_apart σ there (other_table σ ne)
           (λ q of. page_before q σ (λ e. ne (own_page σ (sym (ap page e) ∙ of))) of)
     ]
       where
@@ -213,13 +214,20 @@ module _ (env : Env) (mix : ℕ → ℕ → ℕ → ℕ) where
     tables_right = record {
       current_in = whole.tables.current_in;
       current_is = write.others CurrentTable tt (λ e. cc) ∙ whole.tables.current_is ∙ sym (slot_same G.current);
-      each = λ σ l.
-          let here = whole.tables.each σ l in
+      force = λ σ from l. ap G.slot (slot_same σ) ∙ whole.tables.force σ from l;
+      there = λ σ l. there_kept env mix G tables G.attached G.slot page entered_kept σ l (whole.tables.there σ l);
+      each = λ σ now.
           let s = (G.table σ).slot in
+          let there : IsThere G σ = record {
+            has_slot = ap (λ t. has_table (G.slot t)) (sym (slot_same σ)) ∙ now.has_slot;
+            index = ap (index_at G) (sym (slot_same σ)) ∙ now.index;
+          } in
+          let l = there-attached env mix whole.tables σ there in
+          let here = whole.tables.each σ there in
           TableRight-kept env mix M M' G tables G.attached G.slot page whole entered_kept (PageWord j) (entry_of p)
-          write words_apart σ l (slot_word s ShapeWord here.slot_in tt) (slot_word s SeedWord here.slot_in tt)
+          write words_apart σ l there (slot_word s ShapeWord here.slot_in tt) (slot_word s SeedWord here.slot_in tt)
           (slot_word s SerialWord here.slot_in tt)
-          (slot_word s FutureWord here.slot_in tt ∙ here.future_is ∙ sym (future_same σ)) (placed_now σ l);
+          (slot_word s FutureWord here.slot_in tt ∙ here.future_is ∙ sym (future_same σ)) (placed_now σ there);
       slots = λ s has.
           let is = whole.tables.slots s has in
           record { attached = is.attached; slot = slot_same (index_at G s) ∙ is.slot };
@@ -229,7 +237,7 @@ module _ (env : Env) (mix : ℕ → ℕ → ℕ → ℕ) where
     slots_right = record {
       states = λ s l. slot_word s StateWord l tt ∙ whole.slots.states s l;
       worker_is = write.others WorkLock tt (λ e. cc) ∙ whole.slots.worker_is;
-      retired = λ idle. retired_stay G G' None refl (λ σ l. slot_same σ) (λ s σ is. is) (whole.slots.retired idle);
+      retired = λ idle. retired_stay G G' None refl (λ s σ is l. is) (whole.slots.retired idle);
     }
 
     -- a word that is no bucket's was none before, or is in the page
@@ -255,6 +263,13 @@ module _ (env : Env) (mix : ℕ → ℕ → ℕ → ℕ) where
       page_of = λ q σ. put-all (λ k o. o ≡ PageOf σ → σ < G.attached) G.page p (PageOf τ)
           (λ of. let same : τ ≡ σ = cc in subst (λ k. k < G.attached) same attached)
           (λ k ne of. whole.pages.page_of k σ of) q;
+      there = λ q σ. put-all (λ k o. o ≡ PageOf σ → IsThere G' σ) G.page p (PageOf τ)
+          (λ of.
+          let same : τ ≡ σ = cc in
+          subst (λ k. IsThere G' k) same (there_kept env mix G tables G.attached G.slot page entered_kept τ attached
+          (whole.pages.there (j / 64) τ at.of)))
+          (λ k ne of. there_kept env mix G tables G.attached G.slot page entered_kept σ (whole.pages.page_of k σ of)
+          (whole.pages.there k σ of)) q;
       blank = λ i is. elim (cases_eq (i / 64) p) [
         | inl inside ↦ blank_in i inside
         | inr outside ↦

@@ -35,13 +35,15 @@ module _ (env : Env) (mix : ℕ → ℕ → ℕ → ℕ) where
         (put G.node n (First here)) (put G.bound port (n ∷ [])) (put G.raised d false)
 
     within : here < 64 * env.geometry.pages
-    within = home-within env mix M G whole port ready.table here ready.armed.passed.attached ready.armed.here
+    within = home-within env mix M G whole port ready.table here
+        (whole.tables.there ready.table ready.armed.passed.attached) ready.armed.here
 
     -- the bucket is one of a table in force, to which the port belongs
     home_of : IsHomeOf env mix G port here
     home_of =
         let right = whole.moving.armed here d ready.armed.armed in
-        let table = home-table env mix M G whole port ready.table here ready.armed.passed.attached ready.armed.here in
+        let table = home-table env mix M G whole port ready.table here
+        (whole.tables.there ready.table ready.armed.passed.attached) ready.armed.here in
         record {
           here = ap (home env mix G port) table ∙ ready.armed.here;
           current = right.current;
@@ -159,8 +161,8 @@ module _ (env : Env) (mix : ℕ → ℕ → ℕ → ℕ) where
         both_armed e =
             let mine = ready.armed in
             let theirs = whole.moving.armed i c for.armed in
-            let their_table = home-table env mix M G whole p τ i for.passed.attached for.here in
-            let my_table = home-table env mix M G whole port ready.table here mine.passed.attached mine.here in
+            let their_table = home-table env mix M G whole p τ i (whole.tables.there τ for.passed.attached) for.here in
+            let my_table = home-table env mix M G whole port ready.table here (whole.tables.there ready.table mine.passed.attached) mine.here in
             let at_home : home env mix G port τ ≡ Some i = ap (λ q. home env mix G q τ) (sym e) ∙ for.here in
             let my_home : home env mix G p ready.table ≡ Some here = ap (λ q. home env mix G q ready.table) e ∙ mine.here in
             elim (cases_lt τ ready.table) [

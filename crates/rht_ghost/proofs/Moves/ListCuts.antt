@@ -11,7 +11,7 @@ use Rattle.rht_words.proofs.ChainLemmas.{IsSegment-cut, IsSegment-members}
 use Rattle.rht_words.proofs.Members.{in_and_not, in-middle, In-append_left, In-append_right, In-append_cases, NotIn-cut, NotIn-append, IsDistinct-cut, IsDistinct-without, IsDistinct-left, IsDistinct-apart, count_below-same}
 use Rattle.rht_ghost.proofs.Theory.Ghosts.{put, put-same, put-other, put-all, First, Behind, Taken, Ghost, seat_of, is_first, is_used, taken_by_one, held_not_used, table_at, is_listed, lock_bit}
 use Rattle.rht_ghost.proofs.Theory.Passed.{home-within, held-no_entry}
-use Rattle.rht_ghost.proofs.Theory.Wholes.{list_of, key_of, MovesNone, IsHomeOf, IsFirstAt, IsBehindIn, IsBoundTo, IsBuilt, Whole, firsts, raisers}
+use Rattle.rht_ghost.proofs.Theory.Wholes.{list_of, key_of, MovesNone, IsHomeOf, IsFirstAt, IsBehindIn, IsBoundTo, IsBuilt, Whole, firsts, raisers, force-there}
 use Rattle.rht_ghost.proofs.Theory.Knowns.{last_of}
 use Rattle.rht_ghost.proofs.Theory.Frames.{Made, same_tables}
 use Rattle.rht_ghost.proofs.Theory.WholeFrames.{IsHomeOf-same, BucketRight-frame}
@@ -328,8 +328,8 @@ module _ (env : Env) (mix : ℕ → ℕ → ℕ → ℕ) (d port j m q p : ℕ) 
     }
       where
         within : j < 64 * env.geometry.pages
-        within = home-within env mix M G whole (key_of M m) (table_at G j) j at.at_home.attached
-            at.at_home.here
+        within = home-within env mix M G whole (key_of M m) (table_at G j) j
+            (force-there env mix whole.tables (table_at G j) at.at_home.current at.at_home.attached) at.at_home.here
 
     pub cut_list : Made env mix d M G M' cut
     cut_list = rebind env mix d cutting M M' G (Node p ListLink) link whole cut_store cut_bound

@@ -47,7 +47,7 @@ module _ (env : Env) (mix : ℕ → ℕ → ℕ → ℕ) where
       → NoTable before → TablesKept env mix G G.table G.attached G.slot (put_in (has_bit index bits) after G.page)
   pages_kept index bits before after G was none =
       same_kept env mix G G.table G.attached G.slot (put_in (has_bit index bits) after G.page) (λ τ l. refl) (omega arith)
-      (λ s has. refl)
+      (λ s has. refl) (λ s has l. refl)
       (λ p τ. put_in-all (λ q o. G.page q ≡ PageOf τ → o ≡ PageOf τ) (has_bit index bits) after G.page
       (λ q there is. absurd (none τ (sym (was.owned q there) ∙ is))) (λ q there is. is) p)
 
@@ -102,6 +102,8 @@ module _ (env : Env) (mix : ℕ → ℕ → ℕ → ℕ) where
     pages_right = record {
       bits = bits_right;
       page_of = λ p τ is. whole.pages.page_of p τ (page_before p τ is);
+      there = λ p τ is.
+          let t = whole.pages.there p τ (page_before p τ is) in record { has_slot = t.has_slot; index = t.index };
       blank = blank_right;
     }
 

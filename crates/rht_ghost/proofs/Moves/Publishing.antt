@@ -6,7 +6,7 @@ use Rattle.rht_words.specs.Shapes.{unpacked, size_of}
 use Rattle.rht_words.specs.Places.{CurrentTable, WorkLock, Slot, StateWord}
 use Rattle.rht_words.specs.Members.{In}
 use Rattle.rht_words.proofs.Memory.{Memory, IsWrite}
-use Rattle.rht_ghost.proofs.Theory.Ghosts.{put-other, put-all, Ghost, First, SlotHeld, Retired, PageOwner, PageFree, PageHeld, PageOf, state_word, has_table, index_at, table_of_slot, table_of_page, table_at, none-some}
+use Rattle.rht_ghost.proofs.Theory.Ghosts.{put-other, put-all, Ghost, First, SlotHeld, Live, Retired, PageOwner, PageFree, PageHeld, PageOf, state_word, has_table, index_at, table_of_slot, table_of_page, table_at, none-some}
 use Rattle.rht_ghost.proofs.Theory.Wholes.{key_of, home, hash_in, IsNoBucket, Whole}
 use Rattle.rht_ghost.proofs.Theory.Passed.{hash-below, held-bucket}
 use Rattle.rht_ghost.proofs.Theory.Knowledge.{IsEmptied}
@@ -33,8 +33,7 @@ module _ (env : Env) (mix : ℕ → ℕ → ℕ → ℕ) where
       go PageFree is bucket = absurd (bucket tt)
       go (PageHeld c) is bucket = absurd (bucket tt)
       go (PageOf τ) is bucket =
-          let l = whole.pages.page_of (j / 64) τ is in
-          let of = bucket_of_word env mix (G.table τ) G.page τ (whole.tables.each τ l).placed j is bucket in
+          let of = bucket_of_word env mix (G.table τ) G.page τ (whole.tables.each τ (whole.pages.there (j / 64) τ is)).placed j is bucket in
           record { number = number_in (G.table τ) j; below = of.below; here = of.here }
 
   -- ---- the next table becomes the current one
@@ -147,12 +146,12 @@ module _ (env : Env) (mix : ℕ → ℕ → ℕ → ℕ) where
           index = put-all (λ i o. has_table (G.slot i) ≡ true → table_of_slot o ≡ index_at G i) G.slot s owner
               (λ has. refl) (λ i ne has. refl);
           live = λ τ l from.
-              let right = whole.tables.each τ l in
+              let live = whole.tables.force τ from l in
               put-other G.slot s owner (G.table τ).slot
-              (λ e. let index : index_at G s ≡ τ = ap (index_at G) (sym e) ∙ right.index in
-              omega (arith, index, from, can.left_behind)) ∙ right.live from;
-          retired = λ i τ. put-all (λ k o. G.slot k ≡ Retired τ → o ≡ Retired τ) G.slot s owner
-              (λ is. ap Retired (ap table_of_slot is)) (λ k ne is. is) i;
+              (λ e. let index : index_at G s ≡ τ = ap (index_at G) (sym e) ∙ ap table_of_slot live in
+              omega (arith, index, from, can.left_behind)) ∙ live;
+          was_live = λ i τ. put-all (λ k o. o ≡ Live τ → G.slot k ≡ Live τ) G.slot s owner (λ is. absurd (cc))
+              (λ k ne is. is) i;
           held = λ i c. put-all (λ k o. G.slot k ≡ SlotHeld c → o ≡ SlotHeld c) G.slot s owner
               (λ is. absurd (not_mine c is)) (λ k ne is. is) i;
           not_held = λ i c. put-all (λ k o. o ≡ SlotHeld c → G.slot k ≡ SlotHeld c) G.slot s owner

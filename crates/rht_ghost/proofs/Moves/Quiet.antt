@@ -226,6 +226,7 @@ module _ (env : Env) (mix : ℕ → ℕ → ℕ → ℕ) where
           pages = record {
             bits = whole.pages.bits;
             page_of = whole.pages.page_of;
+            there = λ p τ of. let t = whole.pages.there p τ of in record { has_slot = t.has_slot; index = t.index };
             blank = λ i blank. put-other G.bucket j armed i
                 (λ e. held-bucket env mix M G whole j d is.holder
                 (subst (λ k. IsNoBucket env mix G (G.page (k / 64)) k) e (no_bucket env mix G G' refl (G.page (i / 64)) i blank)))

@@ -12,7 +12,7 @@ use Rattle.rht_words.proofs.Memory.{Memory, IsWrite}
 use Rattle.rht_words.proofs.ChainLemmas.{IsSegment-cut, IsSegment-members}
 use Rattle.rht_words.proofs.Members.{not_in_from, in_and_not, in-middle, In-append_left, In-append_right, In-append_cases, NotIn-append, IsDistinct-cut, IsDistinct-without, IsDistinct-with, count_below, count_below-more, count_below-same}
 use Rattle.rht_ghost.proofs.Theory.Ghosts.{put, put-same, put-other, put-all, Bucket, Owner, NodeHeld, First, Leaving, Behind, Taken, Ghost, is_first, is_used, is_taken_by, seat_of, taken_by_one, held_not_used, table_at, none-some, not_first-seatless, lock_bit}
-use Rattle.rht_ghost.proofs.Theory.Wholes.{chain_of, list_of, key_of, place_at, stop, MovesNone, none_out, IsHomeOf, BucketRight, IsFirstAt, IsBehindIn, IsBoundTo, IsBuilt, Whole, firsts, raisers}
+use Rattle.rht_ghost.proofs.Theory.Wholes.{chain_of, list_of, key_of, place_at, stop, MovesNone, none_out, IsHomeOf, BucketRight, IsFirstAt, IsBehindIn, IsBoundTo, IsBuilt, Whole, firsts, raisers, force-there}
 use Rattle.rht_ghost.proofs.Theory.Passed.{home-within, member-no_entry}
 use Rattle.rht_ghost.proofs.Theory.Knowns.{last_of}
 use Rattle.rht_ghost.proofs.Theory.Frames.{Made, same_tables}
@@ -54,7 +54,8 @@ module _ (env : Env) (mix : ℕ → ℕ → ℕ → ℕ) (d port j m : ℕ) (fro
     to = whole.owned.bound_to port m behind found.bound_to
 
     within : j < 64 * env.geometry.pages
-    within = home-within env mix M G whole (key_of M m) (table_at G j) j at.at_home.attached at.at_home.here
+    within = home-within env mix M G whole (key_of M m) (table_at G j) j
+        (force-there env mix whole.tables (table_at G j) at.at_home.current at.at_home.attached) at.at_home.here
 
     bucket_right : BucketRight env mix M j (G.bucket j)
     bucket_right = whole.buckets j within (member-no_entry env mix M G whole j m there)

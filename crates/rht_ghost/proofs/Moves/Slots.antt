@@ -5,12 +5,12 @@ use Rattle.rht_words.specs.declared.env.Env.{Env}
 use Rattle.rht_words.specs.Places.{WorkLock, NextSerial, Slot, SlotWord, StateWord}
 use Rattle.rht_words.proofs.Memory.{Memory, IsWrite}
 use Rattle.rht_words.specs.TableWords.{IsTableWord}
-use Rattle.rht_ghost.proofs.Theory.Ghosts.{put, put-other, put-all, SlotOwner, SlotFree, SlotHeld, Ghost, state_word, has_table, with_slot}
+use Rattle.rht_ghost.proofs.Theory.Ghosts.{put, put-other, put-all, SlotOwner, SlotFree, SlotHeld, Ghost, table_of_slot, state_word, has_table, with_slot}
 use Rattle.rht_ghost.proofs.Theory.Wholes.{retired_stay, SlotsRight, Whole}
 use Rattle.rht_ghost.proofs.Theory.Knowledge.{HasSlot}
 use Rattle.rht_ghost.proofs.Theory.Frames.{Others, Made, same_tables, stale_write, same_owners}
 use Rattle.rht_ghost.proofs.Theory.WholeFrames.{SlotsRight-write}
-use Rattle.rht_ghost.proofs.Theory.TableFrames.{TablesKept, same_kept, IsNoBucketWord, Whole-retabled, Rely-retabled, TablesRight-kept, PagesRight-kept, EntriesRight-kept}
+use Rattle.rht_ghost.proofs.Theory.TableFrames.{TablesKept, live_kept, same_kept, IsNoBucketWord, Whole-retabled, Rely-retabled, TablesRight-kept, PagesRight-kept, EntriesRight-kept}
 use Rattle.rht_ghost.proofs.Moves.Quiet.{aside}
 
 -- a slot with state word 0 is free
@@ -43,15 +43,17 @@ module _ (env : Env) (mix : ℕ → ℕ → ℕ → ℕ) where
 
     pub slots_kept : TablesKept env mix G G.table G.attached slot G.page
     slots_kept = same_kept env mix G G.table G.attached slot G.page (λ τ l. refl) (omega arith)
-        (λ t has. put-other G.slot s owner t (no_table t has)) (λ p τ is. is)
+        (λ t has. put-other G.slot s owner t (no_table t has))
+        (put-all (λ t o. has_table o ≡ true → table_of_slot o < G.attached → o ≡ G.slot t) G.slot s owner
+        (λ has k. let z : true ≡ false = sym has ∙ now in absurd (cc)) (λ t ne has k. refl)) (λ p τ is. is)
 
     slots_right : SlotsRight env mix M' G'
     slots_right = record {
       states = put-all (λ t o. t < 8 → M' (Slot t StateWord) ≡ state_word o) G.slot s owner (λ k. write.same)
           (λ t ne k. write.others (Slot t StateWord) (k, tt) (λ e. ne (cc)) ∙ whole.slots.states t k);
       worker_is = write.others WorkLock tt (λ e. cc) ∙ whole.slots.worker_is;
-      retired = λ idle. retired_stay G G' None refl (λ τ l. refl)
-          (λ t τ is. slots_kept.slots t (ap has_table is) ∙ is) (whole.slots.retired idle);
+      retired = λ idle. retired_stay G G' None refl
+          (λ t τ is k. live_kept env mix G G.table G.attached slot G.page slots_kept t τ is (omega (arith, k, whole.tables.current_in))) (whole.slots.retired idle);
     }
 
     reslotted : Whole env mix M' G'
@@ -63,7 +65,7 @@ module _ (env : Env) (mix : ℕ → ℕ → ℕ → ℕ) where
         (put-all (λ t o. has_table o ≡ true → o ≡ G.slot t) G.slot s owner
         (λ has. let z : true ≡ false = sym has ∙ now in absurd (cc)) (λ t ne has. refl)) (λ p τ is. is))
         slots_right
-        (PagesRight-kept env mix M M' G slot (Slot s StateWord) (state_word owner) write (λ i e. cc) whole.pages)
+        (PagesRight-kept env mix M M' G slot slots_kept (Slot s StateWord) (state_word owner) write (λ i e. cc) whole.pages)
         (EntriesRight-kept env mix M M' G G.table G.attached slot G.page whole slots_kept (Slot s StateWord)
         (state_word owner) write (slot_word-apart G s StateWord) (λ τ l. refl) (λ p τ of has. of) (λ j e. cc))
 
@@ -120,7 +122,7 @@ module _ (env : Env) (mix : ℕ → ℕ → ℕ → ℕ) where
       → Made env mix d M G M' G
   fill_slot d s w v M M' G whole has of_table write =
       let kept : TablesKept env mix G G.table G.attached G.slot G.page =
-      same_kept env mix G G.table G.attached G.slot G.page (λ τ l. refl) (omega arith) (λ t is. refl) (λ p τ is. is) in
+      same_kept env mix G G.table G.attached G.slot G.page (λ τ l. refl) (omega arith) (λ t is. refl) (λ t has l. refl) (λ p τ is. is) in
       let words = slot_word-apart G s w in
       let no_table : (t : ℕ) → has_table (G.slot t) ≡ true → t ≢ s = λ t is e.
       (let z : true ≡ false = sym is ∙ ap (λ i. has_table (G.slot i)) e ∙ ap has_table has.mine in cc) in
@@ -130,7 +132,7 @@ module _ (env : Env) (mix : ℕ → ℕ → ℕ → ℕ) where
             (record { current = λ e. cc; slots = λ t u is e. no_table t is (cc) }) (λ t is. refl) (λ p τ is. is))
             (SlotsRight-write env mix M M' G G (Slot s w) v write (λ e. cc)
             (λ t e. state_differs w of_table (cc)) (same_tables env mix G G.bucket G.node G.bound G.raised) whole.slots)
-            (PagesRight-kept env mix M M' G G.slot (Slot s w) v write (λ i e. cc) whole.pages)
+            (PagesRight-kept env mix M M' G G.slot kept (Slot s w) v write (λ i e. cc) whole.pages)
             (EntriesRight-kept env mix M M' G G.table G.attached G.slot G.page whole kept (Slot s w) v write words
             (λ τ l. refl) (λ p τ of has. of) (λ j e. cc));
         stale = stale_write env mix M M' G G (Slot s w) v write (same_owners env mix G G refl) (λ n u f e. cc)

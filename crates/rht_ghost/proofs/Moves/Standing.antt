@@ -5,7 +5,7 @@ use Rattle.rht_words.specs.declared.env.Env.{Env}
 use Rattle.rht_words.specs.Places.{Address, CurrentTable, WorkLock, PortCount, Slot, SlotWord, ShapeWord, SeedWord, FutureWord, SerialWord, StateWord, NodeMap, PageMap, Node, NodeWord, ChainLink, KeyWord, ListLink, PageWord}
 use Rattle.rht_words.proofs.Memory.{Memory, IsWrite}
 use Rattle.rht_words.proofs.ChainLemmas.{IsSegment-members}
-use Rattle.rht_ghost.proofs.Theory.Ghosts.{Ghost, First, Leaving, SlotOwner, SlotHeld, Live, Retired, lock_bit, state_word, has_table, index_at, table_of_slot, table_at, is_used, seat_of}
+use Rattle.rht_ghost.proofs.Theory.Ghosts.{Ghost, First, Leaving, SlotOwner, SlotHeld, Live, lock_bit, state_word, has_table, index_at, table_of_slot, table_at, is_used, seat_of}
 use Rattle.rht_ghost.proofs.Theory.Wholes.{AreRetired, list_of, key_of, TablesRight, PagesRight, OutRight, MovingRight, IsLeavingAt, Owned, Whole}
 use Rattle.rht_ghost.proofs.Theory.Passed.{TablesGrow, Passed-stays, same-TableStays}
 use Rattle.rht_ghost.proofs.Theory.Reliance.{TablesStay}
@@ -18,7 +18,7 @@ pub record SlotsStand (G : Ghost) (current : ℕ) (slot : ℕ → SlotOwner) : T
   pub has : (s : ℕ) → has_table (slot s) ≡ has_table (G.slot s)
   pub index : (s : ℕ) → has_table (G.slot s) ≡ true → table_of_slot (slot s) ≡ index_at G s
   pub live : (τ : ℕ) → τ < G.attached → current ≤ τ → slot (G.table τ).slot ≡ Live τ
-  pub retired : (s τ : ℕ) → G.slot s ≡ Retired τ → slot s ≡ Retired τ
+  pub was_live : (s τ : ℕ) → slot s ≡ Live τ → G.slot s ≡ Live τ
   pub held : (s c : ℕ) → G.slot s ≡ SlotHeld c → slot s ≡ SlotHeld c
   pub not_held : (s c : ℕ) → slot s ≡ SlotHeld c → G.slot s ≡ SlotHeld c
 
@@ -43,8 +43,8 @@ module _ (env : Env) (mix : ℕ → ℕ → ℕ → ℕ) where
   slots_stand M G current whole later = record {
     has = λ s. refl;
     index = λ s has. refl;
-    live = λ τ l from. (whole.tables.each τ l).live (omega (arith, later, from));
-    retired = λ s τ is. is;
+    live = λ τ l from. whole.tables.force τ (omega (arith, later, from)) l;
+    was_live = λ s τ is. is;
     held = λ s c is. is;
     not_held = λ s c is. is;
   }
@@ -81,14 +81,17 @@ module _ (env : Env) (mix : ℕ → ℕ → ℕ → ℕ) where
       restated_tables = record {
         current_in = is.current_in;
         current_is = is.current_is;
-        each = λ τ l.
-            let r = whole.tables.each τ l in
+        force = λ τ from l. is.slots.live τ l from;
+        there = λ τ l.
+            let was = whole.tables.there τ l in
             let s = (G.table τ).slot in
+            record { has_slot = is.slots.has s ∙ was.has_slot; index = is.slots.index s was.has_slot ∙ was.index };
+        each = λ τ now.
+            let s = (G.table τ).slot in
+            let has = sym (is.slots.has s) ∙ now.has_slot in
+            let r = whole.tables.each τ (record { has_slot = has; index = sym (is.slots.index s has) ∙ now.index }) in
             record {
               slot_in = r.slot_in;
-              has_slot = is.slots.has s ∙ r.has_slot;
-              index = is.slots.index s r.has_slot ∙ r.index;
-              live = is.slots.live τ l;
               shape_is = is.write.others (Slot s ShapeWord) (r.slot_in, tt) (is.word.no_shape s) ∙ r.shape_is;
               seed_is = is.write.others (Slot s SeedWord) (r.slot_in, tt) (is.word.no_seed s) ∙ r.seed_is;
               serial_is = is.write.others (Slot s SerialWord) (r.slot_in, tt) (is.word.no_serial s) ∙ r.serial_is;
@@ -108,6 +111,10 @@ module _ (env : Env) (mix : ℕ → ℕ → ℕ → ℕ) where
         bits = λ p l. rw (is.write.others (PageMap (p / 64)) (omega arith) (is.word.no_page_map (p / 64)))
             (whole.pages.bits p l);
         page_of = whole.pages.page_of;
+        there = λ p τ of.
+            let was = whole.pages.there p τ of in
+            let s = (G.table τ).slot in
+            record { has_slot = is.slots.has s ∙ was.has_slot; index = is.slots.index s was.has_slot ∙ was.index };
         blank = λ j blank. whole.pages.blank j (no_bucket env mix G after refl (G.page (j / 64)) j blank);
       }
 
@@ -242,7 +249,7 @@ module _ (env : Env) (mix : ℕ → ℕ → ℕ → ℕ) where
         current = is.later;
         slots = λ s has. is.slots.has s ∙ has;
         indices = is.slots.index;
-        retired = is.slots.retired;
+        live = λ s τ now l. is.slots.was_live s τ now;
         pages = λ p τ of. of;
       }
 

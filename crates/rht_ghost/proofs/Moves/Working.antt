@@ -8,8 +8,8 @@ use Rattle.rht_words.specs.Places.{CurrentTable, WorkLock, Slot, StateWord, Node
 use Rattle.rht_words.specs.Members.{In}
 use Rattle.rht_words.proofs.Memory.{Memory, IsWrite}
 use Rattle.rht_words.proofs.Members.{in-middle}
-use Rattle.rht_ghost.proofs.Theory.Ghosts.{put, put-same, put-other, put-all, Bucket, Owner, First, Leaving, SlotOwner, Retired, Ghost, has_table, index_at, table_at, held_by, with_holder, none-some, some-same}
-use Rattle.rht_ghost.proofs.Theory.Wholes.{key_of, place_at, word_index, place_at-index, index-place_at, index-within, home, IsNoBucket, MovesNone, Whole}
+use Rattle.rht_ghost.proofs.Theory.Ghosts.{put, put-same, put-other, put-all, Bucket, Owner, First, Leaving, Live, Retired, Ghost, has_table, index_at, table_of_slot, table_at, held_by, with_holder, none-some, some-same}
+use Rattle.rht_ghost.proofs.Theory.Wholes.{AreRetired, current-there, key_of, place_at, word_index, place_at-index, index-place_at, index-within, home, IsNoBucket, MovesNone, Whole, force-there}
 use Rattle.rht_ghost.proofs.Theory.Passed.{place-table, home-table, home-bucket, place-bucket}
 use Rattle.rht_ghost.proofs.Theory.Knowns.{last_of, KnownAim, NoAim, KnownRehash, KnownPlace, KnownEntry, KnownWork, NoWork, Works, Empties, LeavesBehind, InBucket, Brings, TakesOut, HasBrought}
 use Rattle.rht_ghost.proofs.Theory.Knowledge.{DoesWork, IsEmptied, IsEmptying, IsLeftBehind, IsFacing, IsNext, IsInBucket, IsBare, IsEntry, IsAim, IsAiming, IsTarget, IsBringing, IsTakenOut, IsBrought, WorkMeans}
@@ -47,11 +47,12 @@ module _ (env : Env) (mix : ℕ → ℕ → ℕ → ℕ) (c : ℕ) where
 
     next_table : (root : KnownRehash) (at : KnownPlace) → IsNext env mix c G root at → table_at G (index at.place) ≡ G.current
     next_table root at is =
-        place-table env mix M G whole G.current at.number (index at.place) whole.tables.current_in is.below is.here
+        place-table env mix M G whole G.current at.number (index at.place) (current-there env mix whole.tables) is.below is.here
 
     aim_table : (entry place : ℕ) → (aim : IsAim env mix M G entry place) → table_at G (index place) ≡ aim.table
     aim_table entry place aim =
-        home-table env mix M G whole (key_of M entry) aim.table (index place) aim.attached aim.here
+        home-table env mix M G whole (key_of M entry) aim.table (index place)
+        (force-there env mix whole.tables aim.table (let later = aim.later in omega (arith, later)) aim.attached) aim.here
 
     next_place : (entry place word : ℕ) → IsTarget env mix c M G entry place word
         → IsNextPlace env mix c entry (index place) M G
@@ -123,7 +124,7 @@ module _ (env : Env) (mix : ℕ → ℕ → ℕ → ℕ) (c : ℕ) where
       };
       shape_is = is.shape_is;
       within = is.within;
-      each = λ b k l at. stays k (place-table env mix M G whole G.current b k whole.tables.current_in
+      each = λ b k l at. stays k (place-table env mix M G whole G.current b k (current-there env mix whole.tables)
           (omega (arith, l, is.within)) at) (is.each b k l at);
     }
 
@@ -294,7 +295,7 @@ module _ (env : Env) (mix : ℕ → ℕ → ℕ → ℕ) (c : ℕ) where
     faced_bucket : (root : KnownRehash) (number place : ℕ) → IsFacing env mix G root number place
         → IsNoBucket env mix G (G.page (index place / 64)) (index place) → ⊥
     faced_bucket root number place is bucketless =
-        place-bucket env mix M G whole G.current number (index place) whole.tables.current_in is.below is.here bucketless
+        place-bucket env mix M G whole G.current number (index place) (current-there env mix whole.tables) is.below is.here bucketless
 
     -- it is locked
     pub lock_work : DoesWork c G None → (root : KnownRehash) (number place word : ℕ) (M' : Memory)
@@ -344,7 +345,8 @@ module _ (env : Env) (mix : ℕ → ℕ → ℕ → ℕ) (c : ℕ) where
         let stands = is.tail.stands in
         let next = stands.bucket.next in
         let taken = take_lock env mix c i word M M' G whole (index-within env mix place aim.bucket)
-        (home-bucket env mix M G whole (key_of M entry.node) aim.table i aim.attached aim.here) found even write in
+        (home-bucket env mix M G whole (key_of M entry.node) aim.table i
+        (force-there env mix whole.tables aim.table (let later = aim.later in omega (arith, later)) aim.attached) aim.here) found even write in
         let held = held_by (G.bucket i) (Some c) in
         let G' = with_holder G i (Some c) in
         let there : G'.bucket i ≡ held = put-same G.bucket i held in
@@ -461,25 +463,25 @@ module _ (env : Env) (mix : ℕ → ℕ → ℕ → ℕ) (c : ℕ) where
         → IsEmptying env mix G root count → count ≡ size_of (unpacked root.shape)
         → IsWrite env.geometry M M' CurrentTable root.future → Worked M G M' (published G) (LeavesBehind root.root)
     publish_work works root count M' is all write =
-        let right = whole.tables.each G.current whole.tables.current_in in
+        let here = current-there env mix whole.tables in
         let root_is = is.followed.root_is in
-        let index : index_at G root.root ≡ G.current = ap (index_at G) (sym root_is) ∙ right.index in
+        let index : index_at G root.root ≡ G.current = ap (index_at G) (sym root_is) ∙ here.index in
         record {
           made = publish env mix c M G whole (can_publish works root count is all) M'
               (subst (IsWrite env.geometry M M' CurrentTable) (sym is.followed.future_is) write);
           means = record {
             works = (
               works.0,
-              λ τ l. elim (cases_eq τ G.current) [
-                | inl e ↦ inl (ap Some (sym root_is ∙ ap (λ σ. (G.table σ).slot) (sym e)))
-                | inr ne ↦ elim (works.1 τ (omega (arith, l, ne))) [
-                  | inl none ↦ absurd (cc)
-                  | inr done ↦ inr done
-                ]
+              λ s τ live l. elim (cases_eq τ G.current) [
+                | inl e ↦
+                    let index : index_at G s ≡ G.current = ap table_of_slot live ∙ e in
+                    let slot = (whole.tables.slots s (ap has_table live)).slot in
+                    ap Some (sym root_is ∙ ap (λ σ. (G.table σ).slot) (sym index) ∙ slot)
+                | inr ne ↦ absurd (none-some refl (works.1 s τ live (omega (arith, l, ne))))
               ],
             );
             more = record {
-              table = ap (λ s. has_table (G.slot s)) (sym root_is) ∙ right.has_slot;
+              table = ap (λ s. has_table (G.slot s)) (sym root_is) ∙ here.has_slot;
               earlier = omega (arith, index);
             };
           };
@@ -490,21 +492,14 @@ module _ (env : Env) (mix : ℕ → ℕ → ℕ → ℕ) (c : ℕ) where
         → IsWrite env.geometry M M' (Slot slot StateWord) 2 → Worked M G M' (retired G slot) Works
     retire_work slot works M' is write = record {
       made = retire env mix c slot M G whole (can_retire slot works is) M' write;
-      means = record { works = (works.0, λ τ l. inr (all_retired τ l)); more = tt };
+      means = record { works = (works.0, all_retired); more = tt };
     }
       where
-        owner : SlotOwner
-        owner = Retired (index_at G slot)
-
-        all_retired : (τ : ℕ) → τ < G.current → put G.slot slot owner (G.table τ).slot ≡ Retired τ
-        all_retired τ l =
-            let right = whole.tables.each τ (omega (arith, l, whole.tables.current_in)) in
-            put-all (λ s o. s ≡ (G.table τ).slot → o ≡ Retired τ) G.slot slot owner
-            (λ same. ap Retired (ap (index_at G) same ∙ right.index))
-            (λ s ne same. elim (works.1 τ l) [
-              | inl left ↦ absurd (ne (same ∙ sym (some-same slot (G.table τ).slot left)))
-              | inr done ↦ ap G.slot same ∙ done
-            ]) (G.table τ).slot refl
+        all_retired : AreRetired (retired G slot) None
+        all_retired s τ =
+            put-all (λ k o. o ≡ Live τ → τ < G.current → None ≡ Some k) G.slot slot (Retired (index_at G slot))
+            (λ live l. absurd (cc))
+            (λ k ne live l. absurd (ne (sym (some-same slot k (works.1 k τ live l))))) s
 
     -- ---- the work lock
 

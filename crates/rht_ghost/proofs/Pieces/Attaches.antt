@@ -16,7 +16,7 @@ use Rattle.rht_arena.specs.GiveRun.{give_run_new, pages_of_give_run}
 use Rattle.rht_nest.specs.Tables.{table_pages, run_first, run_pages, pages_of_table}
 use Rattle.rht_nest.proofs.MakesStay.{table_pages-some}
 use Rattle.rht_ghost.proofs.Theory.Ghosts.{put, put-all, put_in, put_in-all, PageHeld, PageOf, SlotHeld, Live, Ghost, has_table, index_at, made_table, is_page_for}
-use Rattle.rht_ghost.proofs.Theory.Wholes.{Whole}
+use Rattle.rht_ghost.proofs.Theory.Wholes.{Whole, slot-there}
 use Rattle.rht_ghost.proofs.Theory.Knowns.{Known, MakesNothing, HasTaken, HasMade}
 use Rattle.rht_ghost.proofs.Theory.Knowledge.{IsMade}
 use Rattle.rht_ghost.proofs.Theory.Readiness.{IsAttaching}
@@ -76,7 +76,8 @@ module _ (env : Env) (mix : ℕ → ℕ → ℕ → ℕ) (c : ℕ) where
         let made = knows.means.making in
         let is = whole.tables.slots last table in
         let τ = index_at G last in
-        let here = whole.tables.each τ is.attached in
+        let there = slot-there env mix whole.tables last table in
+        let here = whole.tables.each τ there in
         let l : last < 8 = subst (λ s. s < 8) is.slot here.slot_in in
         let value : word_after (old_of words op) op ≡ future_of slot = ap (λ w. cond (w == 0) (future_of slot) w) found in
         let write : IsWrite env.geometry M M' (Slot (G.table τ).slot FutureWord) (future_of slot) =
@@ -90,11 +91,11 @@ module _ (env : Env) (mix : ℕ → ℕ → ℕ → ℕ) (c : ℕ) where
         let ready : IsAttaching env mix c slot shape seed serial M G = record { made = made; seed_is = refl; serial_is = refl } in
         silent env mix c words G op (holds_made slot shape) (holding env mix c h known None [])
         (knowing env mix c h known None [] MakesNothing) (Attaches slot shape seed serial) whole ready tt
-        (attach env mix c slot shape seed serial τ M M' G whole ready is.attached none write)
+        (attach env mix c slot shape seed serial τ M M' G whole ready there none write)
         (record { last = last; within = l; attaching = refl; found = found; has = refl; holds = refl })
         (Knowing-retabled env mix M M' G (put G.table G.attached (made_table slot shape seed serial)) (G.attached + 1)
         (put G.slot slot (Live G.attached)) (put_in (is_page_for shape) (PageOf G.attached) G.page) whole
-        (attached_kept env mix c slot shape seed serial τ M M' G whole ready is.attached none write)
+        (attached_kept env mix c slot shape seed serial τ M M' G whole ready there none write)
         (Slot (G.table τ).slot FutureWord) (future_of slot) write (slot_word-apart G (G.table τ).slot FutureWord) c
         (holds_made slot shape) (record known { making = HasMade slot shape }) None [] MakesNothing knows
         (put-all (λ s o. o ≡ SlotHeld c → ◌≡◌ {A = Option ℕ} None (Some s)) G.slot slot (Live G.attached)

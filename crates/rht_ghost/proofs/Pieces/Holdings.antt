@@ -64,7 +64,7 @@ module _ (env : Env) (mix : ℕ → ℕ → ℕ → ℕ) (c : ℕ) (h : Holding)
 
     same_tables : TablesKept env mix G G.table G.attached G.slot G.page
     same_tables = same_kept env mix G G.table G.attached G.slot G.page (λ τ l. refl) (omega arith) (λ t is. refl)
-        (λ p τ is. is)
+        (λ t has l. refl) (λ p τ is. is)
 
     -- a known word of the slot that stays
     known_word : (slot : KnownSlot) (M' : Memory) (w : SlotWord) (word : Option ℕ)

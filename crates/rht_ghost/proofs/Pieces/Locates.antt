@@ -28,7 +28,7 @@ use Rattle.rht_nest.specs.declared.locate.LocatedBucket.{LocatedBucket}
 use Rattle.rht_nest.specs.declared.locate.LocatedBucket.TheVariants as buckets
 use Rattle.rht_nest.specs.Early.{early_of_locate}
 use Rattle.rht_ghost.proofs.Theory.Ghosts.{Ghost, has_table, index_at, none-some}
-use Rattle.rht_ghost.proofs.Theory.Wholes.{Whole, home, place_at, word_index}
+use Rattle.rht_ghost.proofs.Theory.Wholes.{Whole, home, place_at, word_index, current-there}
 use Rattle.rht_ghost.proofs.Theory.Passed.{passed_first, unbound_at_last, unbound_missing, go_on, go_beyond}
 use Rattle.rht_ghost.proofs.Theory.Knowns.{KnownNode, KnownTable, Passes, Shaped, OnWay, AtHome, KnownBucket, knows_plain}
 use Rattle.rht_ghost.proofs.Theory.Knowledge.{plainly, TableMeans, IsPassing, IsRightBehind, IsOnWay, IsMissed, Knowing}
@@ -78,13 +78,14 @@ module _ (env : Env) (mix : ℕ → ℕ → ℕ → ℕ) (c : ℕ) (h : Holding)
     -- the slot of the current table has a table, and nothing was passed there
     pub first_passed : (port : ℕ) → IsPassing env mix G port (table_of (M CurrentTable))
     first_passed port =
-        let right = whole.tables.each G.current whole.tables.current_in in
+        let there = current-there env mix whole.tables in
+        let right = whole.tables.each G.current there in
         let slot = (G.table G.current).slot in
         let is : table_of (M CurrentTable) ≡ slot = (let word = whole.tables.current_is in omega
         (arith, right.slot_in, word)) in
         rw is (record {
-          table = right.has_slot;
-          passed = rw right.index
+          table = there.has_slot;
+          passed = rw there.index
               (passed_first env mix M G whole port);
         })
 

@@ -14,7 +14,7 @@ use Rattle.rht_nest.specs.Place.{PlaceModel, nested_place, picked, entered}
 use Rattle.rht_nest.specs.declared.grow.GrowAt.{GrowAt}
 use Rattle.rht_nest.specs.declared.grow.GrowAt.TheVariants as grows
 use Rattle.rht_ghost.proofs.Theory.Ghosts.{Part, Middle, Top, has_entries, PageOf, Ghost, index_at, is_entry_of, entry_word, table_of_page, table_at}
-use Rattle.rht_ghost.proofs.Theory.Wholes.{hash_in, IsNested, PlacedRight, Whole}
+use Rattle.rht_ghost.proofs.Theory.Wholes.{hash_in, IsNested, PlacedRight, Whole, IsThere, slot-there}
 use Rattle.rht_ghost.proofs.Theory.Ways.{first_page, entries_in, IsInUse}
 use Rattle.rht_ghost.proofs.Theory.Entries.{few_entries, some_entries, page_within, entry_in, entry_nested}
 use Rattle.rht_ghost.proofs.Theory.PlacesRead.{begins_at_top, entries_in_words}
@@ -44,12 +44,12 @@ pub record IsOpenIn (env : Env) (G : Ghost) (τ j : ℕ) : Type 0 where
 module _ (env : Env) (mix : ℕ → ℕ → ℕ → ℕ) (M : Memory) (G : Ghost) (whole : Whole env mix M G) where
   -- ---- the entry is in use
 
-  module _ (τ number : ℕ) (l : τ < G.attached) (nested : is_nested (G.table τ).shape ≡ true) where
+  module _ (τ number : ℕ) (is_there : IsThere G τ) (nested : is_nested (G.table τ).shape ≡ true) where
     placed : PlacedRight env mix (G.table τ) G.page τ
-    placed = (whole.tables.each τ l).placed
+    placed = (whole.tables.each τ is_there).placed
 
     is : IsNested env mix (G.table τ) G.page τ
-    is = nested_placed env mix M G whole τ l nested
+    is = nested_placed env mix M G whole τ is_there nested
 
     -- an entry in use of a page with this part
     opens : (part : Part) (q index : ℕ) → index < 64 → G.page q ≡ PageOf τ → (G.table τ).part q ≡ part
@@ -79,7 +79,7 @@ module _ (env : Env) (mix : ℕ → ℕ → ℕ → ℕ) (M : Memory) (G : Ghost
         let shape = (G.table τ).shape in
         let below = mod_below number (entries_in shape) (some_entries shape) in
         let begins = begins_at_top env mix (G.table τ) G.page τ placed (words_of_pages M)
-        (entries_in_words env mix M G whole τ l) is number in
+        (entries_in_words env mix M G whole τ is_there) is number in
         subst (IsOpenIn env G τ) (sym (ap (λ (m : PlaceModel). m.entry) begins))
         (opens Top (first_page shape) (number % entries_in shape)
         (omega (arith, below, few_entries shape is.shaped)) is.top_of is.top_part refl below)
@@ -123,7 +123,7 @@ module _ (env : Env) (mix : ℕ → ℕ → ℕ → ℕ) (M : Memory) (G : Ghost
     open_in_table =
         let τ = index_at G slot in
         let number = hash_in env mix G port τ in
-        way_open τ number on.shaped.passing.passed.attached on.to.nested place on.to.way
+        way_open τ number (slot-there env mix whole.tables slot on.shaped.passing.table) on.to.nested place on.to.way
 
     pub open_on_way : IsOpenEntry env G place.entry
     open_on_way = open_in_table.open_is

@@ -13,7 +13,7 @@ use Rattle.rht_policy.specs.Mix.{bucket_of}
 use Rattle.rht_nest.specs.Tables.{is_nested}
 use Rattle.rht_nest.specs.Place.{PlaceModel, flat_place, nested_place, entered, place_or_last}
 use Rattle.rht_ghost.proofs.Theory.Ghosts.{Ghost, has_table, index_at}
-use Rattle.rht_ghost.proofs.Theory.Wholes.{TableRight, Whole, hash_in, home, place_at, future_in}
+use Rattle.rht_ghost.proofs.Theory.Wholes.{TableRight, slot-there, Whole, hash_in, home, place_at, future_in}
 use Rattle.rht_ghost.proofs.Theory.Knowledge.{IsRightBehind, IsWayTo}
 use Rattle.rht_ghost.proofs.Theory.WaysRead.{words_of_pages, read_by_entry, home_flat, on_way_read, missing_home}
 
@@ -21,7 +21,7 @@ module _ (env : Env) (mix : ℕ → ℕ → ℕ → ℕ) (M : Memory) (G : Ghost
   -- ---- the table in a slot, and what its words say
 
   pub table_right : (slot : ℕ) → has_table (G.slot slot) ≡ true → TableRight env mix M G (index_at G slot)
-  table_right slot has = whole.tables.each (index_at G slot) (whole.tables.slots slot has).attached
+  table_right slot has = whole.tables.each (index_at G slot) (slot-there env mix whole.tables slot has)
 
   pub slot_word : (slot : ℕ) (w : SlotWord) → has_table (G.slot slot) ≡ true
       → M (Slot slot w) ≡ M (Slot (G.table (index_at G slot)).slot w)
@@ -52,12 +52,13 @@ module _ (env : Env) (mix : ℕ → ℕ → ℕ → ℕ) (M : Memory) (G : Ghost
       slot_word slot FutureWord has ∙ (table_right slot has).future_is in
       rw future (elim (cases_lt (τ + 1) G.attached) [
         | inl more ↦
-            let right = whole.tables.each (τ + 1) more in
+            let there = whole.tables.there (τ + 1) more in
+            let right = whole.tables.each (τ + 1) there in
             let next = (G.table (τ + 1)).slot in
             let is : slot_of (future_in env mix G τ) ≡ Some next =
             ap (λ t. slot_of (cond t (future_of next) 0)) (lt-ltb (τ + 1) G.attached more)
             ∙ slot_named next right.slot_in in
-            subst (LeadsBehind slot) (sym is) (record { table = right.has_slot; index = right.index })
+            subst (LeadsBehind slot) (sym is) (record { table = there.has_slot; index = there.index })
         | inr last ↦
             let is : slot_of (future_in env mix G τ) ≡ None =
             ap (λ t. slot_of (cond t (future_of (G.table (τ + 1)).slot) 0)) (le-ltb (τ + 1) G.attached last) in

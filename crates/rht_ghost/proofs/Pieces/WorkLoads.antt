@@ -21,7 +21,7 @@ use Rattle.rht_policy.specs.Mix.{bucket_of}
 use Rattle.rht_nest.specs.Place.{PlaceModel, flat_place, nested_place, entered, behind_entry, place_or_last}
 use Rattle.rht_nest.specs.Tables.{is_nested}
 use Rattle.rht_ghost.proofs.Theory.Ghosts.{Ghost, has_table, index_at, lock_bit, none-some}
-use Rattle.rht_ghost.proofs.Theory.Wholes.{chain_of, key_of, place_at, word_index, place_at-index, index-within, hash_in, future_in, stop, PlacedRight, Whole}
+use Rattle.rht_ghost.proofs.Theory.Wholes.{chain_of, key_of, place_at, word_index, place_at-index, index-within, hash_in, future_in, stop, PlacedRight, Whole, current-there, slot-there, there-attached}
 use Rattle.rht_ghost.proofs.Theory.Passed.{hash-below, held-no_entry}
 use Rattle.rht_ghost.proofs.Theory.Knowns.{KnownAim, NoAim, Onward, From, Beyond, KnownRehash, KnownPlace, KnownEntry, KnownWork, Works, Rooted, Follows, Empties, Nears, Faces, InBucket, Bare, AtEntry, AtTail, Aims}
 use Rattle.rht_ghost.proofs.Theory.Knowledge.{DoesWork, HasLock, IsEmptying, IsNearing, IsInBucket, WorkMeans}
@@ -91,7 +91,7 @@ module _ (env : Env) (mix : ℕ → ℕ → ℕ → ℕ) (c : ℕ) (M : Memory) 
   -- the current table
   pub root_seen : Knows Works → Knows (Rooted (table_of (M CurrentTable)) NoAim)
   root_seen knows =
-      let right = whole.tables.each G.current whole.tables.current_in in
+      let right = whole.tables.each G.current (current-there env mix whole.tables) in
       let slot = (G.table G.current).slot in
       let is : table_of (M CurrentTable) ≡ slot = (let word = whole.tables.current_is in omega
       (arith, right.slot_in, word)) in
@@ -101,8 +101,8 @@ module _ (env : Env) (mix : ℕ → ℕ → ℕ → ℕ) (c : ℕ) (M : Memory) 
   root_has : (root : ℕ) → (G.table G.current).slot ≡ root
       → (has_table (G.slot root) ≡ true) × (index_at G root ≡ G.current)
   root_has root is =
-      let right = whole.tables.each G.current whole.tables.current_in in
-      (ap (λ s. has_table (G.slot s)) (sym is) ∙ right.has_slot, ap (index_at G) (sym is) ∙ right.index)
+      let there = current-there env mix whole.tables in
+      (ap (λ s. has_table (G.slot s)) (sym is) ∙ there.has_slot, ap (index_at G) (sym is) ∙ there.index)
 
   pub from_root : (root : ℕ) → Knows (Rooted root NoAim) → Knows (Rooted root (From root))
   from_root root knows =
@@ -236,7 +236,7 @@ module _ (env : Env) (mix : ℕ → ℕ → ℕ → ℕ) (c : ℕ) (M : Memory) 
       (below : number < size_of (unpacked (G.table G.current).shape))
       → option_map (place_at env mix) ((G.table G.current).place number) ≡ Some place → Knows (Faces root number place)
   faced root number place works is below leads =
-      let at = place_of_bucket env mix M G whole G.current number whole.tables.current_in below place leads in
+      let at = place_of_bucket env mix M G whole G.current number (current-there env mix whole.tables) below place leads in
       record {
         works = works;
         more = record { empties = is; below = below; bucket = at.bucket; here = at.here };
@@ -250,7 +250,7 @@ module _ (env : Env) (mix : ℕ → ℕ → ℕ → ℕ) (c : ℕ) (M : Memory) 
       let is = knows.more in
       let below = next_below root number is l in
       faced root number (flat_place env.geometry root.shape number) knows.works is below
-      (flat_read env mix M G whole G.current number whole.tables.current_in below (ap is_nested is.shape_is ∙ flat)
+      (flat_read env mix M G whole G.current number (current-there env mix whole.tables) below (ap is_nested is.shape_is ∙ flat)
       ∙ ap (λ s. Some (flat_place env.geometry s number)) is.shape_is)
 
   -- and in a nested one neared at the first entry on the way to it
@@ -540,13 +540,14 @@ module _ (env : Env) (mix : ℕ → ℕ → ℕ → ℕ) (c : ℕ) (M : Memory) 
       first.bound_to in
       let aim = bucket.aim_is in
       let τ = index_at G slot in
-      let attached = (whole.tables.slots slot aim.table).attached in
+      let is_there = slot-there env mix whole.tables slot aim.table in
+      let attached = there-attached env mix whole.tables τ is_there in
       let key = key_of M entry.node in
       let number = hash_in env mix G key τ in
       let below = hash-below env mix M G whole key τ in
       let place = flat_place env.geometry (G.table τ).shape number in
-      let placed = place_of_bucket env mix M G whole τ number attached below place
-      (flat_read env mix M G whole τ number attached below (ap is_nested aim.shape_is ∙ aim.flat)) in
+      let placed = place_of_bucket env mix M G whole τ number is_there below place
+      (flat_read env mix M G whole τ number is_there below (ap is_nested aim.shape_is ∙ aim.flat)) in
       let same : port_of key ≡ key = mod-eq_of_lt {n = key} {m = 2 ^ 32} small in
       record {
         place = place;

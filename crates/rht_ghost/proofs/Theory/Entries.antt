@@ -351,7 +351,7 @@ module _ (env : Env) (mix : ℕ → ℕ → ℕ → ℕ) where
   pub entry_nested : (M : Memory) (G : Ghost) → Whole env mix M G → (j : ℕ) → IsEntryIn G j
       → IsNested env mix (G.table (table_at G j)) G.page (table_at G j)
   entry_nested M G whole j is =
-      elim (whole.tables.each (table_at G j) (whole.pages.page_of (j / 64) (table_at G j) is.of)).placed [
+      elim (whole.tables.each (table_at G j) (whole.pages.there (j / 64) (table_at G j) is.of)).placed [
         | inl flat ↦ absurd (both_ways (has_entries ((G.table (table_at G j)).part (j / 64)))
             (ap has_entries (flat.rows (j / 64) is.of)) is.has)
         | inr nested ↦ nested

@@ -166,7 +166,7 @@ module _ (env : Env) (mix : ℕ → ℕ → ℕ → ℕ) where
     current = omega (arith, same.current);
     slots = λ s has. ap (λ slot. has_table (slot s)) same.slot ∙ has;
     indices = λ s has. ap (λ slot. index_of slot s) same.slot;
-    retired = λ s τ is. ap (λ slot. slot s) same.slot ∙ is;
+    live = λ s τ is l. ap (λ slot. slot s) (sym same.slot) ∙ is;
     pages = λ p τ is. ap (λ page. page p) same.page ∙ is;
   }
     where

@@ -19,7 +19,7 @@ use Rattle.rht_ghost.proofs.Theory.Passed.{NoKey, Passed}
 use Rattle.rht_ghost.proofs.Theory.Knowns.{knows_plain, Armed, KnownAim, NoAim, Onward, From, Beyond, KnownRehash, KnownPlace, Follows, Nears, Faces, InBucket, Bare, Aims, LeavesBehind, AtEntry, AtHome, AtNode, AtTail, Brings, Collected, CollectedTo, CutsOut, Differing, Differs, Empties, FirstLink, Found, HasBrought, HasMade, HasPages, HasTaken, InList, InSlot, IsAmong, IsCollected, IsCollectedTo, IsCutOut, IsLeading, IsLeadingTo, IsOtherOwner, IsOwnersNode, IsPromoting, Known, KnownBucket, KnownEntry, KnownList, KnownMaking, KnownNode, KnownSlot, KnownTable, KnownWork, Leads, LeadsTo, Listing, Locks, LocksTakenOut, MakesNothing, Matching, Member, Missed, NoWork, Nowhere, OnWay, Passes, Promotes, Replaces, Rooted, Shaped, Stands, StandsAt, StandsInList, Succeeds, TakenOut, TakesOut, Unlocked, Unlocks, WithShape, Works, last_of}
 use Rattle.rht_ghost.proofs.Theory.Ways.{first_page, entries_in, IsNestedShape}
 
--- the caller does the work, and each table before the current one is retired, but for the one in this slot
+-- the caller does the work, and each table before the current one that has a slot is retired, but for the one in this slot
 abbrev pub DoesWork : ℕ → Ghost → Option ℕ → Type 0
 DoesWork c G slot = (G.worker ≡ Some c) × AreRetired G slot
 

@@ -11,7 +11,7 @@ use Rattle.rht_words.specs.Members.{In}
 use Rattle.rht_words.proofs.Members.{in-middle}
 use Rattle.rht_nest.specs.Place.{PlaceModel}
 use Rattle.rht_ghost.proofs.Theory.Ghosts.{Ghost, has_table, index_at, seat-used}
-use Rattle.rht_ghost.proofs.Theory.Wholes.{retired_stay, key_of, word_index, home, out-seated, Whole}
+use Rattle.rht_ghost.proofs.Theory.Wholes.{retired_stay, key_of, word_index, home, out-seated, Whole, current-there}
 use Rattle.rht_ghost.proofs.Theory.Passed.{place-table, TableStays, TablesGrow, table_at-grows, home-stays}
 use Rattle.rht_ghost.proofs.Theory.Knowns.{KnownAim, NoAim, Onward, From, Beyond, KnownRehash, KnownPlace, Follows, Nears, Faces, KnownEntry, InBucket, Bare, AtEntry, AtTail, Aims, Brings, Empties, LeavesBehind, HasBrought, HasMade, HasPages, HasTaken, Known, KnownMaking, KnownWork, MakesNothing, NoWork, Rooted, TakesOut, Works, last_of}
 use Rattle.rht_ghost.proofs.Theory.Knowledge.{AimMeans, IsWayIn, IsRooted, IsFollowed, IsNearing, IsFacing, IsLeftBehind, IsNext, IsInBucket, IsBare, IsAim, IsAiming, IsWorking, HasLock, HasOnly, HasSlot, IsBringing, IsBrought, IsEmptying, IsEntry, IsOutOf, IsRoot, IsTail, IsTakenOut, IsTarget, Knowing, MakingMeans, Means, WorkMeans, bucket_at}
@@ -111,7 +111,7 @@ module _ (env : Env) (mix : ℕ → ℕ → ℕ → ℕ) where
       each = λ b j l at. elim (keeps.grow.placed G.current b j whole.tables.current_in
           (ap (λ τ. (G'.table τ).place b) (sym stays.current) ∙ at)) [
             | inl was ↦
-                let there = place-table env mix M G whole G.current b j whole.tables.current_in
+                let there = place-table env mix M G whole G.current b j (current-there env mix whole.tables)
                 (omega (arith, l, is.within)) was in
                 stays.emptied is.followed.more j there (is.each b j l was)
             | inr blank ↦ record {
@@ -326,8 +326,7 @@ module _ (env : Env) (mix : ℕ → ℕ → ℕ → ℕ) where
           works = (
             stays.worker,
             retired_stay G G' slot stays.current
-                (λ τ l. (keeps.grow.tables τ (omega (arith, l, whole.tables.current_in))).slot) keeps.grow.retired
-                means.works.1,
+                (λ s τ is l. keeps.grow.live s τ is (omega (arith, l, whole.tables.current_in))) means.works.1,
           );
           more = go works means.more;
         }

@@ -12,8 +12,8 @@ use Rattle.rht_words.proofs.Memory.{Memory}
 use Rattle.rht_words.proofs.ShapeSizes.{IsSizeUpTo-size_of}
 use Rattle.rht_words.specs.Members.{In}
 use Rattle.rht_policy.specs.Mix.{bucket_of}
-use Rattle.rht_ghost.proofs.Theory.Ghosts.{Table, Bucket, blank_bucket, is_entry, Ghost, First, PageOwner, PageFree, PageHeld, PageOf, Retired, seat_in, seat, seated, table_of_page, table_at, has_table, index_at, none-some, some-same}
-use Rattle.rht_ghost.proofs.Theory.Wholes.{key_of, home, hash_in, IsNoBucket, MovesNone, seated_at, Whole}
+use Rattle.rht_ghost.proofs.Theory.Ghosts.{Table, Bucket, blank_bucket, is_entry, Ghost, First, PageOwner, PageFree, PageHeld, PageOf, Live, seat_in, seat, seated, table_of_page, table_at, has_table, index_at, none-some, some-same}
+use Rattle.rht_ghost.proofs.Theory.Wholes.{key_of, home, hash_in, IsNoBucket, MovesNone, seated_at, Whole, IsThere, force-there}
 use Rattle.rht_ghost.proofs.Theory.Entries.{IsWordOf, word_of, bucket-no_entry}
 
 -- none of these nodes has the key
@@ -86,38 +86,38 @@ module _ (env : Env) (mix : ℕ → ℕ → ℕ → ℕ) where
         (let size_is = IsSizeUpTo-size_of (unpacked (G.table τ).shape) in omega (arith, size_is.least))
 
     -- the word of a bucket of a table is in one of the table's pages, and is no entry
-    pub place-word : (τ b j : ℕ) → τ < G.attached → b < size_of (unpacked (G.table τ).shape)
+    pub place-word : (τ b j : ℕ) → IsThere G τ → b < size_of (unpacked (G.table τ).shape)
         → (G.table τ).place b ≡ Some j → IsWordOf env mix (G.table τ) G.page τ b j
-    place-word τ b j l below is = word_of env mix (G.table τ) G.page τ (whole.tables.each τ l).placed b j below is
+    place-word τ b j is_there below is = word_of env mix (G.table τ) G.page τ (whole.tables.each τ is_there).placed b j below is
 
-    pub place-table : (τ b j : ℕ) → τ < G.attached → b < size_of (unpacked (G.table τ).shape)
+    pub place-table : (τ b j : ℕ) → IsThere G τ → b < size_of (unpacked (G.table τ).shape)
         → (G.table τ).place b ≡ Some j → table_at G j ≡ τ
-    place-table τ b j l below is = ap table_of_page (place-word τ b j l below is).of
+    place-table τ b j is_there below is = ap table_of_page (place-word τ b j is_there below is).of
 
-    pub place-bucket : (τ b j : ℕ) → τ < G.attached → b < size_of (unpacked (G.table τ).shape)
+    pub place-bucket : (τ b j : ℕ) → IsThere G τ → b < size_of (unpacked (G.table τ).shape)
         → (G.table τ).place b ≡ Some j → IsNoBucket env mix G (G.page (j / 64)) j → ⊥
-    place-bucket τ b j l below is bucketless =
-        let word = place-word τ b j l below is in
+    place-bucket τ b j is_there below is bucketless =
+        let word = place-word τ b j is_there below is in
         word.bucket (subst (λ o. IsNoBucket env mix G o j) word.of bucketless)
 
-    pub home-word : (port τ j : ℕ) → τ < G.attached → home env mix G port τ ≡ Some j
+    pub home-word : (port τ j : ℕ) → IsThere G τ → home env mix G port τ ≡ Some j
         → IsWordOf env mix (G.table τ) G.page τ (hash_in env mix G port τ) j
-    home-word port τ j l is = place-word τ (hash_in env mix G port τ) j l (hash-below port τ) is
+    home-word port τ j is_there is = place-word τ (hash_in env mix G port τ) j is_there (hash-below port τ) is
 
-    pub home-table : (port τ j : ℕ) → τ < G.attached → home env mix G port τ ≡ Some j → table_at G j ≡ τ
-    home-table port τ j l is = place-table τ (hash_in env mix G port τ) j l (hash-below port τ) is
+    pub home-table : (port τ j : ℕ) → IsThere G τ → home env mix G port τ ≡ Some j → table_at G j ≡ τ
+    home-table port τ j is_there is = place-table τ (hash_in env mix G port τ) j is_there (hash-below port τ) is
 
-    pub home-within : (port τ j : ℕ) → τ < G.attached → home env mix G port τ ≡ Some j
+    pub home-within : (port τ j : ℕ) → IsThere G τ → home env mix G port τ ≡ Some j
         → j < 64 * env.geometry.pages
-    home-within port τ j l is = (home-word port τ j l is).within
+    home-within port τ j is_there is = (home-word port τ j is_there is).within
 
     -- the word of a port's bucket is a bucket's
-    pub home-bucket : (port τ j : ℕ) → τ < G.attached → home env mix G port τ ≡ Some j
+    pub home-bucket : (port τ j : ℕ) → IsThere G τ → home env mix G port τ ≡ Some j
         → IsNoBucket env mix G (G.page (j / 64)) j → ⊥
-    home-bucket port τ j l is = place-bucket τ (hash_in env mix G port τ) j l (hash-below port τ) is
+    home-bucket port τ j is_there is = place-bucket τ (hash_in env mix G port τ) j is_there (hash-below port τ) is
 
-    pub home-no_entry : (port τ j : ℕ) → τ < G.attached → home env mix G port τ ≡ Some j → is_entry G j ≡ false
-    home-no_entry port τ j l is = bucket-no_entry env mix G j (home-bucket port τ j l is)
+    pub home-no_entry : (port τ j : ℕ) → IsThere G τ → home env mix G port τ ≡ Some j → is_entry G j ≡ false
+    home-no_entry port τ j is_there is = bucket-no_entry env mix G j (home-bucket port τ j is_there is)
 
     -- nor is that of a bucket that somebody has locked
     pub held-bucket : (j c : ℕ) → (G.bucket j).holder ≡ Some c → IsNoBucket env mix G (G.page (j / 64)) j → ⊥
@@ -263,7 +263,7 @@ module _ (env : Env) (mix : ℕ → ℕ → ℕ → ℕ) where
         let out = whole.moving.out i n is in
         let to = whole.owned.bound_to port n behind b in
         let there = (whole.owned.first_at n j first).at_home in
-        let table : table_at G j ≡ τ = home-table port τ j passed.attached at in
+        let table : table_at G j ≡ τ = home-table port τ j (whole.tables.there τ passed.attached) at in
         let here : home env mix G port G.current ≡ Some i = rw (sym to.key_is) out.here in
         elim (cases_eq G.current τ) [
           | inl e ↦
@@ -370,7 +370,8 @@ module _ (env : Env) (mix : ℕ → ℕ → ℕ → ℕ) where
               | inl still ↦ passed.gone σ j n still.behind (omega (arith, grow.current, l)) h was still.bound_to still.out
               | inr seat_was ↦
                   let at_least = passed.later j seat_was in
-                  let table = home-table M G whole port σ j (omega (arith, passed.attached, h)) was in
+                  let table = home-table M G whole port σ j (force-there env mix whole.tables σ
+                  (omega (arith, h, grow.current)) (omega (arith, passed.attached, h))) was in
                   absurd (omega (arith, at_least, table, h))
             ]
             | inr blank ↦ none-some (ap (λ b. b.out) blank) out
@@ -396,7 +397,7 @@ module _ (env : Env) (mix : ℕ → ℕ → ℕ → ℕ) where
         unarmed σ j (Some c) is l h at = elim (stay.armed j c is) [
           | inl before ↦ absurd (none-some (passed.quiet σ j l h at) before)
           | inr last ↦
-              let table = home-table M G whole port σ j (omega (arith, passed.attached)) at in
+              let table = home-table M G whole port σ j (force-there env mix whole.tables σ l (omega (arith, passed.attached, h))) at in
               absurd (omega (arith, last, table, passed.attached))
         ]
 
@@ -412,7 +413,7 @@ module _ (env : Env) (mix : ℕ → ℕ → ℕ → ℕ) where
     pub current : G.current ≤ G'.current
     pub slots : (s : ℕ) → has_table (G.slot s) ≡ true → has_table (G'.slot s) ≡ true
     pub indices : (s : ℕ) → has_table (G.slot s) ≡ true → index_at G' s ≡ index_at G s
-    pub retired : (s τ : ℕ) → G.slot s ≡ Retired τ → G'.slot s ≡ Retired τ
+    pub live : (s τ : ℕ) → G'.slot s ≡ Live τ → τ < G.attached → G.slot s ≡ Live τ
     pub pages : (p τ : ℕ) → G.page p ≡ PageOf τ → G'.page p ≡ PageOf τ
 
   -- so everything stays from the first table on

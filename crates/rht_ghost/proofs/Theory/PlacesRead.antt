@@ -15,7 +15,7 @@ use Rattle.rht_nest.specs.Place.{PlaceModel, is_deep, top_page, top_entries, fla
 use Rattle.rht_ghost.proofs.Theory.Ghosts.{Part, Leaf, Middle, Top, has_entries, Table, PageOwner, PageOf, Ghost, is_entry, is_entry_of, entry_word, table_of_page}
 use Rattle.rht_ghost.proofs.Theory.LowBits.{low_alone, low_bits, middle_bits, high_bits}
 use Rattle.rht_ghost.proofs.Theory.Ways.{first_page, entries_in, leaves_in, behind_top, word_in, IsMiddleAt, StandsAs}
-use Rattle.rht_ghost.proofs.Theory.Wholes.{place_at, IsFlat, IsNested, PlacedRight, Whole}
+use Rattle.rht_ghost.proofs.Theory.Wholes.{place_at, IsFlat, IsNested, PlacedRight, Whole, IsThere}
 use Rattle.rht_ghost.proofs.Theory.Entries.{IsShallow, IsDeep, depth_of, few_entries, some_entries, word_leads, top_leads, page_within}
 
 module _ (env : Env) (mix : ℕ → ℕ → ℕ → ℕ) where
@@ -195,20 +195,20 @@ module _ (env : Env) (mix : ℕ → ℕ → ℕ → ℕ) where
     ]
 
   -- the words of a table's entries are right
-  pub entries_in_words : (M : Memory) (G : Ghost) → Whole env mix M G → (τ : ℕ) → τ < G.attached → (j : ℕ)
+  pub entries_in_words : (M : Memory) (G : Ghost) → Whole env mix M G → (τ : ℕ) → IsThere G τ → (j : ℕ)
       → G.page (j / 64) ≡ PageOf τ → has_entries ((G.table τ).part (j / 64)) ≡ true
       → M (PageWord j) ≡ entry_word ((G.table τ).entry j)
-  entries_in_words M G whole τ l j of has =
-      let within = page_within env mix (G.table τ) G.page τ (whole.tables.each τ l).placed (j / 64) of in
+  entries_in_words M G whole τ is_there j of has =
+      let within = page_within env mix (G.table τ) G.page τ (whole.tables.each τ is_there).placed (j / 64) of in
       let is : is_entry G j ≡ true = ap (λ o. is_entry_of G.table o (j / 64)) of ∙ has in
       whole.entries j (omega (arith, within)) is
       ∙ ap (λ o. entry_word ((G.table (table_of_page o)).entry j)) of
 
   -- so it is of places
-  pub placed_in_words : (M : Memory) (G : Ghost) → Whole env mix M G → (τ b : ℕ) → τ < G.attached
+  pub placed_in_words : (M : Memory) (G : Ghost) → Whole env mix M G → (τ b : ℕ) → IsThere G τ
       → b < size_of (unpacked (G.table τ).shape)
       → place_in (λ j. M (PageWord j)) env.geometry (G.table τ).shape b
       ≡ option_map (place_at env mix) ((G.table τ).place b)
-  placed_in_words M G whole τ b l below =
-      placed_in_read (G.table τ) G.page τ (whole.tables.each τ l).placed (λ j. M (PageWord j))
-      (entries_in_words M G whole τ l) b below
+  placed_in_words M G whole τ b is_there below =
+      placed_in_read (G.table τ) G.page τ (whole.tables.each τ is_there).placed (λ j. M (PageWord j))
+      (entries_in_words M G whole τ is_there) b below

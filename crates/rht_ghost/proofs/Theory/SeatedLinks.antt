@@ -1,6 +1,6 @@
 -- Where the words of buckets lead, and the links of nodes that are their ports' first ones: to such nodes, or
 -- to none.
-use Rattle.std.proofs.Common.{◌≡◌, ◌⊎◌, ℕ, ◌<◌, List, [], ◌∷◌, Option, Some, None, true, refl, sym, ◌∙◌, ap, subst, inl, inr, arith}
+use Rattle.std.proofs.Common.{◌≡◌, ◌⊎◌, ℕ, List, [], ◌∷◌, Option, Some, None, true, refl, sym, ◌∙◌, ap, subst, inl, inr, arith}
 use Rattle.rht_words.specs.declared.env.Env.{Env}
 use Rattle.rht_words.specs.Chains.{IsSegment}
 use Rattle.rht_words.specs.Links.{link_of, node_of, head_of}
@@ -8,7 +8,7 @@ use Rattle.rht_words.specs.Members.{In}
 use Rattle.rht_words.proofs.LinksRead.{links_tell_apart}
 use Rattle.rht_words.proofs.Memory.{Memory}
 use Rattle.rht_ghost.proofs.Theory.Ghosts.{Ghost, HasSeat, is_first, seat_of, seated, seat-first, first-seat, table_at}
-use Rattle.rht_ghost.proofs.Theory.Wholes.{chain_of, key_of, home, place_at, stop, ChainedRight, Whole, out-seated}
+use Rattle.rht_ghost.proofs.Theory.Wholes.{chain_of, key_of, home, place_at, stop, ChainedRight, Whole, out-seated, IsThere, force-there}
 use Rattle.rht_ghost.proofs.Theory.Passed.{home-within, home-no_entry}
 
 -- a link leads to one node
@@ -25,16 +25,17 @@ link-next_of env link n leads = (links_tell_apart.named_by_link env.geometry.nod
 
 module _ (env : Env) (mix : ℕ → ℕ → ℕ → ℕ) (M : Memory) (G : Ghost) (whole : Whole env mix M G) where
   -- the chain of a port's bucket is right, and so is that of a bucket that has a node
-  pub home_chained : (port τ j : ℕ) → τ < G.attached → home env mix G port τ ≡ Some j
+  pub home_chained : (port τ j : ℕ) → IsThere G τ → home env mix G port τ ≡ Some j
       → ChainedRight env mix M j (G.bucket j)
-  home_chained port τ j l is =
-      (whole.buckets j (home-within env mix M G whole port τ j l is)
-      (home-no_entry env mix M G whole port τ j l is)).chained
+  home_chained port τ j is_there is =
+      (whole.buckets j (home-within env mix M G whole port τ j is_there is)
+      (home-no_entry env mix M G whole port τ j is_there is)).chained
 
   pub member_chained : (j n : ℕ) → In n (G.bucket j).nodes → ChainedRight env mix M j (G.bucket j)
   member_chained j n there =
       let at = (whole.owned.first_at n j (whole.owned.member j n there)).at_home in
-      home_chained (key_of M n) (table_at G j) j at.attached at.here
+      home_chained (key_of M n) (table_at G j) j
+      (force-there env mix whole.tables (table_at G j) at.current at.attached) at.here
 
   -- in a row of first nodes each leads to one, or to the row's end
   row_leads : (link : ℕ) (nodes : List ℕ) (last n z : ℕ) → IsSegment (chain_of M) link nodes last → In n nodes
@@ -95,7 +96,8 @@ module _ (env : Env) (mix : ℕ → ℕ → ℕ → ℕ) (M : Memory) (G : Ghost
     | inr leaving ↦
         let next = (whole.owned.leaving_at n sits.bucket leaving).next in
         head-seated next.bucket z
-        (home_chained (key_of M n) (table_at G next.bucket) next.bucket next.attached next.here)
+        (home_chained (key_of M n) (table_at G next.bucket) next.bucket
+        (force-there env mix whole.tables (table_at G next.bucket) (let later = next.later in omega (arith, later)) next.attached) next.here)
         (sym next.chain ∙ leads)
   ]
 

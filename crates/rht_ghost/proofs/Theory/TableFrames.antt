@@ -8,8 +8,8 @@ use Rattle.rht_words.specs.Places.{Address, CurrentTable, PortCount, Slot, SlotW
 use Rattle.rht_words.specs.Members.{In}
 use Rattle.rht_words.proofs.Memory.{Memory, IsWrite}
 use Rattle.rht_words.proofs.ChainLemmas.{IsSegment-members}
-use Rattle.rht_ghost.proofs.Theory.Ghosts.{has_entries, Table, blank_bucket, PageOwner, PageFree, PageHeld, PageOf, SlotOwner, SlotHeld, Ghost, table_of_page, table_of_slot, table_at, has_table, index_at, is_entry, is_entry_of, entry_word}
-use Rattle.rht_ghost.proofs.Theory.Wholes.{key_of, list_of, home, future_in, IsNoBucket, PlacedRight, EntriesRight, TableRight, TablesRight, SlotsRight, PagesRight, MovingRight, OutRight, IsHomeOf, IsFirstAt, IsLeavingAt, Owned, Whole, seated_at}
+use Rattle.rht_ghost.proofs.Theory.Ghosts.{has_entries, Table, blank_bucket, PageOwner, PageFree, PageHeld, PageOf, SlotOwner, SlotHeld, Live, Ghost, table_of_page, table_of_slot, table_at, has_table, index_at, is_entry, is_entry_of, entry_word}
+use Rattle.rht_ghost.proofs.Theory.Wholes.{key_of, list_of, home, future_in, IsNoBucket, PlacedRight, EntriesRight, TableRight, TablesRight, SlotsRight, PagesRight, MovingRight, OutRight, IsHomeOf, IsFirstAt, IsLeavingAt, Owned, Whole, seated_at, IsThere, there-attached}
 use Rattle.rht_nest.specs.Tables.{table_seed}
 use Rattle.rht_ghost.proofs.Theory.Entries.{PlacedRight-pages}
 use Rattle.rht_ghost.proofs.Theory.Passed.{held-bucket, member-bucket, home-stays, TableStays, same-TableStays, TablesGrow, PassesStay, Passed-stays}
@@ -41,20 +41,50 @@ module _ (env : Env) (mix : ℕ → ℕ → ℕ → ℕ) where
         → ((G.table τ).place b ≡ Some j) ⊎ (G.bucket j ≡ blank_bucket)
     pub more : G.attached ≤ attached
     pub slots : (s : ℕ) → has_table (G.slot s) ≡ true → slot s ≡ G.slot s
+    pub back : (s : ℕ) → has_table (slot s) ≡ true → table_of_slot (slot s) < G.attached → slot s ≡ G.slot s
     pub pages : (p τ : ℕ) → G.page p ≡ PageOf τ → page p ≡ PageOf τ
 
   -- so it is where they are what they were
   pub same_kept : (G : Ghost) (table : ℕ → Table) (attached : ℕ) (slot : ℕ → SlotOwner) (page : ℕ → PageOwner)
       → ((τ : ℕ) → τ < G.attached → table τ ≡ G.table τ) → G.attached ≤ attached
       → ((s : ℕ) → has_table (G.slot s) ≡ true → slot s ≡ G.slot s)
+      → ((s : ℕ) → has_table (slot s) ≡ true → table_of_slot (slot s) < G.attached → slot s ≡ G.slot s)
       → ((p τ : ℕ) → G.page p ≡ PageOf τ → page p ≡ PageOf τ) → TablesKept G table attached slot page
-  same_kept G table attached slot page same more slots pages = record {
+  same_kept G table attached slot page same more slots back pages = record {
     tables = λ τ l. same-TableStays G.page τ (G.table τ) (table τ) (same τ l);
     placed = λ τ b j l is. inl (ap (λ (t : Table). t.place b) (sym (same τ l)) ∙ is);
     more = more;
     slots = slots;
+    back = back;
     pages = pages;
   }
+
+  -- Then a slot that has one of these tables in use had it before. And a table that was there is there still; one of these that is
+  -- there was so before.
+  module _ (G : Ghost) (table : ℕ → Table) (attached : ℕ) (slot : ℕ → SlotOwner) (page : ℕ → PageOwner)
+      (kept : TablesKept G table attached slot page) where
+    pub live_kept : (s τ : ℕ) → slot s ≡ Live τ → τ < G.attached → G.slot s ≡ Live τ
+    live_kept s τ live l =
+        let index : table_of_slot (slot s) ≡ τ = ap table_of_slot live in
+        sym (kept.back s (ap has_table live) (omega (arith, index, l))) ∙ live
+
+    pub there_kept : (τ : ℕ) → τ < G.attached → IsThere G τ → IsThere (retabled G table attached slot page) τ
+    there_kept τ l there =
+        let same = (kept.tables τ l).slot in
+        let owner = kept.slots (G.table τ).slot there.has_slot in
+        record {
+          has_slot = ap (λ s. has_table (slot s)) same ∙ ap has_table owner ∙ there.has_slot;
+          index = ap (λ s. table_of_slot (slot s)) same ∙ ap table_of_slot owner ∙ there.index;
+        }
+
+    pub there_before : (τ : ℕ) → τ < G.attached → IsThere (retabled G table attached slot page) τ → IsThere G τ
+    there_before τ l there =
+        let s = (G.table τ).slot in
+        let same : (table τ).slot ≡ s = (kept.tables τ l).slot in
+        let has : has_table (slot s) ≡ true = ap (λ t. has_table (slot t)) (sym same) ∙ there.has_slot in
+        let index : table_of_slot (slot s) ≡ τ = ap (λ t. table_of_slot (slot t)) (sym same) ∙ there.index in
+        let owner = kept.back s has (omega (arith, index, l)) in
+        record { has_slot = sym (ap has_table owner) ∙ has; index = sym (ap table_of_slot owner) ∙ index }
 
   -- a page that no table has, or the word of none of its buckets
   pub no_table-no_bucket : (G : Ghost) (owner : PageOwner) (j : ℕ) → ((τ : ℕ) → owner ≢ PageOf τ)
@@ -77,7 +107,7 @@ module _ (env : Env) (mix : ℕ → ℕ → ℕ → ℕ) where
       current = omega arith;
       slots = λ s has. ap has_table (kept.slots s has) ∙ has;
       indices = λ s has. ap table_of_slot (kept.slots s has);
-      retired = λ s τ is. kept.slots s (ap has_table is) ∙ is;
+      live = live_kept G table attached slot page kept;
       pages = kept.pages;
     }
 
@@ -366,22 +396,18 @@ module _ (env : Env) (mix : ℕ → ℕ → ℕ → ℕ) where
 
     -- ---- tables
 
-    -- a table that there was is right, where its slot has the words that it had, its future is that of now, and its buckets are in place
-    pub TableRight-kept : (τ : ℕ) → τ < G.attached
+    -- a table that was there is right, where its slot has the words that it had, its future is that of now, and its buckets are in place
+    pub TableRight-kept : (τ : ℕ) → τ < G.attached → IsThere G τ
         → M' (Slot (G.table τ).slot ShapeWord) ≡ M (Slot (G.table τ).slot ShapeWord)
         → M' (Slot (G.table τ).slot SeedWord) ≡ M (Slot (G.table τ).slot SeedWord)
         → M' (Slot (G.table τ).slot SerialWord) ≡ M (Slot (G.table τ).slot SerialWord)
         → M' (Slot (G.table τ).slot FutureWord) ≡ future_in env mix G' τ → PlacedRight env mix (table τ) page τ
         → TableRight env mix M' G' τ
-    TableRight-kept τ l shape seed serial future placed =
-        let right = whole.tables.each τ l in
+    TableRight-kept τ l there shape seed serial future placed =
+        let right = whole.tables.each τ there in
         let stays = kept.tables τ l in
-        let owner = kept.slots (G.table τ).slot right.has_slot in
         record {
           slot_in = omega (arith, stays.slot, right.slot_in);
-          has_slot = ap (λ s. has_table (slot s)) stays.slot ∙ ap has_table owner ∙ right.has_slot;
-          index = ap (λ s. table_of_slot (slot s)) stays.slot ∙ ap table_of_slot owner ∙ right.index;
-          live = λ k. ap slot stays.slot ∙ owner ∙ right.live k;
           shape_is = ap (λ s. M' (Slot s ShapeWord)) stays.slot ∙ shape ∙ right.shape_is ∙ sym stays.shape;
           seed_is = ap (λ s. M' (Slot s SeedWord)) stays.slot ∙ seed ∙ right.seed_is ∙ sym stays.seed;
           serial_is = ap (λ s. M' (Slot s SerialWord)) stays.slot ∙ serial ∙ right.serial_is ∙ sym stays.serial;
@@ -391,11 +417,11 @@ module _ (env : Env) (mix : ℕ → ℕ → ℕ → ℕ) where
         }
 
     -- the buckets of a table that is what it was are in place, where it gets no page
-    pub placed_kept : (τ : ℕ) → τ < G.attached → table τ ≡ G.table τ
+    pub placed_kept : (τ : ℕ) → IsThere G τ → table τ ≡ G.table τ
         → ((p : ℕ) → page p ≡ PageOf τ → G.page p ≡ PageOf τ) → PlacedRight env mix (table τ) page τ
-    placed_kept τ l same back =
+    placed_kept τ there same back =
         subst (λ t. PlacedRight env mix t page τ) (sym same)
-        (PlacedRight-pages env mix (G.table τ) G.page page τ (λ p. kept.pages p τ) back (whole.tables.each τ l).placed)
+        (PlacedRight-pages env mix (G.table τ) G.page page τ (λ p. kept.pages p τ) back (whole.tables.each τ there).placed)
 
   -- tables that stay are right, where the slots that have tables are those that had them, with the words that they had, and no table
   -- gets a page
@@ -410,14 +436,23 @@ module _ (env : Env) (mix : ℕ → ℕ → ℕ → ℕ) where
       record {
         current_in = right.current_in;
         current_is = write.others CurrentTable tt apart.current ∙ right.current_is;
-        each = λ τ l.
-            let here = right.each τ l in
+        force = λ τ from l.
+            let live = right.force τ from l in kept.slots (G.table τ).slot (ap has_table live) ∙ live;
+        there = λ τ l. there_kept G G.table G.attached slot page kept τ l (right.there τ l);
+        each = λ τ now.
             let s = (G.table τ).slot in
+            let owner = back s now.has_slot in
+            let there : IsThere G τ = record {
+              has_slot = sym (ap has_table owner) ∙ now.has_slot;
+              index = sym (ap table_of_slot owner) ∙ now.index;
+            } in
+            let l = there-attached env mix right τ there in
+            let here = right.each τ there in
             let same : (w : SlotWord) → IsSlotWord w → M' (Slot s w) ≡ M (Slot s w) =
-            λ w is. write.others (Slot s w) (here.slot_in, is) (apart.slots s w here.has_slot) in
-            TableRight-kept M M' G G.table G.attached slot page whole kept a v write words τ l (same ShapeWord tt)
+            λ w is. write.others (Slot s w) (here.slot_in, is) (apart.slots s w there.has_slot) in
+            TableRight-kept M M' G G.table G.attached slot page whole kept a v write words τ l there (same ShapeWord tt)
             (same SeedWord tt) (same SerialWord tt) (same FutureWord tt ∙ here.future_is)
-            (placed_kept M M' G G.table G.attached slot page whole kept a v write words τ l refl (λ p. pages_back p τ));
+            (placed_kept M M' G G.table G.attached slot page whole kept a v write words τ there refl (λ p. pages_back p τ));
         slots = λ s has.
             let owner = back s has in
             let is = right.slots s (sym (ap has_table owner) ∙ has) in
@@ -429,11 +464,12 @@ module _ (env : Env) (mix : ℕ → ℕ → ℕ → ℕ) where
       }
 
   -- and pages are, where only slots change
-  pub PagesRight-kept : (M M' : Memory) (G : Ghost) (slot : ℕ → SlotOwner) (a : Address) (v : ℕ)
-      → IsWrite env.geometry M M' a v → ((i : ℕ) → PageMap i ≢ a) → PagesRight env mix M G
+  pub PagesRight-kept : (M M' : Memory) (G : Ghost) (slot : ℕ → SlotOwner) → TablesKept G G.table G.attached slot G.page
+      → (a : Address) (v : ℕ) → IsWrite env.geometry M M' a v → ((i : ℕ) → PageMap i ≢ a) → PagesRight env mix M G
       → PagesRight env mix M' (retabled G G.table G.attached slot G.page)
-  PagesRight-kept M M' G slot a v write apart right = record {
+  PagesRight-kept M M' G slot kept a v write apart right = record {
     bits = λ p l. rw (write.others (PageMap (p / 64)) (omega arith) (apart (p / 64))) (right.bits p l);
     page_of = right.page_of;
+    there = λ p τ of. there_kept G G.table G.attached slot G.page kept τ (right.page_of p τ of) (right.there p τ of);
     blank = λ j is. right.blank j (no_bucket env mix G (retabled G G.table G.attached slot G.page) refl (G.page (j / 64)) j is);
   }

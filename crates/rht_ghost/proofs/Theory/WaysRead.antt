@@ -13,7 +13,7 @@ use Rattle.rht_words.proofs.Memory.{Memory}
 use Rattle.rht_nest.specs.Tables.{is_nested}
 use Rattle.rht_nest.specs.Place.{PlaceModel, is_deep, flat_place, nested_place, picked, entered, behind_entry, place_at_once, place_or_last, read_last, read_place, place_in}
 use Rattle.rht_ghost.proofs.Theory.Ghosts.{Ghost, has_table, index_at, none-some, some-same}
-use Rattle.rht_ghost.proofs.Theory.Wholes.{place_at, word_index, index-place_at, home, hash_in, IsNested, Whole}
+use Rattle.rht_ghost.proofs.Theory.Wholes.{place_at, word_index, index-place_at, home, hash_in, IsNested, Whole, IsThere, slot-there, current-there}
 use Rattle.rht_ghost.proofs.Theory.PlacesRead.{leads_to_middle, middle_behind, entries_in_words, placed_in_words}
 use Rattle.rht_ghost.proofs.Theory.Passed.{hash-below, place-word}
 use Rattle.rht_ghost.proofs.Theory.Knowns.{KnownRehash}
@@ -75,9 +75,9 @@ read_by_entry read m g entry same is =
 module _ (env : Env) (mix : ℕ → ℕ → ℕ → ℕ) where
   -- ---- the table is nested, or it isn't
 
-  pub nested_placed : (M : Memory) (G : Ghost) → Whole env mix M G → (τ : ℕ) → τ < G.attached
+  pub nested_placed : (M : Memory) (G : Ghost) → Whole env mix M G → (τ : ℕ) → IsThere G τ
       → is_nested (G.table τ).shape ≡ true → IsNested env mix (G.table τ) G.page τ
-  nested_placed M G whole τ l is = elim (whole.tables.each τ l).placed [
+  nested_placed M G whole τ is_there is = elim (whole.tables.each τ is_there).placed [
     | inl flat ↦ absurd (both_ways (is_nested (G.table τ).shape)
         (le-ltb 0 (unpacked (G.table τ).shape).nest (omega (arith, flat.flat))) is)
     | inr nested ↦ nested
@@ -88,7 +88,7 @@ module _ (env : Env) (mix : ℕ → ℕ → ℕ → ℕ) where
     pub bucket : IsBucketPlace env.geometry place
     pub here : (G.table τ).place number ≡ Some (word_index env mix place)
 
-  module _ (M : Memory) (G : Ghost) (whole : Whole env mix M G) (τ number : ℕ) (l : τ < G.attached)
+  module _ (M : Memory) (G : Ghost) (whole : Whole env mix M G) (τ number : ℕ) (is_there : IsThere G τ)
       (below : number < size_of (unpacked (G.table τ).shape)) where
     abbrev shape_of_table : ℕ
     shape_of_table = (G.table τ).shape
@@ -109,7 +109,7 @@ module _ (env : Env) (mix : ℕ → ℕ → ℕ → ℕ) where
 
     -- as the words have it it is the same
     in_words : place_in read env.geometry shape_of_table number ≡ there
-    in_words = placed_in_words env mix M G whole τ number l below
+    in_words = placed_in_words env mix M G whole τ number is_there below
 
     pub flat_read : is_nested shape_of_table ≡ false → there ≡ Some in_row
     flat_read flat =
@@ -121,15 +121,15 @@ module _ (env : Env) (mix : ℕ → ℕ → ℕ → ℕ) where
 
     module _ (place : PlaceModel) (to : IsWayIn env mix G number τ place) where
       is : IsNested env mix (G.table τ) G.page τ
-      is = nested_placed M G whole τ l to.nested
+      is = nested_placed M G whole τ is_there to.nested
 
       -- the words lead to the bucket, where it is there
       pub way_read : read_place read place ≡ there
       way_read = elim to.way [
         | inl first ↦ ap (read_place read) first ∙ first_read to.nested
         | inr second ↦
-            let led = middle_behind env mix (G.table τ) G.page τ (whole.tables.each τ l).placed read
-            (entries_in_words env mix M G whole τ l) is number second.page second.of second.part_is in
+            let led = middle_behind env mix (G.table τ) G.page τ (whole.tables.each τ is_there).placed read
+            (entries_in_words env mix M G whole τ is_there) is number second.page second.of second.part_is in
             read_behind read at_first place second.page led second.place_is
             ∙ first_read to.nested
       ]
@@ -144,8 +144,8 @@ module _ (env : Env) (mix : ℕ → ℕ → ℕ → ℕ) where
               let two = first_of_two place next page e in
               let deep : is_deep shape_of_table ≡ true = ap (λ (m : PlaceModel). m.deep) (sym first) ∙ two.deep in
               let led = ap (λ (m : PlaceModel). page_of env.geometry.pages (read m.entry)) (sym first) ∙ leads in
-              let middle = leads_to_middle env mix (G.table τ) G.page τ (whole.tables.each τ l).placed read
-              (entries_in_words env mix M G whole τ l) is number page led deep in
+              let middle = leads_to_middle env mix (G.table τ) G.page τ (whole.tables.each τ is_there).placed read
+              (entries_in_words env mix M G whole τ is_there) is number page led deep in
               inr (record {
                 page = page;
                 of = middle.0;
@@ -168,7 +168,7 @@ module _ (env : Env) (mix : ℕ → ℕ → ℕ → ℕ) where
         go None here is = absurd (cc)
         go (Some j) here is =
             let same : place_at env mix j ≡ place = some-same (place_at env mix j) place is in
-            let within = (place-word env mix M G whole τ number j l below here).within in
+            let within = (place-word env mix M G whole τ number j is_there below here).within in
             record {
               bucket = subst (IsBucketPlace env.geometry) same (omega arith, omega (arith, within));
               here = here ∙ ap Some (sym (index-place_at env mix j)) ∙ ap (λ p. Some (word_index env mix p)) same;
@@ -181,7 +181,7 @@ module _ (env : Env) (mix : ℕ → ℕ → ℕ → ℕ) where
     -- the words lead to the bucket, where it is there
     pub near_read : read_place (words_of_pages M) place
         ≡ option_map (place_at env mix) ((G.table G.current).place number)
-    near_read = way_read M G whole G.current number whole.tables.current_in near.below place near.to
+    near_read = way_read M G whole G.current number (current-there env mix whole.tables) near.below place near.to
 
     -- and where the entry leads to a page of entries, the way goes on there
     pub near_next : (next : PlaceModel) (page : ℕ) → page_of env.geometry.pages (M (PageWord place.entry)) ≡ Some page
@@ -189,7 +189,7 @@ module _ (env : Env) (mix : ℕ → ℕ → ℕ → ℕ) where
     near_next next page leads e = record {
       empties = near.empties;
       below = near.below;
-      to = way_next M G whole G.current number whole.tables.current_in near.below place near.to next page leads e;
+      to = way_next M G whole G.current number (current-there env mix whole.tables) near.below place near.to next page leads e;
     }
 
   -- ---- on the way to the bucket of a port in the table of a slot
@@ -198,8 +198,8 @@ module _ (env : Env) (mix : ℕ → ℕ → ℕ → ℕ) where
     abbrev τ : ℕ
     τ = index_at G slot
 
-    attached : τ < G.attached
-    attached = (whole.tables.slots slot has).attached
+    is_there : IsThere G τ
+    is_there = slot-there env mix whole.tables slot has
 
     abbrev number : ℕ
     number = hash_in env mix G port τ
@@ -210,22 +210,22 @@ module _ (env : Env) (mix : ℕ → ℕ → ℕ → ℕ) where
     -- in a flat table its place is known at once
     pub home_flat : is_nested (G.table τ).shape ≡ false
         → option_map (place_at env mix) (home env mix G port τ) ≡ Some (flat_place env.geometry (G.table τ).shape number)
-    home_flat = flat_read M G whole τ number attached below
+    home_flat = flat_read M G whole τ number is_there below
 
     -- where the words lead to a place, it is that of the bucket's word
     pub home_place : (place : ℕ) → option_map (place_at env mix) (home env mix G port τ) ≡ Some place
         → IsPlaceOf G τ number place
-    home_place = place_of_bucket M G whole τ number attached below
+    home_place = place_of_bucket M G whole τ number is_there below
 
     module _ (place : PlaceModel) (to : IsWayTo env mix G port slot place) where
       -- the words lead to the port's bucket
       pub on_way_read : read_place (words_of_pages M) place ≡ option_map (place_at env mix) (home env mix G port τ)
-      on_way_read = way_read M G whole τ number attached below place to
+      on_way_read = way_read M G whole τ number is_there below place to
 
       -- and where the entry leads to a page of entries, the way to it goes on there
       pub on_way_next : (next : PlaceModel) (page : ℕ) → page_of env.geometry.pages (M (PageWord place.entry)) ≡ Some page
           → entered place page ≡ starts.Running next → IsWayTo env mix G port slot next
-      on_way_next = way_next M G whole τ number attached below place to
+      on_way_next = way_next M G whole τ number is_there below place to
 
   -- ---- where the way ends
 

@@ -8,9 +8,9 @@ use Rattle.rht_words.proofs.Memory.{Memory, IsWrite}
 use Rattle.rht_words.specs.Members.{In}
 use Rattle.rht_words.proofs.ChainLemmas.{IsSegment-members}
 use Rattle.rht_words.specs.Links.{head_of}
-use Rattle.rht_ghost.proofs.Theory.Ghosts.{Table, Bucket, Owner, First, Leaving, Behind, Ghost, lock_bit, state_word, is_used, is_listed, IsListedNode, PageOwner, PageFree, PageHeld, PageOf, SlotOwner, seat_of, seat-listed, has_table, table_at, is_entry, entry_word}
+use Rattle.rht_ghost.proofs.Theory.Ghosts.{Table, Bucket, Owner, First, Leaving, Behind, Ghost, lock_bit, state_word, is_used, is_listed, IsListedNode, PageOwner, PageFree, PageHeld, PageOf, SlotOwner, seat_of, seat-listed, has_table, table_at, is_entry, entry_word, table_of_slot}
 use Rattle.rht_ghost.proofs.Theory.Ways.{IsSpareIn}
-use Rattle.rht_ghost.proofs.Theory.Wholes.{retired_stay, chain_of, list_of, key_of, place_at, home, stop, IsNoBucket, EntriesRight, TableRight, TablesRight, SlotsRight, PagesRight, LockedRight, BucketRight, ChainedRight, ArmedRight, OutRight, MovingRight, IsHomeOf, IsLeavingAt, Owned, ArenaRight, Whole, out-seated, firsts, raisers}
+use Rattle.rht_ghost.proofs.Theory.Wholes.{retired_stay, chain_of, list_of, key_of, place_at, home, stop, IsNoBucket, EntriesRight, TableRight, TablesRight, SlotsRight, PagesRight, LockedRight, BucketRight, ChainedRight, ArmedRight, OutRight, MovingRight, IsHomeOf, IsLeavingAt, Owned, ArenaRight, Whole, out-seated, firsts, raisers, IsThere}
 use Rattle.rht_ghost.proofs.Theory.Passed.{held-no_entry, PassesStay}
 use Rattle.rht_ghost.proofs.Theory.Frames.{IsNoTableWord, SameTables, UsedStay, first_stays, passes_same, same_tables, seat_stays}
 
@@ -26,25 +26,31 @@ module _ (env : Env) (mix : ℕ → ℕ → ℕ → ℕ) where
   is_apart G a apart = record { current = apart.current; slots = λ s w has. apart.slots s w }
 
   TableRight-write : (M M' : Memory) (G : Ghost) (a : Address) (v τ : ℕ) → IsWrite env.geometry M M' a v
-      → IsApart G a → TableRight env mix M G τ → TableRight env mix M' G τ
-  TableRight-write M M' G a v τ write apart right =
+      → IsApart G a → IsThere G τ → TableRight env mix M G τ → TableRight env mix M' G τ
+  TableRight-write M M' G a v τ write apart there right =
       let s = (G.table τ).slot in
       record {
         slot_in = right.slot_in;
-        has_slot = right.has_slot;
-        index = right.index;
-        live = right.live;
         shape_is = write.others (Slot s ShapeWord) (right.slot_in, tt)
-            (apart.slots s ShapeWord right.has_slot) ∙ right.shape_is;
+            (apart.slots s ShapeWord there.has_slot) ∙ right.shape_is;
         seed_is = write.others (Slot s SeedWord) (right.slot_in, tt)
-            (apart.slots s SeedWord right.has_slot) ∙ right.seed_is;
+            (apart.slots s SeedWord there.has_slot) ∙ right.seed_is;
         serial_is = write.others (Slot s SerialWord) (right.slot_in, tt)
-            (apart.slots s SerialWord right.has_slot) ∙ right.serial_is;
+            (apart.slots s SerialWord there.has_slot) ∙ right.serial_is;
         seeded = right.seeded;
         future_is = write.others (Slot s FutureWord) (right.slot_in, tt)
-            (apart.slots s FutureWord right.has_slot) ∙ right.future_is;
+            (apart.slots s FutureWord there.has_slot) ∙ right.future_is;
         placed = right.placed;
       }
+
+  -- a table that is there is so where tables and slots are the same
+  there_same : (G G' : Ghost) → SameTables env mix G G' → (τ : ℕ) → IsThere G τ → IsThere G' τ
+  there_same G G' same τ there = record {
+    has_slot = ap (λ slot. has_table (slot (G'.table τ).slot)) same.slot
+        ∙ ap (λ (t : ℕ → Table). has_table (G.slot (t τ).slot)) same.table ∙ there.has_slot;
+    index = ap (λ slot. table_of_slot (slot (G'.table τ).slot)) same.slot
+        ∙ ap (λ (t : ℕ → Table). table_of_slot (G.slot (t τ).slot)) same.table ∙ there.index;
+  }
 
   -- what the ghost says of tables, apart from the rest of it
   abbrev with_tables : Ghost → (ℕ → Table) → ℕ → ℕ → (ℕ → SlotOwner) → (ℕ → PageOwner) → Ghost
@@ -57,11 +63,10 @@ module _ (env : Env) (mix : ℕ → ℕ → ℕ → ℕ) where
       let there : TablesRight env mix M (with_tables G' G.table G.attached G.current G.slot G.page) = record {
         current_in = right.current_in;
         current_is = right.current_is;
-        each = λ τ l. let r = right.each τ l in record {
+        force = right.force;
+        there = λ τ l. let t = right.there τ l in record { has_slot = t.has_slot; index = t.index };
+        each = λ τ t. let r = right.each τ (record { has_slot = t.has_slot; index = t.index }) in record {
           slot_in = r.slot_in;
-          has_slot = r.has_slot;
-          index = r.index;
-          live = r.live;
           shape_is = r.shape_is;
           seed_is = r.seed_is;
           serial_is = r.serial_is;
@@ -87,7 +92,9 @@ module _ (env : Env) (mix : ℕ → ℕ → ℕ → ℕ) where
   TablesRight-write M M' G G' a v write apart same right = TablesRight-same M' G G' same (record {
     current_in = right.current_in;
     current_is = write.others CurrentTable tt apart.current ∙ right.current_is;
-    each = λ τ l. TableRight-write M M' G a v τ write apart (right.each τ l);
+    force = right.force;
+    there = right.there;
+    each = λ τ there. TableRight-write M M' G a v τ write apart there (right.each τ there);
     slots = right.slots;
   })
 
@@ -99,8 +106,8 @@ module _ (env : Env) (mix : ℕ → ℕ → ℕ → ℕ) where
     states = λ s l. write.others (Slot s StateWord) (l, tt) (states s) ∙ right.states s l
         ∙ sym (ap (λ slot. state_word (slot s)) same.slot);
     worker_is = write.others WorkLock tt lock ∙ right.worker_is ∙ sym (ap lock_bit same.worker);
-    retired = λ idle. retired_stay G G' None same.current (λ τ l. ap (λ t. (t τ).slot) same.table)
-        (λ s τ is. ap (λ slot. slot s) same.slot ∙ is) (right.retired (sym same.worker ∙ idle));
+    retired = λ idle. retired_stay G G' None same.current (λ s τ is l. ap (λ slot. slot s) (sym same.slot) ∙ is)
+        (right.retired (sym same.worker ∙ idle));
   }
 
   -- a bucket's table is what it was
@@ -123,6 +130,7 @@ module _ (env : Env) (mix : ℕ → ℕ → ℕ → ℕ) where
   PagesRight-write M M' G G' a v write apart same blanks right = record {
     bits = λ p l. subst (λ page. (bit_at (M' (PageMap (p / 64))) (p % 64) ≡ 1) ↔ (page p ≡ PageFree))
         (sym same.page) (rw (write.others (PageMap (p / 64)) (omega arith) (apart (p / 64))) (right.bits p l));
+    there = λ p τ is. there_same G G' same τ (right.there p τ (ap (λ page. page p) (sym same.page) ∙ is));
     page_of = λ p τ is. omega (arith, right.page_of p τ (ap (λ page. page p) (sym same.page) ∙ is), same.attached);
     blank = λ j is.
         let was : IsNoBucket env mix G (G.page (j / 64)) j =

@@ -13,7 +13,7 @@ use Rattle.rht_words.specs.Members.{In, IsDistinct}
 use Rattle.rht_words.proofs.Members.{count_below}
 use Rattle.rht_policy.specs.Mix.{bucket_of}
 use Rattle.rht_nest.specs.Tables.{table_seed}
-use Rattle.rht_ghost.proofs.Theory.Ghosts.{Part, Row, Top, has_entries, Table, Bucket, blank_bucket, Owner, Free, NodeHeld, First, Leaving, Behind, Taken, Ghost, Live, Retired, lock_bit, state_word, is_first, is_taken_by, seat_of, seated, table_at, has_table, index_at, PageOwner, PageFree, PageHeld, PageOf, is_entry, entry_word}
+use Rattle.rht_ghost.proofs.Theory.Ghosts.{Part, Row, Top, has_entries, Table, Bucket, blank_bucket, Owner, Free, NodeHeld, First, Leaving, Behind, Taken, Ghost, Live, lock_bit, state_word, is_first, is_taken_by, seat_of, seated, table_at, has_table, table_of_slot, index_at, PageOwner, PageFree, PageHeld, PageOf, is_entry, entry_word}
 use Rattle.rht_ghost.proofs.Theory.Ways.{first_page, child, followed, IsSpareIn, StandsAs, IsNestedShape}
 
 -- the links behind nodes
@@ -28,22 +28,20 @@ key_of M node = M (Node node KeyWord)
 abbrev pub list_of : Memory → ℕ → ℕ
 list_of M node = M (Node node ListLink)
 
--- each table before the current one is retired, but for the one in this slot
+-- no slot has a table before the current one that isn't retired, but for this slot
 abbrev pub AreRetired : Ghost → Option ℕ → Type 0
-AreRetired G slot =
-    (τ : ℕ) → τ < G.current → (slot ≡ Some (G.table τ).slot) ⊎ (G.slot (G.table τ).slot ≡ Retired τ)
+AreRetired G slot = (s τ : ℕ) → G.slot s ≡ Live τ → τ < G.current → slot ≡ Some s
 
--- it is so still where the same table is the current one, those before it keep their slots, and those that are retired are so still
+-- it is so still where the same table is the current one, and those before it that aren't retired were so before, in the same slots
 pub retired_stay : (G G' : Ghost) (slot : Option ℕ) → G'.current ≡ G.current
-    → ((τ : ℕ) → τ < G.current → (G'.table τ).slot ≡ (G.table τ).slot)
-    → ((s τ : ℕ) → G.slot s ≡ Retired τ → G'.slot s ≡ Retired τ) → AreRetired G slot → AreRetired G' slot
-retired_stay G G' slot current tables slots is τ l =
-    let before : τ < G.current = omega (arith, l, current) in
-    let same = tables τ before in
-    elim (is τ before) [
-      | inl left ↦ inl (left ∙ ap Some (sym same))
-      | inr done ↦ inr (ap G'.slot same ∙ slots (G.table τ).slot τ done)
-    ]
+    → ((s τ : ℕ) → G'.slot s ≡ Live τ → τ < G.current → G.slot s ≡ Live τ) → AreRetired G slot → AreRetired G' slot
+retired_stay G G' slot current live is s τ now l =
+    let before : τ < G.current = omega (arith, l, current) in is s τ (live s τ now before) before
+
+-- the table has its slot still
+pub record IsThere (G : Ghost) (τ : ℕ) : Type 0 where
+  pub has_slot : has_table (G.slot (G.table τ).slot) ≡ true
+  pub index : index_at G (G.table τ).slot ≡ τ
 
 module _ (env : Env) (mix : ℕ → ℕ → ℕ → ℕ) where
   -- the place of the word of a bucket, and which of the words of all pages stands at a place
@@ -116,12 +114,9 @@ module _ (env : Env) (mix : ℕ → ℕ → ℕ → ℕ) where
   abbrev pub PlacedRight : Table → (ℕ → PageOwner) → ℕ → Type 0
   PlacedRight table page τ = IsFlat table page τ ⊎ IsNested table page τ
 
-  -- a table that has been attached has its slot, whose words say what the ghost does; its seed is that of the config with its serial
+  -- the words of a table's slot say what the ghost does; its seed is that of the config with its serial
   pub record TableRight (M : Memory) (G : Ghost) (τ : ℕ) : Type 0 where
     pub slot_in : (G.table τ).slot < 8
-    pub has_slot : has_table (G.slot (G.table τ).slot) ≡ true
-    pub index : index_at G (G.table τ).slot ≡ τ
-    pub live : G.current ≤ τ → G.slot (G.table τ).slot ≡ Live τ
     pub shape_is : M (Slot (G.table τ).slot ShapeWord) ≡ (G.table τ).shape
     pub seed_is : M (Slot (G.table τ).slot SeedWord) ≡ (G.table τ).seed
     pub serial_is : M (Slot (G.table τ).slot SerialWord) ≡ (G.table τ).serial
@@ -134,14 +129,45 @@ module _ (env : Env) (mix : ℕ → ℕ → ℕ → ℕ) where
     pub attached : index_at G s < G.attached
     pub slot : (G.table (index_at G s)).slot ≡ s
 
+  -- The tables from the current one on are in use. Each table that was attached is there, and each that is there is right.
   pub record TablesRight (M : Memory) (G : Ghost) : Type 0 where
     pub current_in : G.current < G.attached
     pub current_is : M CurrentTable ≡ (G.table G.current).slot
-    pub each : (τ : ℕ) → τ < G.attached → TableRight M G τ
+    pub force : (τ : ℕ) → G.current ≤ τ → τ < G.attached → G.slot (G.table τ).slot ≡ Live τ
+    pub there : (τ : ℕ) → τ < G.attached → IsThere G τ
+    pub each : (τ : ℕ) → IsThere G τ → TableRight M G τ
     pub slots : (s : ℕ) → has_table (G.slot s) ≡ true → SlotIsOf G s
 
+  -- ---- tables that are there
+
+  -- one that isn't retired
+  pub live-there : (G : Ghost) (τ : ℕ) → G.slot (G.table τ).slot ≡ Live τ → IsThere G τ
+  live-there G τ live = record { has_slot = ap has_table live; index = ap table_of_slot live }
+
+  -- so those from the current one on
+  pub force-there : {M : Memory} {G : Ghost} → TablesRight M G → (τ : ℕ) → G.current ≤ τ → τ < G.attached → IsThere G τ
+  force-there {M} {G} tables τ from l = live-there G τ (tables.force τ from l)
+
+  pub current-there : {M : Memory} {G : Ghost} → TablesRight M G → IsThere G G.current
+  current-there {M} {G} tables = force-there tables G.current (omega arith) tables.current_in
+
+  -- one that a slot has
+  pub slot-there : {M : Memory} {G : Ghost} → TablesRight M G → (s : ℕ) → has_table (G.slot s) ≡ true → IsThere G (index_at G s)
+  slot-there {M} {G} tables s has =
+      let of = (tables.slots s has).slot in
+      record { has_slot = ap (λ t. has_table (G.slot t)) of ∙ has; index = ap (index_at G) of }
+
+  -- it was attached
+  pub there-attached : {M : Memory} {G : Ghost} → TablesRight M G → (τ : ℕ) → IsThere G τ → τ < G.attached
+  there-attached {M} {G} tables τ there =
+      let of = tables.slots (G.table τ).slot there.has_slot in omega (arith, of.attached, there.index)
+
+  -- and no other one has its slot
+  pub one_slot : (G : Ghost) (τ σ : ℕ) → IsThere G τ → IsThere G σ → (G.table τ).slot ≡ (G.table σ).slot → τ ≡ σ
+  one_slot G τ σ there other same = sym there.index ∙ ap (index_at G) same ∙ other.index
+
   -- The state word of each slot says who has it, and the work lock is set exactly while a caller has it. While none has it each table
-  -- before the current one is retired.
+  -- before the current one that has a slot is retired.
   pub record SlotsRight (M : Memory) (G : Ghost) : Type 0 where
     pub states : (s : ℕ) → s < 8 → M (Slot s StateWord) ≡ state_word (G.slot s)
     pub worker_is : M WorkLock ≡ lock_bit G.worker
@@ -153,12 +179,13 @@ module _ (env : Env) (mix : ℕ → ℕ → ℕ → ℕ) where
   IsNoBucket G (PageHeld c) j = Unit {0}
   IsNoBucket G (PageOf τ) j = IsSpareIn (G.table τ).shape ((G.table τ).part (j / 64)) j
 
-  -- A page's bit is set exactly where nobody has the page. A table that has a page was attached, and each word of a page that is no
-  -- bucket's is blank.
+  -- A page's bit is set exactly where nobody has the page. A table that has a page was attached and is there, and each word of a
+  -- page that is no bucket's is blank.
   pub record PagesRight (M : Memory) (G : Ghost) : Type 0 where
     pub bits : (p : ℕ) → p < env.geometry.pages
         → (bit_at (M (PageMap (p / 64))) (p % 64) ≡ 1) ↔ (G.page p ≡ PageFree)
     pub page_of : (p τ : ℕ) → G.page p ≡ PageOf τ → τ < G.attached
+    pub there : (p τ : ℕ) → G.page p ≡ PageOf τ → IsThere G τ
     pub blank : (j : ℕ) → IsNoBucket G (G.page (j / 64)) j → G.bucket j ≡ blank_bucket
 
   -- a bucket's word is odd exactly while somebody holds its lock
