@@ -201,7 +201,7 @@ module _ (env : Env) (mix : ℕ → ℕ → ℕ → ℕ) (c : ℕ) (port owner :
       (cond t refused (cond above (unlocking_full claimed full.Table) (at.Link claimed)), Go))
       (is_above_max (min count 65536) env.config.max)
       (λ t. reads env mix whole refl refl
-      (binds.refused env mix c port owner once words G claimed.attempt.node (TooBig count) tt refl refl
+      (binds.refused env mix c port owner once words G claimed.attempt.node (TooBig count) tt refl
       (λ e. cc) refl tt refl)
       (unlocking_knows claimed (TooBig count) known.knowing))
       (λ f.
@@ -253,7 +253,7 @@ module _ (env : Env) (mix : ℕ → ℕ → ℕ → ℕ) (c : ℕ) (port owner :
       let answer = unlocking claimed (Answer (Exists first)) in
       reads env mix whole refl refl
       (learns env.config.kind c call (Some claimed.attempt.node) now (plain (Exists first))
-      (binds.with_node env mix c port owner once words G claimed.attempt.node (Exists first) tt refl refl
+      (binds.with_node env mix c port owner once words G claimed.attempt.node (Exists first) tt refl
       (λ e. cc)) refl
       (exists known.fits first (bound_here known.fits claimed.bucket.place claimed.bucket.word found is)))
       (record {

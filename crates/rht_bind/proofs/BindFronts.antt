@@ -282,7 +282,7 @@ module _ (env : Env) (mix : ℕ → ℕ → ℕ → ℕ) (c : ℕ) (port owner :
                   subst (IsRight call (Some n))
                   (let same : Some (plain (Bound list.claimed.attempt.attached)) ≡ Some answer = known in cc)
                   (binds.with_node env mix c port owner once words G n
-                  (Bound list.claimed.attempt.attached) tt refl refl (λ e. cc));
+                  (Bound list.claimed.attempt.attached) tt refl (λ e. cc));
               in_time = record {
                 taken = λ node none some. absurd (cc);
                 gone = λ node some none told. absurd (cc);

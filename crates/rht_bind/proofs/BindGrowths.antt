@@ -112,7 +112,7 @@ module _ (env : Env) (mix : ℕ → ℕ → ℕ → ℕ) (c : ℕ) (port owner :
   attempt_tells n table =
       by_test (λ t. Tells env.config.kind c call (Some n) now None
       (option_map plain (cond t (Some (Again table)) None))) once
-      (λ is. binds.refused env mix c port owner once words G n (Again table) is refl refl (λ e. cc) refl tt
+      (λ is. binds.refused env mix c port owner once words G n (Again table) is refl (λ e. cc) refl tt
       refl)
       (λ is. inl refl)
 
@@ -145,12 +145,12 @@ module _ (env : Env) (mix : ℕ → ℕ → ℕ → ℕ) (c : ℕ) (port owner :
       let n = growing.attempt.node in
       let reply = Busy root growing.table in
       refused_by growing (refusals.Busy root) reply
-      (binds.refused env mix c port owner once words G n reply tt refl refl (λ e. cc) refl tt refl) known
+      (binds.refused env mix c port owner once words G n reply tt refl (λ e. cc) refl tt refl) known
   refused_next growing (refusals.NoTable size) None known =
       let n = growing.attempt.node in
       let reply = NoTable size in
       refused_by growing (refusals.NoTable size) reply
-      (binds.refused env mix c port owner once words G n reply tt refl refl (λ e. cc) refl tt refl) known
+      (binds.refused env mix c port owner once words G n reply tt refl (λ e. cc) refl tt refl) known
   refused_next growing why (Some table) known =
       let n = growing.attempt.node in
       let answer = ended_attempt once table in

@@ -33,7 +33,7 @@ use Rattle.rht_ghost.proofs.Theory.Ghosts.{Ghost}
 use Rattle.rht_ghost.proofs.Theory.Knowns.{KnownNode, KnownTable, KnownBucket, KnownList, Known, knows_plain, Nowhere, InSlot, AtHome, Unlocked, Locks, Missed, Found, Member, InList, FirstLink, Replaces, HasPages, HasTaken, HasMade, Unlocks, Armed}
 use Rattle.rht_ghost.proofs.Theory.Knowledge.{Knowing}
 use Rattle.rht_model.specs.Replies.{takes_out}
-use Rattle.rht_model.specs.Replies.{IsBindReply, AreOwnersWith, ArePairsWith}
+use Rattle.rht_model.specs.Replies.{IsBindReply, AreOwnersWith}
 use Rattle.rht_ghost.proofs.Theory.Answering.{IsLegalOn, IsRight, Tells, learns}
 use Rattle.rht_ghost.proofs.Theory.Steps.{Holding, mem, owners, Step}
 use Rattle.rht_ghost.proofs.Pieces.NewNodes as nodes
@@ -222,10 +222,10 @@ module _ (env : Env) (mix : ℕ → ℕ → ℕ → ℕ) (c : ℕ) (port owner :
 
     -- a bind that has a node is answered so
     pub with_node : (n : ℕ) (reply : Reply) → IsBindReply once reply → AreOwnersWith reply []
-        → ArePairsWith reply [] → reply ≢ NoNode
+        → reply ≢ NoNode
         → IsRight (calls.Bind port owner once) (Some n) (plain reply)
-    with_node n reply is none_named no_pairs other = record {
-      replied = record { reply = is; owners = none_named; pairs = no_pairs };
+    with_node n reply is none_named other = record {
+      replied = record { reply = is; owners = none_named };
       tells = (λ none. absurd (cc), λ no_node. absurd (other no_node));
     }
 
@@ -237,11 +237,11 @@ module _ (env : Env) (mix : ℕ → ℕ → ℕ → ℕ) (c : ℕ) (port owner :
 
     -- so one that has a node is told it
     pub refused : (n : ℕ) (reply : Reply) → IsBindReply once reply → AreOwnersWith reply []
-        → ArePairsWith reply [] → reply ≢ NoNode → takes_out reply ≡ false → answers.IsBindRefusal reply
+        → reply ≢ NoNode → takes_out reply ≡ false → answers.IsBindRefusal reply
         → answers.is_refusal reply ≡ true
         → Tells env.config.kind c (calls.Bind port owner once) (Some n)
         (owners env mix (mem env mix words) G) None (Some (plain reply))
-    refused n reply is none_named no_pairs other stays may refuses =
+    refused n reply is none_named other stays may refuses =
         learns env.config.kind c (calls.Bind port owner once) (Some n)
         (owners env mix (mem env mix words) G)
-        (plain reply) (with_node n reply is none_named no_pairs other) stays (refusal reply may refuses)
+        (plain reply) (with_node n reply is none_named other) stays (refusal reply may refuses)

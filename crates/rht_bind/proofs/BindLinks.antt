@@ -219,7 +219,7 @@ module _ (env : Env) (mix : ℕ → ℕ → ℕ → ℕ) (c : ℕ) (port owner :
               (let same : ◌≡◌ {A = Option answers.Answer} (Some (plain (Bound kick)))
               (Some answer) = known in
               cc)
-              (binds.with_node env mix c port owner once words G n (Bound kick) tt refl refl (λ e. cc));
+              (binds.with_node env mix c port owner once words G n (Bound kick) tt refl (λ e. cc));
           in_time = record {
             taken = λ node none some. absurd (cc);
             gone = λ node some none told. absurd (cc);

@@ -87,7 +87,7 @@ module _ (env : Env) (mix : ℕ → ℕ → ℕ → ℕ) (c : ℕ) (port owner :
       (learns env.config.kind c (calls.Bind port owner once) (node_of_new new.at)
       (owners env mix M G) (plain NoNode)
       (record {
-        replied = record { reply = tt; owners = refl; pairs = refl };
+        replied = record { reply = tt; owners = refl };
         tells = (λ none. refl, λ no_node. had refl);
       })
       refl (binds.refusal env mix c port owner once words G NoNode tt refl))
@@ -267,7 +267,7 @@ module _ (env : Env) (mix : ℕ → ℕ → ℕ → ℕ) (c : ℕ) (port owner :
       let n = attempt.node in
       let reply = NoTable (size_of (unpacked shape)) in
       answered-map env mix (Some (plain reply))
-      (binds.refused env mix c port owner once words G n reply tt refl refl (λ e. cc) refl tt refl)
+      (binds.refused env mix c port owner once words G n reply tt refl (λ e. cc) refl tt refl)
       (still_has refl)
       (λ M' G' w k. record { knowing = plainly env mix k.only k.means.node tt tt; fits = tt }) step
   grown_next attempt table shape place grow (state, Done (Some page)) there step =

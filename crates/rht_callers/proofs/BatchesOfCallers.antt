@@ -17,7 +17,7 @@ use Rattle.rht_grace.proofs.BatchNodes.{IsBatch-with_fresh}
 use Rattle.rht_grace.proofs.TidyPlanned.{tidy_stays, begun_sound}
 use Rattle.rht_callers.specs.declared.local.Local.{Local}
 use Rattle.rht_callers.specs.declared.local.Doing.{Doing}
-use Rattle.rht_callers.specs.declared.local.Doing.TheVariants.{Idle, Finding, Binding, Listing, Releasing, Rebinding, Working, Counting, Tidying}
+use Rattle.rht_callers.specs.declared.local.Doing.TheVariants.{Idle, Finding, Binding, Listing, Releasing, Rebinding, Working, Counting, Tidying, Walking}
 use Rattle.rht_callers.specs.Batches.{IsBatchIn, AreNodesIn, HasWords, IsSoundBatch, CanPut, with_out, node_out, out_of, batch_given, batch_room, batch_beside, batch_after}
 use Rattle.rht_callers.specs.Locals.{does_nothing, is_idle, machine_of, doing_after, doing_next, without_node}
 use Rattle.rht_find.specs.Find.{find_after}
@@ -26,6 +26,7 @@ use Rattle.rht_release.specs.All.{all_after}
 use Rattle.rht_release.specs.Release.{release_after}
 use Rattle.rht_release.specs.Rebind.{rebind_after}
 use Rattle.rht_move.specs.Work.{work_after}
+use Rattle.rht_walk.specs.Walk.{walk_after}
 use Rattle.rht_callers.proofs.CallBeginnings.{begins_so}
 
 -- ---- the table of a batch
@@ -137,7 +138,7 @@ module _ (M : Type 0) where
       → So (batch_room machine (batch_beside machine batch)))
       (λ port is tidies. is) (λ port owner once is tidies. is) (λ port is tidies. is) (λ port owner is tidies. is)
       (λ port owner new single is tidies. is) (λ is tidies. is) (λ is tidies. is)
-      (λ own has is tidies. tidies own has)
+      (λ own has is tidies. tidies own has) (λ from limit is tidies. is)
 
   -- ---- an operation
 
@@ -183,6 +184,8 @@ module _ (M : Type 0) where
   batch_after-so So mix (Counting m) batch old is put tidied = is
   batch_after-so So mix (Tidying m) batch old is put tidied =
       tidied-batch So m batch (after_at m.geometry m.batch m.at old) (tidied m refl)
+  batch_after-so So mix (Walking m) batch old is put tidied =
+      beside-batch So Walking batch (λ n. refl) (walk_after m old) is
 
   with_out-none : (batch : Option BatchModel) → batch ≡ with_out batch None
   with_out-none None = refl
@@ -211,6 +214,8 @@ module _ (M : Type 0) where
       beside-batch (λ b. b ≡ with_out batch None) Working batch (λ n. refl) (work_after mix m old) (with_out-none batch)
   batch_after-out mix (Counting m) batch old not = with_out-none batch
   batch_after-out mix (Tidying m) batch old not = absurd (not m refl)
+  batch_after-out mix (Walking m) batch old not =
+      beside-batch (λ b. b ≡ with_out batch None) Walking batch (λ n. refl) (walk_after m old) (with_out-none batch)
 
   -- so a batch stays one of its table
   pub batch_after-in : (mix : ℕ → ℕ → ℕ → ℕ) (env : Env) (doing : Doing M) (batch : Option BatchModel) (old : ℕ)

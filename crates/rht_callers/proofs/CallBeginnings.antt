@@ -4,7 +4,8 @@ use Rattle.std.proofs.Common.{◌≡◌, ℕ, Bool, true, refl, subst}
 use Rattle.std.specs.Prelude.{Option, Some, None}
 use Rattle.rht_words.specs.declared.env.Env.{Env}
 use Rattle.rht_model.specs.declared.history.Call.{Call}
-use Rattle.rht_model.specs.declared.history.Call.TheVariants.{Bind, Find, Release, Rebind, All, Work, Tidy, Count}
+use Rattle.rht_model.specs.declared.history.Call.TheVariants.{Bind, Find, Release, Rebind, All, Walk, Work, Tidy, Count}
+use Rattle.rht_model.specs.declared.history.Cursor.{Cursor}
 use Rattle.rht_find.specs.Find.{find_new}
 use Rattle.rht_words.specs.declared.config.Kind.{Kind}
 use Rattle.rht_words.specs.declared.config.Kind.TheVariants.{Single, Listed}
@@ -12,17 +13,18 @@ use Rattle.rht_bind.specs.Bind.{bind_new}
 use Rattle.rht_release.specs.All.{all_new}
 use Rattle.rht_callers.specs.declared.local.Local.{Local}
 use Rattle.rht_callers.specs.declared.local.Doing.{Doing}
-use Rattle.rht_callers.specs.declared.local.Doing.TheVariants.{Idle, Finding, Binding, Releasing, Rebinding, Listing, Working, Counting, Tidying}
+use Rattle.rht_callers.specs.declared.local.Doing.TheVariants.{Idle, Finding, Binding, Releasing, Rebinding, Listing, Working, Counting, Tidying, Walking}
 use Rattle.rht_callers.specs.Locals.{room_for_nodes, does_nothing, is_idle, machine_of, rebinding_of, tidying_of, doing_plan, plan_of}
 use Rattle.rht_release.specs.Release.{release_new}
 use Rattle.rht_release.specs.Rebind.{rebind_new}
 use Rattle.rht_move.specs.Work.{work_new}
 use Rattle.rht_grace.specs.Batch.{BatchModel}
 use Rattle.rht_grace.specs.Tidy.{tidy_new}
+use Rattle.rht_walk.specs.Walk.{walk_new}
 
 module _ (M : Type 0) where
-  -- A call begins as a look-up, a bind, a listing, a release, a rebind, a resizing, a reading of the count, or a
-  -- tidying of its caller's batch. What is so of these is so of whatever begins.
+  -- A call begins as a look-up, a bind, a listing, a release, a rebind, a resizing, a reading of the count, a
+  -- tidying of its caller's batch, or a walk. What is so of these is so of whatever begins.
   module _ (env : Env) (c : ℕ) (batch : Option BatchModel) (So : Call → Doing M → Type 0)
       (find : (port : ℕ) → So (Find port) (Finding (find_new env c port)))
       (bind : (port owner : ℕ) (once : Bool) → So (Bind port owner once) (Binding (bind_new env c port owner once)))
@@ -33,6 +35,8 @@ module _ (M : Type 0) where
       (work : So Work (Working (work_new env c)))
       (count : So Count (Counting (record { env = env })))
       (tidy : (own : BatchModel) → batch ≡ Some own → So Tidy (Tidying (tidy_new env.geometry own)))
+      (walk : (from : Option Cursor) (limit : ℕ)
+      → So (Walk from limit) (Walking (walk_new env c from limit (room_for_nodes env))))
     where
       abbrev BeginsSo : Call → Option (Doing M) → Type 0
       BeginsSo call None = Unit {0}
@@ -56,7 +60,7 @@ module _ (M : Type 0) where
       machine-so Work = work
       machine-so Tidy = tidying-so batch refl
       machine-so Count = count
-      machine-so _ = tt
+      machine-so (Walk from limit) = walk from limit
 
       pub begins_so : (call : Call) (machine : Doing M) → machine_of env c batch call ≡ Some machine
           → So call machine

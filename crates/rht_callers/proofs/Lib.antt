@@ -4,5 +4,5 @@ pub mod BatchesOfCallers
 pub mod CallBeginnings
 -- what is so of a machine that goes on is so of what its caller does next
 pub mod NextDoings
--- the room of owners lies with its caller or in a listing, and has a place for each node
+-- the room of owners lies with its caller or in a listing, and that of pairs with it or in a walk; each has a place for each node
 pub mod RoomsOfCallers

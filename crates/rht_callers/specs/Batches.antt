@@ -13,7 +13,7 @@ use Rattle.rht_grace.specs.declared.tidy.TidyAt.TheVariants as at
 use Rattle.rht_release.specs.Release.{release_after}
 use Rattle.rht_release.specs.Rebind.{rebind_after}
 use Rattle.rht_callers.specs.declared.local.Doing.{Doing}
-use Rattle.rht_callers.specs.declared.local.Doing.TheVariants.{Idle, Finding, Binding, Listing, Releasing, Rebinding, Working, Counting, Tidying}
+use Rattle.rht_callers.specs.declared.local.Doing.TheVariants.{Idle, Finding, Binding, Listing, Releasing, Rebinding, Working, Counting, Tidying, Walking}
 
 -- the batch is there, and is one of this table
 abbrev pub IsBatchIn : Env → Option BatchModel → Type 0
@@ -80,6 +80,7 @@ module _ {M : Type 0} where
   out_of mix (Working m) old = None
   out_of mix (Counting m) old = None
   out_of mix (Tidying m) old = None
+  out_of mix (Walking m) old = None
 
   -- the batch, wherever it lies: a tidying has it, and otherwise its caller, whose batch this is
   abbrev pub batch_room : Doing M → Option BatchModel → Option BatchModel
@@ -92,6 +93,7 @@ module _ {M : Type 0} where
   batch_room (Working m) batch = batch
   batch_room (Counting m) batch = batch
   batch_room (Tidying m) batch = Some m.batch
+  batch_room (Walking m) batch = batch
 
   -- its nodes, but for those that a tidying has given back
   abbrev pub nodes_held : Doing M → Option BatchModel → List ℕ
@@ -104,6 +106,7 @@ module _ {M : Type 0} where
   nodes_held (Working m) batch = nodes_in batch
   nodes_held (Counting m) batch = nodes_in batch
   nodes_held (Tidying m) batch = nodes_left m.batch m.at
+  nodes_held (Walking m) batch = nodes_in batch
 
   -- the batch of its caller once it has begun
   abbrev pub batch_beside : Doing M → Option BatchModel → Option BatchModel
@@ -116,6 +119,7 @@ module _ {M : Type 0} where
   batch_beside (Working m) batch = batch
   batch_beside (Counting m) batch = batch
   batch_beside (Tidying m) batch = None
+  batch_beside (Walking m) batch = batch
 
   -- the batch of its caller after its operation found this value
   abbrev pub batch_after : (ℕ → ℕ → ℕ → ℕ) → Doing M → Option BatchModel → ℕ → Option BatchModel
@@ -128,3 +132,4 @@ module _ {M : Type 0} where
   batch_after mix (Working m) batch old = batch
   batch_after mix (Counting m) batch old = batch
   batch_after mix (Tidying m) batch old = batch_given (tidy_after m old) batch
+  batch_after mix (Walking m) batch old = batch

@@ -5,7 +5,7 @@ use Rattle.rht_words.specs.declared.machine.Next.{Next}
 use Rattle.rht_words.specs.declared.machine.Next.TheVariants.{Go, Done}
 use Rattle.rht_words.specs.declared.env.Env.{Env}
 use Rattle.rht_model.specs.declared.history.Call.{Call}
-use Rattle.rht_model.specs.declared.history.Call.TheVariants.{Bind, Find, Release, Rebind, All, Work, Tidy, Count}
+use Rattle.rht_model.specs.declared.history.Call.TheVariants.{Bind, Find, Release, Rebind, All, Walk, Work, Tidy, Count}
 use Rattle.rht_model.specs.declared.history.Reply.{Reply}
 use Rattle.rht_model.specs.Rooms.{Kept, emptied, no_room}
 use Rattle.rht_model.specs.Endings.{Ending}
@@ -19,11 +19,12 @@ use Rattle.rht_release.specs.Rebind.{rebind_new, rebind_plan, rebind_after}
 use Rattle.rht_move.specs.Work.{work_new, work_plan, work_after}
 use Rattle.rht_grace.specs.Batch.{BatchModel, batch_new}
 use Rattle.rht_grace.specs.Tidy.{tidy_new, tidy_plan, tidy_after}
+use Rattle.rht_walk.specs.Walk.{Pairs, WalkModel, walk_new, walk_plan, walk_after}
 use Rattle.rht_callers.specs.Batches.{IsBatchIn, batch_room, batch_beside, batch_after}
 use Rattle.rht_callers.specs.PortCounts.{count_plan, count_after}
 use Rattle.rht_callers.specs.declared.local.Local.{Local}
 use Rattle.rht_callers.specs.declared.local.Doing.{Doing}
-use Rattle.rht_callers.specs.declared.local.Doing.TheVariants.{Idle, Finding, Binding, Listing, Releasing, Rebinding, Working, Counting, Tidying}
+use Rattle.rht_callers.specs.declared.local.Doing.TheVariants.{Idle, Finding, Binding, Listing, Releasing, Rebinding, Working, Counting, Tidying, Walking}
 
 -- an empty room for one item a node
 abbrev pub room_for_nodes : {A : Type 0} → Env → Kept A
@@ -33,6 +34,11 @@ room_for_nodes env = record { items = []; limit = env.geometry.nodes }
 abbrev pub room_given : AllModel × Next Reply → Kept ℕ → Kept ℕ
 room_given (m, Go) room = room
 room_given (m, Done reply) room = m.room
+
+-- a walk that has ended gives its room back, with the pairs; until then its caller has this one
+abbrev pub pairs_given : WalkModel × Next Reply → Pairs → Pairs
+pairs_given (m, Go) room = room
+pairs_given (m, Done reply) room = m.room
 
 -- ---- what a caller is doing
 
@@ -53,6 +59,7 @@ module _ {M : Type 0} where
   does_nothing (Working m) = false
   does_nothing (Counting m) = false
   does_nothing (Tidying m) = false
+  does_nothing (Walking m) = false
 
   -- a rebind is built for tables of one owner each alone
   abbrev pub rebinding_of : Env → ℕ → ℕ → ℕ → ℕ → Kind → Option (Doing M)
@@ -73,8 +80,8 @@ module _ {M : Type 0} where
   machine_of env caller batch (Rebind port owner new) = rebinding_of env caller port owner new env.config.kind
   machine_of env caller batch Work = Some (Working (work_new env caller))
   machine_of env caller batch Tidy = tidying_of env batch
+  machine_of env caller batch (Walk from limit) = Some (Walking (walk_new env caller from limit (room_for_nodes env)))
   machine_of env caller batch Count = Some (Counting (record { env = env }))
-  machine_of env caller batch _ = None
 
   -- the operation that it performs next
   abbrev pub doing_plan : Doing M → Option Op
@@ -87,6 +94,7 @@ module _ {M : Type 0} where
   doing_plan (Working m) = Some (work_plan m)
   doing_plan (Counting m) = Some (count_plan m)
   doing_plan (Tidying m) = Some (tidy_plan m)
+  doing_plan (Walking m) = Some (walk_plan m)
 
   -- while its machine goes on a caller does what that is, and is idle once its call has a reply
   abbrev pub doing_next : {A : Type 0} → (A → Doing M) → A × Next Reply → Doing M × Option Reply
@@ -106,6 +114,7 @@ module _ {M : Type 0} where
   doing_after mix (Working m) old = doing_next Working (work_after mix m old)
   doing_after mix (Counting m) old = doing_next Counting (count_after m old)
   doing_after mix (Tidying m) old = doing_next Tidying (tidy_after m old)
+  doing_after mix (Walking m) old = doing_next Walking (walk_after m old)
 
   -- it does this in the table of this environment
   abbrev pub IsDoingOf : Env → Doing M → Type 0
@@ -118,6 +127,7 @@ module _ {M : Type 0} where
   IsDoingOf env (Working m) = m.env ≡ env
   IsDoingOf env (Counting m) = m.env ≡ env
   IsDoingOf env (Tidying m) = m.geometry ≡ env.geometry
+  IsDoingOf env (Walking m) = m.env ≡ env
 
   -- ---- the room of owners, which a listing has while it runs
 
@@ -132,6 +142,7 @@ module _ {M : Type 0} where
   owners_room (Working m) room = room
   owners_room (Counting m) room = room
   owners_room (Tidying m) room = room
+  owners_room (Walking m) room = room
 
   -- the room of its caller once it has begun
   abbrev pub owners_beside : Doing M → Kept ℕ → Kept ℕ
@@ -144,6 +155,7 @@ module _ {M : Type 0} where
   owners_beside (Working m) room = emptied room
   owners_beside (Counting m) room = emptied room
   owners_beside (Tidying m) room = emptied room
+  owners_beside (Walking m) room = emptied room
 
   -- the room of its caller after its operation found this value
   abbrev pub owners_after : (ℕ → ℕ → ℕ → ℕ) → Doing M → Kept ℕ → ℕ → Kept ℕ
@@ -156,6 +168,48 @@ module _ {M : Type 0} where
   owners_after mix (Working m) room old = room
   owners_after mix (Counting m) room old = room
   owners_after mix (Tidying m) room old = room
+  owners_after mix (Walking m) room old = room
+
+  -- ---- the room of pairs, which a walk has while it runs
+
+  -- the room of pairs, wherever it lies: a walk has it, and otherwise its caller, whose room this is
+  abbrev pub pairs_room : Doing M → Pairs → Pairs
+  pairs_room Idle room = room
+  pairs_room (Finding m) room = room
+  pairs_room (Binding m) room = room
+  pairs_room (Listing m) room = room
+  pairs_room (Releasing m) room = room
+  pairs_room (Rebinding m) room = room
+  pairs_room (Working m) room = room
+  pairs_room (Counting m) room = room
+  pairs_room (Tidying m) room = room
+  pairs_room (Walking m) room = m.room
+
+  -- the room of its caller once it has begun
+  abbrev pub pairs_beside : Doing M → Pairs → Pairs
+  pairs_beside Idle room = emptied room
+  pairs_beside (Finding m) room = emptied room
+  pairs_beside (Binding m) room = emptied room
+  pairs_beside (Listing m) room = emptied room
+  pairs_beside (Releasing m) room = emptied room
+  pairs_beside (Rebinding m) room = emptied room
+  pairs_beside (Working m) room = emptied room
+  pairs_beside (Counting m) room = emptied room
+  pairs_beside (Tidying m) room = emptied room
+  pairs_beside (Walking m) room = no_room
+
+  -- the room of its caller after its operation found this value
+  abbrev pub pairs_after : Doing M → Pairs → ℕ → Pairs
+  pairs_after Idle room old = room
+  pairs_after (Finding m) room old = room
+  pairs_after (Binding m) room old = room
+  pairs_after (Listing m) room old = room
+  pairs_after (Releasing m) room old = room
+  pairs_after (Rebinding m) room old = room
+  pairs_after (Working m) room old = room
+  pairs_after (Counting m) room old = room
+  pairs_after (Tidying m) room old = room
+  pairs_after (Walking m) room old = pairs_given (walk_after m old) room
 
 -- ---- a caller with its rooms
 
@@ -173,12 +227,12 @@ module _ {M : Type 0} where
   abbrev pub is_idle : Local M → Bool
   is_idle local = does_nothing local.doing
 
-  -- it begins with this: both rooms are emptied, a listing has the room of owners, and a tidying the batch
+  -- it begins with this: both rooms are emptied, a listing has the room of owners, a walk that of pairs, and a tidying the batch
   abbrev pub begin_with : Local M → Doing M → Local M
   begin_with local doing = record {
     doing = doing;
     owners = owners_beside doing local.owners;
-    pairs = emptied local.pairs;
+    pairs = pairs_beside doing local.pairs;
     batch = batch_beside doing local.batch;
   }
 
@@ -198,6 +252,7 @@ module _ {M : Type 0} where
         record local {
           doing = next.0;
           owners = owners_after mix local.doing local.owners old;
+          pairs = pairs_after local.doing local.pairs old;
           batch = batch_after mix local.doing local.batch old;
         },
         next.1,
@@ -209,9 +264,10 @@ module _ {M : Type 0} where
   ending_of local (Some reply) =
       Some (record { answer = record { reply = reply; owners = local.owners.items }; pairs = local.pairs.items })
 
-  -- it does what it does in the table of this environment, its room of owners may have one item a node, and
+  -- it does what it does in the table of this environment, each of its rooms may have one item a node, and
   -- its batch is one of the table
   pub record IsLocalOf (env : Env) (local : Local M) : Type 0 where
     pub doing : IsDoingOf env local.doing
     pub owners : (owners_room local.doing local.owners).limit ≡ env.geometry.nodes
+    pub pairs : (pairs_room local.doing local.pairs).limit ≡ env.geometry.nodes
     pub batch : IsBatchIn env (batch_room local.doing local.batch)

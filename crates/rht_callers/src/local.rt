@@ -4,7 +4,7 @@ ghost use Rattle.std.specs.Prelude.{◌≡◌, ◌<◌, IfSome, IfOk, Some};
 ghost use Rattle.rht_words.specs.Operations.{op_place};
 ghost use Rattle.rht_words.specs.Places.{words_in};
 ghost use Rattle.rht_words.specs.declared.env.Env.{Env};
-ghost use Rattle.rht_callers.specs.Locals.{does_nothing, is_idle, machine_of, doing_plan, plan_of, doing_after, without_node, owners_after, local_after, begun_with, fresh, IsDoingOf, IsLocalOf};
+ghost use Rattle.rht_callers.specs.Locals.{does_nothing, is_idle, machine_of, doing_plan, plan_of, doing_after, without_node, owners_after, pairs_after, local_after, begun_with, fresh, IsDoingOf, IsLocalOf};
 ghost use Rattle.rht_callers.specs.Batches.{with_out, node_out, out_of, batch_after, IsBatchIn, CanPut};
 
 use crate::count::PortCount;
@@ -15,6 +15,7 @@ use rht_model::{Call, Reply, Room};
 use rht_move::Work;
 use rht_policy::Mix;
 use rht_release::{All, Rebind, Release};
+use rht_walk::Walk;
 use rht_words::{Env, Kind, Next, Op, Port};
 use std::alloc::{AllocError, Global};
 
@@ -39,6 +40,8 @@ pub enum Doing<M: Mix> {
     Counting(PortCount),
     /// It gives back the nodes that it took out. Until it ends it has its caller's batch.
     Tidying(Tidy),
+    /// It walks the table's buckets. Until it ends it has its caller's room of pairs.
+    Walking(Walk),
 }
 
 impl<M: Mix> Doing<M> {
@@ -55,7 +58,8 @@ impl<M: Mix> Doing<M> {
             | Doing::Rebinding(_)
             | Doing::Working(_)
             | Doing::Counting(_)
-            | Doing::Tidying(_) => false,
+            | Doing::Tidying(_)
+            | Doing::Walking(_) => false,
         }
     }
 
@@ -74,21 +78,24 @@ impl<M: Mix> Doing<M> {
             Doing::Working(work) => Some(work.plan()),
             Doing::Counting(count) => Some(count.plan()),
             Doing::Tidying(tidy) => Some(tidy.plan()),
+            Doing::Walking(walk) => Some(walk.plan()),
         }
     }
 
     /// Takes in the old value of the word that the operation was on. A reply ends the call. A
-    /// listing that ends gives the room back to `owners`, and a tidying the batch to `batch`. A node
-    /// that a release or a rebind has taken out goes into the batch.
+    /// listing that ends gives the room back to `owners`, a walk to `pairs`, and a tidying the batch
+    /// to `batch`. A node that a release or a rebind has taken out goes into the batch.
     pub fn take(
         &mut self,
         owners: &mut Room<u32>,
+        pairs: &mut Room<(Port, u32)>,
         batch: &mut Option<Batch>,
         old: u64,
     ) -> Option<Reply>
         requires put { CanPut batch.old (out_of M.mix_of self.old old) }
         ensures taken { (self.new, result) ≡ doing_after M.mix_of self.old old }
         ensures owners { owners.new ≡ owners_after M.mix_of self.old owners.old old }
+        ensures pairs { pairs.new ≡ pairs_after self.old pairs.old old }
         ensures batch { batch.new ≡ batch_after M.mix_of self.old batch.old old }
         ensures env { (env : Env) → IsDoingOf env self.old → IsDoingOf env self.new }
     {
@@ -102,6 +109,7 @@ impl<M: Mix> Doing<M> {
             Doing::Working(work) => work.take(old),
             Doing::Counting(count) => count.take(old),
             Doing::Tidying(tidy) => tidy.take(old),
+            Doing::Walking(walk) => walk.take(old),
         };
         match next {
             Next::Go => None,
@@ -109,6 +117,7 @@ impl<M: Mix> Doing<M> {
                 match std::mem::replace(self, Doing::Idle) {
                     Doing::Listing(all) => *owners = all.into_parts(),
                     Doing::Tidying(tidy) => *batch = Some(tidy.into_parts()),
+                    Doing::Walking(walk) => *pairs = walk.into_parts(),
                     _ => {}
                 }
                 Some(reply)
@@ -152,7 +161,8 @@ pub struct Local<M: Mix> {
     /// The owners that came with `Listed`, once the call has ended. While the caller lists owners
     /// the listing has this room.
     pub owners: Room<u32>,
-    /// The pairs that came with `Walked`, once the call has ended.
+    /// The pairs that came with `Walked`, once the call has ended. While the caller walks the walk has
+    /// this room.
     pub pairs: Room<(Port, u32)>,
     /// The nodes that its calls took out and that aren't given back. `None` while the caller tidies:
     /// then the tidying has them.
@@ -196,9 +206,10 @@ impl<M: Mix> Local<M> {
     }
 
     /// Begins a call, and empties both rooms; no memory is taken or given back. It does nothing for a
-    /// call of which there is no machine yet: `walk`, and `rebind` in a table of lists.
+    /// call of which there is no machine yet: `rebind` in a table of lists.
     pub fn begin(&mut self, env: Env, caller: u32, call: Call)
         requires owners { self.old.owners.limit ≡ env.geometry.nodes }
+        requires pairs { self.old.pairs.limit ≡ env.geometry.nodes }
         requires batch { IsBatchIn env self.old.batch }
         requires caller { caller < 16 }
         ensures { self.new ≡ begun_with self.old (machine_of env caller self.old.batch call) }
@@ -221,7 +232,10 @@ impl<M: Mix> Local<M> {
                 Some(batch) => Doing::Tidying(Tidy::new(env.geometry, batch)),
                 None => return,
             },
-            _ => return,
+            Call::Walk { from, limit } => {
+                Doing::Walking(Walk::new(env, caller, from, limit, self.pairs.take()))
+            }
+            Call::Rebind { .. } => return,
         };
         self.owners.clear();
         self.pairs.clear();
@@ -243,6 +257,7 @@ impl<M: Mix> Local<M> {
         ensures taken { (self.new, result) ≡ local_after M.mix_of self.old old }
         ensures env { (env : Env) → IsLocalOf env self.old → IsLocalOf env self.new }
     {
-        self.doing.take(&mut self.owners, &mut self.batch, old)
+        self.doing
+            .take(&mut self.owners, &mut self.pairs, &mut self.batch, old)
     }
 }

@@ -1,6 +1,8 @@
 -- a tidying, operation by operation
 pub mod TidyRanges
 pub mod TidySteps
+-- and a walk
+pub mod WalkSteps
 -- a job, operation by operation
 pub mod JobSteps
 -- what a job never holds, by its call

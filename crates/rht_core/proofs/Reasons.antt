@@ -75,6 +75,7 @@ pub mod LoneWorks
 -- when a bind hasn't found the last table full
 pub mod CalmBinds
 -- what calls come to while no table was made and few ports are bound
+pub mod CalmWalks
 pub mod CalmCalls
 -- that the call itself held none of the pages that it saw taken, and what breaks that
 pub mod WorkedPages

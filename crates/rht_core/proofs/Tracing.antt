@@ -22,5 +22,7 @@ pub mod RepliesInRuns
 pub mod TidiedBatches
 -- and so in every run
 pub mod TidiesInRuns
+-- the operations of walks are those of their machine
+pub mod WalksInRuns
 -- and what of jobs where something else is kept
 pub mod JobsBeside

@@ -1,7 +1,7 @@
 -- Why calls were answered as they were: a table of causes, by call and by reply, over the call's own operations.
 -- Each row says what the operations of a call that ended with this reply have to show. A row with nothing to show says so. The
 -- last row of a table stands for all other replies, which aren't the call's and can have no cause. So it lets nothing pass.
-use Rattle.std.specs.Prelude.{◌≡◌, ◌↔◌, ℕ, ◌+◌, ◌-◌, ◌<◌, ◌≤◌, ◌⊎◌, Bool, true, List, ◌∷◌, ◌++◌, map}
+use Rattle.std.specs.Prelude.{◌≡◌, ◌↔◌, ℕ, ◌+◌, ◌-◌, ◌<◌, ◌≤◌, ◌⊎◌, Bool, true, Option, List, ◌∷◌, ◌++◌, map}
 use Rattle.std.specs.List.{AllByRecursion, Any}
 use Rattle.rht_words.specs.declared.op.Op.TheVariants.{Load, Sub}
 use Rattle.rht_words.specs.declared.env.Env.{Env}
@@ -12,9 +12,10 @@ use Rattle.rht_words.specs.Shapes.{unpacked, size_of}
 use Rattle.rht_policy.specs.Thresholds.{is_above_75}
 use Rattle.rht_policy.specs.Sizes.{most_ports}
 use Rattle.rht_model.specs.declared.history.Call.{Call}
-use Rattle.rht_model.specs.declared.history.Call.TheVariants.{Bind, Find, All, Release, Rebind, Work, Tidy, Count}
+use Rattle.rht_model.specs.declared.history.Call.TheVariants.{Bind, Find, All, Release, Rebind, Walk, Work, Tidy, Count}
+use Rattle.rht_model.specs.declared.history.Cursor.{Cursor}
 use Rattle.rht_model.specs.declared.history.Reply.{Reply}
-use Rattle.rht_model.specs.declared.history.Reply.TheVariants.{Bound, Exists, Found, Missing, Listed, Released, Absent, Rebound, TooBig, Again, Busy, NoTable, NoNode, Elsewhere, Moved, Idle, Counted, Clear, Pending}
+use Rattle.rht_model.specs.declared.history.Reply.TheVariants.{Bound, Exists, Found, Missing, Listed, Released, Absent, Rebound, TooBig, Again, Busy, NoTable, NoNode, Elsewhere, Moved, Idle, Counted, Clear, Pending, Walked}
 use Rattle.rht_arena.specs.Laws.{SeesTaken}
 use Rattle.rht_core.specs.declared.event.Event.{Event}
 use Rattle.rht_core.specs.Runs.{IsAdmitted}
@@ -26,6 +27,7 @@ pub use Rattle.rht_core.specs.RoomCauses.{IsRaise}
 use Rattle.rht_core.specs.RoomCauses.{HadRoom}
 use Rattle.rht_core.specs.Tidied.{HasTidied}
 use Rattle.rht_core.specs.TidyCauses.{HasGiven, SawInSection}
+use Rattle.rht_core.specs.WalkCauses.{SawForWalk}
 use Rattle.rht_core.specs.WorkCauses.{SawElsewhere, SawNoTableDue, SawNothingDue, SawMoved}
 
 -- why a look-up ended with this reply: it has nothing to show for its answers
@@ -60,6 +62,12 @@ WorkCause env c words_at past (Moved again) = SawMoved env c words_at again past
 WorkCause env c words_at past Idle = SawNothingDue env c past.steps
 WorkCause env c words_at past (NoTable size) = SawNoTableDue env c size past.steps
 WorkCause env c words_at past _ = ⊥
+
+-- why a walk of this caller from this cursor ended with this reply, and with its pairs
+abbrev pub WalkCause : Env → ℕ → Option Cursor → ℕ → Past → Reply → Type 0
+WalkCause env c from limit past (Walked len next) = SawForWalk env c from limit (Walked len next) past.done.pairs past.steps
+WalkCause env c from limit past (Again table) = SawForWalk env c from limit (Again table) past.done.pairs past.steps
+WalkCause env c from limit past _ = ⊥
 
 -- and by the raised count a table of this shape is due to grow
 pub record IsDueBy (env : Env) (shape : ℕ) (did : Did) : Type 0 where
@@ -147,7 +155,7 @@ module _ (M : Type 0) (mix : ℕ → ℕ → ℕ → ℕ) where
       SawInSection env.geometry caller section past.steps × HasTidied M mix env events c past
   TidyCause env events c past _ = ⊥
 
-  -- why a call ended with this reply; a call of which there is no machine yet never ends
+  -- why a call ended with this reply
   abbrev pub CauseOf : Env → List Event → ℕ → Past → Call → Reply → Type 0
   CauseOf env events c past (Bind port owner once) reply = BindCause env events c port past reply
   CauseOf env events c past (Find port) reply = FindCause reply
@@ -157,7 +165,7 @@ module _ (M : Type 0) (mix : ℕ → ℕ → ℕ → ℕ) where
   CauseOf env events c past Work reply = WorkCause env c (words_before M mix env events) past reply
   CauseOf env events c past Tidy reply = TidyCause env events c past reply
   CauseOf env events c past Count reply = CountCause env events c past reply
-  CauseOf env events c past _ reply = ⊥
+  CauseOf env events c past (Walk from limit) reply = WalkCause env c from limit past reply
 
   -- a call that has ended has the cause of its reply
   abbrev pub HasCause : Env → List Event → ℕ → Past → Type 0

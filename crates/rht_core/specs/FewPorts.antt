@@ -1,5 +1,5 @@
 -- Runs in which so few ports are bound that no table is full: then no table is made, and no bind is refused for its sake.
-use Rattle.std.specs.Prelude.{◌≡◌, ℕ, ◌≤◌, ◌<◌, true, false, IfSome, List, length}
+use Rattle.std.specs.Prelude.{◌≡◌, ◌≢◌, ℕ, ◌≤◌, ◌<◌, true, false, Option, None, Some, IfSome, List, length}
 use Rattle.std.specs.List.{AllByRecursion}
 use Rattle.rht_words.specs.declared.env.Env.{Env}
 use Rattle.rht_words.specs.Members.{In}
@@ -11,8 +11,9 @@ use Rattle.rht_model.specs.Multimap.{Port}
 use Rattle.rht_model.specs.declared.finished.Finished.{Finished}
 use Rattle.rht_model.specs.declared.history.Call.{Call}
 use Rattle.rht_model.specs.declared.history.Call.TheVariants.{Bind, Find, All, Release, Rebind, Walk, Work, Tidy, Count}
+use Rattle.rht_model.specs.declared.history.Cursor.{Cursor}
 use Rattle.rht_model.specs.declared.history.Reply.{Reply}
-use Rattle.rht_model.specs.declared.history.Reply.TheVariants.{NoNode, Elsewhere}
+use Rattle.rht_model.specs.declared.history.Reply.TheVariants.{NoNode, Elsewhere, Again}
 use Rattle.rht_core.specs.declared.book.Book.{Book}
 use Rattle.rht_core.specs.declared.event.Event.{Event}
 use Rattle.rht_core.specs.Runs.{World, run_of, IsAdmitted}
@@ -65,6 +66,11 @@ IsBindTaken Work reply = Unit {0}
 IsBindTaken Tidy reply = Unit {0}
 IsBindTaken Count reply = Unit {0}
 
+-- a walk that goes on from no cursor hasn't to begin anew
+abbrev pub IsWalkTaken : Option Cursor → Reply → Type 0
+IsWalkTaken None reply = (table : ℕ) → reply ≢ Again table
+IsWalkTaken (Some cursor) reply = Unit {0}
+
 -- and a resizing because another caller was at work alone
 abbrev pub IsCallTaken : Call → Reply → Type 0
 IsCallTaken (Bind port owner once) reply = is_refusal reply ≡ true → reply ≡ NoNode
@@ -73,7 +79,7 @@ IsCallTaken (Find port) reply = Unit {0}
 IsCallTaken (All port) reply = Unit {0}
 IsCallTaken (Release port owner) reply = Unit {0}
 IsCallTaken (Rebind port owner new) reply = Unit {0}
-IsCallTaken (Walk from limit) reply = Unit {0}
+IsCallTaken (Walk from limit) reply = IsWalkTaken from reply
 IsCallTaken Tidy reply = Unit {0}
 IsCallTaken Count reply = Unit {0}
 

@@ -1,16 +1,17 @@
 -- Jobs: what a caller does, said without its number, its table and the type of its mix. What is said of a caller by where
 -- its machine stands is said of its job, so that each machine is told apart from the others here and in few places else.
-use Rattle.std.specs.Prelude.{◌≡◌, ℕ, Bool, Option, Some, None, []}
+use Rattle.std.specs.Prelude.{◌≡◌, ℕ, Bool, Option, Some, None, [], length}
 use Rattle.rht_words.specs.declared.op.Op.{Op}
 use Rattle.rht_words.specs.declared.env.Env.{Env}
 use Rattle.rht_words.specs.declared.machine.Next.{Next}
 use Rattle.rht_words.specs.declared.machine.Next.TheVariants.{Go, Done}
 use Rattle.rht_model.specs.declared.history.Call.{Call}
 use Rattle.rht_model.specs.declared.history.Call.TheVariants.{Bind, Find, All, Release, Rebind, Walk, Work, Tidy, Count}
+use Rattle.rht_model.specs.declared.history.Cursor.{Cursor}
 use Rattle.rht_model.specs.declared.history.Reply.{Reply}
 use Rattle.rht_words.specs.Held.{Held}
 use Rattle.rht_words.specs.Held as held
-use Rattle.rht_model.specs.Answers.{Answer}
+use Rattle.rht_model.specs.Answers.{Answer, plain}
 use Rattle.rht_model.specs.Endings.{Ending, plain_ending}
 use Rattle.rht_find.specs.FindHeld.{held_of_find}
 use Rattle.rht_bind.specs.BindHeld.{held_of_bind}
@@ -34,8 +35,13 @@ use Rattle.rht_grace.specs.Batch.{BatchModel}
 use Rattle.rht_grace.specs.Tidy as tidy
 use Rattle.rht_grace.specs.declared.tidy.TidyAt.{TidyAt}
 use Rattle.rht_callers.specs.PortCounts.{count_plan_in}
+use Rattle.rht_walk.specs.Walk as walk
+use Rattle.rht_walk.specs.Walk.{Pairs}
+use Rattle.rht_walk.specs.WalkHeld.{held_of_walk}
+use Rattle.rht_walk.specs.declared.walk.WalkAt.{WalkAt}
+use Rattle.rht_walk.specs.declared.walk.WalkAt.TheVariants as walks_at
 use Rattle.rht_callers.specs.declared.local.Doing.{Doing}
-use Rattle.rht_callers.specs.declared.local.Doing.TheVariants.{Idle, Finding, Binding, Releasing, Rebinding, Listing, Working, Counting, Tidying}
+use Rattle.rht_callers.specs.declared.local.Doing.TheVariants.{Idle, Finding, Binding, Releasing, Rebinding, Listing, Working, Counting, Tidying, Walking}
 use Rattle.rht_words.specs.declared.config.Kind.{Kind}
 use Rattle.rht_words.specs.declared.config.Kind.TheVariants.{Single, Listed}
 use Rattle.rht_release.specs.Release as release
@@ -47,8 +53,8 @@ use Rattle.rht_release.specs.RebindHeld.{held_of_rebind}
 use Rattle.rht_release.specs.declared.rebind.RebindAt.{RebindAt}
 
 -- a look-up of a port, a bind of a port to an owner, a listing of a port's owners with its room, a release, a rebind, a
--- resizing of the table, and a tidying of its caller's batch, each with the state in which it is; and a reading of how many
--- ports are bound
+-- resizing of the table, a tidying of its caller's batch, and a walk with its room, each with the state in which it is; and a
+-- reading of how many ports are bound
 pub data Job : Type 0 where
   finds : (port : ℕ) (state : FindAt) → Job
   binds : (port owner : ℕ) (once : Bool) (state : BindAt) → Job
@@ -57,6 +63,7 @@ pub data Job : Type 0 where
   rebinds : (port owner new : ℕ) (state : RebindAt) → Job
   works : (state : WorkAt) → Job
   tidies : (batch : BatchModel) (state : TidyAt) → Job
+  walks : (from : Option Cursor) (limit : ℕ) (room : Pairs) (state : WalkAt) → Job
   counts : Job
 
 -- the call that it does
@@ -68,6 +75,7 @@ call_of (releases port owner state) = Release port owner
 call_of (rebinds port owner new state) = Rebind port owner new
 call_of (works state) = Work
 call_of (tidies batch state) = Tidy
+call_of (walks from limit room state) = Walk from limit
 call_of counts = Count
 
 -- a tidying's state is that of its batch and its machine
@@ -90,7 +98,7 @@ first_job env batch (Bind port owner once) = Some (binds port owner once (bind.f
 first_job env batch (All port) = Some (lists port (room_for_nodes env) alls.Opening)
 first_job env batch (Release port owner) = Some (releases port owner releasing.Opening)
 first_job env batch (Rebind port owner new) = first_rebind env port owner new env.config.kind
-first_job env batch (Walk from limit) = None
+first_job env batch (Walk from limit) = Some (walks from limit (room_for_nodes env) walks_at.Opening)
 first_job env batch Work = Some (works works_at.WorkLock)
 first_job env batch Tidy = first_tidy batch
 first_job env batch Count = Some counts
@@ -108,6 +116,7 @@ job_plan env caller (releases port owner state) = release.plan_at env caller sta
 job_plan env caller (rebinds port owner new state) = rebind.plan_at env caller state
 job_plan env caller (works state) = work.plan_at env caller state
 job_plan env caller (tidies batch state) = tidy.plan_at env.geometry batch state
+job_plan env caller (walks from limit room state) = walk.plan_at env.geometry caller state
 job_plan env caller counts = count_plan_in env
 
 -- the job goes on in its machine's next state, or its call has ended so
@@ -122,6 +131,15 @@ listing_ending room done = record { answer = listing_of room.items; pairs = [] }
 -- a release and a rebind end with their reply, without the node that was taken out
 abbrev pub node_ending : Reply × Option ℕ → Ending
 node_ending end = plain_ending end.0
+
+-- a walk ends with its reply, and the pairs in its room
+abbrev pub walk_ending : Pairs → Reply → Ending
+walk_ending room reply = record { answer = plain reply; pairs = room.items }
+
+-- where it stands behind this state, and its answer, with the pairs that are kept then
+abbrev pub walk_gone : Env → Option Cursor → ℕ → Pairs → Pairs → WalkAt → ℕ → WalkAt × Next Reply
+walk_gone env from limit room after state old =
+    (walk.goes env.geometry from limit (length room.items) state old, walk.says after state)
 
 abbrev pub tidied : BatchModel × TidyAt × Next Reply → (BatchModel × TidyAt) × Next Reply
 tidied came = ((came.0, came.1), came.2)
@@ -142,6 +160,9 @@ job_after mix env (rebinds port owner new state) old =
 job_after mix env (works state) old = job_next works plain_ending (work.after_at mix env state old)
 job_after mix env (tidies batch state) old =
     job_next tidying plain_ending (tidied (tidy.after_at env.geometry batch state old))
+job_after mix env (walks from limit room state) old =
+    let after = walk.room_after state room old in
+    job_next (walks from limit after) (walk_ending after) (walk_gone env from limit room after state old)
 job_after mix env counts old = (counts, Done (plain_ending (Counted old)))
 
 -- the job of what a caller does
@@ -155,6 +176,7 @@ job_of (Rebinding m) = Some (rebinds m.port m.owner m.new_owner m.at)
 job_of (Working m) = Some (works m.at)
 job_of (Counting m) = Some counts
 job_of (Tidying m) = Some (tidies m.batch m.at)
+job_of (Walking m) = Some (walks m.from m.limit m.room m.at)
 
 -- what is left of a job after an operation, and how its call has ended where it has
 abbrev pub told : Job × Next Ending → Option Job × Option Ending
@@ -173,6 +195,7 @@ held_of (releases port owner state) = held_of_release state
 held_of (rebinds port owner new state) = held_of_rebind state
 held_of (works state) = held_of_work state
 held_of (tidies batch state) = held.holds_nothing
+held_of (walks from limit room state) = held_of_walk room state
 held_of counts = held.holds_nothing
 
 -- and after an operation; once the call has ended it holds nothing, and its answer is known

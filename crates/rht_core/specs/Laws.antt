@@ -15,6 +15,7 @@ use Rattle.rht_release.specs.All.{IsAllIn}
 use Rattle.rht_release.specs.Release.{IsReleaseIn}
 use Rattle.rht_release.specs.Rebind.{IsRebindIn}
 use Rattle.rht_move.specs.Work.{IsWorkIn}
+use Rattle.rht_walk.specs.Walk as walk
 use Rattle.rht_callers.specs.Batches.{IsBatchIn, AreNodesIn, HasWords, IsSoundBatch, batch_room}
 use Rattle.rht_model.specs.declared.history.Call.{Call}
 use Rattle.rht_model.specs.declared.history.Call.TheVariants.{Bind, Find, All, Release, Rebind, Walk, Work, Tidy, Count}
@@ -25,8 +26,8 @@ use Rattle.rht_core.specs.declared.event.Event.{Event}
 use Rattle.rht_core.specs.declared.event.Event.TheVariants.{Enroll, Begin, Step}
 use Rattle.rht_callers.specs.declared.local.Local.{Local}
 use Rattle.rht_callers.specs.declared.local.Doing.{Doing}
-use Rattle.rht_callers.specs.declared.local.Doing.TheVariants.{Idle, Finding, Binding, Releasing, Rebinding, Listing, Working, Counting, Tidying}
-use Rattle.rht_callers.specs.Locals.{fresh, owners_room, begin_with, plan_of, local_after, ending_of}
+use Rattle.rht_callers.specs.declared.local.Doing.TheVariants.{Idle, Finding, Binding, Releasing, Rebinding, Listing, Working, Counting, Tidying, Walking}
+use Rattle.rht_callers.specs.Locals.{fresh, owners_room, pairs_room, begin_with, plan_of, local_after, ending_of}
 use Rattle.rht_core.specs.Runs.{Core, World, View, core_step, world_step, run_of, local_of, planned_in, view_of, new_book, book_begun, book_after, IsSound, IsAdmitted, IsAdmittedEvent}
 use Rattle.rht_core.specs.Replies.{AnswersIn}
 use Rattle.rht_core.specs.Tidyings.{IsTidyingOf}
@@ -59,12 +60,13 @@ module _ {M : Type 0} where
   IsDoingIn env c (Working m) = IsWorkIn env c m
   IsDoingIn env c (Counting m) = m.env ≡ env
   IsDoingIn env c (Tidying m) = IsTidyingOf env m
+  IsDoingIn env c (Walking m) = walk.IsWalkIn env c m
 
   -- and its rooms may have one item a node, and its batch is of the table's nodes, with a section word for each caller
   pub record IsLocalIn (env : Env) (c : ℕ) (local : Local M) : Type 0 where
     pub doing : IsDoingIn env c local.doing
     pub owners : (owners_room local.doing local.owners).limit ≡ env.geometry.nodes
-    pub pairs : local.pairs.limit ≡ env.geometry.nodes
+    pub pairs : (pairs_room local.doing local.pairs).limit ≡ env.geometry.nodes
     pub batch : IsBatchIn env (batch_room local.doing local.batch)
     pub among : AreNodesIn env.geometry.nodes (batch_room local.doing local.batch)
     pub words : HasWords env.geometry.callers (batch_room local.doing local.batch)

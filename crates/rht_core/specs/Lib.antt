@@ -8,6 +8,8 @@ pub use Rattle.rht_callers.specs.PortCounts
 pub mod Jobs
 -- why a tidying was answered as it was
 pub mod TidyCauses
+-- and a walk
+pub mod WalkCauses
 -- what a tidying names
 pub mod Tidyings
 -- what events make of words and callers

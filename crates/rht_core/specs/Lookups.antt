@@ -1,6 +1,6 @@
 -- What holds of look-ups in every run: how many operations they take, and that a port which stays bound meanwhile is found. They read in one
--- read section. What they, readings of the count and tidyings never do. And how many operations tidyings take.
-use Rattle.std.specs.Prelude.{◌≡◌, ◌≢◌, ◌⊎◌, ℕ, ◌+◌, ◌<◌, ◌≤◌, List, [], ◌∷◌, ◌++◌, length, Some}
+-- read section. What they, readings of the count, tidyings and walks never do. And how many operations tidyings and walks take.
+use Rattle.std.specs.Prelude.{◌≡◌, ◌≢◌, ◌⊎◌, ℕ, ◌+◌, ◌<◌, ◌≤◌, Option, List, [], ◌∷◌, ◌++◌, length, map, slice_index, Some}
 use Rattle.std.specs.List.{AllByRecursion}
 use Rattle.rht_words.specs.declared.op.Op.TheVariants.{Load}
 use Rattle.rht_words.specs.declared.env.Env.{Env}
@@ -8,11 +8,14 @@ use Rattle.rht_words.specs.declared.geometry.Geometry.{Geometry}
 use Rattle.rht_words.specs.Operations.{op_place}
 use Rattle.rht_words.specs.Places.{WorkLock, IsBucketPlace, place_of}
 use Rattle.rht_model.specs.declared.history.Call.{Call}
-use Rattle.rht_model.specs.declared.history.Call.TheVariants.{Find, Count, Tidy}
+use Rattle.rht_model.specs.declared.history.Call.TheVariants.{Find, Count, Tidy, Walk}
+use Rattle.rht_model.specs.declared.history.Cursor.{Cursor}
 use Rattle.rht_model.specs.declared.history.Reply.TheVariants.{Found}
 use Rattle.rht_model.specs.Answers.{find_reply}
 use Rattle.rht_find.specs.FindBound.{find_bound}
 use Rattle.rht_grace.specs.TidyLaws.{tidy_bound}
+use Rattle.rht_walk.specs.WalkLaws.{walk_bound}
+use Rattle.rht_words.specs.Shapes.{unpacked, size_of}
 use Rattle.rht_core.specs.declared.event.Event.{Event}
 use Rattle.rht_core.specs.Runs.{IsAdmitted}
 use Rattle.rht_core.specs.Traces.{Did, Past, Traced, traced_of, behind_call}
@@ -29,6 +32,16 @@ IsShort env call steps = (port : ℕ) → call ≡ Find port → length steps �
 abbrev pub IsShortTidying : Env → Call → List Did → Type 0
 IsShortTidying env call steps = call ≡ Tidy → length steps ≤ tidy_bound env.geometry
 
+-- the shape that a walk found: its fourth operation loads it
+abbrev pub shape_found : List Did → ℕ
+shape_found steps = slice_index (map (λ (did : Did). did.old) steps) 3
+
+-- nor a walk than six, and for each bucket of the table of which it found the shape four and three for each node
+abbrev pub IsShortWalk : Env → Call → List Did → Type 0
+IsShortWalk env call steps =
+    (from : Option Cursor) (limit : ℕ) → call ≡ Walk from limit
+    → length steps ≤ walk_bound env.geometry (size_of (unpacked (shape_found steps)))
+
 -- ---- what is never done
 
 -- the operation only loads where it is on a bucket's word, and it isn't on the work lock
@@ -36,9 +49,13 @@ pub record IsHarmless (g : Geometry) (did : Did) : Type 0 where
   pub buckets : IsBucketPlace g (op_place did.op) → did.op ≡ Load (op_place did.op)
   pub work : op_place did.op ≢ place_of g WorkLock
 
--- the call is a look-up, a reading of the count or a tidying
+-- the call is a look-up, a reading of the count, a tidying or a walk
 abbrev pub IsLockFree : Call → Type 0
-IsLockFree call = ((port : ℕ) × (call ≡ Find port)) ⊎ (call ≡ Count) ⊎ (call ≡ Tidy)
+IsLockFree call =
+    ((port : ℕ) × (call ≡ Find port))
+    ⊎ (call ≡ Count)
+    ⊎ (call ≡ Tidy)
+    ⊎ ((from : Option Cursor) × (limit : ℕ) × (call ≡ Walk from limit))
 
 -- so it is of each operation of such a call
 abbrev pub IsHarmlessCall : Env → Call → List Did → Type 0
@@ -86,6 +103,12 @@ module _ (M : Type 0) (mix : ℕ → ℕ → ℕ → ℕ) where
       (env : Env) (events : List Event) (c : ℕ) → IsAdmitted env.config.kind events
       → EachCall (IsShortTidying env) (traced_of mix env events) c
 
+  -- and no walk
+  abbrev pub WalksSoon : Type 0
+  WalksSoon =
+      (env : Env) (events : List Event) (c : ℕ) → IsAdmitted env.config.kind events
+      → EachCall (IsShortWalk env) (traced_of mix env events) c
+
   -- A look-up that has ended answered what was so at a moment of its call: behind one of the events from its beginning to its last operation
   -- the words stood for these owners of its port, whoever made the event. The look-up may be taken to take effect there.
   pub record AnswersMoment (env : Env) (events : List Event) (past : Past) (port : ℕ) : Type 0 where
@@ -113,7 +136,7 @@ module _ (M : Type 0) (mix : ℕ → ℕ → ℕ → ℕ) where
       (env : Env) (events : List Event) (c : ℕ) → IsAdmitted env.config.kind events
       → AllByRecursion (IsFoundThroughout env events) ((traced_of {M = M} mix env events).traces c).past
 
-  -- in every run a look-up, a reading of the count and a tidying change no bucket's word, and don't touch the work lock
+  -- in every run a look-up, a reading of the count, a tidying and a walk change no bucket's word, and don't touch the work lock
   abbrev pub Harmless : Type 0
   Harmless =
       (env : Env) (events : List Event) (c : ℕ) → IsAdmitted env.config.kind events

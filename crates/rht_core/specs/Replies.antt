@@ -2,7 +2,7 @@
 use Rattle.std.specs.Prelude.{◌≡◌, ℕ, if◌then◌else◌, List, [], Option, Some, None}
 use Rattle.std.specs.List.{AllByRecursion, last_or}
 use Rattle.rht_words.specs.declared.env.Env.{Env}
-use Rattle.rht_model.specs.declared.history.Call.TheVariants.{Bind, Find, All, Release, Rebind, Work, Tidy, Count}
+use Rattle.rht_model.specs.declared.history.Call.TheVariants.{Bind, Find, All, Release, Rebind, Walk, Work, Tidy, Count}
 use Rattle.rht_model.specs.declared.finished.Finished.{Finished}
 use Rattle.rht_find.specs.Find.{FindModel}
 use Rattle.rht_bind.specs.Bind.{BindModel}
@@ -13,9 +13,10 @@ use Rattle.rht_release.specs.Release.{ReleaseModel}
 use Rattle.rht_release.specs.Rebind.{RebindModel}
 use Rattle.rht_move.specs.Work.{WorkModel}
 use Rattle.rht_grace.specs.Tidy.{TidyModel}
+use Rattle.rht_walk.specs.Walk.{WalkModel}
 use Rattle.rht_callers.specs.declared.count.PortCount.{PortCount}
 use Rattle.rht_callers.specs.declared.local.Doing.{Doing}
-use Rattle.rht_callers.specs.declared.local.Doing.TheVariants.{Idle, Finding, Binding, Releasing, Rebinding, Listing, Working, Counting, Tidying}
+use Rattle.rht_callers.specs.declared.local.Doing.TheVariants.{Idle, Finding, Binding, Releasing, Rebinding, Listing, Working, Counting, Tidying, Walking}
 use Rattle.rht_callers.specs.Locals.{is_idle}
 pub use Rattle.rht_model.specs.Replies.{IsBindReply, IsFindReply, IsAllReply, IsReleaseReply, IsRebindReply, IsWalkReply, IsWorkReply, IsTidyReply, IsCountReply, IsReplyTo, AreOwnersWith, ArePairsWith}
 
@@ -71,6 +72,11 @@ pub record IsBookOfTidy (env : Env) (m : TidyModel) (book : Book) : Type 0 where
   pub same_geometry : m.geometry ≡ env.geometry
   pub call : book.call ≡ Some Tidy
 
+pub record IsBookOfWalk (env : Env) (c : ℕ) (m : WalkModel) (book : Book) : Type 0 where
+  pub same_env : m.env ≡ env
+  pub same_caller : m.caller ≡ c
+  pub call : book.call ≡ Some (Walk m.from m.limit)
+
 module _ {M : Type 0} where
   -- what a caller does is what its book says
   abbrev pub IsBookOf : Env → ℕ → Doing M → Book → Type 0
@@ -83,6 +89,7 @@ module _ {M : Type 0} where
   IsBookOf env c (Working m) book = IsBookOfWork env c m book
   IsBookOf env c (Counting m) book = IsBookOfCount env m book
   IsBookOf env c (Tidying m) book = IsBookOfTidy env m book
+  IsBookOf env c (Walking m) book = IsBookOfWalk env c m book
 
 -- ---- the rooms
 

@@ -11,6 +11,7 @@ use Rattle.rht_words.specs.Shapes.{unpacked, size_of}
 use Rattle.rht_model.specs.declared.history.Call.TheVariants.{Walk}
 use Rattle.rht_model.specs.declared.history.Cursor.{Cursor}
 use Rattle.rht_model.specs.declared.history.Reply.TheVariants.{Walked}
+use Rattle.rht_walk.specs.WalkLaws.{first_bucket, Fits}
 use Rattle.rht_core.specs.declared.event.Event.{Event}
 use Rattle.rht_core.specs.Laws.{IsRecorded}
 use Rattle.rht_core.specs.ResizeCauses.{Loaded, FindsFuture}
@@ -102,16 +103,6 @@ pub record BeginsIn (g : Geometry) (table serial shape : ℕ) (steps : List Did)
   pub current_read : LoadsCurrent g table current
   pub serial_read : Loaded g (Slot table SerialWord) serial serial_at
   pub shape_read : Loaded g (Slot table ShapeWord) shape shape_at
-
--- the bucket at which a call begins
-abbrev pub first_bucket : Option Cursor → ℕ
-first_bucket None = 0
-first_bucket (Some cursor) = cursor.bucket
-
--- a cursor fits a table with this serial and this shape
-abbrev pub Fits : ℕ → ℕ → Option Cursor → Type 0
-Fits serial shape None = Unit {0}
-Fits serial shape (Some cursor) = (cursor.serial ≡ serial) × (cursor.bucket < size_of (unpacked shape))
 
 -- `Walked`: with a cursor it is the walked table's, at a later bucket, and enough pairs were kept; without
 -- one the table's future was found to be none, and behind that no bucket was looked at

@@ -7,7 +7,8 @@ use Rattle.rht_release.specs.AllStanding.{standing_of_all}
 use Rattle.rht_release.specs.ReleaseStanding.{standing_of_release}
 use Rattle.rht_release.specs.RebindStanding.{standing_of_rebind}
 use Rattle.rht_move.specs.WorkStanding.{standing_of_work}
-use Rattle.rht_core.specs.Jobs.{Job, finds, binds, lists, releases, rebinds, works, tidies, counts, job_of}
+use Rattle.rht_walk.specs.WalkStanding.{standing_of_walk}
+use Rattle.rht_core.specs.Jobs.{Job, finds, binds, lists, releases, rebinds, works, tidies, walks, counts, job_of}
 use Rattle.rht_core.specs.Runs.{Core, local_of}
 
 abbrev pub standing_of : Job → Standing
@@ -18,6 +19,7 @@ standing_of (releases port owner state) = standing_of_release state
 standing_of (rebinds port owner new state) = standing_of_rebind state
 standing_of (works state) = standing_of_work state
 standing_of (tidies batch state) = stands_nowhere
+standing_of (walks from limit room state) = standing_of_walk state
 standing_of counts = stands_nowhere
 
 -- a caller in no call stands nowhere

@@ -9,7 +9,7 @@ ghost use Rattle.rht_core.specs.FewPorts.{FewPorts, OneCaller};
 ghost use Rattle.rht_core.specs.Kicks.{Kicks};
 ghost use Rattle.rht_core.specs.LetGo.{LetGo};
 ghost use Rattle.rht_core.specs.ListedOwners.{ListedOwners};
-ghost use Rattle.rht_core.specs.Lookups.{Bounded, TidiesSoon, TakesEffect, FindsWhatStays, Harmless, ReadsInside};
+ghost use Rattle.rht_core.specs.Lookups.{Bounded, TidiesSoon, WalksSoon, TakesEffect, FindsWhatStays, Harmless, ReadsInside};
 ghost use Rattle.rht_core.specs.NeverRefused.{RoomyTakesAll, OneWorkerAsModel};
 ghost use Rattle.rht_core.specs.NodesUsed.{Nodes};
 ghost use Rattle.rht_core.specs.Placed.{Placed, OwnPages};
@@ -64,8 +64,8 @@ pub fn words_fit<M: Mix>()
 /// A bind answers `Again` only where it is tried once alone. What a caller works at is the call of
 /// its book, for that caller, in the run's table. While a caller is in no call its rooms have the
 /// lists of its last finished call, and while it is in one they are empty: the owners that a listing
-/// has found so far are in the room that it has taken. It doesn't say which of the replies comes, nor
-/// that one comes.
+/// has found so far are in the room that it has taken, and so are the pairs of a walk. It doesn't say which
+/// of the replies comes, nor that one comes.
 pub fn replies<M: Mix>()
     ensures { Replies M M.mix_of }
 {}
@@ -157,10 +157,16 @@ pub fn taken_alone<M: Mix>()
 /// nodes as it names, and did nothing else. One that was answered `Pending` only loaded section words. The last one
 /// it found to be the word that it names, of the caller that it names, and that word is odd.
 ///
+/// A `Walk` that was answered has done what `laws::walks_rightly` of `rht_walk` says, with the pairs that came
+/// with its reply. It opened its section, loaded the current table, its serial and its shape, and then looked at
+/// bucket after bucket. For `Walked` the pairs are the keys and owners that it loaded. It found no table behind;
+/// with a cursor it kept enough pairs. For `Again` it found one behind, or the cursor doesn't fit. It doesn't
+/// say that the pairs were bound.
+///
 /// `Found` and `Missing` of a look-up, `Listed` of a listing, `Absent` of a release, `Rebound` and
-/// `Absent` of a rebind have nothing to show here. No other reply of these calls comes, and a call of
-/// which there is no machine never ends. It doesn't say that all nodes were taken at one event, or that
-/// exactly so many ports were bound, or in which table a bind's node was linked.
+/// `Absent` of a rebind have nothing to show here. No other reply of these calls comes. It doesn't say that
+/// all nodes were taken at one event, or that exactly so many ports were bound, or in which table a bind's node
+/// was linked.
 pub fn causes<M: Mix>()
     ensures { Causes M M.mix_of }
 {}
@@ -341,10 +347,13 @@ pub fn inside<M: Mix>()
 /// In every run a look-up, ended or in progress, has at most `4 + 8 * (4 + (rewalks + 1) * (4 + 2 * nodes))`
 /// operations, which is enough for `rewalks + 1` walks of `nodes` nodes in each of eight tables. That is so
 /// whatever other callers do or leave undone, also where one that holds a lock never steps again. A tidying,
-/// ended or in progress, has at most two operations for each caller, one for each node, and one.
+/// ended or in progress, has at most two operations for each caller, one for each node, and one. A walk, ended
+/// or in progress, has at most six, and for each bucket of the table whose shape it found four and three for each
+/// node.
 pub fn bounded<M: Mix>()
     ensures lookups { Bounded M M.mix_of }
     ensures tidyings { TidiesSoon M M.mix_of }
+    ensures walks { WalksSoon M M.mix_of }
 {}
 
 /// In every run a look-up that has ended answered the first owner that the words stood for behind some event
@@ -355,8 +364,8 @@ pub fn found<M: Mix>()
     ensures throughout { FindsWhatStays M M.mix_of }
 {}
 
-/// In every run each operation of a look-up, of a reading of the count or of a tidying, ended or in progress,
-/// only loads where it is on a bucket's word, and none is on the work lock. So these calls lock nothing. The
+/// In every run each operation of a look-up, of a reading of the count, of a tidying or of a walk, ended or in
+/// progress, only loads where it is on a bucket's word, and none is on the work lock. So these calls lock nothing. The
 /// first operation of a look-up adds 1 to its caller's own section word, and so does the last one of a look-up
 /// that has ended; all others load words.
 pub fn harmless<M: Mix>()
@@ -441,9 +450,10 @@ pub fn tables<M: Mix>()
 /// In some runs no table is made. The table begins with 64 buckets or more and doesn't shrink; and the binds,
 /// those that have ended and those in progress, have 15 ports at most. Then the first table stays the
 /// current one, no serial is given to another, and each word of each slot is as it was at opening. No bind
-/// is refused but for want of a node, and no `Work` but because another caller is at work. It holds after
-/// each event, since the first events of such a run are one. It says nothing of runs in which more ports
-/// are bound one after another, even if they are never bound at one time.
+/// is refused but for want of a node, and no `Work` but because another caller is at work. And no `Walk`
+/// without a cursor is answered `Again`. It holds after each event, since the first events of such a run are
+/// one. It says nothing of runs in which more ports are bound one after another, even if they are never bound
+/// at one time.
 pub fn few_ports<M: Mix>()
     ensures { FewPorts M M.mix_of }
 {}

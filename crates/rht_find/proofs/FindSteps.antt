@@ -147,10 +147,10 @@ module _ (env : Env) (mix : ℕ → ℕ → ℕ → ℕ) (c : ℕ) (port : ℕ) 
     -- ---- an answer
 
     found_right : (owner : ℕ) → IsRight call None (plain (Found owner))
-    found_right owner = record { replied = record { reply = tt; owners = refl; pairs = refl }; tells = refl }
+    found_right owner = record { replied = record { reply = tt; owners = refl }; tells = refl }
 
     missing_right : IsRight call None (plain Missing)
-    missing_right = record { replied = record { reply = tt; owners = refl; pairs = refl }; tells = refl }
+    missing_right = record { replied = record { reply = tt; owners = refl }; tells = refl }
 
     -- a load behind which the answer is known
     claims_it : (state : FindAt) (reply : Reply) → Leaves state → IsInside state → IsRight call None (plain reply)

@@ -75,7 +75,7 @@ module _ (env : Env) (mix : ℕ → ℕ → ℕ → ℕ) (c : ℕ) (words : List
       → WorkMoved (at.RootFuture root due) (future_or_idle root due next, Go)
   root_future root due None is known =
       let op = plan_at env c (at.RootFuture root due) in
-      leads (letting_go Idle) (says replies.Idle tt refl refl refl) refl refl refl
+      leads (letting_go Idle) (says replies.Idle tt refl refl) refl refl refl
       (work_loads env mix c holds_work words G all whole None MakesNothing op
       (Rooted root (due_aim due)) Works refl known
       (λ k. record { works = k.works; more = tt }))

@@ -86,7 +86,7 @@ module _ (env : Env) (mix : ℕ → ℕ → ℕ → ℕ) (c : ℕ) (words : List
       (λ t. load_moving all whole (Some emptying.bucket.place) (in_bucket emptying known)
       (in_bucket emptying NoAim) (unlocking emptying true) same knows
       (λ k. record { works = k.works; more = record { next = k.more.next; out = k.more.out; aim_is = tt } })
-      (says (replies.Moved true) tt refl refl refl) refl refl)
+      (says (replies.Moved true) tt refl refl) refl refl)
       (λ f. load_moving all whole (Some emptying.bucket.place) (in_bucket emptying known)
       (in_bucket emptying (Beyond last.table (Some last.shape) None)) (at.Seed emptying last) same knows
       (learns f) (inl refl) refl refl)

@@ -14,7 +14,7 @@ use Rattle.rht_model.specs.Answers.{plain}
 use Rattle.rht_move.specs.declared.work.WorkAt.{WorkAt}
 use Rattle.rht_move.specs.WorkHeld.{holds_work, holds_moving, held_of_work}
 use Rattle.rht_model.specs.Replies.{takes_out}
-use Rattle.rht_model.specs.Replies.{IsWorkReply, AreOwnersWith, ArePairsWith}
+use Rattle.rht_model.specs.Replies.{IsWorkReply, AreOwnersWith}
 use Rattle.rht_ghost.proofs.Theory.Ghosts.{Ghost}
 use Rattle.rht_ghost.proofs.Theory.Wholes.{Whole}
 use Rattle.rht_ghost.proofs.Theory.Knowns.{Known, MakesNothing, KnownWork}
@@ -31,11 +31,11 @@ moving_at lock = holds_moving lock None
 
 -- this is said to the call from here on, which isn't about bindings
 pub says : {kind : Kind} {c : ℕ} {now : Multimap} (reply : Reply) → IsWorkReply reply
-    → AreOwnersWith reply [] → ArePairsWith reply [] → takes_out reply ≡ false
+    → AreOwnersWith reply [] → takes_out reply ≡ false
     → Tells kind c calls.Work None now None (Some (plain reply))
-says reply is none_named no_pairs none = inr (record {
+says reply is none_named none = inr (record {
   learns = record { unknown = refl; answer = plain reply; known = refl; said = inr refl };
-  right = record { replied = record { reply = is; owners = none_named; pairs = no_pairs }; tells = refl };
+  right = record { replied = record { reply = is; owners = none_named }; tells = refl };
   takes_none = none;
 })
 

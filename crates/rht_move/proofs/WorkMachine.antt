@@ -99,11 +99,11 @@ module _ (env : Env) (mix : ℕ → ℕ → ℕ → ℕ) (c : ℕ) (low : c < en
   retire_next rehash None known =
       load_moving all whole None (LeavesBehind rehash.root) (LeavesBehind rehash.root)
       (at.Closing (endings.Retiring rehash.root rehash.again)) refl known (λ k. k)
-      (says (replies.Moved rehash.again) tt refl refl refl) refl refl
+      (says (replies.Moved rehash.again) tt refl refl) refl refl
   retire_next rehash (Some next) known =
       load_moving all whole None (LeavesBehind rehash.root) (LeavesBehind rehash.root)
       (at.Closing (endings.Retiring rehash.root true)) refl known (λ k. k)
-      (says (replies.Moved true) tt refl refl refl) refl refl
+      (says (replies.Moved true) tt refl refl) refl refl
 
   retire : (root : ℕ) (again : Bool) → WorkKnows (at.Retiring root again) M G
       → WorkStep (at.Retiring root again)

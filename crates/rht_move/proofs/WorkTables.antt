@@ -99,7 +99,7 @@ module _ (env : Env) (mix : ℕ → ℕ → ℕ → ℕ) (c : ℕ) (words : List
       (λ t. leads at.Opening (inl refl) refl refl refl
       (take_work_step env mix c held.holds_nothing words G all whole (eqb-true word 0 t) known))
       (λ f.
-      answered-map env mix (Some (plain replies.Elsewhere)) (says replies.Elsewhere tt refl refl refl)
+      answered-map env mix (Some (plain replies.Elsewhere)) (says replies.Elsewhere tt refl refl)
       (still_has refl)
       (λ M' G' w k. record { only = k.only; means = k.means })
       (lose_work_step env mix c held.holds_nothing words G all whole (eqb-false word 0 f) known))
@@ -170,7 +170,7 @@ module _ (env : Env) (mix : ℕ → ℕ → ℕ → ℕ) (c : ℕ) (words : List
       cond_both ((wanted.root == wanted.last.table) || is_nested wanted.last.shape) _ _
       (λ next. Step env mix c calls.Work words G op h (held_of_work next) (WorkNext (next, Go)))
       (λ t. leads (letting_go (NoTable wanted.size))
-      (told (replies.NoTable wanted.size) (says (replies.NoTable wanted.size) tt refl refl refl))
+      (told (replies.NoTable wanted.size) (says (replies.NoTable wanted.size) tt refl refl))
       (sym node) refl refl
       (learning known Works (λ M' G' w k. record { works = k.works; more = tt }) step))
       (λ f.

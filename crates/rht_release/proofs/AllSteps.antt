@@ -121,7 +121,7 @@ module _ (env : Env) (mix : ℕ → ℕ → ℕ → ℕ) (c : ℕ) (port : ℕ) 
     -- a listing is answered with the owners of the port
     listing_right : (owners : List ℕ) → IsRight call None (listing_of owners)
     listing_right owners =
-        record { replied = record { reply = tt; owners = refl; pairs = refl }; tells = refl }
+        record { replied = record { reply = tt; owners = refl }; tells = refl }
 
     listing_legal : (owners : List ℕ) → now port ≡ owners
         → IsLegalOn env.config.kind c call now (listing_of owners)

@@ -19,7 +19,7 @@ use Rattle.rht_release.specs.declared.found_port.FoundPort.{FoundPort}
 use Rattle.rht_release.specs.declared.rebind.RebindEnd.TheVariants as ends
 use Rattle.rht_release.specs.declared.rebind.RebindAt.{RebindAt}
 use Rattle.rht_release.specs.declared.rebind.RebindAt.TheVariants as at
-use Rattle.rht_model.specs.Replies.{IsRebindReply, AreOwnersWith, ArePairsWith}
+use Rattle.rht_model.specs.Replies.{IsRebindReply, AreOwnersWith}
 use Rattle.rht_ghost.proofs.Pieces.Locates.{IsThereFor}
 use Rattle.rht_ghost.proofs.Theory.Ghosts.{Ghost}
 use Rattle.rht_ghost.proofs.Theory.Knowns.{KnownNode, Nowhere, KnownBucket, Unlocked, Locks, Leads, LeadsTo, Succeeds, Known, knows_plain, KnownList}
@@ -75,10 +75,9 @@ replaces env n found stored =
 
 -- a rebind that has a node is answered so
 pub with_node : {port owner new : ℕ} (n : ℕ) (reply : Reply) → IsRebindReply reply → AreOwnersWith reply []
-    → ArePairsWith reply []
     → reply ≢ NoNode → IsRight (calls.Rebind port owner new) (Some n) (plain reply)
-with_node n reply is none_named no_pairs other = record {
-  replied = record { reply = is; owners = none_named; pairs = no_pairs };
+with_node n reply is none_named other = record {
+  replied = record { reply = is; owners = none_named };
   tells = (λ none. absurd (cc), λ no_node. absurd (other no_node));
 }
 

@@ -78,7 +78,7 @@ module _ (env : Env) (mix : ℕ → ℕ → ℕ → ℕ) (c : ℕ) (port owner n
   -- ---- the answers
 
   absent_right : (n : ℕ) → IsRight call (Some n) (plain Absent)
-  absent_right n = with_node n Absent tt refl refl (λ e. cc)
+  absent_right n = with_node n Absent tt refl (λ e. cc)
 
   -- where no node is free, whatever is bound
   no_node_legal : IsLegalOn env.config.kind c call now (plain NoNode)
@@ -127,7 +127,7 @@ module _ (env : Env) (mix : ℕ → ℕ → ℕ → ℕ) (c : ℕ) (port owner n
   node_made fresh (next, Done None) key own had step =
       let answer = plain NoNode in
       let right : IsRight call (node_of_new fresh.at) answer = record {
-        replied = record { reply = tt; owners = refl; pairs = refl };
+        replied = record { reply = tt; owners = refl };
         tells = (λ none. refl, λ no_node. had refl);
       } in
       answered-map env mix (Some answer)

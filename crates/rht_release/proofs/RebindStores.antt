@@ -320,7 +320,7 @@ module _ (env : Env) (mix : ℕ → ℕ → ℕ → ℕ) (c : ℕ) (port owner n
       early = λ answer known. absurd (cc);
       right = λ answer unknown known.
           let same : ◌≡◌ {A = Option Answer} (Some (plain Rebound)) (Some answer) = known in
-          subst (IsRight call (Some n)) (cc) (with_node n Rebound tt refl refl (λ e. cc));
+          subst (IsRight call (Some n)) (cc) (with_node n Rebound tt refl (λ e. cc));
       in_time = record { taken = λ node none some. absurd (cc); gone = λ node some none told. absurd (cc) };
       outs = one_out;
       returning = λ n is. absurd (cc);

@@ -69,7 +69,7 @@ module _ (env : Env) (mix : ℕ → ℕ → ℕ → ℕ) (c : ℕ) (port owner :
   -- ---- the port isn't bound to the owner
 
   absent_right : IsRight call None (plain Absent)
-  absent_right = record { replied = record { reply = tt; owners = refl; pairs = refl }; tells = refl }
+  absent_right = record { replied = record { reply = tt; owners = refl }; tells = refl }
 
   absent_legal : NotIn owner (now port) → IsLegalOn env.config.kind c call now (plain Absent)
   absent_legal none = record {

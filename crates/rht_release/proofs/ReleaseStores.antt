@@ -80,7 +80,7 @@ module _ (env : Env) (mix : ℕ → ℕ → ℕ → ℕ) (c : ℕ) (port owner :
   left_by_first found = lock_left found.bucket.place found.before
 
   pub released_right : (kick : Bool) → IsRight call None (plain (Released kick))
-  released_right kick = record { replied = record { reply = tt; owners = refl; pairs = refl }; tells = refl }
+  released_right kick = record { replied = record { reply = tt; owners = refl }; tells = refl }
 
   module _ (low : c < env.geometry.callers) (words : List ℕ) (G : Ghost)
       (all : length words ≡ words_in env.geometry)

@@ -9,6 +9,6 @@ mod WalkStates
 -- and each operation leads on to that of the next one
 mod WalkSteps
 -- a walk has done what it answers
-mod WalkAnswers
+pub mod WalkAnswers
 -- a walk ends soon
-mod WalkBounds
+pub mod WalkBounds

@@ -2,7 +2,7 @@
 //! for nobody: it loads words, within its caller's read section.
 //!
 //! Stands on `rht_words`, `rht_model` for replies and rooms, and the pieces of `rht_nest` and
-//! `rht_grace`. No caller makes this call yet.
+//! `rht_grace`. `rht_core` runs this machine among the others.
 //! Read `specs/Walk.antt` first: it is the machine as a table. `specs/WalkLaws.antt` says what a call
 //! does.
 #![tactic(auto)]

@@ -2,7 +2,7 @@
 --
 -- By induction over the events: while the words of the slots are as at opening, each call is calm, so its next operation leaves them; and at
 -- the end each call was calm.
-use Rattle.std.proofs.Common.{◌≡◌, ◌≢◌, ℕ, false, zero, suc, ◌<◌, ◌≤◌, List, [], ◌∷◌, ◌++◌, length, take, map, get_or, refl, sym, ap, ◌∙◌, subst, inl, inr, arith}
+use Rattle.std.proofs.Common.{◌≡◌, ◌≢◌, ℕ, Bool, true, false, zero, suc, ◌<◌, ◌≤◌, List, [], ◌∷◌, ◌++◌, length, take, map, get_or, refl, sym, ap, ◌∙◌, subst, inl, inr, arith}
 use Rattle.std.specs.Prelude.{Option, Some, None, IfSome}
 use Rattle.std.specs.List.{AllByRecursion}
 use Rattle.std.proofs.lemmas.Bool.{cases_lt}
@@ -28,17 +28,16 @@ use Rattle.rht_move.specs.declared.work.WorkAt.TheVariants as work_at
 use Rattle.rht_model.specs.Endings.{Ending, ending_in, plain_ending}
 use Rattle.rht_model.specs.declared.finished.Finished.{Finished}
 use Rattle.rht_model.specs.declared.history.Call.{Call}
-use Rattle.rht_model.specs.declared.history.Call.TheVariants.{Rebind, Tidy}
+use Rattle.rht_model.specs.declared.history.Call.TheVariants.{Bind, Rebind, Walk, Work, Tidy}
 use Rattle.rht_core.specs.declared.event.Event.{Event}
 use Rattle.rht_core.specs.declared.event.Event.TheVariants.{Enroll, Begin, Step}
 use Rattle.rht_core.specs.FewPorts.{IsNoTableMade, IsCallTaken, StaysWithFirst, FewPorts}
 use Rattle.rht_grace.specs.Batch.{BatchModel}
-use Rattle.rht_core.specs.Jobs.{Job, binds, works, first_job, call_of, job_of, job_plan, job_next, job_after}
+use Rattle.rht_core.specs.Jobs.{Job, binds, works, walks, walk_ending, walk_gone, first_job, call_of, job_of, job_plan, job_next, job_after}
 use Rattle.rht_core.specs.Runs.{World, enrolling, local_of, planned_in, view_of, world_step, run_of, IsAdmitted, IsAdmittedEvent}
 use Rattle.rht_core.specs.Seen.{words_before}
 use Rattle.rht_core.specs.Traces.{Did, Past, Traced, traced_of}
 use Rattle.rht_core.proofs.Machines.JobSteps.{JobIn}
-use Rattle.rht_core.proofs.Machines.NeverHeld.{may_make}
 use Rattle.rht_core.proofs.Events.Invariants.{step_of}
 use Rattle.rht_core.proofs.Events.InvariantRuns.{has_inv}
 use Rattle.rht_core.proofs.Events.JobsOfCallers.{first_rebind-so, first_tidy-so, each_goes, same_call, first-of}
@@ -48,7 +47,16 @@ use Rattle.rht_core.proofs.Tracing.TracedRuns.{world-traced_of}
 use Rattle.rht_core.proofs.Tracing.TracesInRuns.{remembers}
 use Rattle.rht_core.proofs.Reasons.CausesInRuns.{JobSaw, EndsSeen, job-leads, first_job-saw}
 use Rattle.rht_core.proofs.Reasons.CalmBinds.{calm-bind, bind-spares}
-use Rattle.rht_core.proofs.Reasons.CalmCalls.{HasFew, IsRoomy, IsFirst, IsZero, CalmWork, CalmJob, CalmEnd, few-calm, calm-work}
+use Rattle.rht_core.proofs.Reasons.CalmCalls.{HasFew, IsRoomy, IsFirst, IsZero, CalmWork, CalmJob, CalmEnd, few-calm, calm-work, future-none}
+use Rattle.rht_core.proofs.Reasons.CalmWalks.{CalmWalk, calm-walk}
+use Rattle.rht_words.specs.Links.{slot_of}
+use Rattle.rht_words.specs.Operations.{old_of}
+use Rattle.rht_words.specs.Places.{FutureWord, word_at}
+use Rattle.rht_walk.specs.Walk as walk
+use Rattle.rht_walk.specs.declared.walk.WalkAt.{WalkAt}
+use Rattle.rht_walk.specs.declared.walk.WalkAt.TheVariants as walks_at
+use Rattle.rht_walk.specs.declared.walk.Visit.{Visit}
+use Rattle.rht_model.specs.declared.history.Cursor.{Cursor}
 use Rattle.rht_core.proofs.Counting.FullTables.{taken}
 use Rattle.rht_core.proofs.Counting.SparedSlots.{IsBesideSlots, SparesSlots, spared_slots, by_load, at_section, other-spares}
 use Rattle.rht_core.proofs.Histories.BoundAmong.{few-bound, count-few}
@@ -177,11 +185,42 @@ module _ (M : Type 0) (mix : ℕ → ℕ → ℕ → ℕ) (env : Env) (roomy : I
     both-lead job all (after, Go) saw calm = (saw, calm)
     both-lead job all (after, Done ending) saw calm = (saw, calm)
 
-    -- of a call that makes no table there is nothing to say
-    other-calm : (job : Job) → may_make (call_of job) ≡ false → CalmJob env job
+    -- of another call there is nothing to say
+    abbrev is_other : Call → Bool
+    is_other (Bind port owner once) = false
+    is_other (Walk from limit) = false
+    is_other Work = false
+    is_other _ = true
+
+    other-calm : (job : Job) → is_other (call_of job) ≡ true → CalmJob env job
     other-calm (binds port owner once state) other = absurd (cc)
+    other-calm (walks from limit room state) other = absurd (cc)
     other-calm (works state) other = absurd (cc)
     other-calm _ other = tt
+
+    -- a walk finds no future
+    none_there : (did : Did) (slot : ℕ) → slot < 8 → did.old ≡ word_at env.geometry (words_at did.index) (Slot slot FutureWord)
+        → slot_of did.old ≡ None
+    none_there did slot low found =
+        ap slot_of found ∙ future-none env mix roomy did (words_at did.index) (unmade did.index) (few did.index) slot low
+
+    ended-none : (from : Option Cursor) (limit : ℕ) (room : walk.Pairs) (state : WalkAt) (did : Did)
+        (does : Performs mix env (walks from limit room state) did) → does.words ≡ words_at did.index
+        → (table : ℕ) → state ≡ walks_at.TableEnd table → slot_of did.old ≡ None
+    ended-none from limit room state did does now table is =
+        let here = subst (λ s. walk.IsWalkAtIn env.geometry s) is does.within in
+        none_there did table here
+        (does.found ∙ ap (old_of does.words) (does.planned ∙ ap (walk.plan_at env.geometry does.caller) is)
+        ∙ ap (λ w. word_at env.geometry w (Slot table FutureWord)) now)
+
+    strange-none : (from : Option Cursor) (limit : ℕ) (room : walk.Pairs) (state : WalkAt) (did : Did)
+        (does : Performs mix env (walks from limit room state) did) → does.words ≡ words_at did.index
+        → (visit : Visit) → state ≡ walks_at.StrangeEnd visit → slot_of did.old ≡ None
+    strange-none from limit room state did does now visit is =
+        let here = subst (λ s. walk.IsWalkAtIn env.geometry s) is does.within in
+        none_there did visit.table here.table_in
+        (does.found ∙ ap (old_of does.words) (does.planned ∙ ap (walk.plan_at env.geometry does.caller) is)
+        ∙ ap (λ w. word_at env.geometry w (Slot visit.table FutureWord)) now)
 
     job-calm : (job : Job) (steps : List Did) (did : Did) → (does : Performs mix env job did) → does.words ≡ words_at did.index
         → Now job steps → CalmOn job (job_after mix env job did.old)
@@ -193,12 +232,24 @@ module _ (M : Type 0) (mix : ℕ → ℕ → ℕ → ℕ) (env : Env) (roomy : I
         next-goes (CalmJob env) (CalmEnd env) (works state) works plain_ending (work.after_at mix env state did.old)
         (calm-work env mix roomy did (words_at did.index) (unmade did.index) (few did.index)
         state does now kept.1)
+    job-calm (walks from limit room state) steps did does now kept =
+        let after = walk.room_after state room did.old in
+        next-goes (CalmJob env) (CalmEnd env) (walks from limit room state) (walks from limit after) (walk_ending after)
+        (walk_gone env from limit room after state did.old)
+        (calm-walk env.geometry from limit (length room.items) room state did.old
+        (λ table is. ended-none from limit room state did does now table is)
+        (λ visit is. strange-none from limit room state did does now visit is) kept.1)
     job-calm job steps did does now kept =
         each_goes (CalmJob env) (CalmEnd env (call_of job)) (call_of job) (job_after mix env job did.old) (same_call mix env job did.old)
-        (λ other same. other-calm other (ap may_make same)) (λ ending. tt)
+        (λ other same. other-calm other (ap is_other same)) (λ ending. tt)
+
+    first_walk-calm : (from : Option Cursor) → CalmWalk from walks_at.Opening
+    first_walk-calm None = tt
+    first_walk-calm (Some cursor) = tt
 
     first-calm : (call : Call) (batch : Option BatchModel) → IfSome (first_job env batch call) (CalmJob env)
     first-calm (Rebind port owner new) batch = first_rebind-so (CalmJob env) env port owner new tt
+    first-calm (Walk from limit) batch = first_walk-calm from
     first-calm Tidy batch = first_tidy-so (CalmJob env) batch (λ own. tt)
     first-calm _ batch = tt
 

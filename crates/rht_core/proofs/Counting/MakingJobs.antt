@@ -10,7 +10,7 @@ use Rattle.rht_model.specs.declared.history.Call.TheVariants.{Rebind, Tidy}
 use Rattle.rht_model.specs.Endings.{Ending}
 use Rattle.rht_nest.specs.Make.{MakeModel}
 use Rattle.rht_grace.specs.Batch.{BatchModel}
-use Rattle.rht_core.specs.Jobs.{Job, finds, binds, lists, releases, rebinds, works, tidies, counts, call_of, first_job, job_next, job_after, told, IsFirstJob}
+use Rattle.rht_core.specs.Jobs.{Job, finds, binds, lists, releases, rebinds, works, tidies, walks, counts, call_of, first_job, job_next, job_after, told, IsFirstJob}
 use Rattle.rht_core.proofs.Machines.NeverHeld.{may_make}
 use Rattle.rht_core.proofs.Events.JobsOfCallers.{first_rebind-so, first_tidy-so, same_call, first-of}
 use Rattle.rht_core.proofs.Counting.MakingWorks.{WorkMakes}
@@ -26,6 +26,7 @@ module _ (Full : ℕ → Type 0) (Makes : MakeModel → Type 0) (Has : ℕ → �
   JobMakes (rebinds port owner new state) = Unit {0}
   JobMakes (works state) = WorkMakes Full Makes Has state
   JobMakes (tidies batch state) = Unit {0}
+  JobMakes (walks from limit room state) = Unit {0}
   JobMakes counts = Unit {0}
 
   abbrev pub MakesLeft : Option Job → Type 0

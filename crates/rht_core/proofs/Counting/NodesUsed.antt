@@ -31,7 +31,7 @@ use Rattle.rht_release.specs.ReleaseHeld.{held_of_release, holds_relinking}
 use Rattle.rht_release.specs.declared.release.ReleaseAt.{ReleaseAt}
 use Rattle.rht_release.specs.declared.release.ReleaseAt.TheVariants as releasing
 use Rattle.rht_core.specs.declared.book.Book.{Book}
-use Rattle.rht_core.specs.Jobs.{Job, finds, binds, lists, releases, rebinds, works, call_of, held_of, job_of}
+use Rattle.rht_core.specs.Jobs.{Job, finds, binds, lists, releases, rebinds, works, walks, call_of, held_of, job_of}
 use Rattle.rht_core.specs.declared.event.Event.{Event}
 use Rattle.rht_core.specs.declared.event.Event.TheVariants.{Enroll, Begin, Step}
 use Rattle.rht_core.specs.Runs.{Core, World, local_of, run_of, planned_in, with_step, enrolling, core_step, world_step, IsAdmitted, IsAdmittedEvent}
@@ -41,7 +41,7 @@ use Rattle.rht_core.specs.Causes.{CauseOf, HasCause}
 use Rattle.rht_core.specs.NodesUsed.{needs_node, may_take_node, took_node, takers_of, takers, IsForWant, Nodes}
 use Rattle.rht_ghost.proofs.Theory.Answering.{TellsNode}
 use Rattle.rht_ghost.proofs.Theory.Steps.{Holding, by_test}
-use Rattle.rht_core.proofs.Machines.NeverHeld.{find-alone, all-alone}
+use Rattle.rht_core.proofs.Machines.NeverHeld.{find-alone, walk-alone, all-alone}
 use Rattle.rht_core.proofs.Tracing.TracedJobs.{IsAtJob}
 use Rattle.rht_move.specs.WorkHeld.{held_of_work}
 use Rattle.rht_move.specs.declared.work.WorkAt.{WorkAt}
@@ -81,6 +81,7 @@ job_has_none (lists port room state) needs = (all-alone room.items state).node
 job_has_none (releases port owner state) needs = release_has_none state
 job_has_none (rebinds port owner new state) needs = absurd (cc)
 job_has_none (works state) needs = work_has_none state
+job_has_none (walks from limit room state) needs = (walk-alone room state).node
 job_has_none _ needs = refl
 
 -- nor does its answer tell of one

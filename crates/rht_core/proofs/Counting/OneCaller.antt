@@ -75,12 +75,12 @@ use Rattle.rht_core.proofs.Reasons.CausesInRuns.{JobSaw, EndsSeen, job-leads, fi
 use Rattle.rht_core.proofs.Reasons.CalmCalls.{below-max, below-size}
 use Rattle.rht_core.proofs.Reasons.CalmBinds.{CalmBind, IsCalmAt, calm-bind, bind-spares}
 use Rattle.rht_core.proofs.Counting.CountedPorts.{fewer-AreBound}
-use Rattle.rht_core.proofs.Counting.FewPorts.{before-push, GoesOn, next-goes, job-spares}
+use Rattle.rht_core.proofs.Counting.FewPorts.{before-push, GoesOn, next-goes}
 use Rattle.rht_core.proofs.Counting.FullTables.{taken}
 use Rattle.rht_core.proofs.Counting.GoodShapes.{moved-good, slot-good}
 use Rattle.rht_core.proofs.Counting.SizedTables.{IsSized, AreSized, SizedWork, sized-work}
 use Rattle.rht_core.proofs.Counting.AttachingJobs.{work-attaches}
-use Rattle.rht_core.proofs.Counting.SparedSlots.{spares-none}
+use Rattle.rht_core.proofs.Counting.SparedSlots.{other-spares, spares-none}
 use Rattle.rht_core.proofs.Histories.BoundAmong.{count-few}
 
 -- what is said of every number
@@ -213,7 +213,7 @@ module _ (env : Env) where
           let sized : IsSized at.shape = subst SizedWork at.is one in
           subst IsSized (sym known.knowing.means.making.shape_is ∙ is) sized
       attach-sized job within knows one last slot shape l has e is =
-          absurd (spares-none env _ last 0 (future_of slot) (job-spares env mix c few job within tt) l e)
+          absurd (spares-none env _ last 0 (future_of slot) (other-spares env mix c few job within refl) l e)
 
 -- ---- runs
 

@@ -56,6 +56,9 @@ use Rattle.rht_grace.specs.Batch.{BatchModel}
 use Rattle.rht_grace.specs.Tidy as tidy
 use Rattle.rht_grace.specs.declared.tidy.TidyAt.{TidyAt}
 use Rattle.rht_grace.specs.declared.tidy.TidyAt.TheVariants as tidy_at
+use Rattle.rht_walk.specs.Walk as walk
+use Rattle.rht_walk.specs.declared.walk.WalkAt.{WalkAt}
+use Rattle.rht_walk.specs.declared.walk.WalkAt.TheVariants as walk_at
 use Rattle.rht_core.specs.Jobs as jobs
 use Rattle.rht_core.specs.Jobs.{Job, call_of, job_plan}
 use Rattle.rht_ghost.proofs.Theory.Steps.{unchanged}
@@ -205,6 +208,12 @@ tidy-spares g batch (tidy_at.Keeping caller) = by_load _ _ refl
 tidy-spares g batch (tidy_at.Asking caller) = by_load _ _ refl
 tidy-spares g batch (tidy_at.Giving index) = give_node-spares (record { geometry = g; node = get_or batch.waiting index 0 })
 
+-- a walk loads, or turns its section
+unlocked_walk-spares : (g : Geometry) (c : ℕ) → c < 16 → (state : WalkAt) → SparesSlots (walk.plan_at g c state)
+unlocked_walk-spares g c few walk_at.Opening = at_section few _ refl
+unlocked_walk-spares g c few (walk_at.Closing end) = at_section few _ refl
+unlocked_walk-spares g c few _ = by_load _ _ refl
+
 -- nor has any job of a call that makes no table
 pub other-spares : (env : Env) (mix : ℕ → ℕ → ℕ → ℕ) (c : ℕ) → c < 16 → (job : Job) → JobIn env mix c job
     → may_make (call_of job) ≡ false → SparesSlots (job_plan env c job)
@@ -215,6 +224,7 @@ other-spares env mix c few (jobs.releases port owner state) within none = releas
 other-spares env mix c few (jobs.rebinds port owner new state) within none = rebind-spares env c few state within.at_in
 other-spares env mix c few (jobs.works state) within none = absurd (cc)
 other-spares env mix c few (jobs.tidies batch state) within none = tidy-spares env.geometry batch state
+other-spares env mix c few (jobs.walks from limit room state) within none = unlocked_walk-spares env.geometry c few state
 other-spares env mix c few _ within none = by_load _ _ refl
 
 -- an operation that leaves the words of slots attaches no table

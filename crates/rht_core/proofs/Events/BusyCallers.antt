@@ -17,9 +17,10 @@ use Rattle.rht_grace.specs.Batch.{BatchModel}
 use Rattle.rht_callers.specs.PortCounts.{count_after}
 use Rattle.rht_callers.specs.declared.local.Local.{Local}
 use Rattle.rht_callers.specs.declared.local.Doing.{Doing}
-use Rattle.rht_callers.specs.declared.local.Doing.TheVariants.{Idle, Finding, Binding, Releasing, Rebinding, Listing, Working, Counting, Tidying}
+use Rattle.rht_callers.specs.declared.local.Doing.TheVariants.{Idle, Finding, Binding, Releasing, Rebinding, Listing, Working, Counting, Tidying, Walking}
 use Rattle.rht_callers.specs.Locals.{does_nothing, is_idle, machine_of, doing_plan, plan_of, doing_next, doing_after, local_after, without_node}
 use Rattle.rht_grace.specs.Tidy.{tidy_after}
+use Rattle.rht_walk.specs.Walk.{walk_after}
 use Rattle.rht_callers.proofs.CallBeginnings.{begins_so}
 
 module _ (M : Type 0) where
@@ -36,7 +37,7 @@ module _ (M : Type 0) where
       → does_nothing machine ≡ false
   begun_busy env c batch =
       begins_so M env c batch (λ call machine. does_nothing machine ≡ false) (λ port. refl) (λ port owner once. refl)
-      (λ port. refl) (λ port owner. refl) (λ port owner new single. refl) refl refl (λ own has. refl)
+      (λ port. refl) (λ port owner. refl) (λ port owner new single. refl) refl refl (λ own has. refl) (λ from limit. refl)
 
   -- it goes on without a reply, or has one and is idle
   abbrev pub Ends : Doing M × Option Reply → Type 0
@@ -59,6 +60,7 @@ module _ (M : Type 0) where
       let next = rebind_after mix m old in next_ends Rebinding (λ n. refl) (next.0, without_node next.1)
   doing_ends mix (Working m) old busy = next_ends Working (λ n. refl) (work_after mix m old)
   doing_ends mix (Tidying m) old busy = next_ends Tidying (λ n. refl) (tidy_after m old)
+  doing_ends mix (Walking m) old busy = next_ends Walking (λ n. refl) (walk_after m old)
   doing_ends mix (Counting m) old busy = next_ends Counting (λ n. refl) (count_after m old)
 
   -- an operation that gives no reply leaves its caller in the call

@@ -10,8 +10,10 @@ use Rattle.rht_words.specs.Held as held
 use Rattle.rht_words.specs.declared.machine.Next.{Next}
 use Rattle.rht_words.specs.declared.machine.Next.TheVariants.{Go, Done}
 use Rattle.rht_model.specs.declared.history.Call.{Call}
-use Rattle.rht_model.specs.declared.history.Call.TheVariants.{Bind, Find, Release, Rebind, All, Walk, Work, Tidy}
+use Rattle.rht_model.specs.declared.history.Call.TheVariants.{Bind, Find, Release, Rebind, All, Walk, Work, Tidy, Count}
+use Rattle.rht_model.specs.declared.history.Cursor.{Cursor}
 use Rattle.rht_model.specs.declared.history.Reply.{Reply}
+use Rattle.rht_model.specs.Replies.{ArePairsWith}
 use Rattle.rht_model.specs.Answers.{Answer}
 use Rattle.rht_model.specs.Endings.{Ending, plain_ending}
 use Rattle.rht_find.specs.Find as find
@@ -28,15 +30,20 @@ use Rattle.rht_grace.specs.Tidy as tidy
 use Rattle.rht_grace.specs.Tidy.{TidyModel}
 use Rattle.rht_grace.specs.declared.tidy.TidyAt.{TidyAt}
 use Rattle.rht_callers.specs.declared.local.Doing.{Doing}
-use Rattle.rht_callers.specs.declared.local.Doing.TheVariants.{Idle, Finding, Binding, Releasing, Rebinding, Listing, Working, Counting, Tidying}
-use Rattle.rht_callers.specs.Locals.{fresh, does_nothing, machine_of, doing_plan, doing_after, owners_after, room_given, local_after, ending_of, doing_next, without_node, IsDoingOf, IsLocalOf}
+use Rattle.rht_callers.specs.declared.local.Doing.TheVariants.{Idle, Finding, Binding, Releasing, Rebinding, Listing, Working, Counting, Tidying, Walking}
+use Rattle.rht_callers.specs.Locals.{fresh, does_nothing, machine_of, doing_plan, doing_after, owners_after, room_given, pairs_after, pairs_given, local_after, ending_of, doing_next, without_node, IsDoingOf, IsLocalOf}
 use Rattle.rht_core.specs.Laws.{IsDoingIn}
-use Rattle.rht_core.specs.Jobs.{listing_ending, node_ending, Job, finds, binds, releases, rebinds, lists, works, tidies, tidying, tidied, counts, call_of, first_job, first_rebind, first_tidy, job_plan, job_after, job_next, job_of, told, held_of, IsFirstJob}
+use Rattle.rht_core.specs.Jobs.{listing_ending, node_ending, Job, finds, binds, releases, rebinds, lists, works, tidies, tidying, tidied, walks, walk_ending, walk_gone, counts, call_of, first_job, first_rebind, first_tidy, job_plan, job_after, job_next, job_of, told, held_of, IsFirstJob}
 use Rattle.rht_words.specs.declared.config.Kind.{Kind}
 use Rattle.rht_words.specs.declared.config.Kind.TheVariants.{Single, Listed}
 use Rattle.rht_release.specs.Release as release
 use Rattle.rht_release.specs.Rebind as rebind
 use Rattle.rht_move.specs.Work as work
+use Rattle.rht_walk.specs.Walk as walk
+use Rattle.rht_walk.specs.Walk.{Pairs, WalkModel}
+use Rattle.rht_walk.specs.declared.walk.WalkAt.{WalkAt}
+use Rattle.rht_walk.specs.declared.walk.WalkAt.TheVariants as walks_at
+use Rattle.rht_walk.specs.declared.walk.WalkEnd.TheVariants as walk_ends
 use Rattle.rht_callers.proofs.CallBeginnings.{begins_so}
 
 -- there is no job
@@ -54,15 +61,35 @@ pub record HasNoLists {M : Type 0} (local : Local M) : Type 0 where
   pub owners : local.owners.items ≡ []
   pub pairs : local.pairs.items ≡ []
 
--- an operation leaves the job one of its call, or ends the call, and no call ends with pairs yet
+-- a walk ends with as many pairs as its reply says, and any other call with none
+abbrev pub HasItsPairs : Call → Ending → Type 0
+HasItsPairs (Bind port owner once) ending = ending.pairs ≡ []
+HasItsPairs (Find port) ending = ending.pairs ≡ []
+HasItsPairs (All port) ending = ending.pairs ≡ []
+HasItsPairs (Release port owner) ending = ending.pairs ≡ []
+HasItsPairs (Rebind port owner new) ending = ending.pairs ≡ []
+HasItsPairs (Walk from limit) ending = ArePairsWith ending.answer.reply ending.pairs
+HasItsPairs Work ending = ending.pairs ≡ []
+HasItsPairs Tidy ending = ending.pairs ≡ []
+HasItsPairs Count ending = ending.pairs ≡ []
+
+-- an operation leaves the job one of its call, or ends the call with the pairs that it is to have
 pub record GoesSo (asked : Call) (next : Job × Next Ending) : Type 0 where
   pub same : call_of next.0 ≡ asked
-  pub alone : GoesOrEnds (λ job. Unit {0}) (λ ending. ending.pairs ≡ []) next
+  pub alone : GoesOrEnds (λ job. Unit {0}) (HasItsPairs asked) next
 
 job_next-so : {S A : Type 0} (job : S → Job) (ending : A → Ending) (call : Call) → ((state : S) → call_of (job state) ≡ call)
-    → ((end : A) → (ending end).pairs ≡ []) → (next : S × Next A) → GoesSo call (job_next job ending next)
+    → ((end : A) → HasItsPairs call (ending end)) → (next : S × Next A) → GoesSo call (job_next job ending next)
 job_next-so job ending call same alone (state, Go) = record { same = same state; alone = tt }
 job_next-so job ending call same alone (state, Done end) = record { same = same state; alone = alone end }
+
+-- a walk counts the pairs in its room, and has none where it has to begin anew
+walk-so : (env : Env) (from : Option Cursor) (limit : ℕ) (room : Pairs) (state : WalkAt) (old : ℕ)
+    → let after = walk.room_after state room old in
+    GoesSo (Walk from limit) (job_next (walks from limit after) (walk_ending after) (walk_gone env from limit room after state old))
+walk-so env from limit room (walks_at.Closing (walk_ends.Walked next)) old = record { same = refl; alone = refl }
+walk-so env from limit room (walks_at.Closing (walk_ends.Again table)) old = record { same = refl; alone = refl }
+walk-so env from limit room _ old = record { same = refl; alone = tt }
 
 pub goes_so : (mix : ℕ → ℕ → ℕ → ℕ) (env : Env) (job : Job) (old : ℕ) → GoesSo (call_of job) (job_after mix env job old)
 goes_so mix env (finds port state) old =
@@ -83,6 +110,7 @@ goes_so mix env (works state) old =
     job_next-so works plain_ending Work (λ s. refl) (λ e. refl) (work.after_at mix env state old)
 goes_so mix env (tidies batch state) old =
     job_next-so tidying plain_ending Tidy (λ s. refl) (λ e. refl) (tidied (tidy.after_at env.geometry batch state old))
+goes_so mix env (walks from limit room state) old = walk-so env from limit room state old
 goes_so mix env counts old = record { same = refl; alone = refl }
 
 pub same_call : (mix : ℕ → ℕ → ℕ → ℕ) (env : Env) (job : Job) (old : ℕ) → call_of (job_after mix env job old).0 ≡ call_of job
@@ -130,7 +158,6 @@ HoldsNothing job = held_of job ≡ held.holds_nothing
 
 first_job-holds : (env : Env) (call : Call) (batch : Option BatchModel) → IfSome (first_job env batch call) HoldsNothing
 first_job-holds env (Rebind port owner new) batch = first_rebind-so HoldsNothing env port owner new refl
-first_job-holds env (Walk from limit) batch = tt
 first_job-holds env Tidy batch = first_tidy-so HoldsNothing batch (λ own. refl)
 first_job-holds env _ batch = refl
 
@@ -180,6 +207,7 @@ module _ {M : Type 0} where
       (record { job = _; first = (batch, refl); does = refl; asked = refl })
       (record { job = _; first = (batch, refl); does = refl; asked = refl })
       (λ own has. record { job = _; first = (batch, ap first_tidy has); does = refl; asked = refl })
+      (λ from limit. record { job = _; first = (batch, refl); does = refl; asked = refl })
 
   -- ---- an operation
 
@@ -216,17 +244,19 @@ module _ {M : Type 0} where
   plan-job env c (Tidying m) op within plan =
       let here : op ≡ tidy.plan_at m.geometry m.batch m.at = let both = sym plan in cc in
       record { job = tidies m.batch m.at; does = refl; plan = here ∙ ap (λ g. tidy.plan_at g m.batch m.at) within.same_geometry }
+  plan-job env c (Walking m) op within plan =
+      plans-so env c (Walking m) op (walks m.from m.limit m.room m.at) m.env m.caller refl refl within.same_env within.same_caller plan
   plan-job env c (Counting m) op within plan = plans-so env c (Counting m) op counts m.env c refl refl within refl plan
 
   module _ (local : Local M) (none : HasNoLists local) where
-    -- the job that a caller has after this has become of what it does and of its room of owners, and how its
-    -- call has ended
-    abbrev job_left_with : Doing M × Option Reply → Kept ℕ → Option Job × Option Ending
-    job_left_with next owners =
-        (job_of next.0, ending_of (record local { doing = next.0; owners = owners }) next.1)
+    -- the job that a caller has after this has become of what it does and of its rooms, and how its call has
+    -- ended
+    abbrev job_left_with : Doing M × Option Reply → Kept ℕ → Pairs → Option Job × Option Ending
+    job_left_with next owners pairs =
+        (job_of next.0, ending_of (record local { doing = next.0; owners = owners; pairs = pairs }) next.1)
 
     abbrev job_left : Doing M × Option Reply → Option Job × Option Ending
-    job_left next = job_left_with next local.owners
+    job_left next = job_left_with next local.owners local.pairs
 
     -- a call that ends without lists ends so
     plain : (reply : Reply) → ending_of local (Some reply) ≡ Some (plain_ending reply)
@@ -246,7 +276,7 @@ module _ {M : Type 0} where
 
     listed-told : (m : AllModel) (after : Kept ℕ) (r : AllAt × Next (Unit {0}))
         → let next = moved m after r in
-        job_left_with (doing_next Listing next) (room_given next local.owners)
+        job_left_with (doing_next Listing next) (room_given next local.owners) local.pairs
         ≡ told (job_next (lists m.port after) (listing_ending after) r)
     listed-told m after (state, Go) = refl
     listed-told m after (state, Done done) =
@@ -257,6 +287,14 @@ module _ {M : Type 0} where
     tidied-told m (batch, state, Go) = refl
     tidied-told m (batch, state, Done reply) = ap (λ e. (None, e)) (plain reply)
 
+    walked-told : (m : WalkModel) (after : Pairs) (r : WalkAt × Next Reply)
+        → let next : WalkModel × Next Reply = (record m { room = after; at = r.0 }, r.1) in
+        job_left_with (doing_next Walking next) local.owners (pairs_given next local.pairs)
+        ≡ told (job_next (walks m.from m.limit after) (walk_ending after) r)
+    walked-told m after (state, Go) = refl
+    walked-told m after (state, Done reply) =
+        (λ i. (None, Some record { answer = record { reply = reply; owners = none.owners i }; pairs = after.items }))
+
     -- what is left of a job is the same in its own table as in the run's, which is that one
     told-same : (mix : ℕ → ℕ → ℕ → ℕ) (own env : Env) (first job : Job) (old : ℕ) → own ≡ env → Some first ≡ Some job
         → told (job_after mix own first old) ≡ told (job_after mix env job old)
@@ -266,7 +304,7 @@ module _ {M : Type 0} where
 
     doing_after-job : (mix : ℕ → ℕ → ℕ → ℕ) (env : Env) (doing : Doing M) (job : Job) (old : ℕ)
         → IsDoingOf env doing → job_of doing ≡ Some job
-        → job_left_with (doing_after mix doing old) (owners_after mix doing local.owners old)
+        → job_left_with (doing_after mix doing old) (owners_after mix doing local.owners old) (pairs_after doing local.pairs old)
         ≡ told (job_after mix env job old)
     doing_after-job mix env Idle job old of is = absurd (cc)
     doing_after-job mix env (Finding m) job old of is =
@@ -296,6 +334,10 @@ module _ {M : Type 0} where
         tidied-told m (tidy.after_at m.geometry m.batch m.at old)
         ∙ ap (λ g. told (job_next tidying plain_ending (tidied (tidy.after_at g m.batch m.at old)))) of
         ∙ ap (λ (j : Job). told (job_after mix env j old)) here
+    doing_after-job mix env (Walking m) job old of is =
+        let after = walk.room_after m.at m.room old in
+        walked-told m after (walk_gone m.env m.from m.limit m.room after m.at old)
+        ∙ told-same mix m.env env (walks m.from m.limit m.room m.at) job old of is
     doing_after-job mix env (Counting m) job old of is =
         ap (λ e. (None, e)) (plain (Counted old)) ∙ told-same mix m.env env counts job old of is
 
@@ -307,7 +349,8 @@ module _ {M : Type 0} where
       let local : Local M = fresh env in
       let next = doing_after mix doing old in
       let owners = owners_after mix doing local.owners old in
-      sym (ended-reply (record local { doing = next.0; owners = owners }) next.1)
+      let pairs = pairs_after doing local.pairs old in
+      sym (ended-reply (record local { doing = next.0; owners = owners; pairs = pairs }) next.1)
       ∙ ap (λ l. option_map (λ (e : Ending). e.answer.reply) l.1) (doing_after-job local (record { owners = refl; pairs = refl }) mix env doing job old of is)
     where
       ended-reply : (local : Local M) (reply : Option Reply) → option_map (λ (e : Ending). e.answer.reply) (ending_of local reply) ≡ reply

@@ -156,7 +156,7 @@ module _ (env : Env) (mix : ℕ → ℕ → ℕ → ℕ) (L : Type 0) where
       (λ call machine. OwnsNodes env mix c (nodes_in batch) G → OwnsNodes env mix c (nodes_held machine (batch_beside machine batch)) G)
       (λ port is. is) (λ port owner once is. is) (λ port is. is) (λ port owner is. is) (λ port owner new single is. is)
       (λ is. is) (λ is. is)
-      (λ own has is. begun_owns env mix L c own G (subst (λ b. OwnsNodes env mix c (nodes_in b) G) has is))
+      (λ own has is. begun_owns env mix L c own G (subst (λ b. OwnsNodes env mix c (nodes_in b) G) has is)) (λ from limit is. is)
 
   pub begun-right : (core : Core L) (G : Ghost) (c : ℕ) (call : Call) (machine : Doing L) → AllIn L mix env core
       → beginning_in core c call ≡ Some machine → BatchRight G c (local_of core c)

@@ -42,6 +42,9 @@ use Rattle.rht_release.proofs.RebindPlanned.{planned_rebind}
 use Rattle.rht_move.specs.Work.{work_after, IsWorkAtIn}
 use Rattle.rht_move.proofs.WorkStays.{work_stays}
 use Rattle.rht_move.proofs.WorkPlanned.{planned_work}
+use Rattle.rht_walk.specs.Walk.{walk_after, IsWalkAtIn}
+use Rattle.rht_walk.proofs.WalkStays.{walk_stays}
+use Rattle.rht_walk.proofs.WalkPlanned.{planned_walk}
 use Rattle.rht_core.specs.declared.event.Event.{Event}
 use Rattle.rht_core.specs.declared.event.Event.TheVariants.{Enroll, Begin, Step}
 use Rattle.rht_grace.specs.Batch.{BatchModel}
@@ -53,17 +56,17 @@ use Rattle.rht_model.specs.declared.history.Reply.{Reply}
 use Rattle.rht_callers.specs.PortCounts.{count_plan_in}
 use Rattle.rht_callers.specs.declared.local.Local.{Local}
 use Rattle.rht_callers.specs.declared.local.Doing.{Doing}
-use Rattle.rht_callers.specs.declared.local.Doing.TheVariants.{Idle, Finding, Binding, Releasing, Rebinding, Listing, Working, Counting, Tidying}
+use Rattle.rht_callers.specs.declared.local.Doing.TheVariants.{Idle, Finding, Binding, Releasing, Rebinding, Listing, Working, Counting, Tidying, Walking}
 use Rattle.rht_callers.specs.Locals.{fresh, machine_of, begin_with, plan_of, doing_next, doing_after, local_after, owners_room, without_node}
 use Rattle.rht_core.specs.Runs.{Core, World, local_of, beginning_in, with_machine, planned_in, with_step, enrolling, world_step, run_of, opening, IsAdmitted, IsAdmittedCall, IsAdmittedEvent}
 use Rattle.rht_core.specs.Laws.{IsDoingIn, IsLocalIn, WordsFit, IsOfCaller, IsEnrolledKept, Enrolled}
-use Rattle.rht_core.specs.Jobs.{Job, finds, binds, lists, releases, rebinds, works, tidies, counts, job_plan, job_of}
+use Rattle.rht_core.specs.Jobs.{Job, finds, binds, lists, releases, rebinds, works, tidies, walks, counts, job_plan, job_of}
 use Rattle.rht_core.specs.Tidyings.{IsTidyingIn, IsTidyingOf}
 use Rattle.rht_core.proofs.Machines.JobSteps.{JobIn}
 use Rattle.rht_core.proofs.Machines.TidyRanges.{tidying_stays, tidying_begins, planned_tidying}
 use Rattle.rht_callers.proofs.CallBeginnings.{begins_so}
 use Rattle.rht_callers.proofs.NextDoings.{next_so}
-use Rattle.rht_callers.proofs.RoomsOfCallers.{idle-limit, begun-limit, owners_after-limit}
+use Rattle.rht_callers.proofs.RoomsOfCallers.{idle-limit, begun-limit, owners_after-limit, idle-pairs, begun-pairs, pairs_after-limit}
 use Rattle.rht_core.proofs.Events.Worlds.{beginning-some, planned-some, run_of-push, run_keeps_admitted}
 use Rattle.rht_callers.specs.Batches.{IsBatchIn, AreNodesIn, HasWords, out_of}
 use Rattle.rht_callers.proofs.BatchesOfCallers.{begun-same, begun-low, begun-words, HasWords-out, idle-batch, begun-batch, batch_after-so, batch_after-in, AreNodesIn-out}
@@ -110,6 +113,7 @@ planned_job env mix c (releases port owner state) few within = planned_release e
 planned_job env mix c (rebinds port owner new state) few within = planned_rebind env c state few within.at_in
 planned_job env mix c (works state) few within = planned_work env c state few within
 planned_job env mix c (tidies batch state) few within = planned_tidying env.geometry batch state within
+planned_job env mix c (walks from limit room state) few within = planned_walk env.geometry c state few within
 planned_job env mix c counts few within = planned_count env
 
 module _ (M : Type 0) where
@@ -162,6 +166,7 @@ module _ (M : Type 0) where
             tidying_begins env.geometry own (subst (IsBatchIn env) has same) (subst (AreNodesIn env.geometry.nodes) has among)
             (subst (HasWords env.geometry.callers) has words);
       })
+      (λ from limit admitted. record { same_env = refl; same_caller = refl; at_in = tt })
 
   -- a tidying that goes on is in range still
   tidied-in : (env : Env) (c : ℕ) (m : TidyModel) (came : BatchModel × TidyAt × Next Reply) → m.geometry ≡ env.geometry
@@ -241,6 +246,14 @@ module _ (M : Type 0) where
       }
   doing_after-in mix env c (Tidying m) old within told =
       tidied-in env c m (after_at m.geometry m.batch m.at old) within.same_geometry (tidied-right env m old within)
+  doing_after-in mix env c (Walking m) old within told =
+      let here = subst (λ (e : Env). IsWalkAtIn e.geometry m.at) (sym within.same_env) within.at_in in
+      let next = walk_stays m.env.geometry m.from m.limit (length m.room.items) m.at old here in
+      next_so (IsDoingIn env c) Walking tt (walk_after m old).0 (walk_after m old).1 record {
+        same_env = within.same_env;
+        same_caller = within.same_caller;
+        at_in = subst (λ (e : Env). IsWalkAtIn e.geometry (walk_after m old).0.at) within.same_env next;
+      }
   doing_after-in mix env c (Counting m) old within told = tt
 
   module _ (env : Env) (mix : ℕ → ℕ → ℕ → ℕ) (c : ℕ) where
@@ -260,6 +273,8 @@ module _ (M : Type 0) where
         (record { new_in = within.new_owner_in; at_in = within.at_in }) is
     job-in (Working m) job room is within roomy = first-so (JobIn env mix c) (Some (works m.at)) job within.at_in is
     job-in (Tidying m) job room is within roomy = first-so (JobIn env mix c) (Some (tidies m.batch m.at)) job within.at_in is
+    job-in (Walking m) job room is within roomy =
+        first-so (JobIn env mix c) (Some (walks m.from m.limit m.room m.at)) job within.at_in is
     job-in (Counting m) job room is within roomy = first-so (JobIn env mix c) (Some counts) job tt is
 
     -- so the operation that it plans is on a word
@@ -336,7 +351,9 @@ module _ (M : Type 0) (mix : ℕ → ℕ → ℕ → ℕ) (env : Env) where
         owners =
             begun-limit M env c (local_of core c).batch call machine made (local_of core c).owners
             (idle-limit M (local_of core c) env.geometry.nodes can.idle here.owners);
-        pairs = here.pairs;
+        pairs =
+            begun-pairs M env c (local_of core c).batch call machine made (local_of core c).pairs
+            (idle-pairs M (local_of core c) env.geometry.nodes can.idle here.pairs);
         batch =
             begun-batch M (IsBatchIn env) env c (local_of core c).batch call machine made in_table
             (λ own has. begun-same own ∙ subst (IsBatchIn env) has in_table);
@@ -373,7 +390,9 @@ module _ (M : Type 0) (mix : ℕ → ℕ → ℕ → ℕ) (env : Env) where
               owners =
                   owners_after-limit M mix (local_of core c).doing (local_of core c).owners old
                   ∙ here.owners;
-              pairs = here.pairs;
+              pairs =
+                  pairs_after-limit M mix (local_of core c).doing (local_of core c).pairs old
+                  ∙ here.pairs;
               batch = batch_after-in M mix env (local_of core c).doing (local_of core c).batch old here.batch;
               among =
                   batch_after-so M (AreNodesIn env.geometry.nodes) mix (local_of core c).doing (local_of core c).batch old

@@ -28,10 +28,10 @@ use Rattle.rht_release.specs.declared.rebind.RebindAt.TheVariants as rebinding
 use Rattle.rht_release.specs.declared.rebind.RebindEnd.TheVariants as ends_at
 use Rattle.rht_grace.specs.Batch.{BatchModel}
 use Rattle.rht_callers.specs.declared.local.Doing.{Doing}
-use Rattle.rht_callers.specs.declared.local.Doing.TheVariants.{Idle, Finding, Binding, Listing, Releasing, Rebinding, Working, Counting, Tidying}
+use Rattle.rht_callers.specs.declared.local.Doing.TheVariants.{Idle, Finding, Binding, Listing, Releasing, Rebinding, Working, Counting, Tidying, Walking}
 use Rattle.rht_callers.specs.Batches.{nodes_in, node_out, IsBatchIn, with_out, out_of}
 use Rattle.rht_callers.specs.Locals.{fresh, does_nothing}
-use Rattle.rht_core.specs.Jobs.{Job, finds, binds, lists, releases, rebinds, works, tidies, counts, call_of, first_job, job_of, job_next, job_after, node_ending, told, held_of, IsFirstJob}
+use Rattle.rht_core.specs.Jobs.{Job, finds, binds, lists, releases, rebinds, works, tidies, walks, counts, call_of, first_job, job_of, job_next, job_after, node_ending, told, held_of, IsFirstJob}
 use Rattle.rht_core.proofs.Events.JobsOfCallers.{first_rebind-so, first_tidy-so, same_call, first-of}
 use Rattle.rht_core.proofs.Events.TakenOut.{taken_with}
 use Rattle.rht_ghost.proofs.Theory.Answering.{outs_of, IsReplied}
@@ -169,6 +169,9 @@ left-says mix env (works state) old says =
     other-says (job_after mix env (works state) old).0 (ap takes_nodes (same_call mix env (works state) old))
 left-says mix env (tidies batch state) old says =
     other-says (job_after mix env (tidies batch state) old).0 (ap takes_nodes (same_call mix env (tidies batch state) old))
+left-says mix env (walks from limit room state) old says =
+    other-says (job_after mix env (walks from limit room state) old).0
+    (ap takes_nodes (same_call mix env (walks from limit room state) old))
 left-says mix env counts old says = tt
 
 -- ---- the end of a call
@@ -226,6 +229,9 @@ ended_says mix env (Listing m) job old ending is says end replied =
     takes_none (call_of job) ending.answer.reply (sym (ap (λ j. takes_nodes (call_of j)) same)) replied.reply
 ended_says mix env (Working m) job old ending is says end replied =
     let same : works m.at ≡ job = cc in takes_none (call_of job) ending.answer.reply (sym (ap (λ j. takes_nodes (call_of j)) same)) replied.reply
+ended_says mix env (Walking m) job old ending is says end replied =
+    let same : walks m.from m.limit m.room m.at ≡ job = cc in
+    takes_none (call_of job) ending.answer.reply (sym (ap (λ j. takes_nodes (call_of j)) same)) replied.reply
 ended_says mix env (Tidying m) job old ending is says end replied =
     let same : tidies m.batch m.at ≡ job = cc in
     takes_none (call_of job) ending.answer.reply (sym (ap (λ j. takes_nodes (call_of j)) same)) replied.reply

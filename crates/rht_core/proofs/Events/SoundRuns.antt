@@ -24,7 +24,7 @@ use Rattle.rht_core.specs.declared.event.Event.{Event}
 use Rattle.rht_core.specs.declared.event.Event.TheVariants.{Enroll, Begin, Step}
 use Rattle.rht_callers.specs.declared.local.Local.{Local}
 use Rattle.rht_callers.specs.declared.local.Doing.{Doing}
-use Rattle.rht_callers.specs.declared.local.Doing.TheVariants.{Idle, Finding, Binding, Releasing, Rebinding, Listing, Working, Counting, Tidying}
+use Rattle.rht_callers.specs.declared.local.Doing.TheVariants.{Idle, Finding, Binding, Releasing, Rebinding, Listing, Working, Counting, Tidying, Walking}
 use Rattle.rht_callers.specs.Locals.{fresh, machine_of, begin_with, doing_after, doing_next, local_after, without_node, IsDoingOf, IsLocalOf}
 use Rattle.rht_core.specs.Runs.{Core, World, local_of, beginning_in, with_machine, planned_in, with_step, enrolling, enrolled_after, world_step, run_of, opening, opening_core, IsSound}
 use Rattle.rht_callers.proofs.CallBeginnings.{begins_so}
@@ -37,7 +37,8 @@ use Rattle.rht_grace.specs.Tidy.{TidyModel, after_at, moved}
 use Rattle.rht_grace.specs.declared.tidy.TidyAt.{TidyAt}
 use Rattle.rht_callers.specs.Batches.{IsBatchIn}
 use Rattle.rht_callers.proofs.BatchesOfCallers.{begun-same, idle-batch, begun-batch, batch_after-in}
-use Rattle.rht_callers.proofs.RoomsOfCallers.{idle-limit, begun-limit, owners_after-limit}
+use Rattle.rht_callers.proofs.RoomsOfCallers.{idle-limit, begun-limit, owners_after-limit, idle-pairs, begun-pairs, pairs_after-limit}
+use Rattle.rht_walk.specs.Walk.{walk_after}
 use Rattle.rht_core.proofs.Events.Worlds.{CanBegin, beginning-some, planned-some, run_keeps}
 
 -- ---- what a caller does
@@ -48,7 +49,7 @@ module _ (M : Type 0) where
       → IsDoingOf env machine
   begins-of env c batch =
       begins_so M env c batch (λ call machine. IsDoingOf env machine) (λ port. refl) (λ port owner once. refl)
-      (λ port. refl) (λ port owner. refl) (λ port owner new single. refl) refl refl (λ own has. refl)
+      (λ port. refl) (λ port owner. refl) (λ port owner new single. refl) refl refl (λ own has. refl) (λ from limit. refl)
 
   -- a tidying stays in its table
   tidied-of : (env : Env) (m : TidyModel) (came : BatchModel × TidyAt × Next Reply) → IsDoingOf {M = M} env (Tidying m)
@@ -73,6 +74,7 @@ module _ (M : Type 0) where
   doing_after-of mix env (Working m) old of =
       next_so (IsDoingOf env) Working tt (work_after mix m old).0 (work_after mix m old).1 of
   doing_after-of mix env (Tidying m) old of = tidied-of env m (after_at m.geometry m.batch m.at old) of
+  doing_after-of mix env (Walking m) old of = next_so (IsDoingOf env) Walking tt (walk_after m old).0 (walk_after m old).1 of
   doing_after-of mix env (Counting m) old of = tt
 
 -- ---- runs
@@ -95,9 +97,9 @@ module _ (M : Type 0) (mix : ℕ → ℕ → ℕ → ℕ) (env : Env) where
     few_enrolled = omega arith;
     all_local =
         AllByRecursion-replicate (IsLocalOf env) env.geometry.callers (fresh env)
-        (record { doing = tt; owners = refl; batch = refl });
+        (record { doing = tt; owners = refl; pairs = refl; batch = refl });
     locals_of = λ c. each_replicate (IsLocalOf env) env.geometry.callers c (fresh env)
-        (record { doing = tt; owners = refl; batch = refl });
+        (record { doing = tt; owners = refl; pairs = refl; batch = refl });
   }
 
   -- a caller that there is has a place in the list
@@ -159,6 +161,9 @@ module _ (M : Type 0) (mix : ℕ → ℕ → ℕ → ℕ) (env : Env) where
         owners =
             begun-limit M env c (local_of core c).batch call machine made (local_of core c).owners
             (idle-limit M (local_of core c) env.geometry.nodes can.idle (stays.locals_of c).owners);
+        pairs =
+            begun-pairs M env c (local_of core c).batch call machine made (local_of core c).pairs
+            (idle-pairs M (local_of core c) env.geometry.nodes can.idle (stays.locals_of c).pairs);
         batch =
             let in_table = idle-batch M (IsBatchIn env) (local_of core c) can.idle (stays.locals_of c).batch in
             begun-batch M (IsBatchIn env) env c (local_of core c).batch call machine made in_table
@@ -178,6 +183,9 @@ module _ (M : Type 0) (mix : ℕ → ℕ → ℕ → ℕ) (env : Env) where
         owners =
             owners_after-limit M mix (local_of core c).doing (local_of core c).owners old
             ∙ (stays.locals_of c).owners;
+        pairs =
+            pairs_after-limit M mix (local_of core c).doing (local_of core c).pairs old
+            ∙ (stays.locals_of c).pairs;
         batch = batch_after-in M mix env (local_of core c).doing (local_of core c).batch old (stays.locals_of c).batch;
       }))
 

@@ -97,6 +97,7 @@ module _ (env : Env) (mix : ℕ → ℕ → ℕ → ℕ) where
           knowing = record { only = knows.only; means = knows.means };
           fits = begun_owns c own G (subst (λ b. OwnsNodes env mix c (nodes_in b) G) has owns);
         })
+        (λ from limit. record { built = tt; knowing = record { only = knows.only; means = knows.means }; fits = tt })
         call machine is
 
     -- a caller in no call has nothing

@@ -14,13 +14,14 @@ use Rattle.rht_words.proofs.Members.{in-middle}
 use Rattle.rht_arena.specs.NewNode.{NewNodeModel, new_node_after}
 use Rattle.rht_chain.specs.Relink.{RelinkModel, has_relinked, relink_after}
 use Rattle.rht_model.specs.declared.history.Call.{Call}
-use Rattle.rht_model.specs.declared.history.Call.TheVariants.{Rebind, Walk, Tidy}
+use Rattle.rht_model.specs.declared.history.Call.TheVariants.{Rebind, Tidy}
 use Rattle.rht_model.specs.declared.history.Reply.{Reply}
 use Rattle.rht_model.specs.Endings.{Ending, plain_ending}
 use Rattle.rht_find.specs.Find as find
 use Rattle.rht_bind.specs.Bind as bind
 use Rattle.rht_release.specs.All as all
 use Rattle.rht_move.specs.Work as work
+use Rattle.rht_walk.specs.Walk as walk
 use Rattle.rht_grace.specs.Tidy as tidy
 use Rattle.rht_callers.specs.Batches.{node_out, out_of}
 use Rattle.rht_callers.specs.Locals.{doing_after, doing_next, without_node}
@@ -38,7 +39,7 @@ use Rattle.rht_release.specs.declared.rebind.RebindAt.TheVariants as rebinding
 use Rattle.rht_release.specs.declared.rebind.RebindEnd.{RebindEnd}
 use Rattle.rht_release.specs.declared.rebind.RebindEnd.TheVariants as ends
 use Rattle.rht_grace.specs.Batch.{BatchModel}
-use Rattle.rht_core.specs.Jobs.{Job, finds, binds, lists, releases, rebinds, works, tidies, counts, first_job, job_next, job_after, job_of, listing_ending, node_ending, told, tidying, tidied, IsFirstJob}
+use Rattle.rht_core.specs.Jobs.{Job, finds, binds, lists, releases, rebinds, works, tidies, walks, counts, first_job, job_next, job_after, job_of, listing_ending, node_ending, walk_ending, walk_gone, told, tidying, tidied, IsFirstJob}
 use Rattle.rht_ghost.proofs.Theory.Ghosts.{Ghost, Taken, Behind, seat_of, taken_is}
 use Rattle.rht_ghost.proofs.Theory.Wholes.{Whole}
 use Rattle.rht_ghost.proofs.Theory.Knowns.{KnownList}
@@ -94,6 +95,7 @@ taken_of (releases port owner state) = taken_at_release state
 taken_of (rebinds port owner new state) = taken_at_rebind state
 taken_of (works state) = None
 taken_of (tidies batch state) = None
+taken_of (walks from limit room state) = None
 taken_of counts = None
 
 abbrev pub taken_with : Option Job → Option ℕ
@@ -103,7 +105,6 @@ taken_with (Some job) = taken_of job
 -- at its beginning a call has taken none
 first-untaken : (env : Env) (call : Call) (batch : Option BatchModel) → IfSome (first_job env batch call) (λ job. taken_of job ≡ None)
 first-untaken env (Rebind port owner new) batch = first_rebind-so (λ job. taken_of job ≡ None) env port owner new refl
-first-untaken env (Walk from limit) batch = tt
 first-untaken env Tidy batch = first_tidy-so (λ job. taken_of job ≡ None) batch (λ own. refl)
 first-untaken env _ batch = refl
 
@@ -354,6 +355,9 @@ module _ (env : Env) (mix : ℕ → ℕ → ℕ → ℕ) (c : ℕ) where
         from_none _ None (left-none works plain_ending (work.after_at mix env state old) (λ s. refl)) is
     taken_then (tidies batch state) knows old is =
         from_none _ None (left-none tidying plain_ending (tidied (tidy.after_at env.geometry batch state old)) (λ s. refl)) is
+    taken_then (walks from limit room state) knows old is =
+        let after = walk.room_after state room old in
+        from_none _ None (left-none (walks from limit after) (walk_ending after) (walk_gone env from limit room after state old) (λ s. refl)) is
     taken_then counts knows old is = absurd (cc)
 
 -- ---- the node that a call hands out

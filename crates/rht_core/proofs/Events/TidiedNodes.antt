@@ -8,7 +8,7 @@ use Rattle.rht_words.specs.declared.geometry.Geometry.{Geometry}
 use Rattle.rht_words.specs.declared.machine.Next.{Next}
 use Rattle.rht_words.specs.declared.machine.Next.TheVariants.{Go, Done}
 use Rattle.rht_model.specs.declared.history.Call.{Call}
-use Rattle.rht_model.specs.declared.history.Call.TheVariants.{Rebind, Walk, Tidy}
+use Rattle.rht_model.specs.declared.history.Call.TheVariants.{Rebind, Tidy}
 use Rattle.rht_model.specs.declared.history.Reply.{Reply}
 use Rattle.rht_model.specs.declared.history.Reply.TheVariants.{Clear, Pending}
 use Rattle.rht_model.specs.Endings.{Ending}
@@ -20,7 +20,7 @@ use Rattle.rht_grace.specs.declared.tidy.TidyAt.TheVariants as tidy_at
 use Rattle.rht_grace.proofs.TidyRuns.{begun-some, begun-none}
 use Rattle.rht_callers.specs.Batches.{nodes_left}
 use Rattle.rht_core.specs.Counts.{returned_by}
-use Rattle.rht_core.specs.Jobs.{Job, finds, binds, lists, releases, rebinds, works, tidies, counts, call_of, first_job, IsFirstJob}
+use Rattle.rht_core.specs.Jobs.{Job, finds, binds, lists, releases, rebinds, works, tidies, walks, counts, call_of, first_job, IsFirstJob}
 use Rattle.rht_core.specs.Tidyings.{IsTidyPlace}
 use Rattle.rht_core.proofs.Machines.TidyRanges.{Came, giving-so, asking-so}
 use Rattle.rht_core.proofs.Events.JobsOfCallers.{first_rebind-so, first_tidy-so, first-of}
@@ -41,6 +41,7 @@ given_of (releases port owner state) = 0
 given_of (rebinds port owner new state) = 0
 given_of (works state) = 0
 given_of (tidies batch state) = given_at state
+given_of (walks from limit room state) = 0
 given_of counts = 0
 
 -- behind an operation, by its reply where it has ended
@@ -63,7 +64,6 @@ begun_none batch = go (length batch.waiting) refl
 
 first-given : (env : Env) (call : Call) (batch : Option BatchModel) → IfSome (first_job env batch call) (λ job. given_of job ≡ 0)
 first-given env (Rebind port owner new) batch = first_rebind-so (λ job. given_of job ≡ 0) env port owner new refl
-first-given env (Walk from limit) batch = tt
 first-given env Tidy batch = first_tidy-so (λ job. given_of job ≡ 0) batch begun_none
 first-given env _ batch = refl
 

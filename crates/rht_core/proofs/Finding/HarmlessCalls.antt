@@ -1,12 +1,12 @@
--- A look-up and a reading of the count only load, but for the look-up's own section word. A tidying loads section words, and sets bits of the
--- map of nodes. None of them is ever at the work lock.
+-- A look-up, a walk and a reading of the count only load, but for the caller's own section word. A tidying loads section words, and sets bits
+-- of the map of nodes. None of them is ever at the work lock.
 use Rattle.std.proofs.Common.{◌≡◌, ◌≢◌, ℕ, ◌+◌, ◌/◌, ◌<◌, ◌≤◌, List, get_or, [], ◌∷◌, ◌++◌, sym, subst, inl, inr, refl, arith}
 use Rattle.rht_words.specs.declared.op.Op.{Op}
 use Rattle.rht_words.specs.declared.op.Op.TheVariants.{Load, Add}
 use Rattle.rht_words.specs.declared.env.Env.{Env}
 use Rattle.rht_words.specs.declared.geometry.Geometry.{Geometry}
 use Rattle.rht_words.specs.Operations.{op_place}
-use Rattle.rht_words.specs.Places.{Section, Slot, SlotWord, Node, NodeWord, KeyWord, ChainLink, OwnerWord, PageWord, ShapeWord, SeedWord, FutureWord, IsBucketPlace, place_of, map_words}
+use Rattle.rht_words.specs.Places.{Section, Slot, SlotWord, Node, NodeWord, KeyWord, ChainLink, OwnerWord, PageWord, ShapeWord, SeedWord, FutureWord, SerialWord, IsBucketPlace, place_of, map_words}
 use Rattle.rht_words.proofs.PlacesApart.{parts_in_order}
 use Rattle.rht_words.proofs.EachElement.{AllByRecursion-push}
 use Rattle.rht_model.specs.declared.history.Call.{Call}
@@ -23,7 +23,10 @@ use Rattle.rht_grace.specs.declared.tidy.TidyAt.{TidyAt}
 use Rattle.rht_grace.specs.declared.tidy.TidyAt.TheVariants as tidy_at
 use Rattle.std.specs.Prelude.{Option, Some, None}
 use Rattle.rht_core.specs.declared.book.Book.{Book}
-use Rattle.rht_core.specs.Jobs.{Job, finds, tidies, counts, call_of, job_after}
+use Rattle.rht_walk.specs.Walk as walk
+use Rattle.rht_walk.specs.declared.walk.WalkAt.{WalkAt}
+use Rattle.rht_walk.specs.declared.walk.WalkAt.TheVariants as walk_at
+use Rattle.rht_core.specs.Jobs.{Job, finds, tidies, walks, counts, call_of, job_after}
 use Rattle.rht_core.specs.Lookups.{IsHarmless, IsLockFree, IsHarmlessCall, Harmless}
 use Rattle.rht_core.specs.Tidyings.{IsTidyingIn}
 use Rattle.rht_core.specs.Traces.{Did}
@@ -103,6 +106,24 @@ find_harmless env caller (at.Future table) few within = slot_load env.geometry t
 find_harmless env caller (at.Owner node) few within = node_load env.geometry node OwnerWord
 find_harmless env caller (at.Closing reply) few within = section_turn env.geometry caller few
 
+-- a walk, in whatever state
+walk_harmless : (g : Geometry) (caller : ℕ) (state : WalkAt) → caller < 16 → walk.IsWalkAtIn g state → IsHarmlessOp g (walk.plan_at g caller state)
+walk_harmless g caller walk_at.Opening few within = section_turn g caller few
+walk_harmless g caller walk_at.CurrentTable few within = record { buckets = λ there. refl; work = λ same. absurd (cc) }
+walk_harmless g caller (walk_at.Serial table) few within = slot_load g table SerialWord
+walk_harmless g caller (walk_at.Shape table serial) few within = slot_load g table ShapeWord
+walk_harmless g caller (walk_at.Entry visit way) few within =
+    subst (λ (h : Geometry). IsHarmlessOp g (Load (place_of h (PageWord way.entry)))) (sym within.way_in.geometry_same)
+    (let order = parts_in_order g in
+    far_load g (place_of g (PageWord way.entry)) (omega (arith, order.pages, order.nodes, order.page_map)))
+walk_harmless g caller (walk_at.Heading visit place) few within = bucket_load g place within.place_in
+walk_harmless g caller (walk_at.Key chain node) few within = node_load g node KeyWord
+walk_harmless g caller (walk_at.Owner chain node port) few within = node_load g node OwnerWord
+walk_harmless g caller (walk_at.Link chain node) few within = node_load g node ChainLink
+walk_harmless g caller (walk_at.StrangeEnd visit) few within = slot_load g visit.table FutureWord
+walk_harmless g caller (walk_at.TableEnd table) few within = slot_load g table FutureWord
+walk_harmless g caller (walk_at.Closing end) few within = section_turn g caller few
+
 -- a tidying, in whatever state
 tidy_harmless : (env : Env) (batch : BatchModel) (state : TidyAt) → IsTidyingIn env.geometry batch state
     → IsHarmlessOp env.geometry (tidy.plan_at env.geometry batch state)
@@ -126,9 +147,13 @@ module _ (mix : ℕ → ℕ → ℕ → ℕ) (env : Env) where
       by_op did _ performs.planned (record { buckets = λ there. refl; work = λ same. absurd (omega (arith, same)) })
   job_harmless (tidies batch state) did performs reads =
       by_op did (tidy.plan_at env.geometry batch state) performs.planned (tidy_harmless env batch state performs.within)
+  job_harmless (walks from limit room state) did performs reads =
+      by_op did (walk.plan_at env.geometry performs.caller state) performs.planned
+      (walk_harmless env.geometry performs.caller state performs.few performs.within)
   job_harmless _ did performs (inl reads) = absurd (let same = reads.1 in cc)
   job_harmless _ did performs (inr (inl reads)) = absurd (cc)
-  job_harmless _ did performs (inr (inr reads)) = absurd (cc)
+  job_harmless _ did performs (inr (inr (inl reads))) = absurd (cc)
+  job_harmless _ did performs (inr (inr (inr reads))) = absurd (let same = reads.2 in cc)
 
   -- so far each operation was so, and where the call has ended each was
   abbrev Now : Job → List Did → Type 0

@@ -204,6 +204,7 @@ module _ (L : Type 0) (mix : ℕ → ℕ → ℕ → ℕ) (env : Env) where
         let looks = subst (JobLooks L mix env events core placed (looking.readers c).chains c trace.begin made) of.is (looking.looks c).now in
         let goes = job_comes env mix core.words G placed.inv.whole c (looking.readers c).chains (trace.begin + 1)
         (λ port. SaysOf L mix env events c port trace.begin) placed.places of.job of.within of.knows
+        (subst (tied_with env mix G) of.is (looking.meets c of.low).tied)
         (look_known c trace.begin made of.job looks) in
         let same : old_of core.words op ≡ old_of core.words (job_plan env c of.job) = ap (old_of core.words) of.plan in
         subst (ComesTo env.geometry core.words (standing core c))

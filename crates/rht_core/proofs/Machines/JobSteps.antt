@@ -10,6 +10,7 @@ use Rattle.rht_words.specs.Operations.{old_of, applied}
 use Rattle.rht_words.specs.Places.{words_in}
 use Rattle.rht_words.proofs.Memory.{Memory}
 use Rattle.rht_model.specs.declared.history.Call.TheVariants.{Work}
+use Rattle.rht_model.specs.declared.history.Cursor.{Cursor}
 use Rattle.rht_model.specs.declared.history.Reply.{Reply}
 use Rattle.rht_model.specs.declared.history.Reply.TheVariants.{Counted}
 use Rattle.rht_model.specs.Answers.{Answer, plain}
@@ -25,7 +26,7 @@ use Rattle.rht_release.specs.All.{IsAllAtIn}
 use Rattle.rht_release.specs.All as all_at
 use Rattle.rht_release.specs.declared.all.AllAt.{AllAt}
 use Rattle.rht_callers.specs.PortCounts.{count_plan_in}
-use Rattle.rht_core.specs.Jobs.{listing_ending, node_ending, Job, finds, binds, releases, rebinds, lists, works, tidies, tidying, tidied, counts, call_of, job_plan, job_next, job_after, held_of, held_next}
+use Rattle.rht_core.specs.Jobs.{listing_ending, node_ending, Job, finds, binds, releases, rebinds, lists, works, tidies, tidying, tidied, walks, walk_ending, walk_gone, counts, call_of, job_plan, job_next, job_after, held_of, held_next}
 use Rattle.rht_words.specs.declared.config.Kind.TheVariants.{Single}
 use Rattle.rht_release.specs.Release.{IsReleaseAtIn}
 use Rattle.rht_release.specs.Release as release_at
@@ -43,6 +44,10 @@ use Rattle.rht_callers.specs.Batches.{nodes_left}
 use Rattle.rht_core.specs.Tidyings.{IsTidyingIn}
 use Rattle.rht_core.proofs.Machines.TidyRanges.{Came}
 use Rattle.rht_core.proofs.Machines.TidySteps.{OwnsNodes, OwnsNodes-rely, TidyMoved, tidy_step}
+use Rattle.rht_core.proofs.Machines.WalkSteps.{WalkMoved, walk_step}
+use Rattle.rht_walk.specs.Walk as walk_at
+use Rattle.rht_walk.specs.Walk.{Pairs, IsWalkAtIn}
+use Rattle.rht_walk.specs.declared.walk.WalkAt.{WalkAt}
 use Rattle.rht_ghost.proofs.Theory.Ghosts.{Ghost}
 use Rattle.rht_ghost.proofs.Theory.Wholes.{Whole}
 use Rattle.rht_ghost.proofs.Theory.Knowns.{Known}
@@ -80,6 +85,7 @@ stands_of (rebinds port owner new state) =
     record { known = known_of_rebind port owner new state; early = (held_of (rebinds port owner new state)).early }
 stands_of (works state) = record { known = known_of_work state; early = None }
 stands_of (tidies batch state) = record { known = known_nothing; early = None }
+stands_of (walks from limit room state) = record { known = known_nothing; early = None }
 stands_of counts = record { known = known_nothing; early = None }
 
 abbrev pub known_of : Job → Known
@@ -141,6 +147,7 @@ module _ (env : Env) (mix : ℕ → ℕ → ℕ → ℕ) (c : ℕ) where
   }
   facts_of (works state) = record { built = Unit {0}; within = IsWorkAtIn env state; fits = λ G. Unit {0} }
   facts_of (tidies batch state) = record { built = Unit {0}; within = IsTidyingIn env.geometry batch state; fits = OwnsNodes env mix c (nodes_left batch state) }
+  facts_of (walks from limit room state) = record { built = Unit {0}; within = IsWalkAtIn env.geometry state; fits = λ G. Unit {0} }
   facts_of counts = record { built = Unit {0}; within = Unit {0}; fits = λ G. Unit {0} }
 
   abbrev pub JobIn : Job → Type 0
@@ -164,6 +171,7 @@ module _ (env : Env) (mix : ℕ → ℕ → ℕ → ℕ) (c : ℕ) where
   leaves_of (rebinds port owner new state) G = Unit {0}
   leaves_of (works state) G = Unit {0}
   leaves_of (tidies batch state) G = OwnsNodes env mix c (batch.fresh ++ batch.waiting) G
+  leaves_of (walks from limit room state) G = Unit {0}
   leaves_of counts G = Unit {0}
 
   -- what the caller knows of a call that has ended, of which this job is left
@@ -263,6 +271,15 @@ module _ (env : Env) (mix : ℕ → ℕ → ℕ → ℕ) (c : ℕ) where
     tidies_so batch state (next, after, Done reply) step =
         step-map env mix (λ M G' w k. record { knowing = k.knowing; leaves = k.owns }) step
 
+    walks_so : (from : Option Cursor) (limit : ℕ) (room : Pairs) (state : WalkAt) (after : Pairs) (r : WalkAt × Next Reply)
+        → WalkMoved env mix c from limit words G all whole low room state after r
+        → JobStepOf words G (job_plan env c (walks from limit room state)) (walks from limit room state)
+        (job_next (walks from limit after) (walk_ending after) r)
+    walks_so from limit room state after (next, Go) step =
+        step-map env mix (λ M G' w k. record { built = tt; knowing = k; fits = tt }) step
+    walks_so from limit room state after (next, Done reply) step =
+        step-map env mix (λ M G' w k. record { knowing = k; leaves = tt }) step
+
     -- each operation of a job leads from what the caller knows to what it knows next
     pub job_step : (job : Job) → JobIn job → JobKnows job (mem env mix words) G → JobStep job
     job_step (finds port state) within knows =
@@ -291,11 +308,16 @@ module _ (env : Env) (mix : ℕ → ℕ → ℕ → ℕ) (c : ℕ) where
     job_step (tidies batch state) within knows =
         tidies_so batch state (tidy_at.after_at env.geometry batch state (old_of words (tidy_at.plan_at env.geometry batch state)))
         (tidy_step env mix c words G all whole batch state within knows.knowing knows.fits)
+    job_step (walks from limit room state) within knows =
+        let old = old_of words (walk_at.plan_at env.geometry c state) in
+        let after = walk_at.room_after state room old in
+        walks_so from limit room state after (walk_gone env from limit room after state old)
+        (walk_step env mix c from limit words G all whole low room state knows.knowing)
     job_step counts within knows =
         let old = old_of words (count_plan_in env) in
         reads env mix whole refl refl (inr (record {
           learns = record { unknown = refl; answer = plain (Counted old); known = refl; said = inr refl };
-          right = record { replied = record { reply = tt; owners = refl; pairs = refl }; tells = refl };
+          right = record { replied = record { reply = tt; owners = refl }; tells = refl };
           takes_none = refl;
         }))
         (record { knowing = record { only = knows.knowing.only; means = knows.knowing.means }; leaves = tt })

@@ -29,7 +29,11 @@ use Rattle.rht_release.specs.declared.rebind.RebindEnd.TheVariants as ends
 use Rattle.rht_move.specs.WorkHeld.{held_of_work}
 use Rattle.rht_move.specs.declared.work.WorkAt.{WorkAt}
 use Rattle.rht_move.specs.declared.work.WorkAt.TheVariants as working
-use Rattle.rht_core.specs.Jobs.{Job, finds, binds, lists, releases, rebinds, works, call_of, held_of}
+use Rattle.rht_walk.specs.Walk.{Pairs}
+use Rattle.rht_walk.specs.WalkHeld.{held_of_walk}
+use Rattle.rht_walk.specs.declared.walk.WalkAt.{WalkAt}
+use Rattle.rht_walk.specs.declared.walk.WalkAt.TheVariants as walking
+use Rattle.rht_core.specs.Jobs.{Job, finds, binds, lists, releases, rebinds, works, walks, call_of, held_of}
 use Rattle.rht_ghost.proofs.Theory.Steps.{Holding}
 
 -- ---- nothing of a table
@@ -62,7 +66,7 @@ slotless none slot has = let both = sym none.slot ∙ has in cc
 pub pageless : {h : Holding} → HoldsNoTable h → (page : ℕ) → In page h.pages → ⊥
 pageless none page i = subst (In page) none.pages i
 
--- a look-up and a listing hold a lock and their read section at most
+-- a look-up, a walk and a listing hold a lock and their read section at most
 pub record HoldsLockAlone (h : Holding) : Type 0 where
   pub node : h.node ≡ None
   pub low : h.raised ≡ false
@@ -81,6 +85,15 @@ find-alone _ = lock_alone refl refl refl refl refl refl
 pub find-unlocked : (state : FindAt) → (held_of_find state).lock ≡ None
 find-unlocked finding.Opening = refl
 find-unlocked _ = refl
+
+-- nor does a walk
+pub walk-alone : (room : Pairs) (state : WalkAt) → HoldsLockAlone (held_of_walk room state)
+walk-alone room walking.Opening = lock_alone refl refl refl refl refl refl
+walk-alone room _ = lock_alone refl refl refl refl refl refl
+
+pub walk-unlocked : (room : Pairs) (state : WalkAt) → (held_of_walk room state).lock ≡ None
+walk-unlocked room walking.Opening = refl
+walk-unlocked room _ = refl
 
 pub all-alone : (owners : List ℕ) (state : AllAt) → HoldsLockAlone (held_of_all owners state)
 all-alone owners (listing.Seeking seek) = lock_alone refl refl refl refl refl refl
@@ -116,6 +129,7 @@ tableless (lists port room state) none = (all-alone room.items state).table
 tableless (releases port owner state) none = release-tableless state
 tableless (rebinds port owner new state) none = rebind-tableless state
 tableless (works state) none = absurd (cc)
+tableless (walks from limit room state) none = (walk-alone room state).table
 tableless _ none = no_table refl refl refl refl
 
 -- ---- no work lock
@@ -158,4 +172,5 @@ job-unraised (lists port room state) = (all-alone room.items state).low
 job-unraised (releases port owner state) = tt
 job-unraised (rebinds port owner new state) = rebind-unraised state
 job-unraised (works state) = work-unraised state
+job-unraised (walks from limit room state) = (walk-alone room state).low
 job-unraised _ = refl

@@ -44,8 +44,8 @@ pub record OwnsNodes (env : Env) (mix : ℕ → ℕ → ℕ → ℕ) (c : ℕ) (
 
 -- what a tidying ends with is an answer of its kind, which takes no node out
 tidy_right : (reply : Reply) → IsTidyReply reply → IsRight Tidy None (plain reply)
-tidy_right (Clear count) is = record { replied = record { reply = tt; owners = refl; pairs = refl }; tells = refl }
-tidy_right (Pending caller section) is = record { replied = record { reply = tt; owners = refl; pairs = refl }; tells = refl }
+tidy_right (Clear count) is = record { replied = record { reply = tt; owners = refl }; tells = refl }
+tidy_right (Pending caller section) is = record { replied = record { reply = tt; owners = refl }; tells = refl }
 tidy_right _ is = absurd is
 
 tells : (env : Env) (c : ℕ) (bindings : ℕ → List ℕ) (reply : Reply) → IsTidyReply reply

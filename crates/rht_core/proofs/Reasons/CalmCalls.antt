@@ -44,7 +44,8 @@ use Rattle.rht_move.specs.declared.work.ending.Ending.TheVariants as endings
 use Rattle.rht_move.specs.declared.work.WorkAt.{WorkAt}
 use Rattle.rht_move.specs.declared.work.WorkAt.TheVariants as work_at
 use Rattle.rht_move.specs.Work as work
-use Rattle.rht_core.specs.Jobs.{Job, binds, works}
+use Rattle.rht_core.proofs.Reasons.CalmWalks.{CalmWalk}
+use Rattle.rht_core.specs.Jobs.{Job, binds, works, walks}
 use Rattle.rht_core.specs.FewPorts.{IsNoTableMade, IsCallTaken}
 use Rattle.rht_stands.specs.StandsFor.{stands_for, AreBound}
 use Rattle.rht_core.specs.Traces.{Did}
@@ -168,6 +169,7 @@ module _ (env : Env) where
   abbrev pub CalmJob : Job → Type 0
   CalmJob (binds port owner once state) = CalmBind env IsFirst IsZero state
   CalmJob (works state) = CalmWork state
+  CalmJob (walks from limit room state) = CalmWalk from state
   CalmJob _ = Unit {0}
 
   abbrev pub CalmEnd : Call → Ending → Type 0
@@ -178,7 +180,7 @@ module _ (env : Env) where
   module _ (mix : ℕ → ℕ → ℕ → ℕ) (roomy : IsRoomy) (did : Did) (words : List ℕ) (opened : IsNoTableMade env words) (has : HasFew words)
     where
       -- what is loaded of the words
-      future-none : (slot : ℕ) → slot < 8 → slot_of (word_at env.geometry words (Slot slot FutureWord)) ≡ None
+      pub future-none : (slot : ℕ) → slot < 8 → slot_of (word_at env.geometry words (Slot slot FutureWord)) ≡ None
       future-none slot l = ap slot_of (opened.slots slot FutureWord l tt ∙ opening-future slot)
 
       shape-first : (slot : ℕ) → slot ≡ 0 → IsFirst (word_at env.geometry words (Slot slot ShapeWord))

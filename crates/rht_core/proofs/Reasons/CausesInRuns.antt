@@ -14,14 +14,15 @@ use Rattle.rht_words.specs.declared.machine.Next.TheVariants.{Go, Done}
 use Rattle.rht_model.specs.declared.history.Call.{Call}
 use Rattle.rht_model.specs.declared.history.Call.TheVariants.{Bind, Find, All, Release, Rebind, Walk, Work, Tidy, Count}
 use Rattle.rht_model.specs.declared.history.Reply.{Reply}
-use Rattle.rht_model.specs.declared.history.Reply.TheVariants.{Clear, Pending}
+use Rattle.rht_model.specs.declared.history.Cursor.{Cursor}
+use Rattle.rht_model.specs.declared.history.Reply.TheVariants.{Clear, Pending, Walked, Again}
 use Rattle.rht_model.specs.Endings.{Ending, plain_ending}
 use Rattle.rht_find.specs.Find.{after_at as find_after_at}
 use Rattle.rht_bind.specs.Bind.{after_at}
 use Rattle.rht_release.specs.All as all
 use Rattle.rht_core.specs.declared.event.Event.{Event}
 use Rattle.rht_grace.specs.Batch.{BatchModel}
-use Rattle.rht_core.specs.Jobs.{listing_ending, node_ending, call_of, Job, finds, binds, releases, rebinds, lists, works, tidies, tidying, tidied, counts, first_job, job_next, job_after, IsFirstJob}
+use Rattle.rht_core.specs.Jobs.{listing_ending, node_ending, call_of, Job, finds, binds, releases, rebinds, lists, works, tidies, tidying, tidied, walks, walk_ending, walk_gone, counts, first_job, job_next, job_after, IsFirstJob}
 use Rattle.rht_core.specs.Replies.{IsReplyTo}
 use Rattle.rht_core.specs.Traces.{Did, Past, traced_of, behind_call, IsRising, AreInOrder}
 use Rattle.rht_core.specs.Runs.{IsAdmitted}
@@ -32,7 +33,10 @@ use Rattle.rht_core.specs.TidyCauses.{SawForTidy}
 use Rattle.rht_core.proofs.Tracing.TidiesInRuns as tidies_runs
 use Rattle.rht_grace.specs.Tidy as tidy
 use Rattle.rht_core.proofs.Reasons.TidiesSeen.{SawAtTidy, tidy-saw, first_tidy-saw}
-use Rattle.rht_core.specs.Causes.{TidyCause, CauseOf, HasCause, Causes}
+use Rattle.rht_walk.specs.Walk as walk
+use Rattle.rht_core.specs.WalkCauses.{SawForWalk}
+use Rattle.rht_core.proofs.Tracing.WalksInRuns as walks_runs
+use Rattle.rht_core.specs.Causes.{TidyCause, WalkCause, CauseOf, HasCause, Causes}
 use Rattle.rht_release.specs.Release as release
 use Rattle.rht_release.specs.Rebind as rebind
 use Rattle.rht_words.specs.Machines.{GoesOrEnds}
@@ -56,19 +60,19 @@ use Rattle.rht_core.proofs.Reasons.ReplyCauses.{LoadedCount, SawForCount, find-c
 
 module _ (env : Env) (c : ℕ) (words_at : ℕ → List ℕ) (mix : ℕ → ℕ → ℕ → ℕ) where
   -- what the operations of any call saw for it to have this reply; a look-up and a listing have nothing to
-  -- show, and of the others there is no machine yet
+  -- show, and what a walk has to show is kept elsewhere
   abbrev pub SawOf : Call → Reply → List Did → Type 0
   SawOf (Bind port owner once) reply steps = SawFor env words_at mix port reply steps
   SawOf (Find port) reply steps = Unit {0}
   SawOf (All port) reply steps = Unit {0}
   SawOf (Release port owner) reply steps = SawForRelease env reply steps
   SawOf (Rebind port owner new) reply steps = SawForRebind env reply steps
-  SawOf (Walk from limit) reply steps = ⊥
+  SawOf (Walk from limit) reply steps = Unit {0}
   SawOf Work reply steps = SawForWork env c words_at reply steps
   SawOf Tidy reply steps = SawForTidy env.geometry reply steps
   SawOf Count reply steps = SawForCount env reply steps
 
-  -- of a look-up and a listing nothing is kept, nor of a reading of the count before it ends
+  -- of a look-up, a listing and a walk nothing is kept here, nor of a reading of the count before it ends
   abbrev pub JobSaw : Job → List Did → Type 0
   JobSaw (finds port state) steps = Unit {0}
   JobSaw (binds port owner once state) steps =
@@ -78,6 +82,7 @@ module _ (env : Env) (c : ℕ) (words_at : ℕ → List ℕ) (mix : ℕ → ℕ 
   JobSaw (rebinds port owner new state) steps = SawAtRebind env state steps
   JobSaw (works state) steps = SawAtWork env c words_at state steps
   JobSaw (tidies batch state) steps = SawAtTidy env.geometry batch state steps
+  JobSaw (walks from limit room state) steps = Unit {0}
   JobSaw counts steps = Unit {0}
 
 -- ---- runs
@@ -139,6 +144,11 @@ module _ (M : Type 0) (mix : ℕ → ℕ → ℕ → ℕ) (env : Env) (events : 
   job-leads (tidies batch state) steps did performs own now saw =
       next-leads (tidies batch state) tidying plain_ending (steps ++ did ∷ []) (tidied (tidy.after_at env.geometry batch state did.old))
       (tidy-saw env.geometry batch state steps did performs.within performs.planned saw)
+  job-leads (walks from limit room state) steps did performs own now saw =
+      let after = walk.room_after state room did.old in
+      let next = walk_gone env from limit room after state did.old in
+      next-leads (walks from limit room state) (walks from limit after) (walk_ending after) (steps ++ did ∷ []) next
+      (nothing-saw next)
   job-leads counts steps did performs own now saw =
       Any-push (LoadedCount env did.old) steps did (record { loaded = performs.planned; found = refl })
 
@@ -172,35 +182,45 @@ module _ (M : Type 0) (mix : ℕ → ℕ → ℕ → ℕ) (env : Env) (events : 
   tidy-cause past (Pending caller section) saw has = (saw, has)
   tidy-cause past _ saw has = absurd saw
 
+  walk-cause : (past : Past) (from : Option Cursor) (limit : ℕ) (reply : Reply) → IsReplyTo (Walk from limit) reply
+      → SawForWalk env c from limit reply past.done.pairs past.steps → WalkCause env c from limit past reply
+  walk-cause past from limit (Walked len next) right saw = saw
+  walk-cause past from limit (Again table) right saw = saw
+  walk-cause past from limit _ right saw = absurd right
+
   module _ (admitted : IsAdmitted env.config.kind events) where
     cause_of : (past : Past) (call : Call) (reply : Reply) → SawOf env c words_at mix call reply past.steps
         → IsReplyTo call reply → (call ≡ Tidy → HasTidied M mix env events c past)
+        → ((from : Option Cursor) (limit : ℕ) → call ≡ Walk from limit
+        → SawForWalk env c from limit reply past.done.pairs past.steps)
         → AllByRecursion (IsRecorded M mix env events c) past.steps
         → IsRising (past.begin + 1) past.steps → CauseOf M mix env events c past call reply
-    cause_of past (Bind port owner once) reply saw right tidied_so recorded rising =
+    cause_of past (Bind port owner once) reply saw right tidied_so walked_so recorded rising =
         bind-cause M mix env events c admitted port past reply saw recorded rising
-    cause_of past (Find port) reply saw right tidied_so recorded rising = find-cause reply right
-    cause_of past (All port) reply saw right tidied_so recorded rising = all-cause reply right
-    cause_of past (Release port owner) reply saw right tidied_so recorded rising =
+    cause_of past (Find port) reply saw right tidied_so walked_so recorded rising = find-cause reply right
+    cause_of past (All port) reply saw right tidied_so walked_so recorded rising = all-cause reply right
+    cause_of past (Release port owner) reply saw right tidied_so walked_so recorded rising =
         release-cause M mix env events c admitted past reply saw right recorded
-    cause_of past (Rebind port owner new) reply saw right tidied_so recorded rising = rebind-cause env past reply saw right
-    cause_of past Work reply saw right tidied_so recorded rising = work-cause env c words_at past reply saw right
-    cause_of past Tidy reply saw right tidied_so recorded rising = tidy-cause past reply saw (tidied_so refl)
-    cause_of past Count reply saw right tidied_so recorded rising =
+    cause_of past (Rebind port owner new) reply saw right tidied_so walked_so recorded rising = rebind-cause env past reply saw right
+    cause_of past Work reply saw right tidied_so walked_so recorded rising = work-cause env c words_at past reply saw right
+    cause_of past Tidy reply saw right tidied_so walked_so recorded rising = tidy-cause past reply saw (tidied_so refl)
+    cause_of past Count reply saw right tidied_so walked_so recorded rising =
         count-cause M mix env events c admitted past reply saw recorded
-    cause_of past _ reply saw right tidied_so recorded rising = absurd saw
+    cause_of past (Walk from limit) reply saw right tidied_so walked_so recorded rising =
+        walk-cause past from limit reply right (walked_so from limit refl)
 
     all_caused : (from : ℕ) (calls : List Past)
         → AllByRecursion
         (λ (past : Past). SawOf env c words_at mix past.done.call past.done.reply past.steps) calls
         → AllByRecursion (IsEndedSo M mix env (Holds M mix env) (Answered M mix env)) calls
         → AllByRecursion (λ (past : Past). past.done.call ≡ Tidy → HasTidied M mix env events c past) calls
+        → AllByRecursion (walks_runs.HasWalked env c) calls
         → AllByRecursion (IsPastCall M mix env events c) calls → AreInOrder from calls
         → AllByRecursion (HasCause M mix env events c) calls
-    all_caused from [] saw right tidied_so were order = tt
-    all_caused from (past ∷ calls) saw right tidied_so were order = (
-      cause_of past past.done.call past.done.reply saw.0 right.0.reply tidied_so.0 were.0.steps order.1,
-      all_caused (behind_call past) calls saw.1 right.1 tidied_so.1 were.1 order.2,
+    all_caused from [] saw right tidied_so walked_so were order = tt
+    all_caused from (past ∷ calls) saw right tidied_so walked_so were order = (
+      cause_of past past.done.call past.done.reply saw.0 right.0.reply tidied_so.0 walked_so.0 were.0.steps order.1,
+      all_caused (behind_call past) calls saw.1 right.1 tidied_so.1 walked_so.1 were.1 order.2,
     )
 
 pub causes : (M : Type 0) (mix : ℕ → ℕ → ℕ → ℕ) → Causes M mix
@@ -209,4 +229,5 @@ causes M mix env events c admitted =
     all_caused M mix env events c admitted 0 ((traced_of {M = M} mix env events).traces c).past
     (past-saw M mix env events c admitted) (runs-right M mix env events c admitted).past
     (tidies_runs.tidied M mix env events c admitted)
+    (walks_runs.walked M mix env events c admitted)
     stands.past stands.in_order

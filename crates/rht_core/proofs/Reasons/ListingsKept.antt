@@ -42,7 +42,7 @@ use Rattle.rht_release.specs.declared.all.AllAt.TheVariants as listing
 use Rattle.rht_release.specs.declared.found_port.FoundPort.{FoundPort}
 use Rattle.rht_nest.specs.Place.{PlaceModel, place_plan, IsPlaceIn}
 use Rattle.rht_grace.specs.Batch.{BatchModel}
-use Rattle.rht_core.specs.Jobs.{Job, finds, binds, lists, releases, rebinds, works, tidies, counts, call_of, first_job, job_next, job_after, listing_ending, IsFirstJob}
+use Rattle.rht_core.specs.Jobs.{Job, finds, binds, lists, releases, rebinds, works, tidies, walks, counts, call_of, first_job, job_next, job_after, listing_ending, IsFirstJob}
 use Rattle.rht_core.specs.Traces.{Did}
 use Rattle.rht_core.specs.ListedOwners.{is_owner_word, loads_owner, owner_loaded, owners_loaded, ListedOwners}
 use Rattle.rht_ghost.proofs.Theory.Steps.{mem}
@@ -154,6 +154,7 @@ module _ (mix : ℕ → ℕ → ℕ → ℕ) (env : Env) where
   Keeps (rebinds port owner new state) steps = Unit {0}
   Keeps (works state) steps = Unit {0}
   Keeps (tidies batch state) steps = Unit {0}
+  Keeps (walks from limit room state) steps = Unit {0}
   Keeps counts steps = Unit {0}
 
   -- and so has its answer

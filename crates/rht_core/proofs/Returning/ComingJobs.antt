@@ -1,5 +1,5 @@
 -- A caller stands next only where it could come to before; and out of its section it stands nowhere. It is said of jobs, each machine apart.
-use Rattle.std.proofs.Common.{◌≡◌, ℕ, Bool, true, false, List, Some, None, refl, sym, ◌∙◌, subst, Option}
+use Rattle.std.proofs.Common.{length, ◌≡◌, ℕ, Bool, true, false, List, Some, None, refl, sym, ◌∙◌, subst, Option}
 use Rattle.std.specs.Prelude.{IfSome, if◌then◌else◌}
 use Rattle.rht_words.specs.declared.env.Env.{Env}
 use Rattle.rht_words.specs.Held.{Held}
@@ -9,7 +9,7 @@ use Rattle.rht_words.specs.Operations.{old_of}
 use Rattle.rht_words.specs.Standing.{Standing, stands_nowhere}
 use Rattle.rht_arena.specs.NewNode.{new_node_after}
 use Rattle.rht_model.specs.declared.history.Call.{Call}
-use Rattle.rht_model.specs.declared.history.Call.TheVariants.{Rebind, Walk, Tidy}
+use Rattle.rht_model.specs.declared.history.Call.TheVariants.{Rebind, Tidy}
 use Rattle.rht_model.specs.declared.history.Reply.{Reply}
 use Rattle.rht_model.specs.Answers.{Answer}
 use Rattle.rht_model.specs.Endings.{Ending, plain_ending}
@@ -46,7 +46,7 @@ use Rattle.rht_move.specs.WorkStanding.{standing_of_work}
 use Rattle.rht_move.specs.declared.work.WorkAt.{WorkAt}
 use Rattle.rht_move.specs.declared.work.WorkAt.TheVariants as working
 use Rattle.rht_grace.specs.Batch.{BatchModel}
-use Rattle.rht_core.specs.Jobs.{Job, finds, binds, lists, releases, rebinds, works, tidies, tidying, counts, first_job, listing_ending, node_ending, job_plan, job_next, job_after, told, held_of, IsFirstJob}
+use Rattle.rht_core.specs.Jobs.{Job, finds, binds, lists, releases, rebinds, works, tidies, tidying, walks, walk_ending, counts, first_job, listing_ending, node_ending, job_plan, job_next, job_after, told, held_of, IsFirstJob}
 use Rattle.rht_release.proofs.RebindKnowledge.{own}
 use Rattle.rht_core.specs.Standings.{standing_of, standing_with}
 use Rattle.rht_ghost.proofs.Theory.Ghosts.{Ghost}
@@ -57,6 +57,15 @@ use Rattle.rht_core.proofs.Finding.Lookups.{LookMeans}
 use Rattle.rht_core.proofs.Finding.Places.{Places}
 use Rattle.rht_core.proofs.Machines.JobSteps.{JobIn, JobKnows}
 use Rattle.rht_core.proofs.Returning.Coming.{Comes, to_nowhere}
+use Rattle.rht_walk.specs.Walk as walk
+use Rattle.rht_walk.specs.Walk.{Pairs}
+use Rattle.rht_walk.specs.WalkHeld.{held_of_walk}
+use Rattle.rht_walk.specs.WalkStanding.{standing_of_walk}
+use Rattle.rht_walk.specs.declared.walk.WalkAt.{WalkAt}
+use Rattle.rht_walk.specs.declared.walk.WalkAt.TheVariants as walking
+use Rattle.rht_model.specs.declared.history.Cursor.{Cursor}
+use Rattle.rht_core.proofs.Returning.TiedJobs.{tied_of}
+use Rattle.rht_core.proofs.Returning.WalkWays.{walk_comes}
 use Rattle.rht_core.proofs.Returning.ComingFinds.{find_comes}
 use Rattle.rht_core.proofs.Returning.ComingBinds.{bind_comes, bind_filled}
 use Rattle.rht_core.proofs.Returning.ComingReleases.{all_comes, release_comes, rebind_comes, rebind_filled}
@@ -136,6 +145,12 @@ work_outside mix env (working.Retiring root again) out = (refl, λ old. refl)
 work_outside mix env (working.LettingGo outcome) out = (refl, λ old. refl)
 work_outside mix env _ out = absurd (cc)
 
+walk_outside : (env : Env) (from : Option Cursor) (limit shown : ℕ) (room : Pairs) (state : WalkAt) → (held_of_walk room state).section ≡ false
+    → (standing_of_walk state ≡ stands_nowhere)
+    × ((old : ℕ) → standing_of_walk (walk.goes env.geometry from limit shown state old) ≡ stands_nowhere)
+walk_outside env from limit shown room walking.Opening out = (refl, λ old. refl)
+walk_outside env from limit shown room _ out = absurd (cc)
+
 abbrev IsNowhere : Standing → Type 0
 IsNowhere at = at ≡ stands_nowhere
 
@@ -166,6 +181,13 @@ job_outside mix env (rebinds port owner new state) out =
 job_outside mix env (works state) out =
     let is = work_outside mix env state out in
     record { before = is.0; behind = λ old. told-stands works plain_ending IsNowhere _ (is.1 old) refl }
+job_outside mix env (walks from limit room state) out =
+    let is = walk_outside env from limit (length room.items) room state out in
+    record {
+      before = is.0;
+      behind = λ old.
+          let after = walk.room_after state room old in told-stands (walks from limit after) (walk_ending after) IsNowhere _ (is.1 old) refl;
+    }
 job_outside mix env (tidies batch state) out =
     record { before = refl; behind = λ old. told-stands tidying plain_ending IsNowhere _ refl refl }
 job_outside mix env counts out = record { before = refl; behind = λ old. refl }
@@ -173,7 +195,6 @@ job_outside mix env counts out = record { before = refl; behind = λ old. refl }
 -- a call begins nowhere
 first-nowhere : (env : Env) (call : Call) (batch : Option BatchModel) → IfSome (first_job env batch call) (λ job. standing_of job ≡ stands_nowhere)
 first-nowhere env (Rebind port owner new) batch = first_rebind-so (λ job. standing_of job ≡ stands_nowhere) env port owner new refl
-first-nowhere env (Walk from limit) batch = tt
 first-nowhere env Tidy batch = first_tidy-so (λ job. standing_of job ≡ stands_nowhere) batch (λ own. refl)
 first-nowhere env _ batch = refl
 
@@ -194,32 +215,36 @@ module _ (env : Env) (mix : ℕ → ℕ → ℕ → ℕ) (words : List ℕ) (G :
       Comes env.geometry words (standing_of job) (standing_with (told (job_after mix env job (old_of words (job_plan env c job)))).0)
 
   pub job_comes : (seen : ℕ → Bool) (since : ℕ) (Says : ℕ → Reply → Type 0) (P : Places) (job : Job) → JobIn env mix c job
-      → JobKnows env mix c job (mem env mix words) G → KnowsLook seen since Says P job → GoesTo job
-  job_comes seen since Says P (finds port state) within knows look =
+      → JobKnows env mix c job (mem env mix words) G → tied_of env mix G job → KnowsLook seen since Says P job → GoesTo job
+  job_comes seen since Says P (finds port state) within knows tied look =
       told-stands (finds port) plain_ending (Comes env.geometry words (standing_of_find state)) _
       (find_comes env mix port seen since (Says port) words G P whole c state within look) (to_nowhere _ _ _)
-  job_comes seen since Says P (binds port owner once state) within knows look =
+  job_comes seen since Says P (binds port owner once state) within knows tied look =
       told-stands (binds port owner once) plain_ending (Comes env.geometry words (standing_of_bind state)) _
       (bind_comes env mix port owner words G whole c once state within.at_in knows.knowing.means.table) (to_nowhere _ _ _)
-  job_comes seen since Says P (lists port room state) within knows look =
+  job_comes seen since Says P (lists port room state) within knows tied look =
       let after = all.room_after state room (old_of words (job_plan env c (lists port room state))) in
       told-stands (lists port after) (listing_ending after) (Comes env.geometry words (standing_of_all state)) _
       (all_comes env mix port 0 words G whole c state within.at_in
       (λ seek is. let known = subst (λ s. JobKnows env mix c (lists port room s) (mem env mix words) G) is knows in
       (None, known.knowing.means.table))) (to_nowhere _ _ _)
-  job_comes seen since Says P (releases port owner state) within knows look =
+  job_comes seen since Says P (releases port owner state) within knows tied look =
       told-stands (releases port owner) node_ending (Comes env.geometry words (standing_of_release state)) _
       (release_comes env mix port owner words G whole c state within
       (λ seek is. let known = subst (λ s. JobKnows env mix c (releases port owner s) (mem env mix words) G) is knows in
       (None, known.knowing.means.table))) (to_nowhere _ _ _)
-  job_comes seen since Says P (rebinds port owner new state) within knows look =
+  job_comes seen since Says P (rebinds port owner new state) within knows tied look =
       told-stands (rebinds port owner new) node_ending (Comes env.geometry words (standing_of_rebind state)) _
       (rebind_comes env mix port owner words G whole c state within.at_in
       (λ node seek is. let known = subst (λ s. JobKnows env mix c (rebinds port owner new s) (mem env mix words) G) is knows in
       (Some (own port owner new node), known.knowing.means.table))) (to_nowhere _ _ _)
-  job_comes seen since Says P (works state) within knows look =
+  job_comes seen since Says P (works state) within knows tied look =
       told-stands works plain_ending (Comes env.geometry words (standing_of_work state)) _
       (work_comes env mix words G whole c state within knows.knowing.means.work) (to_nowhere _ _ _)
-  job_comes seen since Says P (tidies batch state) within knows look =
+  job_comes seen since Says P (tidies batch state) within knows tied look =
       told-stands tidying plain_ending (Comes env.geometry words stands_nowhere) _ (to_nowhere _ _ _) (to_nowhere _ _ _)
-  job_comes seen since Says P counts within knows look = to_nowhere _ _ _
+  job_comes seen since Says P (walks from limit room state) within knows tied look =
+      let after = walk.room_after state room (old_of words (job_plan env c (walks from limit room state))) in
+      told-stands (walks from limit after) (walk_ending after) (Comes env.geometry words (standing_of_walk state)) _
+      (walk_comes env mix words G whole from limit (length room.items) c state within tied) (to_nowhere _ _ _)
+  job_comes seen since Says P counts within knows tied look = to_nowhere _ _ _

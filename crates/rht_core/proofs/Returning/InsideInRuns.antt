@@ -22,7 +22,7 @@ use Rattle.rht_find.specs.FindHeld.{held_of_find}
 use Rattle.rht_find.specs.FindStanding.{standing_of_find}
 use Rattle.rht_find.specs.declared.find.FindAt.{FindAt}
 use Rattle.rht_core.specs.declared.event.Event.{Event}
-use Rattle.rht_core.specs.Jobs.{Job, finds, binds, lists, releases, rebinds, works, tidies, counts, job_of, job_plan, held_of}
+use Rattle.rht_core.specs.Jobs.{Job, finds, binds, lists, releases, rebinds, works, tidies, walks, counts, job_of, job_plan, held_of}
 use Rattle.rht_core.specs.Reach.{Thing, TableIn, PageAt, NodeAt, CouldReach, ReachesPage, at_table, at_node, at_listed, in_chain, IsReading, IsOwnNode, IsOwnSlot, IsWithin, Inside}
 use Rattle.rht_core.specs.Runs.{Core, World, local_of, run_of, IsAdmitted, IsAdmittedEvent}
 use Rattle.rht_core.specs.Standings.{standing, standing_of, standing_with}
@@ -41,6 +41,8 @@ use Rattle.rht_ghost.proofs.Theory.Wholes.{Whole}
 use Rattle.rht_core.proofs.Returning.MetInRuns.{Met, has_met, comes_next, open_now, outside_now, outside_next}
 use Rattle.rht_core.proofs.Returning.Operating.{PageThere, Lies, May}
 use Rattle.rht_core.proofs.Returning.OperatingBinds.{bind_lies}
+use Rattle.rht_walk.specs.Walk as walk
+use Rattle.rht_core.proofs.Returning.WalkWays.{walk_lies}
 use Rattle.rht_core.proofs.Returning.OperatingFinds.{find_lies}
 use Rattle.rht_core.proofs.Returning.OperatingReleases.{all_lies, release_lies, rebind_lies}
 use Rattle.rht_core.proofs.Returning.OperatingWays.{OwnOf}
@@ -231,6 +233,10 @@ module _ (env : Env) (mix : ℕ → ℕ → ℕ → ℕ) (L : Type 0) where
       job_asked (works state) does within knows tied =
           with_own (works state) does _ (work_lies env mix core.words G whole c low state within knows.knowing)
       job_asked (tidies batch state) does within knows tied = tidy_asked batch state within
+      job_asked (walks from limit room state) does within knows tied =
+          let job = walks from limit room state in
+          is_asked core c job does (reads job does) G whole (λ thing. ⊥) (λ node l own. absurd own) (λ slot l own. absurd own)
+          (walk.plan_at env.geometry c state) (walk_lies env mix core.words G whole room c low state within tied)
       job_asked counts does within knows tied = record { address = PortCount; there = tt; on = refl; asked = tt }
 
 pub inside : (L : Type 0) (mix : ℕ → ℕ → ℕ → ℕ) → Inside L mix

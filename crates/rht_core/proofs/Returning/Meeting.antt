@@ -191,7 +191,7 @@ module _ (env : Env) (mix : ℕ → ℕ → ℕ → ℕ) (L : Type 0) where
           record {
             ties = λ tied.
                 subst (tied_with env mix G) (sym (next_job core G all inv c op plan))
-                (job_ties env mix core.words G inv.whole c of.job of.within of.knows (old_of core.words op)
+                (job_ties env mix core.words G inv.whole c of.job of.within of.knows (old_of core.words op) (ap (old_of core.words) of.plan)
                 (subst (tied_with env mix G) of.is tied));
             inside = λ reads. inr (inr (comes c op plan));
             outside = stays_outside G all inv c op plan;

@@ -1,11 +1,11 @@
 -- The bucket that a call has locked is one of the table at which it stands: said of jobs. It outlives what others do.
-use Rattle.std.proofs.Common.{ℕ, ◌/◌, List, Option, Some, None, sym, ◌∙◌, ap}
+use Rattle.std.proofs.Common.{◌≡◌, ℕ, ◌/◌, List, length, Option, Some, None, sym, ◌∙◌, ap, subst}
 use Rattle.std.specs.Prelude.{IfSome}
 use Rattle.rht_words.specs.declared.env.Env.{Env}
 use Rattle.rht_words.specs.declared.machine.Next.{Next}
 use Rattle.rht_words.specs.declared.machine.Next.TheVariants.{Go, Done}
 use Rattle.rht_model.specs.declared.history.Call.{Call}
-use Rattle.rht_model.specs.declared.history.Call.TheVariants.{Rebind, Walk, Tidy}
+use Rattle.rht_model.specs.declared.history.Call.TheVariants.{Rebind, Tidy}
 use Rattle.rht_model.specs.Endings.{Ending, plain_ending}
 use Rattle.rht_bind.specs.declared.bind.BindAt.{BindAt}
 use Rattle.rht_bind.specs.declared.bind.BindAt.TheVariants as binding
@@ -19,9 +19,12 @@ use Rattle.rht_release.specs.declared.release.ReleaseAt.TheVariants as releasing
 use Rattle.rht_release.specs.declared.seek.SeekAt.{SeekAt}
 use Rattle.rht_release.specs.declared.seek.SeekAt.TheVariants as seeks
 use Rattle.rht_grace.specs.Batch.{BatchModel}
-use Rattle.rht_core.specs.Jobs.{Job, finds, binds, lists, releases, rebinds, works, tidies, tidying, counts, first_job, listing_ending, node_ending, job_next, job_after, told, IsFirstJob}
+use Rattle.rht_core.specs.Jobs.{Job, finds, binds, lists, releases, rebinds, works, tidies, tidying, walks, walk_ending, counts, first_job, listing_ending, node_ending, job_plan, job_next, job_after, told, IsFirstJob}
 use Rattle.rht_core.proofs.Events.JobsOfCallers.{first_rebind-so, first_tidy-so, first-of}
 use Rattle.rht_core.proofs.Machines.JobSteps.{JobIn, JobKnows}
+use Rattle.rht_words.specs.Operations.{old_of}
+use Rattle.rht_walk.specs.Walk as walk
+use Rattle.rht_core.proofs.Returning.TiedWalks.{tied_of_walk, walk-stays, walk_ties}
 use Rattle.rht_core.proofs.Returning.TiedBuckets.{IsTied, tied_of_seek, tied_of_all, tied_of_release, tied_of_rebind, tied_of_bind, all_ties, release_ties, rebind_ties, bind_ties}
 use Rattle.rht_ghost.proofs.Theory.Ghosts.{Ghost, PageOf}
 use Rattle.rht_ghost.proofs.Theory.Passed.{TablesGrow}
@@ -37,6 +40,7 @@ module _ (env : Env) (mix : ℕ → ℕ → ℕ → ℕ) where
   tied_of G (rebinds port owner new state) = tied_of_rebind env mix G state
   tied_of G (works state) = Unit {0}
   tied_of G (tidies batch state) = Unit {0}
+  tied_of G (walks from limit room state) = tied_of_walk env mix G state
   tied_of G counts = Unit {0}
 
   abbrev pub tied_with : Ghost → Option Job → Type 0
@@ -46,7 +50,6 @@ module _ (env : Env) (mix : ℕ → ℕ → ℕ → ℕ) where
   -- it is so of a job with which a call begins
   first-tied : (G : Ghost) (call : Call) (batch : Option BatchModel) → IfSome (first_job env batch call) (tied_of G)
   first-tied G (Rebind port owner new) batch = first_rebind-so (tied_of G) env port owner new tt
-  first-tied G (Walk from limit) batch = tt
   first-tied G Tidy batch = first_tidy-so (tied_of G) batch (λ own. tt)
   first-tied G _ batch = tt
 
@@ -102,6 +105,7 @@ module _ (env : Env) (mix : ℕ → ℕ → ℕ → ℕ) where
     job-stays (rebinds port owner new state) tied = rebind-stays state tied
     job-stays (works state) tied = tt
     job-stays (tidies batch state) tied = tt
+    job-stays (walks from limit room state) tied = walk-stays env mix G G' grow state tied
     job-stays counts tied = tt
 
     pub ties_stay : (job : Option Job) → tied_with G job → tied_with G' job
@@ -120,19 +124,24 @@ module _ (env : Env) (mix : ℕ → ℕ → ℕ → ℕ) where
   none-tied G job ending each r = told-tied G job ending r (each r.0)
 
   pub job_ties : (words : List ℕ) (G : Ghost) → Whole env mix (mem env mix words) G → (c : ℕ) (job : Job) → JobIn env mix c job
-      → JobKnows env mix c job (mem env mix words) G → (old : ℕ) → tied_of G job → tied_with G (told (job_after mix env job old)).0
-  job_ties words G whole c (finds port state) within knows old tied = none-tied G (finds port) plain_ending (λ state. tt) _
-  job_ties words G whole c (binds port owner once state) within knows old tied =
+      → JobKnows env mix c job (mem env mix words) G → (old : ℕ) → old ≡ old_of words (job_plan env c job) → tied_of G job
+      → tied_with G (told (job_after mix env job old)).0
+  job_ties words G whole c (finds port state) within knows old found tied = none-tied G (finds port) plain_ending (λ state. tt) _
+  job_ties words G whole c (binds port owner once state) within knows old found tied =
       told-tied G (binds port owner once) plain_ending _ (bind_ties env mix words G whole port owner once state old knows.knowing.means.table tied)
-  job_ties words G whole c (lists port room state) within knows old tied =
+  job_ties words G whole c (lists port room state) within knows old found tied =
       let after = all.room_after state room old in
       told-tied G (lists port after) (listing_ending after) _
       (all_ties env mix words G whole port 0 room.items state old within.at_in knows.knowing.means.table tied)
-  job_ties words G whole c (releases port owner state) within knows old tied =
+  job_ties words G whole c (releases port owner state) within knows old found tied =
       told-tied G (releases port owner) node_ending _ (release_ties env mix words G whole port owner state old within knows.knowing.means.table tied)
-  job_ties words G whole c (rebinds port owner new state) within knows old tied =
+  job_ties words G whole c (rebinds port owner new state) within knows old found tied =
       told-tied G (rebinds port owner new) node_ending _
       (rebind_ties env mix words G whole port owner new state old within.at_in knows.knowing.means.table tied)
-  job_ties words G whole c (works state) within knows old tied = none-tied G works plain_ending (λ state. tt) _
-  job_ties words G whole c (tidies batch state) within knows old tied = none-tied G tidying plain_ending (λ at. tt) _
-  job_ties words G whole c counts within knows old tied = tt
+  job_ties words G whole c (works state) within knows old found tied = none-tied G works plain_ending (λ state. tt) _
+  job_ties words G whole c (tidies batch state) within knows old found tied = none-tied G tidying plain_ending (λ at. tt) _
+  job_ties words G whole c (walks from limit room state) within knows old found tied =
+      told-tied G (walks from limit (walk.room_after state room old)) (walk_ending (walk.room_after state room old)) _
+      (subst (λ word. tied_of_walk env mix G (walk.goes env.geometry from limit (length room.items) state word)) (sym found)
+      (walk_ties env mix words G whole from limit (length room.items) c state within tied))
+  job_ties words G whole c counts within knows old found tied = tt

@@ -16,6 +16,7 @@ use Rattle.rht_release.specs.All.{all_after}
 use Rattle.rht_release.specs.Release.{release_after}
 use Rattle.rht_release.specs.Rebind.{rebind_after}
 use Rattle.rht_move.specs.Work.{work_after}
+use Rattle.rht_walk.specs.Walk.{walk_after}
 use Rattle.rht_grace.specs.Batch.{BatchModel}
 use Rattle.rht_grace.specs.Tidy.{TidyModel, after_at, moved}
 use Rattle.rht_grace.specs.declared.tidy.TidyAt.{TidyAt}
@@ -24,7 +25,7 @@ use Rattle.rht_callers.specs.Batches.{nodes_in, nodes_left, nodes_held, with_out
 use Rattle.rht_callers.specs.Locals.{machine_of, doing_after, doing_next, without_node}
 use Rattle.rht_callers.specs.PortCounts.{count_after}
 use Rattle.rht_callers.specs.declared.local.Doing.{Doing}
-use Rattle.rht_callers.specs.declared.local.Doing.TheVariants.{Idle, Finding, Binding, Listing, Releasing, Rebinding, Working, Counting, Tidying}
+use Rattle.rht_callers.specs.declared.local.Doing.TheVariants.{Idle, Finding, Binding, Listing, Releasing, Rebinding, Working, Counting, Tidying, Walking}
 use Rattle.rht_callers.proofs.CallBeginnings.{begins_so}
 use Rattle.rht_core.specs.Tidyings.{IsTidyPlace, IsTidyingOf}
 use Rattle.rht_ghost.proofs.Theory.Ghosts.{Ghost}
@@ -53,6 +54,7 @@ module _ (env : Env) (mix : ℕ → ℕ → ℕ → ℕ) (L : Type 0) where
     waits_of (Rebinding m) batch = waits_own batch
     waits_of (Working m) batch = waits_own batch
     waits_of (Counting m) batch = waits_own batch
+    waits_of (Walking m) batch = waits_own batch
     waits_of (Tidying m) batch = waits_at env mix M readers m.batch m.at
 
     -- ---- a call begins
@@ -62,7 +64,7 @@ module _ (env : Env) (mix : ℕ → ℕ → ℕ → ℕ) (L : Type 0) where
     begun_of c batch call machine is waits =
         begins_so L env c batch (λ asked first. waits_of first (batch_beside first batch))
         (λ port. waits) (λ port owner once. waits) (λ port. waits) (λ port owner. waits) (λ port owner new single. waits) waits waits
-        (λ own has. begun_waits env mix M readers own (subst waits_own has waits))
+        (λ own has. begun_waits env mix M readers own (subst waits_own has waits)) (λ from limit. waits)
         call machine is
 
     -- ---- an operation
@@ -105,6 +107,7 @@ module _ (env : Env) (mix : ℕ → ℕ → ℕ → ℕ) (L : Type 0) where
         next-own Rebinding (with_out batch (node_out next.1)) (λ n. own) own (next.0, without_node next.1)
     after_of (Working m) batch old within loaded waits = next-own Working batch (λ n. waits) waits (work_after mix m old)
     after_of (Counting m) batch old within loaded waits = next-own Counting batch (λ n. waits) waits (count_after m old)
+    after_of (Walking m) batch old within loaded waits = next-own Walking batch (λ n. waits) waits (walk_after m old)
     after_of (Tidying m) batch old within loaded waits =
         tidying-next m batch (after_at m.geometry m.batch m.at old)
         (subst (λ g. waits_next env mix M readers (after_at g m.batch m.at old)) (sym within.same_geometry)
@@ -165,4 +168,5 @@ module _ (env : Env) (mix : ℕ → ℕ → ℕ → ℕ) (L : Type 0) where
     waits_stay (Rebinding m) batch within out waits = own_stays batch out waits
     waits_stay (Working m) batch within out waits = own_stays batch out waits
     waits_stay (Counting m) batch within out waits = own_stays batch out waits
+    waits_stay (Walking m) batch within out waits = own_stays batch out waits
     waits_stay (Tidying m) batch within out waits = at_stays m.batch m.at within.at_in.at_in out waits

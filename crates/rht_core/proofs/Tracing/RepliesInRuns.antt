@@ -1,13 +1,17 @@
 -- In every run each call that has ended has a reply of its kind, with the lists that come with that; what a caller works at
 -- is the call of its book; and its rooms have the lists of its last finished call. Jobs keep it: an operation that tells the
 -- answer of its call tells one of its kind, which is known from then on.
-use Rattle.std.proofs.Common.{ℕ, List, [], ◌∷◌, ◌++◌, map, Option, sym, subst}
+use Rattle.std.proofs.Common.{◌≡◌, ℕ, Bool, true, false, List, [], ◌∷◌, ◌++◌, map, Option, sym, refl, subst}
 use Rattle.std.specs.Prelude.{IfSome}
 use Rattle.std.specs.List.{AllByRecursion}
 use Rattle.rht_words.specs.declared.env.Env.{Env}
 use Rattle.rht_words.specs.declared.machine.Next.{Next}
 use Rattle.rht_words.specs.declared.machine.Next.TheVariants.{Go, Done}
 use Rattle.rht_model.specs.declared.history.Call.{Call}
+use Rattle.rht_model.specs.declared.history.Call.TheVariants.{Walk}
+use Rattle.rht_model.specs.declared.history.Cursor.{Cursor}
+use Rattle.rht_model.specs.declared.history.Reply.{Reply}
+use Rattle.rht_model.specs.declared.history.Reply.TheVariants.{Walked}
 use Rattle.rht_model.specs.Answers.{Answer}
 use Rattle.rht_model.specs.Endings.{Ending, ended_with}
 use Rattle.rht_core.specs.declared.event.Event.{Event}
@@ -17,10 +21,10 @@ use Rattle.rht_callers.specs.declared.local.Doing.TheVariants.{Idle, Counting, T
 use Rattle.rht_core.specs.Jobs.{Job, call_of, job_after, job_of, held_of, held_next}
 use Rattle.rht_core.specs.Runs.{World, IsAdmitted, view_of, local_of}
 use Rattle.rht_core.specs.Traces.{Did, Past, Traced, traced_of}
-use Rattle.rht_core.specs.Replies.{ArePairsWith, IsRightlyAnswered, IsBookOf, AnswersIn}
+use Rattle.rht_core.specs.Replies.{IsReplyTo, ArePairsWith, IsRightlyAnswered, IsBookOf, AnswersIn}
 use Rattle.rht_core.specs.Laws.{IsDoingIn, IsLocalIn, Replies}
 use Rattle.rht_ghost.proofs.Theory.Answering.{IsReplied, IsReplied-same, known_so}
-use Rattle.rht_core.proofs.Events.JobsOfCallers.{GoesSo, goes_so, first_unknown}
+use Rattle.rht_core.proofs.Events.JobsOfCallers.{HasItsPairs, GoesSo, goes_so, first_unknown}
 use Rattle.rht_core.proofs.Events.RangesInRuns.{runs-all}
 use Rattle.rht_core.proofs.Tracing.TracedJobs.{Performs, LeadsOn, IsEndedSo, IsAtJob, IsKeeping, jobs_keep}
 use Rattle.rht_core.proofs.Tracing.TracesInRuns.{remembers}
@@ -28,6 +32,26 @@ use Rattle.rht_core.proofs.Tracing.TracesInRuns.{remembers}
 -- a call that ends so is answered
 abbrev pub EndsRight : Call → Ending → Type 0
 EndsRight call ending = IsRightlyAnswered (ended_with call ending)
+
+-- only a walk is answered with pairs
+abbrev is_walk : Call → Bool
+is_walk (Walk from limit) = true
+is_walk _ = false
+
+never_walked : (call : Call) (len : ℕ) (next : Option Cursor) → is_walk call ≡ false → IsReplyTo call (Walked len next) → ⊥
+never_walked (Walk from limit) len next other replied = absurd (cc)
+never_walked _ len next other replied = replied
+
+without_pairs : (call : Call) (reply : Reply) (pairs : List (ℕ × ℕ)) → is_walk call ≡ false → IsReplyTo call reply → pairs ≡ []
+    → ArePairsWith reply pairs
+without_pairs call (Walked len next) pairs other replied none = absurd (never_walked call len next other replied)
+without_pairs call _ pairs other replied none = none
+
+-- so the pairs with which a call ends are those of its reply
+right_pairs : (call : Call) (ending : Ending) → IsReplyTo call ending.answer.reply → HasItsPairs call ending
+    → ArePairsWith ending.answer.reply ending.pairs
+right_pairs (Walk from limit) ending replied pairs = pairs
+right_pairs call ending replied pairs = without_pairs call ending.answer.reply ending.pairs refl replied pairs
 
 module _ (M : Type 0) (mix : ℕ → ℕ → ℕ → ℕ) (env : Env) where
   -- the answer of the job's call, once it is known, is one of its kind
@@ -56,7 +80,7 @@ module _ (M : Type 0) (mix : ℕ → ℕ → ℕ → ℕ) (env : Env) where
   leads-right job all (after, Done ending) so right = record {
     reply = right.reply;
     owners = right.owners;
-    pairs = subst (ArePairsWith ending.answer.reply) (sym so.alone) right.pairs;
+    pairs = right_pairs (call_of job) ending right.reply so.alone;
   }
 
   pub runs-right : (events : List Event) (c : ℕ) → IsAdmitted env.config.kind events

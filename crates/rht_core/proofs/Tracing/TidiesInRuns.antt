@@ -24,12 +24,13 @@ use Rattle.rht_release.specs.All.{all_after}
 use Rattle.rht_release.specs.Release.{release_after}
 use Rattle.rht_release.specs.Rebind.{rebind_after}
 use Rattle.rht_move.specs.Work.{work_after}
+use Rattle.rht_walk.specs.Walk.{walk_after}
 use Rattle.rht_grace.specs.Batch.{BatchModel}
 use Rattle.rht_grace.specs.Tidy.{TidyModel, tidy_new, plan_at, after_at, moved}
 use Rattle.rht_grace.specs.declared.tidy.TidyAt.TheVariants as at
 use Rattle.rht_callers.specs.declared.local.Local.{Local}
 use Rattle.rht_callers.specs.declared.local.Doing.{Doing}
-use Rattle.rht_callers.specs.declared.local.Doing.TheVariants.{Idle, Finding, Binding, Listing, Releasing, Rebinding, Working, Counting, Tidying}
+use Rattle.rht_callers.specs.declared.local.Doing.TheVariants.{Idle, Finding, Binding, Listing, Releasing, Rebinding, Working, Counting, Tidying, Walking}
 use Rattle.rht_callers.specs.Batches.{batch_room, batch_given, batch_after, nodes_left}
 use Rattle.rht_callers.proofs.BatchesOfCallers.{idle-batch}
 use Rattle.rht_callers.specs.PortCounts.{count_after}
@@ -87,6 +88,7 @@ module _ (M : Type 0) (mix : ℕ → ℕ → ℕ → ℕ) (env : Env) where
       let next = rebind_after mix m old in next-other Rebinding (λ a m is. cc) (next.0, without_node next.1)
   stays-other (Working m) old none = next-other Working (λ a m is. cc) (work_after mix m old)
   stays-other (Counting m) old none = next-other Counting (λ a m is. cc) (count_after m old)
+  stays-other (Walking m) old none = next-other Walking (λ a m is. cc) (walk_after m old)
   stays-other (Tidying m) old none = absurd (none m refl)
 
   module _ (events : List Event) (c : ℕ) (sound : AreSound env mix M events c) where
@@ -132,7 +134,7 @@ module _ (M : Type 0) (mix : ℕ → ℕ → ℕ → ℕ) (env : Env) where
         begins_so M env c batch (λ call machine. Some call ≡ Some Tidy → (m : TidyModel) × (machine ≡ Tidying m))
         (λ port is. absurd (cc)) (λ port owner once is. absurd (cc)) (λ port is. absurd (cc)) (λ port owner is. absurd (cc))
         (λ port owner new single is. absurd (cc)) (λ is. absurd (cc)) (λ is. absurd (cc))
-        (λ own has is. (tidy_new env.geometry own, refl))
+        (λ own has is. (tidy_new env.geometry own, refl)) (λ from limit is. absurd (cc))
 
     begun-come : (batch : Option BatchModel) (call : Call) (machine : Doing M) → machine_of env c batch call ≡ Some machine
         → (m : TidyModel) → machine ≡ Tidying m
@@ -147,6 +149,7 @@ module _ (M : Type 0) (mix : ℕ → ℕ → ℕ → ℕ) (env : Env) where
         subst (λ (n : TidyModel). IsOn (batch_or env.geometry batch) n []) here
         (subst (λ b. IsOn b (tidy_new env.geometry own) []) (sym (ap (batch_or env.geometry) has))
         (tidy_begins env.geometry own, λ olds. refl)))
+        (λ from limit m is. absurd (cc))
 
     -- the batch of this caller, by what it does
     abbrev own_of : Local M → BatchModel

@@ -35,7 +35,8 @@ use Rattle.rht_core.specs.Seen.{words_before}
 use Rattle.rht_core.specs.Replies.{IsBookOfIdle, owners_with, pairs_with, HasLists}
 use Rattle.rht_core.specs.Laws.{IsRecorded, view_begun, view_stepped}
 use Rattle.rht_core.proofs.Events.JobsOfCallers.{is_no_job, has_ended, HasNoLists, same_call, left-told, nothing-job, first_job-machine, local_after-job}
-use Rattle.rht_callers.proofs.RoomsOfCallers.{owners_beside-none, owners_after-stay}
+use Rattle.rht_callers.proofs.RoomsOfCallers.{owners_beside-none, owners_after-stay, pairs_beside-none, pairs_after-stay}
+use Rattle.rht_walk.specs.Walk.{Pairs}
 use Rattle.rht_core.proofs.Events.Invariants.{Inv}
 use Rattle.rht_core.proofs.Events.Worlds.{run_of-push, stepped_words}
 use Rattle.rht_core.proofs.Events.BucketsThere.{BucketsStay, buckets-stay}
@@ -245,7 +246,10 @@ module _ (M : Type 0) (mix : ℕ → ℕ → ℕ → ℕ) (env : Env) (Now : Job
                 subst (λ (job : Option Job). IsAtJob job (book_begun call here.book) []) (sym first.does)
                 record { call = ap Some (sym first.asked); now = keep.begins call first.job first.first };
             lists = none-lists _ (book_begun call here.book) busy
-                record { owners = owners_beside-none M machine here.local.owners; pairs = refl };
+                record {
+                  owners = owners_beside-none M machine here.local.owners;
+                  pairs = pairs_beside-none M machine here.local.pairs;
+                };
           }
 
       -- ---- an operation of a job
@@ -361,7 +365,9 @@ module _ (M : Type 0) (mix : ℕ → ℕ → ℕ → ℕ) (env : Env) (Now : Job
                   owners =
                       ap (λ (room : Kept ℕ). room.items)
                       (owners_after-stay M mix here.local.doing here.local.owners did.old goes) ∙ none.owners;
-                  pairs = none.pairs;
+                  pairs =
+                      ap (λ (room : Pairs). room.items)
+                      (pairs_after-stay M mix here.local.doing here.local.pairs did.old goes) ∙ none.pairs;
                 });
           }
 

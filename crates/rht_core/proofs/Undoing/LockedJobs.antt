@@ -25,9 +25,10 @@ use Rattle.rht_release.specs.Release as release_at
 use Rattle.rht_release.specs.ReleaseHeld.{held_of_release}
 use Rattle.rht_release.specs.declared.release.ReleaseAt.{ReleaseAt}
 use Rattle.rht_release.specs.declared.release.ReleaseAt.TheVariants as releasing
+use Rattle.rht_core.specs.Jobs as jobs
 use Rattle.rht_core.specs.Jobs.{Job, finds, binds, lists, releases, rebinds, works, job_plan, job_after, held_of, held_next}
 use Rattle.rht_ghost.proofs.Theory.Steps.{LeavesBits}
-use Rattle.rht_core.proofs.Machines.NeverHeld.{find-unlocked}
+use Rattle.rht_core.proofs.Machines.NeverHeld.{find-unlocked, walk-unlocked}
 use Rattle.rht_core.proofs.Undoing.PastRefusal.{release_is_past, is_past}
 use Rattle.rht_core.proofs.Undoing.RefusableJobs.{bind-refusable, rebind-refusable, early_work, work-refusable}
 
@@ -111,4 +112,5 @@ module _ (env : Env) (mix : ℕ → ℕ → ℕ → ℕ) (c : ℕ) (op : Op) (ol
       absurd ((rebind-refusable state may).locked_has locked none)
   locked-leaves (works state) may is locked none =
       absurd ((work-refusable state (early_work state may)).locked_has locked none)
+  locked-leaves (jobs.walks from limit room state) may is locked none = absurd (locked (walk-unlocked room state))
   locked-leaves _ may is locked none = absurd (locked refl)

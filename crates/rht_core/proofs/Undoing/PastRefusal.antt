@@ -57,7 +57,7 @@ use Rattle.rht_grace.specs.Batch.{BatchModel, cleared}
 use Rattle.rht_grace.specs.Tidy as tidy
 use Rattle.rht_grace.specs.declared.tidy.TidyAt.{TidyAt}
 use Rattle.rht_grace.specs.declared.tidy.TidyAt.TheVariants as tidy_at
-use Rattle.rht_core.specs.Jobs.{Job, finds, binds, lists, releases, rebinds, works, tidies, counts, tidied}
+use Rattle.rht_core.specs.Jobs.{Job, finds, binds, lists, releases, rebinds, works, tidies, walks, counts, tidied}
 use Rattle.rht_core.specs.Refused.{changes_nothing}
 
 -- a bind is past it at the closing of its section where it has linked its node
@@ -190,6 +190,7 @@ is_past (releases port owner state) = release_is_past state
 is_past (rebinds port owner new state) = rebind_is_past state
 is_past (works state) = work_is_past state
 is_past (tidies batch state) = tidy_is_past state
+is_past (walks from limit room state) = false
 is_past counts = false
 
 -- ---- it stays past that

@@ -50,7 +50,7 @@ use Rattle.rht_move.specs.declared.work.Due.TheVariants.{Nothing}
 use Rattle.rht_move.specs.declared.work.ending.Ending.TheVariants.{LettingGo}
 use Rattle.rht_move.specs.declared.work.WorkAt.{WorkAt}
 use Rattle.rht_move.specs.declared.work.WorkAt.TheVariants as working
-use Rattle.rht_core.specs.Jobs.{Job, finds, binds, lists, releases, rebinds, works, tidies, counts, call_of, job_plan, job_after, held_of, held_next}
+use Rattle.rht_core.specs.Jobs.{Job, finds, binds, lists, releases, rebinds, works, tidies, walks, counts, call_of, job_plan, job_after, held_of, held_next}
 use Rattle.rht_core.specs.Traces.{Did}
 use Rattle.rht_core.specs.Refused.{StoresLast, MayAttach}
 use Rattle.rht_ghost.proofs.Theory.Ghosts.{Ghost, PageHeld}
@@ -171,6 +171,7 @@ JobStored env (releases port owner state) steps = Unit {0}
 JobStored env (rebinds port owner new state) steps = Unit {0}
 JobStored env (works state) steps = Unit {0}
 JobStored env (tidies batch state) steps = Unit {0}
+JobStored env (walks from limit room state) steps = Unit {0}
 JobStored env counts steps = Unit {0}
 
 -- ---- its pages

@@ -1,20 +1,30 @@
-//! What isn't begun, and binds that are refused.
+//! What isn't begun, a walk that is, and binds that are refused.
 
 use super::{
     BOUND, FIND_5, assert_run, begins, bind, ends, enrolls, for_two, idles, replies, small, steps,
 };
-use rht_model::{Call, Reply};
+use rht_model::{Call, Cursor, Reply};
 use rht_policy::Low;
 use rht_words::{Config, Op};
 use std::test::Fail;
 
 #[test]
-fn a_walk_is_not_begun(rt: HostRuntime) -> Result<(), Fail> {
-    let walk = Call::Walk {
-        from: None,
-        limit: 1,
-    };
-    let rows = [enrolls(0), begins(0, walk), idles(0)];
+fn a_walk_shows_what_is_bound(rt: HostRuntime) -> Result<(), Fail> {
+    let walk = |from, limit| Call::Walk { from, limit };
+    let ended = |len| Reply::Walked { len, next: None };
+    // The first table has the serial 0, and port 5 is in its bucket 5.
+    let next = Some(Cursor {
+        serial: 0,
+        bucket: 6,
+    });
+    let rows = [
+        enrolls(0),
+        replies(walk(None, 8), ended(0)),
+        replies(bind(5, 9), BOUND),
+        replies(walk(None, 8), ended(1)),
+        replies(walk(None, 1), Reply::Walked { len: 1, next }),
+        replies(walk(next, 8), ended(0)),
+    ];
     assert_run::<Low>(&rt, rt.alloc(), small(), &rows)
 }
 

@@ -1,7 +1,7 @@
 -- What an operation of a call says about bindings: nothing, or the call's answer, which it is on what the words stand for then; or it
 -- changes the bindings as the call is to change them, and the answer is what the call says of the bindings before. A call may also
 -- know its answer early, for the case that it will find a page missing, and say it once it has: that answer was so at an earlier event.
-use Rattle.std.proofs.Common.{◌≡◌, ◌≢◌, ◌⊎◌, ◌↔◌, ℕ, Bool, true, false, [], Option, Some, None, refl, sym, ap, ◌∙◌, subst, inl, inr}
+use Rattle.std.proofs.Common.{◌≡◌, ◌≢◌, ◌⊎◌, ◌↔◌, ℕ, Bool, true, false, Option, Some, None, refl, sym, ap, ◌∙◌, subst, inl, inr}
 use Rattle.std.specs.Prelude.{IfSome}
 use Rattle.rht_words.specs.declared.config.Kind.{Kind}
 use Rattle.rht_model.specs.declared.history.Call.{Call}
@@ -14,7 +14,7 @@ use Rattle.rht_model.specs.Answers.{Answer, port_of}
 use Rattle.rht_model.specs.Histories.{without_kick, IsAnswered, IsLegalAt, left_by}
 use Rattle.rht_words.proofs.Members.{one_if}
 use Rattle.rht_model.specs.Replies.{takes_out}
-use Rattle.rht_model.specs.Replies.{IsReplyTo, AreOwnersWith, ArePairsWith}
+use Rattle.rht_model.specs.Replies.{IsReplyTo, AreOwnersWith}
 use Rattle.rht_model.proofs.Agreements.{Agree-sym, answer_of-Agree, left_by-Agree, IsLegalAt-answer_of}
 
 -- the entry of a call that is answered so
@@ -84,11 +84,10 @@ TellsNode Work has reply = has ≡ None
 TellsNode Tidy has reply = has ≡ None
 TellsNode Count has reply = has ≡ None
 
--- the reply is one of the call's, and the owners are those that come with it, without pairs
+-- the reply is one of the call's, and the owners are those that come with it; of pairs nothing is said here
 pub record IsReplied (call : Call) (answer : Answer) : Type 0 where
   pub reply : IsReplyTo call answer.reply
   pub owners : AreOwnersWith answer.reply answer.owners
-  pub pairs : ArePairsWith answer.reply []
 
 -- the same answer is one of the call's as well
 IsReplyTo-aside : (call : Call) → IsKickAside (IsReplyTo call)
@@ -103,11 +102,6 @@ IsReplied-same call was now same is = record {
       subst (AreOwnersWith now.reply) (sym same.owners)
       (same_reply (λ reply. AreOwnersWith reply was.owners)
       (record { bound = λ k l is. is; released = λ k l is. is }) was now same is.owners);
-  pairs =
-      same_reply (λ reply. ArePairsWith reply []) (record {
-        bound = λ k l is. is;
-        released = λ k l is. is;
-      }) was now same is.pairs;
 }
 
 -- and it tells of a node as well
