@@ -31,7 +31,7 @@ use Rattle.rht_ghost.proofs.Theory.Passed.{TablesGrow}
 use Rattle.rht_ghost.proofs.Theory.Steps.{mem}
 use Rattle.rht_ghost.proofs.Theory.WaysRead.{words_of_pages, read_by_entry, flat_read, way_read, way_next, place_of_bucket}
 use Rattle.rht_ghost.proofs.Theory.WaysStay.{IsWayIn-stay}
-use Rattle.rht_ghost.proofs.Theory.Wholes.{Whole, word_index}
+use Rattle.rht_ghost.proofs.Theory.Wholes.{Whole, word_index, IsThere, current-there, slot-there}
 use Rattle.rht_core.proofs.Finding.Stages.{IsAttached}
 
 module _ (env : Env) (mix : ℕ → ℕ → ℕ → ℕ) (G : Ghost) where
@@ -131,12 +131,13 @@ module _ (env : Env) (mix : ℕ → ℕ → ℕ → ℕ) (words : List ℕ) (G :
 
   current_attached : IsAttached G (table_of (M CurrentTable))
   current_attached =
-      let right = whole.tables.each G.current whole.tables.current_in in
+      let there = current-there env mix whole.tables in
+      let right = whole.tables.each G.current there in
       let is : table_of (M CurrentTable) ≡ (G.table G.current).slot =
       (let word = whole.tables.current_is in omega (arith, right.slot_in, word)) in
       subst (IsAttached G) (sym is) (record {
-        table = right.has_slot;
-        attached = (whole.tables.slots (G.table G.current).slot right.has_slot).attached;
+        table = there.has_slot;
+        attached = (whole.tables.slots (G.table G.current).slot there.has_slot).attached;
       })
 
   module _ (from : Option Cursor) (limit shown : ℕ) where
@@ -154,11 +155,11 @@ module _ (env : Env) (mix : ℕ → ℕ → ℕ → ℕ) (words : List ℕ) (G :
         })
         (λ flat.
         let below = number_below visit within is in
-        let there = flat_read env mix M G whole τ number is.of.attached below (ap is_nested is.shape_is ∙ flat)
+        let there = flat_read env mix M G whole τ number (slot-there env mix whole.tables visit.table is.of.table) below (ap is_nested is.shape_is ∙ flat)
         ∙ ap (λ s. Some (flat_place env.geometry s number)) is.shape_is in
         record {
           walked = is;
-          here = (place_of_bucket env mix M G whole τ number is.of.attached below (flat_place env.geometry visit.shape number) there).here;
+          here = (place_of_bucket env mix M G whole τ number (slot-there env mix whole.tables visit.table is.of.table) below (flat_place env.geometry visit.shape number) there).here;
         })
 
     begun-tied : (start : Option Cursor) (table serial shape : ℕ) → table < 8 → IsAttached G table
@@ -212,6 +213,9 @@ module _ (env : Env) (mix : ℕ → ℕ → ℕ → ℕ) (words : List ℕ) (G :
       below : visit.bucket < size_of (unpacked (G.table τ).shape)
       below = number_below visit within is.walked
 
+      is_there : IsThere G τ
+      is_there = slot-there env mix whole.tables visit.table is.walked.of.table
+
       abbrev led_by : Option ℕ
       led_by = page_of env.geometry.pages (M (PageWord way.entry))
 
@@ -220,13 +224,13 @@ module _ (env : Env) (mix : ℕ → ℕ → ℕ → ℕ) (words : List ℕ) (G :
           → let next = went_behind way start in Tied (reached env.geometry limit shown visit next.0 next.1)
       entered-tied page leads (starts.Running next) e = record {
         walked = is.walked;
-        to = way_next env mix M G whole τ visit.bucket is.walked.of.attached below way is.to next page leads e;
+        to = way_next env mix M G whole τ visit.bucket is_there below way is.to next page leads e;
       }
       entered-tied page leads (starts.Done there) e = record {
         walked = is.walked;
         here =
-            (place_of_bucket env mix M G whole τ visit.bucket is.walked.of.attached below there
-            (sym (way_read env mix M G whole τ visit.bucket is.walked.of.attached below way is.to)
+            (place_of_bucket env mix M G whole τ visit.bucket is_there below there
+            (sym (way_read env mix M G whole τ visit.bucket is_there below way is.to)
             ∙ read_by_entry (words_of_pages M) way env.geometry (Some page) same leads
             ∙ ap (place_or_last (words_of_pages M)) e)).here;
       }

@@ -27,7 +27,7 @@ use Rattle.rht_core.specs.Reach.{at_table, at_current, at_node, by_chain, Reache
 use Rattle.rht_ghost.proofs.Theory.Ghosts.{Ghost, index_at}
 use Rattle.rht_ghost.proofs.Theory.Passed.{place-word}
 use Rattle.rht_ghost.proofs.Theory.Steps.{mem}
-use Rattle.rht_ghost.proofs.Theory.Wholes.{Whole, word_index, place_at-index}
+use Rattle.rht_ghost.proofs.Theory.Wholes.{Whole, word_index, place_at-index, slot-there}
 use Rattle.rht_core.proofs.Returning.Coming.{Comes, to_nowhere, to_tables, to_nodes, IsBucketThere, first_reached}
 use Rattle.rht_core.proofs.Returning.Operating.{Lies, page_lies, entry_lies}
 use Rattle.rht_core.proofs.Returning.OperatingWays.{way_entry}
@@ -156,7 +156,7 @@ module _ (env : Env) (mix : ℕ → ℕ → ℕ → ℕ) (words : List ℕ) (G :
       page_lies env mix words G _ _ _ (plan_at env.geometry c (at.Heading visit place)) place within.place_in refl refl (record {
         table = τ;
         of =
-            (place-word env mix (mem env mix words) G whole τ visit.bucket (word_index env mix place) tied.walked.of.attached
+            (place-word env mix (mem env mix words) G whole τ visit.bucket (word_index env mix place) (slot-there env mix whole.tables visit.table tied.walked.of.table)
             (number_below env mix words G whole visit within.visit_in tied.walked) tied.here).of;
         there =
             subst (ReachesTable env.geometry words (standing_of_walk (at.Heading visit place)))
