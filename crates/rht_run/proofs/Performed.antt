@@ -25,7 +25,7 @@ use Rattle.rht_core.proofs.Events.Worlds.{run_of-push}
 use Rattle.rht_core.proofs.Events.BusyCallers.{busy_plans, begun_busy}
 use Rattle.rht_core.proofs.Events.BatchesInRuns.{all_in_range}
 use Rattle.rht_callers.specs.Batches.{IsBatchIn}
-use Rattle.rht_callers.proofs.RoomsOfCallers.{idle-limit}
+use Rattle.rht_callers.proofs.RoomsOfCallers.{idle-limit, idle-pairs}
 use Rattle.rht_callers.proofs.BatchesOfCallers.{idle-batch}
 use Rattle.rht_run.specs.declared.seats.Held.{Held}
 use Rattle.rht_run.specs.declared.seats.SeatView.{SeatView}
@@ -113,6 +113,7 @@ module _ {M : Type 0} where
     room_for None can = tt
     room_for (Some call) can = (
       idle-limit M p.local t.env.geometry.nodes can.idle local_in.owners,
+      idle-pairs M p.local t.env.geometry.nodes can.idle local_in.pairs,
       idle-batch M (IsBatchIn t.env) p.local can.idle local_in.batch,
     )
 

@@ -1,6 +1,6 @@
 -- A call that is driven from outside its pass goes as its caller does in the run: each operation is one that a pass would make
 -- which had the caller, so what is known of passes is known here.
-use Rattle.std.proofs.Common.{◌≡◌, ℕ, ◌<◌, true, false, List, [], ◌∷◌, ◌++◌, map, refl, sym, ap, ◌∙◌, subst}
+use Rattle.std.proofs.Common.{◌≡◌, ℕ, ◌<◌, true, false, List, [], ◌∷◌, ◌++◌, map, refl, sym, ap, ◌∙◌, subst, arith}
 use Rattle.std.specs.Prelude.{Option, Some, None}
 use Rattle.atomic_table.specs.declared.shared.Seat.{Seat}
 use Rattle.rht_words.specs.declared.op.Op.{Op}
@@ -13,7 +13,7 @@ use Rattle.rht_model.specs.Rooms.{Kept, emptied}
 use Rattle.rht_core.specs.declared.book.Book.{Book}
 use Rattle.rht_callers.specs.declared.local.Local.{Local}
 use Rattle.rht_callers.specs.declared.local.Doing.{Doing}
-use Rattle.rht_callers.specs.declared.local.Doing.TheVariants.{Idle, Finding, Binding, Listing, Releasing, Rebinding, Working, Counting, Tidying}
+use Rattle.rht_callers.specs.declared.local.Doing.TheVariants.{Idle, Finding, Binding, Listing, Releasing, Rebinding, Working, Counting, Tidying, Walking}
 use Rattle.rht_callers.specs.Batches.{with_out, node_out, batch_beside, batch_after}
 use Rattle.rht_callers.specs.PortCounts.{count_after}
 use Rattle.rht_grace.specs.Batch.{BatchModel}
@@ -23,7 +23,8 @@ use Rattle.rht_release.specs.All.{all_after}
 use Rattle.rht_release.specs.Release.{release_after}
 use Rattle.rht_release.specs.Rebind.{rebind_after}
 use Rattle.rht_move.specs.Work.{work_after}
-use Rattle.rht_core.specs.Locals.{does_nothing, is_idle, machine_of, doing_plan, plan_of, doing_after, doing_next, without_node, owners_beside, owners_after, begun_with, local_after, ending_of}
+use Rattle.rht_walk.specs.Walk.{Pairs, WalkModel}
+use Rattle.rht_core.specs.Locals.{does_nothing, is_idle, machine_of, doing_plan, plan_of, doing_after, doing_next, without_node, owners_beside, owners_after, pairs_beside, pairs_after, begun_with, local_after, ending_of}
 use Rattle.rht_core.specs.Runs.{book_begun, book_after, finished_with, IsAdmittedCall, IsBuiltFor}
 use Rattle.rht_core.specs.Laws.{IsDoingIn}
 use Rattle.rht_run.specs.declared.seats.Held.{Held}
@@ -50,6 +51,11 @@ with-out None None = refl
 with-out (Some batch) None = refl
 with-out batch (Some node) = refl
 
+-- a walk has its caller's room of pairs
+walks-not : (M : Type 0) (m : WalkModel) → ((room : Pairs) → pairs_beside {M = M} (Walking m) room ≡ emptied room) → ⊥
+walks-not M m pairs =
+    let limits = ap (λ (room : Pairs). room.limit) (pairs record { items = []; limit = 1 }) in absurd (omega (arith, limits))
+
 module _ {M : Type 0} where
   -- who is in no call does nothing
   nothing_done : (doing : Doing M) → does_nothing doing ≡ true → doing ≡ Idle
@@ -62,6 +68,7 @@ module _ {M : Type 0} where
   nothing_done (Working m) idle = absurd (cc)
   nothing_done (Counting m) idle = absurd (cc)
   nothing_done (Tidying m) idle = absurd (cc)
+  nothing_done (Walking m) idle = absurd (cc)
 
   -- ---- what is driven goes as a caller does
 
@@ -88,16 +95,32 @@ module _ {M : Type 0} where
   -- a tidying isn't driven, since its caller's batch isn't beside it
   goes-as : (mix : ℕ → ℕ → ℕ → ℕ) (doing : Doing M) (batch : Option BatchModel) (old : ℕ)
       → ((b : Option BatchModel) → batch_beside doing b ≡ b)
+      → ((room : Pairs) → pairs_beside doing room ≡ emptied room)
       → GoesAs (driven mix doing old) (doing_after mix doing old) batch (batch_after mix doing batch old)
-  goes-as mix Idle batch old beside = record { doing = refl; reply = refl; batch = refl }
-  goes-as mix (Finding m) batch old beside = goes-replied Finding batch (find_after mix m old)
-  goes-as mix (Binding m) batch old beside = goes-replied Binding batch (bind_after mix m old)
-  goes-as mix (Listing m) batch old beside = goes-replied Listing batch (all_after mix m old)
-  goes-as mix (Releasing m) batch old beside = goes-ended Releasing batch (release_after mix m old)
-  goes-as mix (Rebinding m) batch old beside = goes-ended Rebinding batch (rebind_after mix m old)
-  goes-as mix (Working m) batch old beside = goes-replied Working batch (work_after mix m old)
-  goes-as mix (Counting m) batch old beside = goes-replied Counting batch (count_after m old)
-  goes-as mix (Tidying m) batch old beside = absurd (let none : None ≡ Some m.batch = beside (Some m.batch) in cc)
+  goes-as mix Idle batch old beside pairs = record { doing = refl; reply = refl; batch = refl }
+  goes-as mix (Finding m) batch old beside pairs = goes-replied Finding batch (find_after mix m old)
+  goes-as mix (Binding m) batch old beside pairs = goes-replied Binding batch (bind_after mix m old)
+  goes-as mix (Listing m) batch old beside pairs = goes-replied Listing batch (all_after mix m old)
+  goes-as mix (Releasing m) batch old beside pairs = goes-ended Releasing batch (release_after mix m old)
+  goes-as mix (Rebinding m) batch old beside pairs = goes-ended Rebinding batch (rebind_after mix m old)
+  goes-as mix (Working m) batch old beside pairs = goes-replied Working batch (work_after mix m old)
+  goes-as mix (Counting m) batch old beside pairs = goes-replied Counting batch (count_after m old)
+  goes-as mix (Tidying m) batch old beside pairs = absurd (let none : None ≡ Some m.batch = beside (Some m.batch) in cc)
+  goes-as mix (Walking m) batch old beside pairs = absurd (walks-not M m pairs)
+
+  -- nor is a walk, since its caller's room of pairs isn't beside it; so that room stays
+  pairs-stay : (doing : Doing M) (room : Pairs) (old : ℕ) → ((room : Pairs) → pairs_beside doing room ≡ emptied room)
+      → pairs_after doing room old ≡ room
+  pairs-stay Idle room old pairs = refl
+  pairs-stay (Finding m) room old pairs = refl
+  pairs-stay (Binding m) room old pairs = refl
+  pairs-stay (Listing m) room old pairs = refl
+  pairs-stay (Releasing m) room old pairs = refl
+  pairs-stay (Rebinding m) room old pairs = refl
+  pairs-stay (Working m) room old pairs = refl
+  pairs-stay (Counting m) room old pairs = refl
+  pairs-stay (Tidying m) room old pairs = refl
+  pairs-stay (Walking m) room old pairs = absurd (walks-not M m pairs)
 
 module _ {M : Type 0} (mix : ℕ → ℕ → ℕ → ℕ) (t : Table M) (r : Riding) where
   riding_range : (doing : Doing M) (seat : Seat (Unit {0}) (SeatView M)) → IsPassOf mix t (riding_pass r doing seat)
@@ -158,14 +181,15 @@ module _ {M : Type 0} (mix : ℕ → ℕ → ℕ → ℕ) (t : Table M) (r : Rid
     pub has_stepped : (seat' : Seat (Unit {0}) (SeatView M)) (old : ℕ) → IsRiding mix t r doing seat
         → ((room : Kept ℕ) → owners_after mix doing room old ≡ room)
         → ((batch : Option BatchModel) → batch_beside doing batch ≡ batch)
+        → ((room : Pairs) → pairs_beside doing room ≡ emptied room)
         → IsSameSeat seat seat' → Went mix None seat.me.0 old seat'.me.0 → Stepped mix t r (driven mix doing old) seat'
-    has_stepped seat' old is keeps beside same went =
+    has_stepped seat' old is keeps beside apart same went =
         let next : Doing M × Option (Reply × Option ℕ) = driven mix doing old in
-        let like = goes-as mix doing r.batch old beside in
+        let like = goes-as mix doing r.batch old beside apart in
         let left : Riding = handed r (removed_in next.1) in
         let leads : (riding_local left next.0, reply_in next.1) ≡ local_after mix (riding_local r doing) old =
         λ i. (
-          record { doing = like.doing i; owners = sym (keeps r.owners) i; pairs = r.pairs; batch = like.batch i },
+          record { doing = like.doing i; owners = sym (keeps r.owners) i; pairs = sym (pairs-stay doing r.pairs old apart) i; batch = like.batch i },
           like.reply i,
         ) in
         let all = still mix t (riding_pass r doing seat) (riding_pass left next.0 seat') None old (reply_in next.1) is.pass same went refl leads in
@@ -199,11 +223,12 @@ module _ {M : Type 0} (mix : ℕ → ℕ → ℕ → ℕ) (t : Table M) (r : Rid
         → machine_of t.env r.number r.batch r.call ≡ Some doing → ((room : Kept ℕ) → owners_beside doing room ≡ emptied room)
         → ((room : Kept ℕ) → owners_after mix doing room old ≡ room)
         → ((batch : Option BatchModel) → batch_beside doing batch ≡ batch)
+        → ((room : Pairs) → pairs_beside doing room ≡ emptied room)
         → IsSameSeat seat seat' → Went mix (Some r.call) seat.me.0 old seat'.me.0
         → Stepped mix t r (driven mix doing old) seat'
-    has_begun seat' old is begins empties keeps beside same went =
+    has_begun seat' old is begins empties keeps beside apart same went =
         let next : Doing M × Option (Reply × Option ℕ) = driven mix doing old in
-        let like = goes-as mix doing r.batch old beside in
+        let like = goes-as mix doing r.batch old beside apart in
         let left : Riding = handed r (removed_in next.1) in
         let book : Book = book_begun r.call (book_in seat.me.0.held) in
         let begun : begun_with is.local (machine_of t.env r.number is.local.batch r.call) ≡ riding_local r doing =
@@ -211,13 +236,13 @@ module _ {M : Type 0} (mix : ℕ → ℕ → ℕ → ℕ) (t : Table M) (r : Rid
         ∙ (λ i. record {
           doing = doing;
           owners = (empties is.local.owners ∙ is.owners) i;
-          pairs = is.pairs i;
+          pairs = (apart is.local.pairs ∙ is.pairs) i;
           batch = (beside is.local.batch ∙ is.batch) i;
         }) in
         let leads : (riding_local left next.0, reply_in next.1)
         ≡ local_after mix (begun_with is.local (machine_of t.env r.number is.local.batch r.call)) old =
         (λ i. (
-          record { doing = like.doing i; owners = sym (keeps r.owners) i; pairs = r.pairs; batch = like.batch i },
+          record { doing = like.doing i; owners = sym (keeps r.owners) i; pairs = sym (pairs-stay doing r.pairs old apart) i; batch = like.batch i },
           like.reply i,
         ))
         ∙ ap (λ (l : Local M). local_after mix l old) (sym begun) in

@@ -11,11 +11,12 @@ use Rattle.rht_model.specs.declared.finished.Finished.{Finished}
 use Rattle.rht_model.specs.Rooms.{Kept, emptied, no_room}
 use Rattle.rht_callers.specs.declared.local.Local.{Local}
 use Rattle.rht_callers.specs.declared.local.Doing.{Doing}
-use Rattle.rht_callers.specs.declared.local.Doing.TheVariants.{Idle, Finding, Binding, Listing, Releasing, Rebinding, Working, Counting, Tidying}
+use Rattle.rht_callers.specs.declared.local.Doing.TheVariants.{Idle, Finding, Binding, Listing, Releasing, Rebinding, Working, Counting, Tidying, Walking}
 use Rattle.rht_callers.specs.Batches.{with_out}
 use Rattle.rht_callers.specs.PortCounts.{count_after}
 use Rattle.rht_grace.specs.Batch.{BatchModel}
 use Rattle.rht_grace.specs.Tidy.{tidy_after}
+use Rattle.rht_walk.specs.Walk.{walk_after}
 use Rattle.rht_find.specs.Find.{find_after}
 use Rattle.rht_bind.specs.Bind.{bind_after}
 use Rattle.rht_release.specs.All.{all_after}
@@ -184,3 +185,4 @@ module _ {M : Type 0} where
   driven mix (Working m) old = piece_next Working replied (work_after mix m old)
   driven mix (Counting m) old = piece_next Counting replied (count_after m old)
   driven mix (Tidying m) old = piece_next Tidying replied (tidy_after m old)
+  driven mix (Walking m) old = piece_next Walking replied (walk_after m old)

@@ -104,7 +104,8 @@ module _ {M : Type 0} where
   -- where a call begins, its caller's room of owners may have one item a node, and it has its batch
   abbrev pub HasRoom : Env → Option Call → Local M → Type 0
   HasRoom env None local = Unit {0}
-  HasRoom env (Some call) local = (local.owners.limit ≡ env.geometry.nodes) × IsBatchIn env local.batch
+  HasRoom env (Some call) local =
+      (local.owners.limit ≡ env.geometry.nodes) × (local.pairs.limit ≡ env.geometry.nodes) × IsBatchIn env local.batch
 
   -- the caller where this call begins, if one does
   abbrev pub local_then : Env → ℕ → Option Call → Local M → Local M

@@ -17,7 +17,8 @@ ghost use Rattle.rht_callers.specs.declared.local.Doing.{Doing};
 ghost use Rattle.rht_grace.specs.Batch.{BatchModel};
 ghost use Rattle.rht_callers.specs.Batches.{batch_beside};
 ghost use Rattle.rht_callers.specs.declared.local.Doing.TheVariants.{Binding, Finding};
-ghost use Rattle.rht_core.specs.Locals.{does_nothing, doing_plan, owners_beside, owners_after};
+ghost use Rattle.rht_core.specs.Locals.{does_nothing, doing_plan, owners_beside, owners_after, pairs_beside};
+ghost use Rattle.rht_walk.specs.Walk.{Pairs};
 ghost use Rattle.rht_core.specs.Laws.{IsDoingIn};
 ghost use Rattle.rht_run.specs.Rides.{piece_next, replied, driven};
 ghost use Rattle.rht_run.specs.Pieces.{bucket_lock_after, probe_locks, probe_locked, port_locate_after};
@@ -63,6 +64,8 @@ pub trait Frame<M: Mix, P: Piece<M, A>, A> {
     ghost empties: { (f : Self) (p : P) (room : Kept ℕ) → owners_beside (holding f p) room ≡ emptied room };
 
     ghost beside: { (f : Self) (p : P) (batch : Option BatchModel) → batch_beside (holding f p) batch ≡ batch };
+
+    ghost pairs: { (f : Self) (p : P) (room : Pairs) → pairs_beside (holding f p) room ≡ emptied room };
 
     ghost plans: { (f : Self) (p : P) → doing_plan (holding f p) ≡ Some (P.plan_of p) };
 
@@ -142,6 +145,8 @@ impl<'a, M: Mix, F: Frame<M, Probe, Probed>> Frame<M, Lock, Locked> for ProbeLoc
     ghost empties = { λ f lock room. F.empties f.frame.now (probe_locks f.probe.now lock) room };
 
     ghost beside = { λ f lock batch. F.beside f.frame.now (probe_locks f.probe.now lock) batch };
+
+    ghost pairs = { λ f lock room. F.pairs f.frame.now (probe_locks f.probe.now lock) room };
 
     ghost plans = { λ f lock. F.plans f.frame.now (probe_locks f.probe.now lock) };
 
@@ -227,6 +232,8 @@ impl<M: Mix> Frame<M, Find<M>, Reply> for Whole {
 
     ghost beside = { λ f m batch. refl };
 
+    ghost pairs = { λ f m room. refl };
+
     ghost plans = { λ f m. refl };
 
     ghost within = { λ env c f m is. is.at_in };
@@ -287,6 +294,8 @@ impl<M: Mix> Frame<M, Bind<M>, Reply> for Whole {
 
     ghost beside = { λ f m batch. refl };
 
+    ghost pairs = { λ f m room. refl };
+
     ghost plans = { λ f m. refl };
 
     ghost within = { λ env c f m is. is.at_in };
@@ -319,6 +328,8 @@ impl<M: Mix> Frame<M, NewNode, Option<u32>> for BindFilling {
 
     ghost beside = { λ f p batch. refl };
 
+    ghost pairs = { λ f p room. refl };
+
     ghost plans = { λ f p. refl };
 
     ghost within = { λ env c f p is. is.at_in };
@@ -350,6 +361,8 @@ impl<M: Mix> Frame<M, PortLocate, PortLocated> for BindLocating {
     ghost empties = { λ f p room. refl };
 
     ghost beside = { λ f p batch. refl };
+
+    ghost pairs = { λ f p room. refl };
 
     ghost plans = { λ f p. refl };
 
@@ -385,6 +398,8 @@ impl<M: Mix> Frame<M, Probe, Probed> for BindProbing {
     ghost empties = { λ f p room. refl };
 
     ghost beside = { λ f p batch. refl };
+
+    ghost pairs = { λ f p room. refl };
 
     ghost plans = { λ f p. refl };
 

@@ -73,6 +73,8 @@ impl<M: Mix, F: Frame<M, PortSeek, (Port, Option<FoundPort>)>> Frame<M, PortLoca
 
     ghost beside = { λ f p batch. F.beside f.frame (port_seek f.geometry p.port (seeks.Locating p.locate)) batch };
 
+    ghost pairs = { λ f p room. F.pairs f.frame (port_seek f.geometry p.port (seeks.Locating p.locate)) room };
+
     ghost plans = { λ f p. F.plans f.frame (port_seek f.geometry p.port (seeks.Locating p.locate)) };
 
     ghost within = { λ env c f p is. (F.within env c f.frame (port_seek f.geometry p.port (seeks.Locating p.locate)) is).at_in };
@@ -106,6 +108,8 @@ impl<M: Mix, F: Frame<M, PortSeek, (Port, Option<FoundPort>)>> Frame<M, Probe, P
     ghost empties = { λ f p room. F.empties f.frame (port_seek f.geometry f.port (seeks.Probing f.table f.shape p)) room };
 
     ghost beside = { λ f p batch. F.beside f.frame (port_seek f.geometry f.port (seeks.Probing f.table f.shape p)) batch };
+
+    ghost pairs = { λ f p room. F.pairs f.frame (port_seek f.geometry f.port (seeks.Probing f.table f.shape p)) room };
 
     ghost plans = { λ f p. F.plans f.frame (port_seek f.geometry f.port (seeks.Probing f.table f.shape p)) };
 
@@ -149,6 +153,8 @@ impl<M: Mix> Frame<M, Release<M>, (Reply, Option<u32>)> for Whole {
 
     ghost beside = { λ f m batch. refl };
 
+    ghost pairs = { λ f m room. refl };
+
     ghost plans = { λ f m. refl };
 
     ghost within = { λ env c f m is. is.at_in };
@@ -178,6 +184,8 @@ impl<M: Mix> Frame<M, PortSeek, (Port, Option<FoundPort>)> for ReleaseSeeking {
     ghost empties = { λ f p room. refl };
 
     ghost beside = { λ f p batch. refl };
+
+    ghost pairs = { λ f p room. refl };
 
     ghost plans = { λ f p. refl };
 
@@ -221,6 +229,8 @@ impl<M: Mix> Frame<M, Rebind<M>, (Reply, Option<u32>)> for Whole {
 
     ghost beside = { λ f m batch. refl };
 
+    ghost pairs = { λ f m room. refl };
+
     ghost plans = { λ f m. refl };
 
     ghost within = { λ env c f m is. is.at_in };
@@ -253,6 +263,8 @@ impl<M: Mix> Frame<M, NewNode, Option<u32>> for RebindFilling {
 
     ghost beside = { λ f p batch. refl };
 
+    ghost pairs = { λ f p room. refl };
+
     ghost plans = { λ f p. refl };
 
     ghost within = { λ env c f p is. is.at_in };
@@ -284,6 +296,8 @@ impl<M: Mix> Frame<M, PortSeek, (Port, Option<FoundPort>)> for RebindSeeking {
     ghost empties = { λ f p room. refl };
 
     ghost beside = { λ f p batch. refl };
+
+    ghost pairs = { λ f p room. refl };
 
     ghost plans = { λ f p. refl };
 

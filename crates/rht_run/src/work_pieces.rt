@@ -48,6 +48,8 @@ impl<M: Mix> Frame<M, Work<M>, Reply> for Whole {
 
     ghost beside = { λ f m batch. refl };
 
+    ghost pairs = { λ f m room. refl };
+
     ghost plans = { λ f m. refl };
 
     ghost within = { λ env c f m is. is.at_in };
@@ -98,6 +100,8 @@ impl<M: Mix> Frame<M, LastTable, Last> for WorkSeeking {
 
     ghost beside = { λ f p batch. refl };
 
+    ghost pairs = { λ f p room. refl };
+
     ghost plans = { λ f p. refl };
 
     ghost within = { λ env c f p is. is.at_in.seek_in };
@@ -127,6 +131,8 @@ impl<M: Mix> Frame<M, LastTable, Last> for EntrySeeking {
     ghost empties = { λ f p room. refl };
 
     ghost beside = { λ f p batch. refl };
+
+    ghost pairs = { λ f p room. refl };
 
     ghost plans = { λ f p. refl };
 
@@ -161,6 +167,8 @@ impl<M: Mix> Frame<M, Lock, Locked> for BucketLocking {
 
     ghost beside = { λ f p batch. refl };
 
+    ghost pairs = { λ f p room. refl };
+
     ghost plans = { λ f p. refl };
 
     ghost within = { λ env c f p is. is.at_in.lock_in };
@@ -192,6 +200,8 @@ impl<M: Mix> Frame<M, Lock, Locked> for SecondLocking {
     ghost empties = { λ f p room. refl };
 
     ghost beside = { λ f p batch. refl };
+
+    ghost pairs = { λ f p room. refl };
 
     ghost plans = { λ f p. refl };
 

@@ -15,6 +15,7 @@ returns-clause-doing g c =
     (g.F.Frame.holding c.args.frame.now c.args.piece.now) c.perform.new.seat c.perform.result c.requires.riding
     (λ room. g.met.F.Frame.keeps c.args.frame.now c.args.piece.now room c.perform.result)
     (λ batch. g.F.Frame.beside c.args.frame.now c.args.piece.now batch)
+    (λ room. g.F.Frame.pairs c.args.frame.now c.args.piece.now room)
     c.perform.ensures.seat c.perform.ensures.went
 
 pub returns-clause-piece : goal.returns-clause-piece
@@ -26,6 +27,7 @@ returns-clause-piece g c =
     (g.F.Frame.holding c.args.frame.now c.args.piece.now) c.perform.new.seat c.perform.result c.requires.riding
     (λ room. g.met.F.Frame.keeps c.args.frame.now c.args.piece.now room c.perform.result)
     (λ batch. g.F.Frame.beside c.args.frame.now c.args.piece.now batch)
+    (λ room. g.F.Frame.pairs c.args.frame.now c.args.piece.now room)
     c.perform.ensures.seat c.perform.ensures.went)
 
 pub returns-clause-counted : goal.returns-clause-counted

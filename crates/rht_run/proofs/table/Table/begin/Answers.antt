@@ -16,6 +16,7 @@ returns-clause-doing g c =
     (λ room. g.F.Frame.empties c.args.frame.now c.args.piece.now room)
     (λ room. g.met.F.Frame.keeps c.args.frame.now c.args.piece.now room c.perform.result)
     (λ batch. g.F.Frame.beside c.args.frame.now c.args.piece.now batch)
+    (λ room. g.F.Frame.pairs c.args.frame.now c.args.piece.now room)
     c.perform.ensures.seat c.perform.ensures.went
 
 pub returns-clause-piece : goal.returns-clause-piece
@@ -28,4 +29,5 @@ returns-clause-piece g c =
     (λ room. g.F.Frame.empties c.args.frame.now c.args.piece.now room)
     (λ room. g.met.F.Frame.keeps c.args.frame.now c.args.piece.now room c.perform.result)
     (λ batch. g.F.Frame.beside c.args.frame.now c.args.piece.now batch)
+    (λ room. g.F.Frame.pairs c.args.frame.now c.args.piece.now room)
     c.perform.ensures.seat c.perform.ensures.went)
