@@ -36,15 +36,3 @@ pub mod MakesMade
 pub mod UnmakesGive
 -- the pages of a table, and those that its giving back has to give
 pub mod TablePages
--- the giving back of a retired table stays in range, and on which words it works
-pub mod GivesStay
--- a machine of which each operation leaves fewer ends
-pub mod Descents
--- how many operations the giving back of a retired table makes at most, and of which kinds they are
-pub mod GivesEnd
--- what the giving back of a retired table has done when it ends
-pub mod GivesReturn
--- and how often it has given each page
-pub mod GivesCounted
--- the keeping of section words: where it stays, on which words it works, what it does, and that it ends
-pub mod KeepsSections

@@ -14,10 +14,6 @@ pub mod Tables
 pub mod Make
 -- giving one back
 pub mod Unmake
--- giving a retired one back
-pub mod GiveTable
--- keeping section words in the slot of a table that is retired
-pub mod KeepSections
 -- what the other machines rely on
 pub mod Laws
 -- those that look for a bucket of a nested table
@@ -26,9 +22,5 @@ pub mod PlaceLaws
 pub mod GrowLaws
 -- and what those rely on that make one
 pub mod MakeLaws
--- and those that give a retired one back
-pub mod GiveTableLaws
--- and those that keep section words
-pub mod KeepLaws
 -- to which tables a way has come
 pub mod LocateTables

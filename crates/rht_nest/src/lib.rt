@@ -4,13 +4,10 @@
 //! Stands on `rht_words`, `rht_policy` and `rht_arena`. The machines that read a table ask here where a
 //! port's bucket is, and those that attach one make it here.
 //! Read `specs/Place.antt` first, then `specs/Locate.antt`, `specs/Make.antt` and `specs/Grow.antt`.
-//! `laws` says what the other crates rely on. `GiveTable` and `KeepSections`, for retired tables, have no
-//! caller yet.
+//! `laws` says what the other crates rely on.
 #![tactic(auto)]
 
-mod give_table;
 mod grow;
-mod keep_sections;
 pub mod laws;
 mod locate;
 mod make;
@@ -19,12 +16,10 @@ mod reach;
 mod tables;
 mod unmake;
 
-pub use give_table::{GiveTable, GiveTableAt};
 pub use grow::{Grow, GrowAt};
-pub use keep_sections::{KeepSections, KeepSectionsAt};
 pub use locate::{Locate, LocateAt, Located, LocatedBucket};
 pub use make::{Make, MakeAt};
-pub use place::{Bucket, Place, flat_place};
+pub use place::{Bucket, Place, flat_place, is_deep, top_entries, top_page};
 pub use reach::{Reach, ReachAt};
 pub use tables::{is_nested, run_of};
 pub use unmake::{Unmake, UnmakeAt};

@@ -148,7 +148,7 @@ impl Place {
 
 /// The top page of the nested table of this shape. One past the last is read as the last.
 #[inline(always)]
-pub(crate) fn top_page(geometry: Geometry, shape: u64) -> u32
+pub fn top_page(geometry: Geometry, shape: u64) -> u32
     ensures page { result ≡ top_page geometry shape }
     ensures within { result < geometry.pages }
 {
@@ -158,7 +158,7 @@ pub(crate) fn top_page(geometry: Geometry, shape: u64) -> u32
 /// How many entries of its top page are in use.
 #[inline(always)]
 #[tactic(auto, using(crate::proofs::Places::few_entries, crate::proofs::Places::some_entries))]
-pub(crate) fn top_entries(shape: u64) -> u32
+pub fn top_entries(shape: u64) -> u32
     ensures entries { result ≡ top_entries shape }
     ensures some { 0 < result }
     ensures few { result ≤ 64 }
@@ -168,7 +168,7 @@ pub(crate) fn top_entries(shape: u64) -> u32
 
 /// Whether there is a page of entries between its top page and each page of buckets.
 #[inline(always)]
-pub(crate) fn is_deep(shape: u64) -> bool
+pub fn is_deep(shape: u64) -> bool
     ensures { result ≡ is_deep shape }
 {
     DEEP <= Shape::from(shape).exponent

@@ -1,5 +1,0 @@
-use Rattle.rht_nest.proofs.GivesCounted.{gives_each_once}
-use Rattle.rht_nest.proofs.laws.gives_each_once.Goals as goal
-
-pub returns : goal.returns
-returns c = gives_each_once

@@ -1,5 +1,0 @@
-use Rattle.rht_nest.proofs.KeepsSections.{keeps_soon}
-use Rattle.rht_nest.proofs.laws.keeps_soon.Goals as goal
-
-pub returns : goal.returns
-returns c = keeps_soon

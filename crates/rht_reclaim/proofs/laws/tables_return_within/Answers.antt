@@ -1,0 +1,5 @@
+use Rattle.rht_reclaim.proofs.ReturnsDone.{tables_return_within}
+use Rattle.rht_reclaim.proofs.laws.tables_return_within.Goals as goal
+
+pub returns : goal.returns
+returns c = tables_return_within
