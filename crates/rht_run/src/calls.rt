@@ -7,6 +7,7 @@ ghost use Rattle.rht_model.specs.declared.history.Call.{Call as CallOf};
 ghost use Rattle.rht_model.specs.declared.history.Call.TheVariants.{Find, Bind, Release, Rebind, All, Walk, Work, Tidy, Count};
 ghost use Rattle.rht_core.specs.Locals.{is_idle};
 ghost use Rattle.rht_core.specs.Replies.{IsFindReply, IsBindReply, IsReleaseReply, IsRebindReply, IsAllReply, IsWalkReply, IsWorkReply, IsTidyReply, IsCountReply, AreOwnersWith, ArePairsWith};
+ghost use Rattle.rht_grace.specs.TidyLaws.{tidy_bound};
 ghost use Rattle.rht_walk.specs.WalkLaws.{walk_bound};
 ghost use Rattle.rht_run.specs.declared.pass.Pass.{Pass as PassOf};
 ghost use Rattle.rht_run.specs.Rule.{MayBegin};
@@ -294,23 +295,14 @@ impl<M: Mix> Table<M> {
         self.tidied(pass)
     }
 
-    /// Tidies, operation by operation. It has ended within two operations for each caller and one for
-    /// each node, so nothing stands behind its loop.
+    /// Tidies, operation by operation.
     fn tidied(&self, pass: &mut Pass<M>) -> Reply
         requires pass { IsPassOf M.mix_of self.now pass.old }
         requires idle { is_idle pass.old.local ≡ true }
         ensures { HasCalled M.mix_of self.now Tidy result pass.old pass.new }
     {
-        let most = most_operations(self.env.geometry);
-        if let Some(reply) = self.start(pass, Call::Tidy) {
-            return reply;
-        }
-        for rounds in 0..most {
-            if let Some(reply) = self.step(pass) {
-                return reply;
-            }
-        }
-        unreachable!()
+        let most = most_of_tidying(self.env.geometry);
+        self.finish(pass, Call::Tidy, most)
     }
 
     /// Counts the bound ports: `Counted`. The ports bound where it loaded the count were at most so many,
@@ -337,9 +329,9 @@ fn most_of_walk(geometry: Geometry) -> u64
     6 + 262_144 * (4 + 3 * u64::from(geometry.nodes))
 }
 
-/// How many operations a tidying makes at most.
-fn most_operations(geometry: Geometry) -> u32
-    ensures { result ≡ 2 * geometry.callers + geometry.nodes }
+/// How many operations a tidying makes at most: two for each caller, one for each node, and one.
+fn most_of_tidying(geometry: Geometry) -> u64
+    ensures { result ≡ tidy_bound geometry }
 {
-    2 * geometry.callers + geometry.nodes
+    u64::from(2 * geometry.callers + geometry.nodes + 1)
 }

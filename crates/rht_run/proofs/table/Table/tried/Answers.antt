@@ -1,5 +1,5 @@
 use Rattle.std.proofs.Common.{rules}
-use Rattle.rht_run.proofs.TidyCalls.{own_batch}
+use Rattle.rht_run.proofs.Performed.{own_batch}
 use Rattle.rht_run.proofs.ServedCommands.{MayBegin-made, tries_once, tries_again}
 use Rattle.rht_run.proofs.table.Table.tried.Goals as goal
 
