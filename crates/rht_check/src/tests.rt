@@ -71,7 +71,7 @@ fn each_reply_is_read(rt: HostRuntime) -> Result<(), Fail> {
 
 #[test]
 fn each_fault_is_told(rt: HostRuntime) -> Result<(), Fail> {
-    let cases: [(&str, u32, u8); 12] = [
+    let cases: [(&str, u32, u8); 13] = [
         // Without `history` the fault is behind the last line.
         ("", 5, 2),
         ("history\n1: bound\nhistory\n", 7, 2),
@@ -84,6 +84,7 @@ fn each_fault_is_told(rt: HostRuntime) -> Result<(), Fail> {
         ("history\n1: found 4294967296\n", 6, 4),
         ("history\n1: toobig 18446744073709551616\n", 6, 4),
         ("1 work\nhistory\n", 5, 2),
+        ("2 walk\nhistory\n", 5, 2),
         ("step 1 1\nhistory\n", 5, 2),
     ];
     for (behind, line, cause) in cases {

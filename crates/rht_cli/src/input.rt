@@ -2,10 +2,9 @@
 //! history.
 
 ghost use Rattle.std.specs.Prelude.{◌≡◌, ◌<◌, ◌≤◌, length, vec_len, IfOk, IfErr};
-ghost use Rattle.std.specs.List.{AllByRecursion};
 ghost use Rattle.rht_script.specs.Grammar.{reading_of};
 ghost use Rattle.rht_script.specs.Reading.{said_by};
-ghost use Rattle.rht_script.specs.Sound.{IsSoundScript, IsCommandCall};
+ghost use Rattle.rht_script.specs.Sound.{IsSoundScript};
 ghost use Rattle.rht_check.specs.Claims.{IsSoundClaim};
 ghost use Rattle.rht_check.specs.Reading.{claim_reading_of, said_by_claim};
 ghost use Rattle.rht_cli.specs.Input.{IsRead, IsMore, IsReadFault, IsScriptRead, IsClaimRead, IsUnread};
@@ -23,8 +22,6 @@ const PIECE: usize = 65_536;
 pub fn read_script<S: Source>(alloc: Global, source: &mut S) -> Result<Script, Failure>
     ensures read { IfOk result (λ script. IsScriptRead (S.left source.old) (S.left source.new) (said_by script)) }
     ensures sound { IfOk result IsSoundScript }
-    ensures asked { IfOk result
-        (λ script. AllByRecursion (λ command. IsCommandCall command.1) script.commands.items) }
     ensures unread { IfErr result (IsUnread reading_of (S.left source.old) (S.left source.new)
         (S.faults source.old) (S.faults source.new)) }
 {

@@ -5,12 +5,11 @@
 //! endings. Begin with the clauses of `run`: they say what each status means.
 
 ghost use Rattle.std.specs.Prelude.{◌≡◌, ◌≢◌, ◌≤◌, ◌↔◌, ◌⊎◌, None, Some, Option, List, ℕ, string_bytes, map, IfOk};
-ghost use Rattle.std.specs.List.{AllByRecursion};
 ghost use Rattle.rht_io.specs.Told.{Rose, PutsLine};
 ghost use Rattle.rht_policy.specs.Mix.{mix_named};
 ghost use Rattle.rht_core.specs.Serving.{IsServedRun};
 ghost use Rattle.rht_script.specs.declared.script.ScriptFault.{ScriptFault};
-ghost use Rattle.rht_script.specs.Sound.{IsSoundScript, IsCommandCall};
+ghost use Rattle.rht_script.specs.Sound.{IsSoundScript};
 ghost use Rattle.rht_script.specs.Text.{fault_line};
 ghost use Rattle.rht_run.specs.ServedRuns.{tag_of, HasRun};
 ghost use Rattle.rht_registry.specs.Players.{IsReplayed};
@@ -218,7 +217,6 @@ fn run_hashed<R: Threads + Wait + Sync, G: Gate + Sync>(
     gate: &G,
 ) -> Result<(Vec<Replies>, Closed), AllocError>
     requires sound { IsSoundScript script.now }
-    requires asked { AllByRecursion (λ command. IsCommandCall command.1) script.now.commands.items }
     ensures { IfOk result (λ left. HasRun script.now.config script.now.auto script.now.commands.items left.0.items left.1) }
 {
     match script.config.hash {
@@ -236,7 +234,6 @@ fn run_by<M: Mix + Send, R: Threads + Wait + Sync, G: Gate + Sync>(
 ) -> Result<(Vec<Replies>, Closed), AllocError>
     requires sound { IsSoundScript script.now }
     requires mix { M.mix_of ≡ mix_named script.now.config }
-    requires asked { AllByRecursion (λ command. IsCommandCall command.1) script.now.commands.items }
     ensures { IfOk result (λ left. IsServedRun M (mix_named script.now.config) script.now.config script.now.auto
         script.now.commands.items left.0.items left.1) }
 {

@@ -16,6 +16,7 @@ use std::thread::Threads;
 
 mod claims;
 mod growth;
+mod walks;
 
 const USAGE: &str = "rht: usage: rht run | rht replay | rht gen NUMBER | rht check\n";
 

@@ -1,30 +1,21 @@
 -- How a worker gets on: the calls that a command has added to its pass are served behind the others, and a command of another worker
--- changes nothing. No pairs come with a reply, since there is no machine for a walk yet.
+-- changes nothing.
 use Rattle.std.proofs.Common.{◌≡◌, ◌≢◌, ℕ, ◌+◌, ◌<◌, ◌≤◌, Bool, true, false, List, [], ◌∷◌, ◌++◌, length, take, get_or, inl, refl, sym, ◌∙◌, ap, subst, append_assoc, cond, arith}
-use Rattle.std.specs.Prelude.{Option, ◌==◌}
-use Rattle.std.specs.List.{AllByRecursion}
+use Rattle.std.specs.Prelude.{◌==◌}
 use Rattle.std.proofs.lemmas.Bool.{eq-eqb, ne_eqb}
 use Rattle.std.proofs.lemmas.List.{append-nil, take_all, take_more}
-use Rattle.rht_words.proofs.EachElement.{AllByRecursion-cut}
 use Rattle.rht_model.specs.declared.history.Call.{Call}
-use Rattle.rht_model.specs.declared.history.Call.TheVariants.{Bind, Find, All, Release, Rebind, Walk, Work, Tidy, Count}
-use Rattle.rht_model.specs.declared.history.Cursor.{Cursor}
 use Rattle.rht_model.specs.declared.history.Reply.{Reply}
-use Rattle.rht_model.specs.declared.history.Reply.TheVariants.{Bound, Exists, Found, Missing, Listed, Released, Absent, Rebound, TooBig, Again, Busy, NoTable, NoNode, Pending, Elsewhere, Walked, Moved, Idle, Clear, Counted}
 use Rattle.rht_model.specs.declared.finished.Finished.{Finished}
-use Rattle.rht_model.specs.Endings.{Ending, ended_with, replied}
+use Rattle.rht_model.specs.Endings.{Ending, replied}
 use Rattle.rht_core.specs.declared.book.Book.{Book}
 use Rattle.rht_core.specs.Locals.{is_idle}
-use Rattle.rht_core.specs.Replies.{IsReplyTo, ArePairsWith, IsRightlyAnswered}
 use Rattle.rht_core.specs.Serving.{AreForCommand, Serves, calls_of}
-use Rattle.rht_core.proofs.Histories.ToldEntries.{tries-last}
 use Rattle.rht_run.specs.declared.table.Table.{Table}
 use Rattle.rht_run.specs.declared.pass.Pass.{Pass}
 use Rattle.rht_run.specs.Rule.{In, held_at}
 use Rattle.rht_run.specs.Passes.{IsNew, book_of, seen_by}
 use Rattle.rht_run.specs.Served.{HasServed}
-use Rattle.rht_run.proofs.CallSteps.{answers}
-use Rattle.rht_script.specs.Sound.{IsCommandCall}
 use Rattle.rht_registry.specs.Outcomes.{HasServedWorker}
 
 -- one command more, behind the others, with its calls
@@ -74,44 +65,6 @@ calls_of-other worker commands command other =
     ∙ ap (λ own. calls_of worker commands ++ cond own (command.1 ∷ []) []) (ne_eqb command.0 worker other)
     ∙ append-nil (calls_of worker commands)
 
--- ---- no pairs
-
--- a call that a command can ask for is no walk
-never-walked : (call : Call) (len : ℕ) (next : Option Cursor) → IsCommandCall call → IsReplyTo call (Walked len next) → ⊥
-never-walked (Bind port owner once) len next asked reply = reply
-never-walked (Find port) len next asked reply = reply
-never-walked (All port) len next asked reply = reply
-never-walked (Release port owner) len next asked reply = reply
-never-walked (Rebind port owner new) len next asked reply = reply
-never-walked (Walk from limit) len next asked reply = asked
-never-walked Work len next asked reply = reply
-never-walked Tidy len next asked reply = reply
-never-walked Count len next asked reply = reply
-
--- so none of its replies has pairs, by cases of the reply
-no-pairs : (call : Call) (reply : Reply) (pairs : List (ℕ × ℕ)) → IsCommandCall call → IsReplyTo call reply → ArePairsWith reply pairs → pairs ≡ []
-no-pairs call (Walked len next) pairs asked reply with_it =
-    absurd (never-walked call len next asked reply)
-no-pairs call (Bound kick) pairs asked reply none = none
-no-pairs call (Exists owner) pairs asked reply none = none
-no-pairs call (Found owner) pairs asked reply none = none
-no-pairs call Missing pairs asked reply none = none
-no-pairs call (Listed len) pairs asked reply none = none
-no-pairs call (Released kick) pairs asked reply none = none
-no-pairs call Absent pairs asked reply none = none
-no-pairs call Rebound pairs asked reply none = none
-no-pairs call (TooBig count) pairs asked reply none = none
-no-pairs call (Again table) pairs asked reply none = none
-no-pairs call (Busy root last) pairs asked reply none = none
-no-pairs call (NoTable size) pairs asked reply none = none
-no-pairs call NoNode pairs asked reply none = none
-no-pairs call (Pending other section) pairs asked reply none = none
-no-pairs call Elsewhere pairs asked reply none = none
-no-pairs call (Moved again) pairs asked reply none = none
-no-pairs call Idle pairs asked reply none = none
-no-pairs call (Clear returned) pairs asked reply none = none
-no-pairs call (Counted count) pairs asked reply none = none
-
 -- a new pass has the number of a caller
 pub new-below : {M : Type 0} (mix : ℕ → ℕ → ℕ → ℕ) (t : Table M) (number : ℕ) (pass : Pass M) → IsNew mix t number pass → number ≤ 16
 new-below mix t number pass new =
@@ -124,24 +77,6 @@ new-below mix t number pass new =
     omega (arith, below, most, same)
 
 module _ {M : Type 0} (mix : ℕ → ℕ → ℕ → ℕ) (t : Table M) (auto : Bool) where
-  -- the call with which the command ended was answered rightly
-  own-answered : (call : Call) (reply : Reply) (before now : Pass M) → HasServed mix t auto call reply before now
-      → IsRightlyAnswered (ended_with call (replied reply now.local.owners.items now.local.pairs.items))
-  own-answered call reply before now has =
-      let ending = replied reply now.local.owners.items now.local.pairs.items in
-      let right = (answers mix t now has.pass).finished in
-      let more = (AllByRecursion-cut IsRightlyAnswered (book_of before).finished has.more
-      (subst (AllByRecursion IsRightlyAnswered) has.finished right)).1 in
-      tries-last IsRightlyAnswered call ending has.made.tries has.made.are_tries
-      (AllByRecursion-cut IsRightlyAnswered has.made.tries has.made.behind (subst (AllByRecursion IsRightlyAnswered) has.made.whole more)).0
-
-  -- and no pairs came with its reply
-  served-pairs : (call : Call) (reply : Reply) (before now : Pass M) → IsCommandCall call
-      → HasServed mix t auto call reply before now → now.local.pairs.items ≡ []
-  served-pairs call reply before now asked has =
-      let right = own-answered call reply before now has in
-      no-pairs call reply now.local.pairs.items asked right.reply right.pairs
-
   -- ---- one command more
 
   -- where it is the worker's own, with the reply that it was answered
@@ -165,18 +100,17 @@ module _ {M : Type 0} (mix : ℕ → ℕ → ℕ → ℕ) (t : Table M) (auto : 
             (subst (Serves auto (calls_of worker commands ++ call ∷ []) all) (sym has.finished) pushed);
       }
 
-  -- so it is where the reply and the owners that came with it are kept
+  -- so it is where the reply is kept with the owners and the pairs that came with it
   pub served-kept : (commands : List (ℕ × Call)) (number : ℕ) (call : Call) (reply : Reply) (before now : Pass M)
-      (endings all : List Ending) (owners : List ℕ)
-      → IsCommandCall call → HasServed mix t auto call reply before now → owners ≡ now.local.owners.items
-      → all ≡ endings ++ replied reply owners [] ∷ [] → HasServedWorker mix t auto commands number before endings
+      (endings all : List Ending) (owners : List ℕ) (pairs : List (ℕ × ℕ))
+      → HasServed mix t auto call reply before now → owners ≡ now.local.owners.items → pairs ≡ now.local.pairs.items
+      → all ≡ endings ++ replied reply owners pairs ∷ [] → HasServedWorker mix t auto commands number before endings
       → HasServedWorker mix t auto (commands ++ (number + 1, call) ∷ []) number now all
-  served-kept commands number call reply before now endings all owners asked has owners_are all_are served =
-      let none = served-pairs call reply before now asked has in
+  served-kept commands number call reply before now endings all owners pairs has owners_are pairs_are all_are served =
       let more : all ≡ endings ++ replied reply now.local.owners.items now.local.pairs.items ∷ [] =
       all_are
-      ∙ ap (λ l. endings ++ replied reply l [] ∷ []) owners_are
-      ∙ ap (λ l. endings ++ replied reply now.local.owners.items l ∷ []) (sym none) in
+      ∙ ap (λ l. endings ++ replied reply l pairs ∷ []) owners_are
+      ∙ ap (λ l. endings ++ replied reply now.local.owners.items l ∷ []) pairs_are in
       rw more (HasServedWorker-own commands number call reply before now endings has served)
 
   -- and where it is another one's

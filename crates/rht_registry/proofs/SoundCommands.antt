@@ -1,5 +1,5 @@
 -- Each command of a sound script is one of its workers', and its call is one that a table of the script's config may be given. Where
--- commands can ask for it there is a machine for it; and where there is one worker all calls are its own.
+-- there is one worker all calls are its own.
 use Rattle.std.proofs.Common.{◌≡◌, ◌≢◌, ℕ, ◌^◌, ◌<◌, ◌≤◌, Bool, true, false, List, [], ◌∷◌, length, map, get_or, refl, sym, ap, subst, arith}
 use Rattle.std.specs.Prelude.{IsTrue, ◌&&◌, Some, None, nat_le}
 use Rattle.std.specs.List.{AllByRecursion, list_all}
@@ -14,15 +14,15 @@ use Rattle.rht_model.specs.declared.history.Call.{Call}
 use Rattle.rht_model.specs.declared.history.Call.TheVariants.{Bind, Find, All, Release, Rebind, Walk, Work, Tidy, Count}
 use Rattle.rht_core.specs.Runs.{IsAdmittedCall, IsBuiltFor}
 use Rattle.rht_core.specs.Serving.{calls_of}
-use Rattle.rht_run.specs.Served.{IsMadeCall}
 use Rattle.rht_script.specs.CommandLines.{port_limits, owner_limits, worker_limits}
-use Rattle.rht_script.specs.Sound.{is_single, is_sound_call, has_sound_numbers, is_sound_command, IsCommandCall}
+use Rattle.rht_script.specs.Sound.{is_single, is_sound_call, has_sound_numbers, is_sound_command}
 use Rattle.rht_script.specs.Spelling.{is_within}
 
--- the command is one of so many workers', and its call is one for a table of this kind
+-- the command is one of so many workers', and its call can be run in a table of this config, and so is one for its kind
 pub record IsCommandFor (config : Config) (command : ℕ × Call) : Type 0 where
   pub first : 1 ≤ command.0
   pub last : command.0 ≤ config.callers
+  pub sound : is_sound_call config command.1 ≡ true
   pub kind : IsBuiltFor config.kind command.1
 
 -- both of two tests hold
@@ -96,7 +96,12 @@ sound-commands config (command ∷ commands) sound =
     let first_and_others = both_true (is_sound_command config command) (list_all (is_sound_command config) commands) sound in
     let parts = sound-parts config command first_and_others.0 in
     let bounds = both_true _ _ parts.0 in (
-      record { first = leb-true _ _ bounds.0; last = leb-true _ _ bounds.1; kind = sound-built config command.1 parts.2 },
+      record {
+        first = leb-true _ _ bounds.0;
+        last = leb-true _ _ bounds.1;
+        sound = parts.2;
+        kind = sound-built config command.1 parts.2;
+      },
       sound-commands config commands first_and_others.1,
     )
 
@@ -117,13 +122,6 @@ pub next-command : (P : ℕ × Call → Type 0) (items commands : List (ℕ × C
     → AllByRecursion P commands → i < length items → P (get_or items i default)
 next-command P items commands i default same all within =
     All-from_recursion P items (subst (AllByRecursion P) (sym same) all) i default within
-
--- ---- machines
-
--- there is a machine for each call that a command can ask for
-pub IsMadeCall-asked : (call : Call) → IsCommandCall call → IsMadeCall call
-IsMadeCall-asked (Walk from limit) asked = absurd asked
-IsMadeCall-asked _ asked = tt
 
 -- ---- one worker
 

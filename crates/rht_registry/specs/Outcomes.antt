@@ -1,6 +1,5 @@
 -- What the workers of a script leave: each the calls of its commands, with the replies to them, on one table.
 use Rattle.std.specs.Prelude.{◌≡◌, ℕ, ◌+◌, ◌<◌, Bool, true, IfOk, Result, Ok, List, [], ◌∷◌, length, slice_index_or}
-use Rattle.std.specs.List.{AllByRecursion}
 use Rattle.rht_policy.specs.Mix.{mix_named}
 use Rattle.rht_model.specs.declared.history.Call.{Call}
 use Rattle.rht_model.specs.Endings.{Ending}
@@ -10,7 +9,7 @@ use Rattle.rht_run.specs.declared.pass.Pass.{Pass}
 use Rattle.rht_run.specs.declared.table.Table.{Table}
 use Rattle.rht_run.specs.Passes.{IsPassOf, book_of}
 use Rattle.rht_script.specs.declared.script.Script.{Script}
-use Rattle.rht_script.specs.Sound.{IsSoundScript, IsCommandCall}
+use Rattle.rht_script.specs.Sound.{IsSoundScript}
 use Rattle.rht_registry.specs.declared.registry.Outcome.{Outcome}
 
 -- ---- one worker
@@ -19,7 +18,6 @@ use Rattle.rht_registry.specs.declared.registry.Outcome.{Outcome}
 pub record CanServe {M : Type 0} (t : Table M) (script : Script) : Type 0 where
   pub config : t.env.config ≡ script.config
   pub sound : IsSoundScript script
-  pub asked : AllByRecursion (λ command. IsCommandCall command.1) script.commands.items
 
 -- A pass of the table has this number and is in no call, and its finished calls serve the commands of its worker, which is counted
 -- from 1, with these endings. The worker runs `work` by itself where `auto` says so.

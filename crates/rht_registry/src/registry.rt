@@ -2,13 +2,13 @@
 //! while the others do theirs.
 
 ghost use Rattle.std.specs.Prelude.{◌≡◌, ◌+◌, ℕ, true, vec_len, IfOk, OnOk, List, [], ◌∷◌, ◌++◌};
-ghost use Rattle.std.specs.List.{AllByRecursion, enumerate_from};
+ghost use Rattle.std.specs.List.{enumerate_from};
 ghost use Rattle.rht_policy.specs.Mix.{mix_named};
 ghost use Rattle.rht_model.specs.declared.history.Call.{Call as CallOf};
 ghost use Rattle.rht_core.specs.Locals.{is_idle};
 ghost use Rattle.rht_core.specs.Runs.{IsBuiltFor};
 ghost use Rattle.rht_run.specs.Passes.{IsPassOf, IsNew, AreNew};
-ghost use Rattle.rht_script.specs.Sound.{IsSoundScript, IsCommandCall};
+ghost use Rattle.rht_script.specs.Sound.{IsSoundScript};
 ghost use Rattle.rht_registry.specs.Outcomes.{CanServe, HasServedWorker, HaveServed, IsOutcome, side_by_side};
 
 use rht_io::Gate;
@@ -44,7 +44,6 @@ pub fn run_workers<M: Mix + Send, R: Threads + Wait + Sync, G: Gate + Sync>(
 ) -> Result<Outcome<M>, AllocError>
     requires sound { IsSoundScript script.now }
     requires mix { M.mix_of ≡ mix_named script.now.config }
-    requires asked { AllByRecursion (λ command. IsCommandCall command.1) script.now.commands.items }
     ensures { IfOk result (IsOutcome M script.now) }
 {
     let (table, passes) = Table::<M>::open(alloc, script.config)?;
@@ -118,7 +117,7 @@ fn work_of<M: Mix, R: Wait, G: Gate>(
             index += 1;
             gate.before(worker, index);
             let reply = table.serve(rt, &mut pass, command.1, auto);
-            replies.push(reply, pass.owners(), &[])?;
+            replies.push(reply, pass.owners(), pass.pairs())?;
             gate.after(worker, index);
         }
     }

@@ -17,7 +17,7 @@ use Rattle.rht_callers.specs.declared.local.Local.{Local}
 use Rattle.rht_callers.specs.declared.local.Doing.TheVariants.{Idle, Rebinding}
 use Rattle.rht_core.specs.Locals.{is_idle, rebinding_of, local_after, ending_of}
 use Rattle.rht_core.specs.Runs.{View, book_after}
-use Rattle.rht_core.specs.Replies.{IsRightlyAnswered, IsFindReply, IsReleaseReply, AnswersIn, owners_with}
+use Rattle.rht_core.specs.Replies.{IsRightlyAnswered, IsFindReply, IsReleaseReply, AnswersIn, owners_with, pairs_with}
 use Rattle.rht_core.proofs.Events.BusyCallers.{goes_on, ends}
 use Rattle.rht_core.proofs.Tracing.RepliesInRuns.{replies}
 use Rattle.rht_run.specs.declared.table.Table.{Table}
@@ -124,6 +124,13 @@ module _ {M : Type 0} where
   last_owners mix t p is idle =
       (answers mix t p is).lists.owners
       ∙ ap (λ b. cond b (owners_with (last_or None (book_of p).finished)) []) idle
+
+  -- and the pairs too
+  pub last_pairs : (mix : ℕ → ℕ → ℕ → ℕ) (t : Table M) (p : Pass M) → IsPassOf mix t p → is_idle p.local ≡ true
+      → p.local.pairs.items ≡ pairs_with (last_or None (book_of p).finished)
+  last_pairs mix t p is idle =
+      (answers mix t p is).lists.pairs
+      ∙ ap (λ b. cond b (pairs_with (last_or None (book_of p).finished)) []) idle
 
   -- a rebind may begin in a table of one owner each
   pub may_rebind : (env : Env) (c port owner new : ℕ) (local : Local M) → env.config.kind ≡ Single → is_idle local ≡ true

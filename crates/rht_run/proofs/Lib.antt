@@ -16,8 +16,8 @@ pub mod CallSteps
 pub mod CallCauses
 -- what a look-up has to show, and that it ends
 pub mod LookupCalls
--- why a tidying ends
-pub mod TidyCalls
+-- why a tidying and a walk end
+pub mod ShortCalls
 -- the calls of a command
 pub mod ServedCommands
 -- what is so of a run that serves commands

@@ -1,7 +1,7 @@
 -- What one operation of a pass asks of its table, and what it leaves.
 -- The operation that a pass plans is one that its seat may make, since the pass is as one run has its number; and behind it the
 -- pass is so again.
-use Rattle.std.proofs.Common.{◌≡◌, ℕ, ◌<◌, false, List, [], ◌∷◌, ◌++◌, map, sym, ap, ◌∙◌, subst, arith}
+use Rattle.std.proofs.Common.{◌≡◌, ℕ, ◌<◌, true, false, List, [], ◌∷◌, ◌++◌, map, sym, ap, ◌∙◌, subst, arith}
 use Rattle.std.specs.Prelude.{Option, Some, None}
 use Rattle.atomic_table.specs.Table.{Allows}
 use Rattle.atomic_table.specs.declared.shared.Seat.{Seat}
@@ -109,12 +109,16 @@ module _ {M : Type 0} where
     local_in = of_run (λ e c local book. IsLocalIn e c local)
         (λ e events c admitted. (all_in_range M mix e events admitted).locals c)
 
+    -- in no call it has its batch
+    pub own_batch : is_idle p.local ≡ true → IsBatchIn t.env p.local.batch
+    own_batch idle = idle-batch M (IsBatchIn t.env) p.local idle local_in.batch
+
     pub room_for : (begins : Option Call) → CanGo t.env p.number begins p.local → HasRoom t.env begins p.local
     room_for None can = tt
     room_for (Some call) can = (
       idle-limit M p.local t.env.geometry.nodes can.idle local_in.owners,
       idle-pairs M p.local t.env.geometry.nodes can.idle local_in.pairs,
-      idle-batch M (IsBatchIn t.env) p.local can.idle local_in.batch,
+      own_batch can.idle,
     )
 
     -- the operation that it plans is in range, also where a call begins with it

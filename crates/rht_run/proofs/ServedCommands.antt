@@ -29,7 +29,7 @@ use Rattle.rht_run.specs.declared.pass.Pass.{Pass}
 use Rattle.rht_run.specs.Passes.{IsPassOf, IsSamePass, HasCalled, book_of}
 use Rattle.rht_run.specs.Caused.{IsCaused}
 use Rattle.rht_run.specs.Rule.{MayBegin}
-use Rattle.rht_run.specs.Served.{IsMadeCall, HasServed, HasTried, HasWorked}
+use Rattle.rht_run.specs.Served.{HasServed, HasTried, HasWorked}
 use Rattle.rht_run.proofs.CallSteps.{answers, answered}
 use Rattle.rht_run.proofs.CallCauses.{caused}
 
@@ -95,18 +95,18 @@ tidying-machine M env None own = absurd own
 tidying-machine M env (Some batch) own = refl
 
 -- by cases of the call
-made-machine : (M : Type 0) (env : Env) (c : ℕ) (batch : Option BatchModel) (call : Call) → IsBuiltFor env.config.kind call → IsMadeCall call
+made-machine : (M : Type 0) (env : Env) (c : ℕ) (batch : Option BatchModel) (call : Call) → IsBuiltFor env.config.kind call
     → IsBatchIn env batch
     → is_some (machine_of {M = M} env c batch call) ≡ true
-made-machine M env c batch (Bind port owner once) kind made own = refl
-made-machine M env c batch (Find port) kind made own = refl
-made-machine M env c batch (All port) kind made own = refl
-made-machine M env c batch (Release port owner) kind made own = refl
-made-machine M env c batch (Rebind port owner new) kind made own = rebind-machine M env c port owner new env.config.kind kind
-made-machine M env c batch (Walk from limit) kind made own = absurd made
-made-machine M env c batch Work kind made own = refl
-made-machine M env c batch Tidy kind made own = tidying-machine M env batch own
-made-machine M env c batch Count kind made own = refl
+made-machine M env c batch (Bind port owner once) kind own = refl
+made-machine M env c batch (Find port) kind own = refl
+made-machine M env c batch (All port) kind own = refl
+made-machine M env c batch (Release port owner) kind own = refl
+made-machine M env c batch (Rebind port owner new) kind own = rebind-machine M env c port owner new env.config.kind kind
+made-machine M env c batch (Walk from limit) kind own = refl
+made-machine M env c batch Work kind own = refl
+made-machine M env c batch Tidy kind own = tidying-machine M env batch own
+made-machine M env c batch Count kind own = refl
 
 -- where there is something it is some thing
 some-thing : {A : Type 0} (o : Option A) → is_some o ≡ true → (a : A) × (o ≡ Some a)
@@ -115,9 +115,9 @@ some-thing (Some a) some = (a, refl)
 
 -- so a pass in no call, which has its batch, can be given it
 pub MayBegin-made : {M : Type 0} (env : Env) (c : ℕ) (call : Call) (local : Local M) → is_idle local ≡ true → IsAdmittedCall call
-    → IsBuiltFor env.config.kind call → IsMadeCall call → IsBatchIn env local.batch → MayBegin env c call local
-MayBegin-made {M} env c call local idle admitted kind made own =
-    let machine = some-thing (machine_of {M = M} env c local.batch call) (made-machine M env c local.batch call kind made own) in
+    → IsBuiltFor env.config.kind call → IsBatchIn env local.batch → MayBegin env c call local
+MayBegin-made {M} env c call local idle admitted kind own =
+    let machine = some-thing (machine_of {M = M} env c local.batch call) (made-machine M env c local.batch call kind own) in
     record { idle = idle; admitted = admitted; built = kind; machine = machine.0; machine_is = machine.1 }
 
 -- ---- the work behind a call

@@ -1,5 +1,5 @@
 -- What clauses say of a table and its passes.
-use Rattle.std.specs.Prelude.{◌≡◌, ℕ, ◌+◌, ◌⊎◌, true, false, Option, Some, MatchOption, List, [], ◌∷◌, ◌++◌, length}
+use Rattle.std.specs.Prelude.{◌≡◌, ℕ, ◌+◌, ◌≤◌, ◌⊎◌, true, false, Option, Some, MatchOption, List, [], ◌∷◌, ◌++◌, length}
 use Rattle.atomic_table.specs.declared.shared.Seat.{Seat}
 use Rattle.rht_words.specs.declared.op.Op.{Op}
 use Rattle.rht_words.specs.declared.env.Env.{Env}
@@ -100,6 +100,10 @@ pub record HasCalled {M : Type 0} (mix : ℕ → ℕ → ℕ → ℕ) (t : Table
       (book_of now).finished
       ≡ (book_of before).finished
       ++ record { call = call; reply = reply; owners = now.local.owners.items; pairs = now.local.pairs.items } ∷ []
+
+-- a pass that is in this call has made no more operations of it than so many
+abbrev pub EndsWithin : {M : Type 0} → (ℕ → ℕ → ℕ → ℕ) → Table M → Call → ℕ → Type 0
+EndsWithin {M} mix t call most = (steps : ℕ) (before now : Pass M) → IsCalling mix t call steps before now → steps ≤ most
 
 -- an operation of the call has ended it, with this reply, or the call goes on
 abbrev pub Turned : {M : Type 0} → (ℕ → ℕ → ℕ → ℕ) → Table M → Call → ℕ → Pass M → Option Reply → Pass M → Type 0

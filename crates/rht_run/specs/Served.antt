@@ -1,7 +1,6 @@
--- For which calls a command can be done, and what its calls leave of their pass.
+-- What the calls of a command leave of their pass.
 use Rattle.std.specs.Prelude.{◌≡◌, ℕ, Bool, true, List, [], ◌++◌}
 use Rattle.rht_model.specs.declared.history.Call.{Call}
-use Rattle.rht_model.specs.declared.history.Call.TheVariants.{Bind, Find, All, Release, Rebind, Walk, Work, Tidy, Count}
 use Rattle.rht_model.specs.declared.history.Reply.{Reply}
 use Rattle.rht_model.specs.declared.finished.Finished.{Finished}
 use Rattle.rht_model.specs.Endings.{replied}
@@ -10,18 +9,6 @@ use Rattle.rht_core.specs.Serving.{AreWorks, AreTries, AreForCommand}
 use Rattle.rht_run.specs.declared.table.Table.{Table}
 use Rattle.rht_run.specs.declared.pass.Pass.{Pass}
 use Rattle.rht_run.specs.Passes.{IsPassOf, IsSamePass, book_of}
-
--- there is a machine for the call; a walk has none yet
-abbrev pub IsMadeCall : Call → Type 0
-IsMadeCall (Bind port owner once) = Unit {0}
-IsMadeCall (Find port) = Unit {0}
-IsMadeCall (All port) = Unit {0}
-IsMadeCall (Release port owner) = Unit {0}
-IsMadeCall (Rebind port owner new) = Unit {0}
-IsMadeCall (Walk from limit) = ⊥
-IsMadeCall Work = Unit {0}
-IsMadeCall Tidy = Unit {0}
-IsMadeCall Count = Unit {0}
 
 -- The pass is in no call. Its finished calls are those of `before`, and behind them those of one command, which ended with this
 -- reply and with the lists that are in the rooms of the pass.

@@ -48,7 +48,7 @@ impl<M: Mix> Table<M> {
                 let Some(node) = node_of(starts.geometry.nodes, head_of(place, word)) else {
                     unreachable!()
                 };
-                self.walk::<K, F>(seat, frame, &probe, bucket, walk, starts, node)
+                self.walk_locked::<K, F>(seat, frame, &probe, bucket, walk, starts, node)
             }
             Start::Done(seen) => Some(Probed { bucket, seen }),
         }
@@ -85,7 +85,7 @@ impl<M: Mix> Table<M> {
     /// Walks the chain of a bucket that is locked, from this node on. A round loads a node's key and the
     /// link behind it. It begins with the walk before a key, so the compiler keeps no state of it.
     #[inline(always)]
-    fn walk<K: Ride, F: Frame<M, Probe, Probed>>(
+    fn walk_locked<K: Ride, F: Frame<M, Probe, Probed>>(
         &self,
         seat: &mut Seat<(), SeatView<M>>,
         frame: &F,

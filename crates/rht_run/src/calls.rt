@@ -4,12 +4,14 @@
 ghost use Rattle.std.specs.Prelude.{◌≡◌, ℕ, ◌+◌, ◌*◌, true, false, None, Some};
 ghost use Rattle.rht_words.specs.declared.config.Kind.TheVariants.{Single};
 ghost use Rattle.rht_model.specs.declared.history.Call.{Call as CallOf};
-ghost use Rattle.rht_model.specs.declared.history.Call.TheVariants.{Find, Bind, Release, Rebind, All, Work, Tidy, Count};
+ghost use Rattle.rht_model.specs.declared.history.Call.TheVariants.{Find, Bind, Release, Rebind, All, Walk, Work, Tidy, Count};
 ghost use Rattle.rht_core.specs.Locals.{is_idle};
-ghost use Rattle.rht_core.specs.Replies.{IsFindReply, IsBindReply, IsReleaseReply, IsRebindReply, IsAllReply, IsWorkReply, IsTidyReply, IsCountReply, AreOwnersWith};
+ghost use Rattle.rht_core.specs.Replies.{IsFindReply, IsBindReply, IsReleaseReply, IsRebindReply, IsAllReply, IsWalkReply, IsWorkReply, IsTidyReply, IsCountReply, AreOwnersWith, ArePairsWith};
+ghost use Rattle.rht_grace.specs.TidyLaws.{tidy_bound};
+ghost use Rattle.rht_walk.specs.WalkLaws.{walk_bound};
 ghost use Rattle.rht_run.specs.declared.pass.Pass.{Pass as PassOf};
 ghost use Rattle.rht_run.specs.Rule.{MayBegin};
-ghost use Rattle.rht_run.specs.Passes.{IsPassOf, IsCalling, HasCalled, Turned, HasGone};
+ghost use Rattle.rht_run.specs.Passes.{IsPassOf, IsCalling, HasCalled, Turned, HasGone, EndsWithin};
 ghost use Rattle.rht_run.specs.Caused.{IsCaused, HasLookedUp};
 
 use crate::finding::looked_up;
@@ -17,7 +19,7 @@ use crate::pass::Pass;
 use crate::releasing::released;
 use crate::ride::{clear_rooms, keep_node};
 use crate::table::Table;
-use rht_model::{Call, Reply};
+use rht_model::{Call, Cursor, Reply};
 use rht_policy::Mix;
 use rht_words::{Geometry, Port};
 use std::marker::Brand;
@@ -43,6 +45,24 @@ impl<M: Mix> Table<M> {
         ensures gone { HasGone M.mix_of self.now None pass.old result pass.new }
     {
         self.go::<Brand>(pass, None)
+    }
+
+    /// A call that has no more than so many operations, so nothing stands behind its loop.
+    fn finish(&self, pass: &mut Pass<M>, call: Call, most: u64) -> Reply
+        requires pass { IsPassOf M.mix_of self.now pass.old }
+        requires may { MayBegin self.now.env pass.old.number call pass.old.local }
+        requires few { EndsWithin M.mix_of self.now call most }
+        ensures { HasCalled M.mix_of self.now call result pass.old pass.new }
+    {
+        if let Some(reply) = self.start(pass, call) {
+            return reply;
+        }
+        for rounds in 0..most {
+            if let Some(reply) = self.step(pass) {
+                return reply;
+            }
+        }
+        unreachable!()
     }
 
     /// A call that may wait for other callers.
@@ -195,6 +215,39 @@ impl<M: Mix> Table<M> {
         self.call(rt, pass, Call::All { port })
     }
 
+    /// Walks the table bucket by bucket, from a cursor on or without one from the first bucket, and keeps
+    /// each port that it sees with its first owner: the pairs stand in `Pass::pairs`. It ends behind a
+    /// bucket once `limit` pairs or more are kept; at a limit of 0 it walks one bucket. It waits for
+    /// nobody, takes no memory, and opens one read section around all of its loads.
+    ///
+    /// `Walked` says how many pairs there are, and where the walk goes on; without a cursor it has come to
+    /// the table's end, and found no table behind. Any cursor will do. `Again` comes without pairs, and
+    /// names the table with which a walk has to begin anew: the current one, where the cursor isn't of
+    /// that or it has no such bucket; or one to which entries may have been moved meanwhile.
+    ///
+    /// Where ports are bound, released or moved meanwhile a port may be seen twice or not at all. The
+    /// kernel's counterparts are `rhashtable_walk_start`, `rhashtable_walk_next` and `rhashtable_walk_stop`.
+    pub fn walk(&self, pass: &mut Pass<M>, from: Option<Cursor>, limit: u32) -> Reply
+        requires pass { IsPassOf M.mix_of self.now pass.old }
+        requires idle { is_idle pass.old.local ≡ true }
+        ensures called { HasCalled M.mix_of self.now (Walk from limit) result pass.old pass.new }
+        ensures reply { IsWalkReply result }
+        ensures pairs { ArePairsWith result pass.new.local.pairs.items }
+        ensures cause { IsCaused M.mix_of self.now (Walk from limit) result pass.old pass.new }
+    {
+        self.walked(pass, from, limit)
+    }
+
+    /// Walks, operation by operation.
+    fn walked(&self, pass: &mut Pass<M>, from: Option<Cursor>, limit: u32) -> Reply
+        requires pass { IsPassOf M.mix_of self.now pass.old }
+        requires idle { is_idle pass.old.local ≡ true }
+        ensures { HasCalled M.mix_of self.now (Walk from limit) result pass.old pass.new }
+    {
+        let most = most_of_walk(self.env.geometry);
+        self.finish(pass, Call::Walk { from, limit }, most)
+    }
+
     /// Attaches a table where one is due, and moves the current table's entries into its future one,
     /// where it has one. It waits for the locks of buckets. The kernel's counterpart is
     /// `rht_deferred_worker`.
@@ -242,23 +295,14 @@ impl<M: Mix> Table<M> {
         self.tidied(pass)
     }
 
-    /// Tidies, operation by operation. It has ended within two operations for each caller and one for
-    /// each node, so nothing stands behind its loop.
+    /// Tidies, operation by operation.
     fn tidied(&self, pass: &mut Pass<M>) -> Reply
         requires pass { IsPassOf M.mix_of self.now pass.old }
         requires idle { is_idle pass.old.local ≡ true }
         ensures { HasCalled M.mix_of self.now Tidy result pass.old pass.new }
     {
-        let most = most_operations(self.env.geometry);
-        if let Some(reply) = self.start(pass, Call::Tidy) {
-            return reply;
-        }
-        for rounds in 0..most {
-            if let Some(reply) = self.step(pass) {
-                return reply;
-            }
-        }
-        unreachable!()
+        let most = most_of_tidying(self.env.geometry);
+        self.finish(pass, Call::Tidy, most)
     }
 
     /// Counts the bound ports: `Counted`. The ports bound where it loaded the count were at most so many,
@@ -277,9 +321,17 @@ impl<M: Mix> Table<M> {
     }
 }
 
-/// How many operations a tidying makes at most.
-fn most_operations(geometry: Geometry) -> u32
-    ensures { result ≡ 2 * geometry.callers + geometry.nodes }
+/// How many operations a walk makes at most. A table has up to 2^18 buckets. Each takes two entries on
+/// the way there, its word, three words for each node, and a look for a table behind.
+fn most_of_walk(geometry: Geometry) -> u64
+    ensures { result ≡ walk_bound geometry 262144 }
 {
-    2 * geometry.callers + geometry.nodes
+    6 + 262_144 * (4 + 3 * u64::from(geometry.nodes))
+}
+
+/// How many operations a tidying makes at most: two for each caller, one for each node, and one.
+fn most_of_tidying(geometry: Geometry) -> u64
+    ensures { result ≡ tidy_bound geometry }
+{
+    u64::from(2 * geometry.callers + geometry.nodes + 1)
 }

@@ -3,7 +3,7 @@
 ghost use Rattle.std.specs.Prelude.{◌≡◌, true, None};
 ghost use Rattle.std.specs.List.{last_or};
 ghost use Rattle.rht_core.specs.Locals.{is_idle};
-ghost use Rattle.rht_core.specs.Replies.{owners_with};
+ghost use Rattle.rht_core.specs.Replies.{owners_with, pairs_with};
 ghost use Rattle.rht_run.specs.declared.table.Table.{Table as TableOf};
 ghost use Rattle.rht_run.specs.Passes.{IsPassOf, book_of};
 
@@ -11,6 +11,7 @@ use crate::seats::SeatView;
 use atomic_table::Seat;
 use rht_core::Local;
 use rht_policy::Mix;
+use rht_words::Port;
 
 /// One caller's token: whoever has it makes the caller's calls. It can't be copied.
 #[derive(Drop)]
@@ -29,5 +30,15 @@ impl<M: Mix> Pass<M> {
             → result.now ≡ owners_with (last_or None (book_of self.now).finished) }
     {
         self.local.owners()
+    }
+
+    /// The pairs that came with the pass's last finished call, where that answered `Walked`, in the
+    /// order in which they were seen: a port and its first owner each; otherwise none.
+    pub fn pairs(&self) -> &[(Port, u32)]
+        ensures pairs { result.now ≡ self.now.local.pairs.items }
+        ensures last { (t : TableOf M) → IsPassOf M.mix_of t self.now → is_idle self.now.local ≡ true
+            → result.now ≡ pairs_with (last_or None (book_of self.now).finished) }
+    {
+        self.local.pairs()
     }
 }

@@ -10,7 +10,7 @@ ghost use Rattle.rht_core.specs.Serving.{asks_for_work};
 ghost use Rattle.rht_run.specs.Rule.{MayBegin};
 ghost use Rattle.rht_run.specs.Passes.{IsPassOf, HasCalled};
 ghost use Rattle.rht_run.specs.Caused.{IsCaused};
-ghost use Rattle.rht_run.specs.Served.{IsMadeCall, HasServed, HasTried, HasWorked};
+ghost use Rattle.rht_run.specs.Served.{HasServed, HasTried, HasWorked};
 
 use crate::pass::Pass;
 use crate::table::Table;
@@ -26,13 +26,12 @@ impl<M: Mix> Table<M> {
     ///
     /// The answer is the command's reply. What the tidying and `work` were answered, and a first `NoNode`,
     /// stand among the pass's finished calls alone. Each reply comes when it does of the call itself, which
-    /// may wait; so may `work`. The owners of a `Listed` stand in `Pass::owners`. It takes no memory.
-    /// A rebind is for a table of one owner each, and a walk can't be asked for yet.
+    /// may wait; so may `work`. The owners of a `Listed` stand in `Pass::owners`, and the pairs of a
+    /// `Walked` in `Pass::pairs`. It takes no memory. A rebind is for a table of one owner each.
     pub fn serve<R: Wait>(&self, rt: &R, pass: &mut Pass<M>, call: Call, auto: bool) -> Reply
         requires pass { IsPassOf M.mix_of self.now pass.old }
         requires idle { is_idle pass.old.local ≡ true }
         requires kind { IsBuiltFor self.now.env.config.kind call }
-        requires made { IsMadeCall call }
         ensures served { HasServed M.mix_of self.now auto call result pass.old pass.new }
         ensures reply { IsReplyTo call result }
         ensures cause { IsCaused M.mix_of self.now call result pass.old pass.new }
@@ -54,7 +53,6 @@ impl<M: Mix> Table<M> {
         requires pass { IsPassOf M.mix_of self.now pass.old }
         requires idle { is_idle pass.old.local ≡ true }
         requires kind { IsBuiltFor self.now.env.config.kind call }
-        requires made { IsMadeCall call }
         requires other { (port : ℕ) → call ≢ Find port }
         ensures { HasTried M.mix_of self.now call result pass.old pass.new }
     {
@@ -67,7 +65,7 @@ impl<M: Mix> Table<M> {
         }
     }
 
-    /// Makes a call other than a look-up. For a walk there is no machine yet.
+    /// Makes a call other than a look-up.
     fn answer<R: Wait>(&self, rt: &R, pass: &mut Pass<M>, call: Call) -> Reply
         requires pass { IsPassOf M.mix_of self.now pass.old }
         requires may { MayBegin self.now.env pass.old.number call pass.old.local }
@@ -88,7 +86,8 @@ impl<M: Mix> Table<M> {
             Call::Work => self.work(rt, pass),
             Call::Tidy => self.tidy(pass),
             Call::Count => self.count(pass),
-            Call::Find { .. } | Call::Walk { .. } => unreachable!(),
+            Call::Walk { from, limit } => self.walk(pass, from, limit),
+            Call::Find { .. } => unreachable!(),
         }
     }
 

@@ -6,7 +6,6 @@ use Rattle.std.proofs.Common.{◌≡◌, ℕ, zero, suc, ◌+◌, ◌*◌, ◌%�
 use Rattle.std.specs.List.{AllByRecursion, flat_map, range_with_len}
 use Rattle.std.proofs.lemmas.List.Elements.{All-from_recursion, All-nil}
 use Rattle.std.proofs.lemmas.List.Sums.{sum_by-append}
-use Rattle.rht_words.specs.declared.config.Kind.TheVariants.{Single}
 use Rattle.rht_words.specs.Limits.{IsWithinLimits}
 use Rattle.rht_words.specs.Settled.{IsSettled}
 use Rattle.rht_words.specs.Sizes.{rounded_up, powers}
@@ -70,7 +69,7 @@ module _ (number : ℕ) where
       (bind, (find, ((one_of, middle even port_is owner_is), (find, ((one_of, other_is), tt)))))
     where
       middle : (b : Bool) → IsWithinLimits port_limits port → IsWithinLimits owner_limits worker
-          → IsSayableCall Single (middle_call worker port b)
+          → IsSayableCall (generated_config number) (middle_call worker port b)
       middle true port_is owner_is = (port_is, owner_is, refl)
       middle false port_is owner_is = (port_is, owner_is)
 

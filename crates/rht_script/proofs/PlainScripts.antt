@@ -44,9 +44,9 @@ use Rattle.rht_script.proofs.PlainWords.{number_of-decimal, IsPlainWord, plain_n
 
 -- ---- calls
 
-module _ (kind : Kind) where
+module _ (config : Config) where
   -- by cases: of each call for which there is a verb
-  call_of-plain : (call : Call) → IsSayableCall kind call → call_of kind (call_words call) ≡ Ok call
+  call_of-plain : (call : Call) → IsSayableCall config call → call_of config (call_words call) ≡ Ok call
   unfolding call_of bind_of find_of all_of release_of rebind_of bare_of
   call_of-plain (Bind port owner once) sayable =
       let port_is = number_of-decimal port (omega (arith, sayable.0)) port_limits sayable.0 in
@@ -65,13 +65,13 @@ module _ (kind : Kind) where
       let owner_is = number_of-decimal owner (omega (arith, sayable.1)) owner_limits sayable.1 in
       let new_is = number_of-decimal new (omega (arith, sayable.2)) owner_limits sayable.2 in
       rw (port_is, owner_is, new_is) (ap (λ (k : Kind). of_single k (Rebind port owner new)) sayable.3)
-  call_of-plain (Walk from limit) sayable = absurd sayable
+  call_of-plain (Walk from limit) sayable = ap (λ (c : Call). Ok c) (sym sayable)
   call_of-plain Work sayable = refl
   call_of-plain Tidy sayable = refl
   call_of-plain Count sayable = refl
 
   -- the words of a call are plain, and at most four
-  call_words-plain : (call : Call) → IsSayableCall kind call
+  call_words-plain : (call : Call) → IsSayableCall config call
       → AllByRecursion IsPlainWord (call_words call) × (length (call_words call) ≤ 4)
   call_words-plain (Bind port owner once) sayable =
       let port_is = IsPlainWord-decimal port (omega (arith, sayable.0)) in
@@ -92,7 +92,7 @@ module _ (kind : Kind) where
       let owner_is = IsPlainWord-decimal owner (omega (arith, sayable.1)) in
       let new_is = IsPlainWord-decimal new (omega (arith, sayable.2)) in
       ((plain_name refl, (port_is, (owner_is, (new_is, tt)))), omega arith)
-  call_words-plain (Walk from limit) sayable = absurd sayable
+  call_words-plain (Walk from limit) sayable = ((plain_name refl, tt), omega arith)
   call_words-plain Work sayable = ((plain_name refl, tt), omega arith)
   call_words-plain Tidy sayable = ((plain_name refl, tt), omega arith)
   call_words-plain Count sayable = ((plain_name refl, tt), omega arith)
@@ -123,14 +123,14 @@ module _ (table : TableLine) (callers : table.config.callers < 2 ^ 32) where
   command_of-plain command sayable =
       let other = BeginsNoSchedule-decimal command.0 (omega (arith, sayable.0, callers)) in
       let worker_is = worker_read command.0 sayable.0 in
-      let call_is = call_of-plain table.config.kind command.1 sayable.1 in
+      let call_is = call_of-plain table.config command.1 sayable.1 in
       rw (other.step, other.skip, other.finish, worker_is, call_is) refl
 
   -- the words of a command are plain, and at most five
   command_words-plain : (command : ℕ × Call) → IsSayableCommand table.config command
       → AllByRecursion IsPlainWord (command_words command) × (length (command_words command) ≤ 5)
   command_words-plain command sayable =
-      let call = call_words-plain table.config.kind command.1 sayable.1 in
+      let call = call_words-plain table.config command.1 sayable.1 in
       ((worker_plain command.0 sayable.0, call.0), omega (arith, call.1))
 
   -- ---- lines of the schedule

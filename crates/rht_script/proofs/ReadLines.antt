@@ -22,7 +22,7 @@ use Rattle.rht_script.specs.declared.cause.Cause.{Cause}
 use Rattle.rht_script.specs.declared.cause.Cause.TheVariants.{BadNumber, OutOfRange, UnknownWord, TooManyLines, LineTooLong}
 use Rattle.rht_script.specs.Grammar.{most_bytes, most_lines, most_in_line, at_line, words_at, lines_from, Said, said_from, reading_of}
 use Rattle.rht_script.specs.TableLines.{table_of}
-use Rattle.rht_script.specs.CommandLines.{port_limits, owner_limits, worker_limits, number_first, end_of, bind_of, find_of, all_of, release_of, of_single, rebind_of, bare_of, call_of, begins_schedule, command_of}
+use Rattle.rht_script.specs.CommandLines.{port_limits, owner_limits, worker_limits, number_first, end_of, bind_of, find_of, all_of, release_of, of_single, rebind_of, bare_of, whole_walk, call_of, begins_schedule, command_of}
 use Rattle.rht_script.specs.ScheduleLines.{event_limits, events_of}
 use Rattle.rht_script.specs.ScriptLines.{scheduled, line_of, commands_among, schedule_among}
 use Rattle.rht_script.specs.Spelling.{◌>>=◌, is_word, is_number, value_of, is_within, number_of, lines_of, words_of, is_skipped}
@@ -104,19 +104,20 @@ of_single_holds : (Q : Call → Type 0) (kind : Kind) (call : Call) → (kind �
 of_single_holds Q Single call holds = holds refl
 of_single_holds Q Listed call holds = tt
 
--- It holds of each call that a line can ask of a table of this kind, whatever the port and the owners.
-pub record HoldsOfCalls (kind : Kind) (Q : Call → Type 0) : Type 0 where
+-- It holds of each call that a line can ask of a table of this config, whatever the port and the owners.
+pub record HoldsOfCalls (config : Config) (Q : Call → Type 0) : Type 0 where
   pub bind : (port owner : ℕ) → IsPort port → IsOwner owner → Q (Bind port owner false)
   pub find : (port : ℕ) → IsPort port → Q (Find port)
   pub list : (port : ℕ) → IsPort port → Q (All port)
   pub release : (port owner : ℕ) → IsPort port → IsOwner owner → Q (Release port owner)
-  pub rebind : (port owner new : ℕ) → IsPort port → IsOwner owner → IsOwner new → kind ≡ Single
+  pub rebind : (port owner new : ℕ) → IsPort port → IsOwner owner → IsOwner new → config.kind ≡ Single
       → Q (Rebind port owner new)
+  pub walk : Q (whole_walk config)
   pub work : Q Work
   pub tidy : Q Tidy
   pub count : Q Count
 
-module _ (kind : Kind) (Q : Call → Type 0) (holds : HoldsOfCalls kind Q) where
+module _ (config : Config) (Q : Call → Type 0) (holds : HoldsOfCalls config Q) where
   bind_holds : (words : List (List ℕ)) → IfOk (bind_of words) Q
   unfolding bind_of
   bind_holds words =
@@ -143,14 +144,14 @@ module _ (kind : Kind) (Q : Call → Type 0) (holds : HoldsOfCalls kind Q) where
       behind_owner Q port.1 _ (λ owner is_owner.
       IfOk-after Q (end_of owner.1) _ (λ end. holds.release port.0 owner.0 is_port is_owner)))
 
-  rebind_holds : (words : List (List ℕ)) → IfOk (rebind_of kind words) Q
+  rebind_holds : (words : List (List ℕ)) → IfOk (rebind_of config.kind words) Q
   unfolding rebind_of
   rebind_holds words =
       behind_port Q words _ (λ port is_port.
       behind_owner Q port.1 _ (λ owner is_owner.
       behind_owner Q owner.1 _ (λ new is_new.
       IfOk-after Q (end_of new.1) _ (λ end.
-      of_single_holds Q kind (Rebind port.0 owner.0 new.0)
+      of_single_holds Q config.kind (Rebind port.0 owner.0 new.0)
       (holds.rebind port.0 owner.0 new.0 is_port is_owner is_new)))))
 
   bare_holds : (call : Call) → Q call → (words : List (List ℕ)) → IfOk (bare_of call words) Q
@@ -158,7 +159,7 @@ module _ (kind : Kind) (Q : Call → Type 0) (holds : HoldsOfCalls kind Q) where
   bare_holds call so words = IfOk-after Q (end_of words) _ (λ end. so)
 
   -- what holds of each call that can be written holds of what a verb asks
-  pub call_holds : (words : List (List ℕ)) → IfOk (call_of kind words) Q
+  pub call_holds : (words : List (List ℕ)) → IfOk (call_of config words) Q
   unfolding call_of
   call_holds [] = tt
   call_holds (verb ∷ words) =
@@ -167,14 +168,15 @@ module _ (kind : Kind) (Q : Call → Type 0) (holds : HoldsOfCalls kind Q) where
       (IfOk-cond Q (is_word verb (codes "all")) _ _ (all_holds words)
       (IfOk-cond Q (is_word verb (codes "release")) _ _ (release_holds words)
       (IfOk-cond Q (is_word verb (codes "rebind")) _ _ (rebind_holds words)
+      (IfOk-cond Q (is_word verb (codes "walk")) _ _ (bare_holds (whole_walk config) holds.walk words)
       (IfOk-cond Q (is_word verb (codes "work")) _ _ (bare_holds Work holds.work words)
       (IfOk-cond Q (is_word verb (codes "tidy")) _ _ (bare_holds Tidy holds.tidy words)
-      (IfOk-cond Q (is_word verb (codes "count")) _ (Err UnknownWord) (bare_holds Count holds.count words) tt)))))))
+      (IfOk-cond Q (is_word verb (codes "count")) _ (Err UnknownWord) (bare_holds Count holds.count words) tt))))))))
 
 module _ (P : ℕ × Call → Type 0) (Q : Call → Type 0) (table : TableLine)
     (both : (worker : ℕ) (call : Call) → is_within (worker_limits table.config) worker ≡ true → Q call
     → P (worker, call))
-    (each : (words : List (List ℕ)) → IfOk (call_of table.config.kind words) Q) where
+    (each : (words : List (List ℕ)) → IfOk (call_of table.config words) Q) where
   -- what holds of a worker's calls holds of a command line
   pub command_holds : (words : List (List ℕ)) → IfOk (command_of table words) P
   unfolding command_of
@@ -184,7 +186,7 @@ module _ (P : ℕ × Call → Type 0) (Q : Call → Type 0) (table : TableLine)
       IfOk-cond P (begins_schedule worker) (Err UnknownWord) _ tt
       (IfOk-then (λ number. is_within limits number ≡ true) P (number_of limits worker) _
       (number_within limits worker) (λ number within.
-      IfOk-then Q P (call_of table.config.kind words) _ (each words) (λ call holds. both number call within holds)))
+      IfOk-then Q P (call_of table.config words) _ (each words) (λ call holds. both number call within holds)))
 
 -- ---- a schedule line
 

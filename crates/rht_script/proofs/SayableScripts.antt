@@ -1,11 +1,10 @@
 -- Whatever is read, today's words can say. Each number of an option is read within its limits, so the options are
 -- allowed, and where their first table has room their config is settled. Each command is read with its worker, port and
 -- owner within their limits, and each line of the schedule with its worker and its number (`ReadLines`).
-use Rattle.std.proofs.Common.{◌≡◌, ℕ, ◌+◌, ◌*◌, Bool, true, false, not, ◌&&◌, cond, Result, Ok, Err, List, [], ◌∷◌, length, codes, refl, ap, arith}
+use Rattle.std.proofs.Common.{◌≡◌, ℕ, ◌+◌, ◌*◌, Bool, true, false, not, ◌&&◌, cond, Result, Ok, Err, List, [], ◌∷◌, length, codes, refl, ap, ◌∙◌, arith}
 use Rattle.std.specs.Prelude.{IfOk, nat_le, nat_lt}
-use Rattle.std.specs.List.{AllByRecursion}
-use Rattle.std.proofs.lemmas.Bool.{le-leb, leb-true, and_from, and_parts}
-use Rattle.std.proofs.lemmas.List.Elements.{All-from_recursion, recursion_from_All, All-weaker}
+use Rattle.std.proofs.lemmas.Bool.{le-leb, leb-true, eq-eqb, and_from, and_parts}
+use Rattle.std.proofs.lemmas.List.Elements.{All-from_recursion, All-weaker}
 use Rattle.std.proofs.lemmas.List.Sums.{list_all-from_AllPass}
 use Rattle.std.proofs.lemmas.Result.{IfOk-at_ok, IfOk-weaker}
 use Rattle.rht_words.specs.declared.config.Config.{Config}
@@ -27,13 +26,13 @@ use Rattle.rht_script.specs.declared.options.Setting.TheVariants.{Nodes, Hint, M
 use Rattle.rht_script.specs.declared.options.Options.{Options}
 use Rattle.rht_script.specs.Spelling.{is_word, is_within, number_of, lines_of, is_skipped}
 use Rattle.rht_script.specs.TableLines.{one_number, numbered, kind_of, hash_of, switch_of, auto_of, setting_of, no_options, with_setting, options_from, configured, sizes_agree, has_room, config_of, table_of}
-use Rattle.rht_script.specs.CommandLines.{port_limits, owner_limits, worker_limits, command_of}
+use Rattle.rht_script.specs.CommandLines.{port_limits, owner_limits, worker_limits, whole_walk, command_of}
 use Rattle.rht_script.specs.ScheduleLines.{event_limits}
 use Rattle.rht_script.specs.Grammar.{most_bytes, coded, at_line, words_at, Said, lines_from, said_from, reading_of}
 use Rattle.rht_script.specs.Allowed.{IsAllowed, AreAllowed}
 use Rattle.rht_script.specs.Plain.{IsSayableCall, IsSayableCommand, IsSayableSched, IsSayable}
 use Rattle.rht_script.specs.Reading.{said_by}
-use Rattle.rht_script.specs.Sound.{is_single, is_sound_call, has_sound_numbers, is_sound_command, is_sound_line, IsCommandCall, IsSoundScript}
+use Rattle.rht_script.specs.Sound.{is_single, is_sound_call, has_sound_numbers, is_sound_command, is_sound_line, IsSoundScript}
 use Rattle.rht_script.specs.Laws.{SaysSayable}
 use Rattle.rht_script.proofs.ConfigLemmas.{IsSettled-configured}
 use Rattle.rht_script.proofs.ReadLines.{IfOk-then, IfOk-after, IfOk-cond, IfOk-at_line, number_within, call_holds, command_holds, AreEvents, HoldsOfSchedule, reading_holds}
@@ -197,16 +196,17 @@ pub command_sayable : (table : TableLine) (words : List (List ℕ))
 command_sayable table =
     let port_is = IsWithinLimits-test port_limits in
     let owner_is = IsWithinLimits-test owner_limits in
-    let kind = table.config.kind in
-    command_holds (IsSayableCommand table.config) (IsSayableCall kind) table
-    (λ worker call within sayable. (IsWithinLimits-test (worker_limits table.config) worker within, sayable))
-    (call_holds kind (IsSayableCall kind) record {
+    let config = table.config in
+    command_holds (IsSayableCommand config) (IsSayableCall config) table
+    (λ worker call within sayable. (IsWithinLimits-test (worker_limits config) worker within, sayable))
+    (call_holds config (IsSayableCall config) record {
       bind = λ port owner is_port is_owner. (port_is port is_port, owner_is owner is_owner, refl);
       find = λ port is_port. port_is port is_port;
       list = λ port is_port. port_is port is_port;
       release = λ port owner is_port is_owner. (port_is port is_port, owner_is owner is_owner);
       rebind = λ port owner new is_port is_owner is_new single.
           (port_is port is_port, owner_is owner is_owner, owner_is new is_new, single);
+      walk = refl;
       work = tt;
       tidy = tt;
       count = tt;
@@ -240,15 +240,20 @@ says_sayable bytes said read =
 
 -- ---- sound scripts
 
+-- a walk over the whole table can be run
+whole_walk-sound : (config : Config) → is_sound_call config (whole_walk config) ≡ true
+whole_walk-sound config = eq-eqb config.nodes config.nodes refl
+
 -- a call for which there is a verb can be run
-is_sound_call-sayable : (config : Config) (call : Call) → IsSayableCall config.kind call
+is_sound_call-sayable : (config : Config) (call : Call) → IsSayableCall config call
     → is_sound_call config call ≡ true
 is_sound_call-sayable config (Bind port owner once) sayable = ap not sayable.2
 is_sound_call-sayable config (Find port) sayable = refl
 is_sound_call-sayable config (ListAll port) sayable = refl
 is_sound_call-sayable config (Release port owner) sayable = refl
 is_sound_call-sayable config (Rebind port owner new) sayable = ap is_single sayable.3
-is_sound_call-sayable config (Walk from limit) sayable = absurd sayable
+is_sound_call-sayable config (Walk from limit) sayable =
+    ap (is_sound_call config) sayable ∙ whole_walk-sound config
 is_sound_call-sayable config Work sayable = refl
 is_sound_call-sayable config Tidy sayable = refl
 is_sound_call-sayable config Count sayable = refl
@@ -277,17 +282,17 @@ both_within config worker number both =
     (is_within-IsWithinLimits event_limits number both.1)
 
 -- the numbers of a call for which there is a verb are within their limits
-has_sound_numbers-sayable : (kind : Kind) (call : Call) → IsSayableCall kind call → has_sound_numbers call ≡ true
-has_sound_numbers-sayable kind (Bind port owner once) sayable = port_and_owner port owner sayable.0 sayable.1
-has_sound_numbers-sayable kind (Find port) sayable = is_within-IsWithinLimits port_limits port sayable
-has_sound_numbers-sayable kind (ListAll port) sayable = is_within-IsWithinLimits port_limits port sayable
-has_sound_numbers-sayable kind (Release port owner) sayable = port_and_owner port owner sayable.0 sayable.1
-has_sound_numbers-sayable kind (Rebind port owner new) sayable =
+has_sound_numbers-sayable : (config : Config) (call : Call) → IsSayableCall config call → has_sound_numbers call ≡ true
+has_sound_numbers-sayable config (Bind port owner once) sayable = port_and_owner port owner sayable.0 sayable.1
+has_sound_numbers-sayable config (Find port) sayable = is_within-IsWithinLimits port_limits port sayable
+has_sound_numbers-sayable config (ListAll port) sayable = is_within-IsWithinLimits port_limits port sayable
+has_sound_numbers-sayable config (Release port owner) sayable = port_and_owner port owner sayable.0 sayable.1
+has_sound_numbers-sayable config (Rebind port owner new) sayable =
     and_from (is_within port_limits port) (is_within owner_limits owner && is_within owner_limits new)
     (is_within-IsWithinLimits port_limits port sayable.0)
     (and_from (is_within owner_limits owner) (is_within owner_limits new)
     (is_within-IsWithinLimits owner_limits owner sayable.1) (is_within-IsWithinLimits owner_limits new sayable.2))
-has_sound_numbers-sayable kind _ sayable = refl
+has_sound_numbers-sayable config _ sayable = refl
 
 -- so a command that can be said is sound
 pub is_sound_command-sayable : (config : Config) (command : ℕ × Call) → IsSayableCommand config command
@@ -296,7 +301,7 @@ is_sound_command-sayable config command sayable =
     let limits = worker_limits config in
     and_from (is_within limits command.0) (has_sound_numbers command.1 && is_sound_call config command.1)
     (is_within-IsWithinLimits limits command.0 sayable.0)
-    (and_from (has_sound_numbers command.1) (is_sound_call config command.1) (has_sound_numbers-sayable config.kind command.1 sayable.1)
+    (and_from (has_sound_numbers command.1) (is_sound_call config command.1) (has_sound_numbers-sayable config command.1 sayable.1)
     (is_sound_call-sayable config command.1 sayable.1))
 
 -- and so is a line of the schedule
@@ -321,46 +326,16 @@ IsSoundScript-sayable script sayable =
       schedule = list_all-from_AllPass (is_sound_line script.config) script.schedule.items lines;
     }
 
--- ---- what commands ask for
-
--- a call for which there is a verb is one that a command can ask for
-IsCommandCall-sayable : (kind : Kind) (call : Call) → IsSayableCall kind call → IsCommandCall call
-IsCommandCall-sayable kind (Bind port owner once) sayable = sayable.2
-IsCommandCall-sayable kind (Find port) sayable = tt
-IsCommandCall-sayable kind (ListAll port) sayable = tt
-IsCommandCall-sayable kind (Release port owner) sayable = tt
-IsCommandCall-sayable kind (Rebind port owner new) sayable = tt
-IsCommandCall-sayable kind (Walk from limit) sayable = absurd sayable
-IsCommandCall-sayable kind Work sayable = tt
-IsCommandCall-sayable kind Tidy sayable = tt
-IsCommandCall-sayable kind Count sayable = tt
-
 -- ---- one line
 
--- what holds of what a command line says, where there is a verb for it: a table serves it, and a command can ask it
+-- what a command line says can be run
 pub command_sound : (table : TableLine) (words : List (List ℕ))
     → IfOk (command_of table words) (λ command. is_sound_command table.config command ≡ true)
 command_sound table words =
     IfOk-weaker (command_of table words) (IsSayableCommand table.config) _
     (is_sound_command-sayable table.config) (command_sayable table words)
 
-pub command_asked : (table : TableLine) (words : List (List ℕ))
-    → IfOk (command_of table words) (λ command. IsCommandCall command.1)
-command_asked table words =
-    IfOk-weaker (command_of table words) (IsSayableCommand table.config) _
-    (λ command can. IsCommandCall-sayable table.config.kind command.1 can.1) (command_sayable table words)
-
 -- what holds of what was read holds with the cause told by its number too
 pub IfOk-coded : {X : Type 0} (P : X → Type 0) (read : Result X Cause) → IfOk read P → IfOk (coded read) P
 IfOk-coded P (Ok value) holds = holds
 IfOk-coded P (Err cause) holds = tt
-
--- ---- a whole script
-
--- so each command of what can be said asks for such a call
-pub commands_asked : (said : Said) → IsSayable said
-    → AllByRecursion (λ command. IsCommandCall command.1) said.commands
-commands_asked said sayable =
-    recursion_from_All (λ command. IsCommandCall command.1) said.commands
-    (All-weaker (IsSayableCommand said.config) (λ command. IsCommandCall command.1)
-    (λ command can. IsCommandCall-sayable said.config.kind command.1 can.1) said.commands sayable.commands)

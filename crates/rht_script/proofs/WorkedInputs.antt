@@ -2,14 +2,14 @@
 -- causes of which one has to come first, and scripts. What is wanted was worked out by hand from the rules of scripts.
 -- The tests of `read` have what would take too long here: too many lines, too many bytes, and what competes with these.
 -- They are examples to read beside the definitions; nothing cites them.
-use Rattle.std.proofs.Common.{◌≡◌, ℕ, ◌+◌, Bool, true, false, Ok, Err, List, [], ◌∷◌, ◌++◌, map, replicate, codes, refl}
+use Rattle.std.proofs.Common.{◌≡◌, ℕ, ◌+◌, Bool, true, false, None, Ok, Err, List, [], ◌∷◌, ◌++◌, map, replicate, codes, refl}
 use Rattle.rht_words.specs.Settled.{plain_config}
 use Rattle.rht_words.specs.Sizes.{powers, rounded_up}
 use Rattle.rht_words.specs.declared.config.Kind.TheVariants.{Listed}
 use Rattle.rht_words.specs.declared.config.Config.{Config}
 use Rattle.rht_words.specs.declared.config.Hash.TheVariants.{Low}
 use Rattle.rht_model.specs.declared.history.Call.{Call}
-use Rattle.rht_model.specs.declared.history.Call.TheVariants.{Bind, Find, All, Release, Rebind, Work, Tidy, Count}
+use Rattle.rht_model.specs.declared.history.Call.TheVariants.{Bind, Find, All, Release, Rebind, Walk, Work, Tidy, Count}
 use Rattle.rht_script.specs.declared.script.Sched.{Sched}
 use Rattle.rht_script.specs.declared.script.Sched.TheVariants.{Step, Skip, Finish}
 use Rattle.rht_script.specs.declared.script.TableLine.{TableLine}
@@ -95,7 +95,7 @@ unknown_words_of_commands : HaveFault 2 UnknownWord (below_table (
     ∷ codes "1 find 80 100\n" ∷ codes "1 find 80 # who?\n" ∷ codes "1 release 80 100 7\n"
     ∷ codes "1 all\n" ∷ codes "1 all 80 100\n" ∷ codes "1 rebind 80\n" ∷ codes "1 rebind 80 1\n"
     ∷ codes "1 rebind 80 1 2 3\n" ∷ codes "1 count 80\n" ∷ codes "1 work 1\n" ∷ codes "1 work auto\n" ∷ codes "1 tidy 1\n"
-    ∷ codes "1 Tidy\n" ∷ codes "1 walk\n" ∷ []))
+    ∷ codes "1 Tidy\n" ∷ codes "1 walk 16\n" ∷ codes "1 walk more\n" ∷ codes "1 Walk\n" ∷ []))
 unfolding whole_reading
 unknown_words_of_commands = refl
 
@@ -392,17 +392,17 @@ unknown_word_before_too_long = refl
 
 -- a table line without options, and a command of each verb
 verbs : Says (codes
-    "table single\n1 bind 80 100\n1 find 80\n1 all 80\n1 rebind 80 100 7\n1 work\n1 count\n1 release 80 7\n1 tidy")
+    "table single\n1 bind 80 100\n1 find 80\n1 all 80\n1 rebind 80 100 7\n1 work\n1 count\n1 release 80 7\n1 tidy\n1 walk")
     plain_config
     ((1, Bind 80 100 false) ∷ (1, Find 80) ∷ (1, All 80) ∷ (1, Rebind 80 100 7) ∷ (1, Work) ∷ (1, Count)
-    ∷ (1, Release 80 7) ∷ (1, Tidy) ∷ [])
+    ∷ (1, Release 80 7) ∷ (1, Tidy) ∷ (1, Walk None 4096) ∷ [])
 unfolding whole_reading
 verbs = refl
 
 -- a table of lists, in which everything but a rebind can be asked
-lists : Says (codes "table listed\n1 bind 80 1\n1 all 80\n1 count\n1 release 80 1\n")
-    (record plain_config { kind = Listed })
-    ((1, Bind 80 1 false) ∷ (1, All 80) ∷ (1, Count) ∷ (1, Release 80 1) ∷ [])
+lists : Says (codes "table listed nodes 16\n1 bind 80 1\n1 all 80\n1 walk\n1 count\n1 release 80 1\n")
+    (record plain_config { kind = Listed; nodes = 16 })
+    ((1, Bind 80 1 false) ∷ (1, All 80) ∷ (1, Walk None 16) ∷ (1, Count) ∷ (1, Release 80 1) ∷ [])
 unfolding whole_reading
 lists = refl
 

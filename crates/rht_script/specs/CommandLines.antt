@@ -1,11 +1,11 @@
 -- What the words of a command line stand for: a worker, and what that asks. Words are read from left to right.
-use Rattle.std.specs.Prelude.{ℕ, Bool, false, ◌||◌, if◌then◌else◌, Result, Ok, Err, List, [], ◌∷◌, codes}
+use Rattle.std.specs.Prelude.{ℕ, Bool, false, ◌||◌, if◌then◌else◌, None, Result, Ok, Err, List, [], ◌∷◌, codes}
 use Rattle.rht_words.specs.declared.config.Config.{Config}
 use Rattle.rht_words.specs.declared.config.Kind.{Kind}
 use Rattle.rht_words.specs.declared.config.Kind.TheVariants.{Single, Listed}
 use Rattle.rht_words.specs.declared.limits.Limits.{Limits}
 use Rattle.rht_model.specs.declared.history.Call.{Call}
-use Rattle.rht_model.specs.declared.history.Call.TheVariants.{Bind, Find, All, Release, Rebind, Work, Tidy, Count}
+use Rattle.rht_model.specs.declared.history.Call.TheVariants.{Bind, Find, All, Release, Rebind, Walk, Work, Tidy, Count}
 use Rattle.rht_script.specs.declared.script.TableLine.{TableLine}
 use Rattle.rht_script.specs.declared.cause.Cause.{Cause}
 use Rattle.rht_script.specs.declared.cause.Cause.TheVariants.{UnknownWord, WrongKind}
@@ -77,15 +77,20 @@ bare_of call words = do
   end ← end_of words
   Ok call
 
--- what a verb asks of a table of this kind with the words behind it
-unfoldable pub call_of : Kind → List (List ℕ) → Result Call Cause
-call_of kind [] = Err UnknownWord
-call_of kind (verb ∷ words) =
+-- a walk over the whole table: it begins at the first bucket, and may show as many pairs as there are nodes
+abbrev pub whole_walk : Config → Call
+whole_walk config = Walk None config.nodes
+
+-- what a verb asks of a table of this config with the words behind it
+unfoldable pub call_of : Config → List (List ℕ) → Result Call Cause
+call_of config [] = Err UnknownWord
+call_of config (verb ∷ words) =
     if is_word verb (codes "bind") then bind_of words
     else if is_word verb (codes "find") then find_of words
     else if is_word verb (codes "all") then all_of words
     else if is_word verb (codes "release") then release_of words
-    else if is_word verb (codes "rebind") then rebind_of kind words
+    else if is_word verb (codes "rebind") then rebind_of config.kind words
+    else if is_word verb (codes "walk") then bare_of (whole_walk config) words
     else if is_word verb (codes "work") then bare_of Work words
     else if is_word verb (codes "tidy") then bare_of Tidy words
     else if is_word verb (codes "count") then bare_of Count words
@@ -106,5 +111,5 @@ command_of table (worker ∷ words) =
     if begins_schedule worker then Err UnknownWord
     else do
       number ← number_of (worker_limits table.config) worker
-      call ← call_of table.config.kind words
+      call ← call_of table.config words
       Ok (number, call)

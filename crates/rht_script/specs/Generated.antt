@@ -6,7 +6,7 @@ use Rattle.rht_words.specs.declared.config.Config.{Config}
 use Rattle.rht_words.specs.declared.config.Hash.TheVariants.{Low}
 use Rattle.rht_words.specs.Settled.{plain_config}
 use Rattle.rht_model.specs.declared.history.Call.{Call}
-use Rattle.rht_model.specs.declared.history.Call.TheVariants.{Bind, Find, All, Release, Rebind, Walk, Work, Tidy, Count}
+use Rattle.rht_model.specs.declared.history.Call.TheVariants.{Bind, Find, Release}
 use Rattle.rht_script.specs.Grammar.{Said}
 use Rattle.rht_script.specs.Plain.{IsSayable}
 pub use Rattle.rht_model.specs.CallKinds.{is_bind, is_find, is_release}

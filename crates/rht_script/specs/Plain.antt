@@ -16,32 +16,32 @@ use Rattle.rht_script.specs.declared.script.Sched.TheVariants.{Step, Skip, Finis
 use Rattle.rht_script.specs.declared.script.ScriptLine.{ScriptLine}
 use Rattle.rht_script.specs.declared.script.ScriptLine.TheVariants.{Command, Schedule}
 use Rattle.rht_script.specs.Grammar.{most_lines, Said}
-use Rattle.rht_script.specs.CommandLines.{port_limits, owner_limits, worker_limits}
+use Rattle.rht_script.specs.CommandLines.{port_limits, owner_limits, worker_limits, whole_walk}
 use Rattle.rht_script.specs.ScheduleLines.{event_limits}
 
 -- ---- what can be said
 
--- There is a verb for the call in a table of this kind: a bind that is tried until it ends, a look-up, a listing, a release
--- and a rebind, each of any port and owners, the work, a tidying, and a reading of the count. A rebind is in a table of one
--- owner each.
-abbrev pub IsSayableCall : Kind → Call → Type 0
-IsSayableCall kind (Bind port owner once) =
+-- There is a verb for the call in a table of this config: a bind that is tried until it ends, a look-up, a listing, a
+-- release and a rebind, each of any port and owners, a walk over the whole table, the work, a tidying, and a reading of the
+-- count. A rebind is in a table of one owner each.
+abbrev pub IsSayableCall : Config → Call → Type 0
+IsSayableCall config (Bind port owner once) =
     IsWithinLimits port_limits port × IsWithinLimits owner_limits owner × (once ≡ false)
-IsSayableCall kind (Find port) = IsWithinLimits port_limits port
-IsSayableCall kind (ListAll port) = IsWithinLimits port_limits port
-IsSayableCall kind (Release port owner) = IsWithinLimits port_limits port × IsWithinLimits owner_limits owner
-IsSayableCall kind (Rebind port owner new) =
+IsSayableCall config (Find port) = IsWithinLimits port_limits port
+IsSayableCall config (ListAll port) = IsWithinLimits port_limits port
+IsSayableCall config (Release port owner) = IsWithinLimits port_limits port × IsWithinLimits owner_limits owner
+IsSayableCall config (Rebind port owner new) =
     IsWithinLimits port_limits port × IsWithinLimits owner_limits owner × IsWithinLimits owner_limits new
-    × (kind ≡ Single)
-IsSayableCall kind (Walk from limit) = ⊥
-IsSayableCall kind Work = Unit {0}
-IsSayableCall kind Tidy = Unit {0}
-IsSayableCall kind Count = Unit {0}
+    × (config.kind ≡ Single)
+IsSayableCall config (Walk from limit) = Walk from limit ≡ whole_walk config
+IsSayableCall config Work = Unit {0}
+IsSayableCall config Tidy = Unit {0}
+IsSayableCall config Count = Unit {0}
 
 -- a command line can say the command: it is one of a worker of the table
 abbrev pub IsSayableCommand : Config → ℕ × Call → Type 0
 IsSayableCommand config command =
-    IsWithinLimits (worker_limits config) command.0 × IsSayableCall config.kind command.1
+    IsWithinLimits (worker_limits config) command.0 × IsSayableCall config command.1
 
 -- a schedule line can say this: it is one of a worker of the table, with a number of events or calls
 abbrev pub IsSayableSched : Config → Sched → Type 0
@@ -94,7 +94,7 @@ table_words config auto =
     ∷ codes "seed" ∷ decimal config.seed ∷ codes "rewalks" ∷ decimal config.rewalks
     ∷ (number_or_none (codes "hint") config.hint ++ number_or_none (codes "max") config.max)
 
--- the words of a call: its verb and its numbers; of a walk, for which there is no verb yet, none
+-- the words of a call: its verb and its numbers
 abbrev pub call_words : Call → List (List ℕ)
 call_words (Bind port owner once) = codes "bind" ∷ decimal port ∷ decimal owner ∷ []
 call_words (Find port) = codes "find" ∷ decimal port ∷ []
@@ -102,7 +102,7 @@ call_words (ListAll port) = codes "all" ∷ decimal port ∷ []
 call_words (Release port owner) = codes "release" ∷ decimal port ∷ decimal owner ∷ []
 call_words (Rebind port owner new) =
     codes "rebind" ∷ decimal port ∷ decimal owner ∷ decimal new ∷ []
-call_words (Walk from limit) = []
+call_words (Walk from limit) = codes "walk" ∷ []
 call_words Work = codes "work" ∷ []
 call_words Tidy = codes "tidy" ∷ []
 call_words Count = codes "count" ∷ []

@@ -1,5 +1,5 @@
 -- Which scripts can be run: those whose config a table can be opened with, and whose lines fit it.
-use Rattle.std.specs.Prelude.{◌≡◌, ℕ, ◌≤◌, IsTrue, Bool, true, false, ◌&&◌, ◌==◌, not, is_none, vec_len}
+use Rattle.std.specs.Prelude.{ℕ, ◌≤◌, IsTrue, Bool, true, false, ◌&&◌, ◌==◌, not, is_none, vec_len}
 use Rattle.std.specs.List.{list_all}
 use Rattle.rht_words.specs.declared.config.Config.{Config}
 use Rattle.rht_words.specs.declared.config.Kind.{Kind}
@@ -44,19 +44,6 @@ has_sound_numbers Count = true
 abbrev pub is_sound_command : Config → ℕ × Call → Bool
 is_sound_command config command =
     is_within (worker_limits config) command.0 && (has_sound_numbers command.1 && is_sound_call config command.1)
-
--- a command can ask for the call: for any that is about bindings, where a bind is tried until it ends, for the work, for a tidying,
--- and for the count
-abbrev pub IsCommandCall : Call → Type 0
-IsCommandCall (Bind port owner once) = once ≡ false
-IsCommandCall (Find port) = Unit {0}
-IsCommandCall (All port) = Unit {0}
-IsCommandCall (Release port owner) = Unit {0}
-IsCommandCall (Rebind port owner new) = Unit {0}
-IsCommandCall (Walk from limit) = ⊥
-IsCommandCall Work = Unit {0}
-IsCommandCall Tidy = Unit {0}
-IsCommandCall Count = Unit {0}
 
 -- the line of a schedule is a worker's, and its number is within its limits
 abbrev pub is_sound_line : Config → Sched → Bool

@@ -1,6 +1,6 @@
 -- The line that sums up the run of a script that was made from a number: how many of its replies are of each sort, and what is bound at
 -- the end.
-use Rattle.std.specs.Prelude.{ℕ, ◌≤◌, ◌^◌, Bool, true, false, List, [], ◌∷◌, ◌++◌, length, codes, All, count_by, sum_by, flat_map}
+use Rattle.std.specs.Prelude.{ℕ, ◌≤◌, Bool, true, false, List, [], ◌∷◌, ◌++◌, length, codes, All, count_by, sum_by, flat_map}
 use Rattle.rht_model.specs.declared.history.Reply.{Reply}
 use Rattle.rht_model.specs.declared.history.Reply.TheVariants.{Bound, Exists, Found, Missing, Released}
 use Rattle.rht_model.specs.Endings.{Ending}

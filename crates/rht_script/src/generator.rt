@@ -4,11 +4,10 @@
 //! Stands on `rht_model` and `rht_words`. Read `specs/Generated.antt` first.
 
 ghost use Rattle.std.specs.Prelude.{◌≡◌, ◌<◌, ◌≤◌, ◌++◌, ◌==◌, IfOk, OnOk, false};
-ghost use Rattle.std.specs.List.{AllByRecursion};
 ghost use Rattle.rht_words.specs.Settled.{IsSettled};
 ghost use Rattle.rht_script.specs.Generated.{generated_said, generated_config, worker_commands, round_commands, middle_call};
 ghost use Rattle.rht_script.specs.Reading.{said_by};
-ghost use Rattle.rht_script.specs.Sound.{IsSoundScript, IsCommandCall};
+ghost use Rattle.rht_script.specs.Sound.{IsSoundScript};
 
 use crate::script::Script;
 use rht_model::Call;
@@ -28,8 +27,6 @@ const ROUNDS: u32 = 500;
 pub fn generated(alloc: Global, number: u32) -> Result<Script, AllocError>
     ensures script { IfOk result (λ script. said_by script ≡ generated_said number) }
     ensures sound { IfOk result IsSoundScript }
-    ensures asked { IfOk result
-        (λ script. AllByRecursion (λ command. IsCommandCall command.1) script.commands.items) }
 {
     let mut commands = Vec::new(alloc);
     for i in 0..WORKERS {

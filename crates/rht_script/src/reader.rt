@@ -5,15 +5,14 @@
 //! other programs read the same lines and words.
 
 ghost use Rattle.std.specs.Prelude.{◌≡◌, ◌+◌, ◌<◌, ◌≤◌, ◌==◌, ◌∷◌, Ok, Err, IfOk, IfErr, MatchResult, MatchOption, count_by, length, take, fold};
-ghost use Rattle.std.specs.List.{AllByRecursion};
 ghost use Rattle.rht_script.specs.Grammar.{fault_at, said_with, said_from};
 ghost use Rattle.rht_script.specs.TableLines.{no_options, table_of, kind_of, hash_of, switch_of, auto_of, setting_of, options_from};
-ghost use Rattle.rht_script.specs.CommandLines.{command_of, call_of, bind_of, find_of, all_of, release_of, rebind_of, bare_of};
+ghost use Rattle.rht_script.specs.CommandLines.{command_of, call_of, bind_of, find_of, all_of, release_of, rebind_of, bare_of, whole_walk};
 ghost use Rattle.rht_script.specs.ScheduleLines.{events_of};
 ghost use Rattle.rht_script.specs.ScriptLines.{line_of};
 ghost use Rattle.rht_script.specs.Reading.{IsScript, IsReason, IsReasonFor, said_by};
 ghost use Rattle.rht_script.specs.Allowed.{IsAllowed, AreAllowed};
-ghost use Rattle.rht_script.specs.Sound.{IsSoundScript, IsCommandCall};
+ghost use Rattle.rht_script.specs.Sound.{IsSoundScript};
 ghost use Rattle.rht_script.specs.declared.cause.Cause.TheVariants.{ScriptTooLong};
 
 mod cursors;
@@ -32,8 +31,8 @@ use crate::script::{
 };
 use names::{
     ALL, AUTO, BIND, COUNT, FIND, FINISH, HASH, HINT, LISTED, LOW, MANUAL, MAX, MIN, MIX, NODES,
-    OFF, ON, PAGES, REBIND, RELEASE, REWALKS, SEED, SHRINK, SINGLE, SKIP, STEP, TABLE, TIDY, WORK,
-    WORKERS,
+    OFF, ON, PAGES, REBIND, RELEASE, REWALKS, SEED, SHRINK, SINGLE, SKIP, STEP, TABLE, TIDY, WALK,
+    WORK, WORKERS,
 };
 use numbers::{OWNER, PORT, number_within};
 use rht_model::Call;
@@ -51,8 +50,6 @@ pub const MOST_BYTES: usize = 16_777_216;
 pub fn read(alloc: Global, bytes: &[u8]) -> Result<Script, ReadError>
     ensures script { IfOk result (IsScript bytes.now) }
     ensures sound { IfOk result IsSoundScript }
-    ensures asked { IfOk result
-        (λ script. AllByRecursion (λ command. IsCommandCall command.1) script.commands.items) }
     ensures reason { IfErr result (IsReason bytes.now) }
 {
     if bytes.len() > MOST_BYTES {
@@ -281,13 +278,13 @@ fn command(table: &TableLine, worker: &[u8], words: Words) -> Result<(u32, Call)
         return Err(Cause::UnknownWord);
     }
     let worker = number_within(worker_limits(&table.config), worker)?;
-    Ok((worker, call(table.config.kind, words)?))
+    Ok((worker, call(&table.config, words)?))
 }
 
-/// What a verb asks of a table of this kind with the words behind it.
+/// What a verb asks of a table of this config with the words behind it.
 #[tactic(auto, unfolding(crate::specs::CommandLines::call_of))]
-fn call(kind: Kind, mut words: Words) -> Result<Call, Cause>
-    ensures { result ≡ call_of kind words.entry }
+fn call(config: &Config, mut words: Words) -> Result<Call, Cause>
+    ensures { result ≡ call_of config.now words.entry }
 {
     let verb = words.next().ok_or(Cause::UnknownWord)?;
     if verb == BIND {
@@ -299,7 +296,9 @@ fn call(kind: Kind, mut words: Words) -> Result<Call, Cause>
     } else if verb == RELEASE {
         release(words)
     } else if verb == REBIND {
-        rebind(kind, words)
+        rebind(config.kind, words)
+    } else if verb == WALK {
+        bare(whole_walk(config), words)
     } else if verb == WORK {
         bare(Call::Work, words)
     } else if verb == TIDY {
@@ -369,6 +368,17 @@ fn rebind(kind: Kind, mut words: Words) -> Result<Call, Cause>
     match kind {
         Kind::Single => Ok(Call::Rebind { port, owner, new }),
         Kind::Listed => Err(Cause::WrongKind),
+    }
+}
+
+/// A walk over the whole table: it begins at the first bucket, and may show as many pairs as there
+/// are nodes.
+fn whole_walk(config: &Config) -> Call
+    ensures { result ≡ whole_walk config.now }
+{
+    Call::Walk {
+        from: None,
+        limit: config.nodes,
     }
 }
 

@@ -129,16 +129,22 @@ fn reads_table_lines(rt: HostRuntime) {
 
 #[test]
 fn reads_command_lines(rt: HostRuntime) -> Result<(), Fail> {
-    let single = table_line(b"table single workers 2")?;
+    let single = table_line(b"table single workers 2 nodes 16")?;
     let bind = Call::Bind {
         port: 80,
         owner: 100,
         once: false,
     };
+    let walk = Call::Walk {
+        from: None,
+        limit: 16,
+    };
     let cases = [
         (" 1 bind\t80 100", Ok((1, bind))),
         ("02 find 80", Ok((2, Call::Find { port: 80 }))),
         ("1 work", Ok((1, Call::Work))),
+        ("2 walk\r", Ok((2, walk))),
+        ("1 walk 16", Err(2)),
         ("", Err(2)),
         ("\r", Err(2)),
         ("step 1 1", Err(2)),

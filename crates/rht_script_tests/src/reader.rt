@@ -143,7 +143,7 @@ fn reads_scripts(rt: HostRuntime) -> Result<(), Fail> {
             &[(1, Call::Find { port: 0 })],
         ),
         (
-            "table single workers 2\n2 find 0\n1 count\n2 work\n1 tidy\n",
+            "table single workers 2\n2 find 0\n1 count\n2 work\n1 tidy\n2 walk\n",
             Config {
                 callers: 2,
                 ..plain
@@ -153,16 +153,33 @@ fn reads_scripts(rt: HostRuntime) -> Result<(), Fail> {
                 (1, Call::Count),
                 (2, Call::Work),
                 (1, Call::Tidy),
+                (
+                    2,
+                    Call::Walk {
+                        from: None,
+                        limit: 4096,
+                    },
+                ),
             ],
         ),
         (
-            "table listed workers 16\n16 find 0\n",
+            "table listed workers 16 nodes 7\n16 find 0\n1 walk\n",
             Config {
                 kind: Kind::Listed,
                 callers: 16,
+                nodes: 7,
                 ..plain
             },
-            &[(16, Call::Find { port: 0 })],
+            &[
+                (16, Call::Find { port: 0 }),
+                (
+                    1,
+                    Call::Walk {
+                        from: None,
+                        limit: 7,
+                    },
+                ),
+            ],
         ),
         ("table single nodes 1\n", Config { nodes: 1, ..plain }, &[]),
         (

@@ -10,6 +10,7 @@ use rht_model::Reply;
 use rht_policy::{Low, Mix};
 use rht_run::{Pass, Table};
 use rht_words::{Config, Port};
+use std::alloc::{AllocError, Global};
 use std::sync::Wait;
 use std::test::Fail;
 use std::thread::{Threads, join};
@@ -49,6 +50,36 @@ fn both<M: Mix + Send + Sync, R: Threads + Wait + Sync>(
     )
 }
 
+/// The greatest number of buckets that a table may have.
+const MOST_BUCKETS: u32 = 131_072;
+
+/// The bound ports with their first owners. The table is walked in pieces, of which each ends behind a
+/// bucket once so many pairs or more are shown; so there are no more pieces than buckets. `None` where
+/// the walk has to begin anew.
+fn walked<M: Mix>(
+    alloc: Global,
+    table: &Table<M>,
+    pass: &mut Pass<M>,
+    limit: u32,
+) -> Result<Option<Vec<(Port, u32)>>, AllocError>
+    requires pass { IsPassOf M.mix_of table.now pass.old }
+    requires idle { is_idle pass.old.local ≡ true }
+{
+    let mut pairs = Vec::new(alloc);
+    let mut from = None;
+    for _ in 0..MOST_BUCKETS {
+        let Reply::Walked { next, .. } = table.walk(pass, from, limit) else {
+            return Ok(None);
+        };
+        pairs.extend_from_slice(pass.pairs())?;
+        if next.is_none() {
+            return Ok(Some(pairs));
+        }
+        from = next;
+    }
+    Ok(None)
+}
+
 /// The two passes of a new table.
 pub fn pair<M: Mix>(table: &Table<M>, mut passes: Vec<Pass<M>>) -> Option<(Pass<M>, Pass<M>)>
     requires { AreNew M.mix_of table.now 0 passes.items }
@@ -81,5 +112,7 @@ fn two_threads_share_a_registry(rt: HostRuntime) -> Result<(), Fail> {
         Reply::Found { owner: 2 },
     ];
     assert_same(&rt, [counted, found, other], want);
+    let pairs = walked(rt.alloc(), &table, &mut first, 1)?.ok_or("a whole walk")?;
+    assert_same(&rt, pairs.as_slice(), &[(5, 2), (6, 2)]);
     Ok(())
 }

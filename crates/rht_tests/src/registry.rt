@@ -1,10 +1,9 @@
 //! Scripts done on a table. The replies are worked out by hand from what the commands say.
 
 ghost use Rattle.std.specs.Prelude.{◌≡◌, false, IfOk};
-ghost use Rattle.std.specs.List.{AllByRecursion};
 ghost use Rattle.rht_model.specs.declared.history.Call.TheVariants.{Bind, Rebind};
 ghost use Rattle.rht_policy.specs.Mix.{mix_named, low_mix};
-ghost use Rattle.rht_script.specs.Sound.{IsSoundScript, IsCommandCall};
+ghost use Rattle.rht_script.specs.Sound.{IsSoundScript};
 ghost use Rattle.rht_registry.specs.Outcomes.{IsOutcome};
 
 use crate::asserts::{assert_bound, assert_same};
@@ -51,10 +50,10 @@ fn rebind(port: Port, owner: u32, new: u32) -> Call
     Call::Rebind { port, owner, new }
 }
 
-/// Binds ports of one bucket and of another, takes one out, gives one another owner, and looks ports up.
+/// Binds ports of one bucket and of another, takes one out, gives one another owner, looks ports up,
+/// and walks the table.
 fn small_script<M: Mix>(alloc: Global) -> Result<Script, AllocError>
-    ensures mix { IfOk result (λ script. low_mix ≡ mix_named script.config) }
-    ensures asked { IfOk result (λ script. AllByRecursion (λ command. IsCommandCall command.1) script.commands.items) }
+    ensures { IfOk result (λ script. low_mix ≡ mix_named script.config) }
 {
     let commands = [
         (1, bind(69, 7)),
@@ -69,6 +68,13 @@ fn small_script<M: Mix>(alloc: Global) -> Result<Script, AllocError>
         (1, Call::Find { port: 69 }),
         (1, Call::Find { port: 5 }),
         (1, Call::Count),
+        (
+            1,
+            Call::Walk {
+                from: None,
+                limit: 4,
+            },
+        ),
     ];
     Ok(Script {
         config: SMALL,
@@ -148,9 +154,14 @@ fn a_script_is_done_on_the_table(rt: HostRuntime) -> Result<(), Fail> {
         Reply::Found { owner: 8 },
         Reply::Missing,
         Reply::Counted { count: 3 },
+        Reply::Walked { len: 3, next: None },
     ];
     assert!(rt; replies.len() == 1);
     assert_replies(&rt, &replies[0], &want);
+    // Port 69 is in bucket 5.
+    assert!(rt; replies[0].len() > 12);
+    assert_same(&rt, replies[0].pairs(12), &[(69, 8), (6, 4), (7, 1)]);
+    assert_same(&rt, replies[0].pairs(11), &[]);
     assert_bound(&rt, &closed, 64, &[(6, &[4]), (7, &[1]), (69, &[8])]);
     Ok(())
 }
@@ -164,16 +175,15 @@ fn the_gate_hears_of_each_command(rt: HostRuntime) -> Result<(), Fail> {
         after: AtomicU32::new(0),
     };
     run_workers::<Low, _, _>(&rt, rt.alloc(), &script, &gate)?;
-    // Twelve commands of worker 1, and the numbers from 1 to 12.
-    assert_same(&rt, gate.before.load(Ordering::SeqCst), 1_278);
-    assert_same(&rt, gate.after.load(Ordering::SeqCst), 1_278);
+    // Thirteen commands of worker 1, and the numbers from 1 to 13.
+    assert_same(&rt, gate.before.load(Ordering::SeqCst), 1_391);
+    assert_same(&rt, gate.after.load(Ordering::SeqCst), 1_391);
     Ok(())
 }
 
 /// Two workers, each with one bind, of the port that has its number.
 fn pair_script<M: Mix>(alloc: Global, order: [u32; 2]) -> Result<Script, AllocError>
-    ensures mix { IfOk result (λ script. low_mix ≡ mix_named script.config) }
-    ensures asked { IfOk result (λ script. AllByRecursion (λ command. IsCommandCall command.1) script.commands.items) }
+    ensures { IfOk result (λ script. low_mix ≡ mix_named script.config) }
 {
     let [first, second] = order;
     let commands = [(first, bind(first, first)), (second, bind(second, second))];

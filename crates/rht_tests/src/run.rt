@@ -8,7 +8,7 @@ ghost use Rattle.rht_run.specs.Passes.{IsPassOf, AreNew, IsNew};
 
 use crate::asserts::{assert_bound, assert_same};
 use crate::library::pair;
-use rht_model::{Call, Closed, Reply};
+use rht_model::{Call, Closed, Cursor, Reply};
 use rht_policy::{Low, Mix};
 use rht_run::{Pass, Table};
 use rht_words::{Config, Hash, Kind, Port};
@@ -287,5 +287,77 @@ fn a_node_that_was_tidied_is_bound_again(rt: HostRuntime) -> Result<(), Fail> {
         Reply::Found { owner: 2 },
     ];
     assert_same(&rt, hand_over(&rt, &table, &mut first, &mut second), want);
+    Ok(())
+}
+
+/// Binds three ports in a table of four buckets.
+fn bind_three<M: Mix, R: Wait>(rt: &R, table: &Table<M>, pass: &mut Pass<M>)
+    requires pass { IsPassOf M.mix_of table.now pass.old }
+    requires idle { is_idle pass.old.local ≡ true }
+    ensures pass { IsPassOf M.mix_of table.now pass.new }
+    ensures idle { is_idle pass.new.local ≡ true }
+{
+    table.bind(rt, pass, 7, 1);
+    table.bind(rt, pass, 2, 2);
+    table.bind(rt, pass, 5, 4);
+}
+
+/// Walks from this cursor on, or from the first bucket.
+fn walk<M: Mix>(table: &Table<M>, pass: &mut Pass<M>, from: Option<Cursor>, limit: u32) -> Reply
+    requires pass { IsPassOf M.mix_of table.now pass.old }
+    requires idle { is_idle pass.old.local ≡ true }
+    ensures pass { IsPassOf M.mix_of table.now pass.new }
+    ensures idle { is_idle pass.new.local ≡ true }
+{
+    table.walk(pass, from, limit)
+}
+
+/// Port 5 is in bucket 1, port 2 in bucket 2, and port 7 in the last one.
+#[test]
+fn a_walk_shows_each_port(rt: HostRuntime) -> Result<(), Fail> {
+    let (table, mut pass) = opened::<Low>(&rt, rt.alloc(), Config { hint: 3, ..SMALL })?;
+    bind_three(&rt, &table, &mut pass);
+    let whole = walk(&table, &mut pass, None, 8);
+    assert_same(&rt, whole, Reply::Walked { len: 3, next: None });
+    assert_same(&rt, pass.pairs(), &[(5, 4), (2, 2), (7, 1)]);
+    let behind_first = Some(Cursor {
+        serial: 0,
+        bucket: 2,
+    });
+    let first = walk(&table, &mut pass, None, 1);
+    assert_same(
+        &rt,
+        first,
+        Reply::Walked {
+            len: 1,
+            next: behind_first,
+        },
+    );
+    assert_same(&rt, pass.pairs(), &[(5, 4)]);
+    let behind_second = Some(Cursor {
+        serial: 0,
+        bucket: 3,
+    });
+    let second = walk(&table, &mut pass, behind_first, 1);
+    assert_same(
+        &rt,
+        second,
+        Reply::Walked {
+            len: 1,
+            next: behind_second,
+        },
+    );
+    assert_same(&rt, pass.pairs(), &[(2, 2)]);
+    let last = walk(&table, &mut pass, behind_second, 1);
+    assert_same(&rt, last, Reply::Walked { len: 1, next: None });
+    assert_same(&rt, pass.pairs(), &[(7, 1)]);
+    // The table has no fifth bucket, so the walk begins anew.
+    let beyond = Some(Cursor {
+        serial: 0,
+        bucket: 4,
+    });
+    let again = walk(&table, &mut pass, beyond, 1);
+    assert_same(&rt, again, Reply::Again { table: 0 });
+    assert!(rt; pass.pairs().is_empty());
     Ok(())
 }

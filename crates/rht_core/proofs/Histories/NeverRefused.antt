@@ -86,7 +86,7 @@ tries-all P tidies call own ending (first ∷ tidy ∷ done ∷ next ∷ dones) 
 
 module _ (auto : Bool) where
   -- so what is so of all commands besides is so of all calls
-  calls-serve : (P : Call → Type 0) → P Work → P Tidy → (calls : List Call) (endings : List Ending) (done : List Finished)
+  pub calls-serve : (P : Call → Type 0) → P Work → P Tidy → (calls : List Call) (endings : List Ending) (done : List Finished)
       → Serves auto calls endings done → AllByRecursion P calls → AllByRecursion (λ (d : Finished). P d.call) done
   calls-serve P work tidies [] [] done serves all = subst (AllByRecursion (λ (d : Finished). P d.call)) (sym serves) tt
   calls-serve P work tidies [] (ending ∷ endings) done serves all = absurd serves
@@ -120,7 +120,7 @@ module _ (auto : Bool) where
       )
 
 -- what is so of all commands is so of those of a worker
-calls_of-all : (P : Call → Type 0) (worker : ℕ) (commands : List (ℕ × Call)) → AllByRecursion (λ (command : ℕ × Call). P command.1) commands
+pub calls_of-all : (P : Call → Type 0) (worker : ℕ) (commands : List (ℕ × Call)) → AllByRecursion (λ (command : ℕ × Call). P command.1) commands
     → AllByRecursion P (calls_of worker commands)
 calls_of-all P worker [] all = tt
 calls_of-all P worker (command ∷ commands) all = go (command.0 == worker) (calls_of-all P worker commands all.1)
@@ -165,7 +165,7 @@ module _ (M : Type 0) (mix : ℕ → ℕ → ℕ → ℕ) (env : Env) (auto : Bo
 
   -- ---- all workers
 
-  has_few_ports : IsRoomyFor env.config commands → HasFewPorts env w
+  pub has_few_ports : IsRoomyFor env.config commands → HasFewPorts env w
   has_few_ports roomy = record {
     first = roomy.first;
     keeps_size = roomy.keeps_size;

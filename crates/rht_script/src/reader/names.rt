@@ -75,6 +75,9 @@ pub const RELEASE: &[u8] = b"release";
 /// The verb that puts a new owner in the only one's place.
 pub const REBIND: &[u8] = b"rebind";
 
+/// The verb that shows each bound port with its first owner.
+pub const WALK: &[u8] = b"walk";
+
 /// The verb that gives back the nodes that the worker took out.
 pub const TIDY: &[u8] = b"tidy";
 

@@ -7,7 +7,7 @@ ghost use Rattle.std.specs.Prelude.{◌≡◌, IfOk, IsTrue};
 ghost use Rattle.rht_words.specs.Settled.{IsSettled};
 ghost use Rattle.rht_script.specs.CommandLines.{command_of, port_limits};
 ghost use Rattle.rht_script.specs.Grammar.{coded};
-ghost use Rattle.rht_script.specs.Sound.{IsCommandCall, is_sound_command};
+ghost use Rattle.rht_script.specs.Sound.{is_sound_command};
 ghost use Rattle.rht_script.specs.Spelling.{between, number_of, words_of};
 ghost use Rattle.rht_script.specs.TableLines.{one_number, table_of};
 
@@ -54,7 +54,6 @@ pub fn command_line(line: &[u8], table: &TableLine) -> Result<(u32, Call), u8>
     requires form { table.now.form ≡ one_number }
     ensures value { result ≡ coded (command_of table.now (words_of line.now)) }
     ensures sound { IfOk result (λ command. IsTrue (is_sound_command table.now.config command)) }
-    ensures asked { IfOk result (λ command. IsCommandCall command.1) }
 {
     coded(first_command(table, Words::new(line)))
 }

@@ -2,9 +2,8 @@ use Rattle.std.proofs.Common.{◌≡◌, ◌+◌, ◌<◌, false, length, take, 
 use Rattle.rht_words.specs.declared.config.Config.{Config}
 use Rattle.rht_model.specs.declared.history.Call.TheVariants.{Bind}
 use Rattle.rht_core.specs.Runs.{IsBuiltFor}
-use Rattle.rht_script.specs.Sound.{IsCommandCall}
 use Rattle.rht_registry.proofs.ServedCalls.{new-below, served-kept, served-own, served-other, served-same}
-use Rattle.rht_registry.proofs.SoundCommands.{IsCommandFor, IsMadeCall-asked, sound-commands, next-command}
+use Rattle.rht_registry.proofs.SoundCommands.{IsCommandFor, sound-commands, next-command}
 use Rattle.rht_registry.proofs.registry.work_of.Goals.{then-command-worker+in_ok-push, else-command-worker}
 use Rattle.rht_registry.proofs.registry.work_of.Goals as goal
 
@@ -25,15 +24,6 @@ serve-reply-requires-clause-kind g c =
     (sound-commands config commands c.requires.can.sound.commands) within in
     subst (λ (k : Config). IsBuiltFor k.kind (get_or items i (0, Bind 0 0 false)).1) (sym c.requires.can.config) command.kind
 
-pub serve-reply-requires-clause-made : goal.serve-reply-requires-clause-made
-serve-reply-requires-clause-made g c =
-    let items = c.deref-command-items.result.now in
-    let i = c.loop-command.command-index in
-    let within : i < length items = omega arith in
-    IsMadeCall-asked (get_or items i (0, Bind 0 0 false)).1
-    (next-command (λ command. IsCommandCall command.1) items c.args.script.now.commands.items i (0, Bind 0 0 false)
-    c.loop-command.invariant.items c.requires.can.asked within)
-
 pub loop-command-preserved : goal.loop-command-preserved
 loop-command-preserved g c =
     let mix = g.M.Mix.mix_of in
@@ -53,12 +43,10 @@ loop-command-preserved g c =
           let own : here.0 ≡ number + 1 = omega (arith, w.if-command-worker.true) in
           let now = w.serve-reply.new.pass in
           let all = w.push.new.self in
-          let asked =
-          next-command (λ command. IsCommandCall command.1) items c.args.script.now.commands.items i (0, Bind 0 0 false) before.items
-          c.requires.can.asked within in
           let kept =
           served-kept mix table auto (take i items) number here.1 w.serve-reply.result c.loop-command.pass now c.loop-command.replies
-          all w.owners.result.now asked w.serve-reply.ensures.served w.owners.ensures.owners w.in_ok-push.ensures.ok before.served in
+          all w.owners.result.now w.pairs.result.now w.serve-reply.ensures.served w.owners.ensures.owners w.pairs.ensures.pairs
+          w.in_ok-push.ensures.ok before.served in
           let index_is = w.index-is in
           record {
             served =

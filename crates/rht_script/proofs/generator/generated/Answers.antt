@@ -3,7 +3,7 @@ use Rattle.std.specs.List.{flat_map, range_with_len}
 use Rattle.rht_script.specs.Generated.{worker_commands, generated_commands}
 use Rattle.rht_script.specs.Plain.{IsSayable}
 use Rattle.rht_script.proofs.GeneratedCommands.{added_more, generated_sayable}
-use Rattle.rht_script.proofs.SayableScripts.{IsSoundScript-sayable, commands_asked}
+use Rattle.rht_script.proofs.SayableScripts.{IsSoundScript-sayable}
 use Rattle.rht_script.proofs.generator.generated.Goals as goal
 
 pub loop-i-preserved : goal.loop-i-preserved
@@ -24,9 +24,4 @@ returns-clause-script c =
 pub returns-clause-sound : goal.returns-clause-sound
 returns-clause-sound c =
     IsSoundScript-sayable _ (subst IsSayable (sym (returns-clause-script c))
-    (generated_sayable c.args.number (omega (arith, c.ranges.number.fits))))
-
-pub returns-clause-asked : goal.returns-clause-asked
-returns-clause-asked c =
-    commands_asked _ (subst IsSayable (sym (returns-clause-script c))
     (generated_sayable c.args.number (omega (arith, c.ranges.number.fits))))

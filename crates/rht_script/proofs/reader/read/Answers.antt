@@ -4,7 +4,7 @@ use Rattle.rht_script.specs.declared.script.ScriptFault.{ScriptFault}
 use Rattle.rht_script.specs.Grammar.{Said, reading_of, said_from, said_with}
 use Rattle.rht_script.specs.Cursors.{Unread}
 use Rattle.rht_script.specs.Reading.{said_by, IsScript, IsReason, IsReasonFor}
-use Rattle.rht_script.proofs.SayableScripts.{says_sayable, IsSoundScript-sayable, commands_asked}
+use Rattle.rht_script.proofs.SayableScripts.{says_sayable, IsSoundScript-sayable}
 use Rattle.rht_script.proofs.ReadingLemmas.{reading_of-long, reading_of-lines}
 use Rattle.rht_script.proofs.reader.read.Goals as goal
 
@@ -50,10 +50,4 @@ pub returns-clause-sound : goal.returns-clause-sound
 returns-clause-sound c =
     IfOk-weaker c.script_below.result (IsScript c.args.bytes.now) _
     (λ script is. IsSoundScript-sayable script (says_sayable c.args.bytes.now (said_by script) is))
-    (returns-clause-script c)
-
-pub returns-clause-asked : goal.returns-clause-asked
-returns-clause-asked c =
-    IfOk-weaker c.script_below.result (IsScript c.args.bytes.now) _
-    (λ script is. commands_asked (said_by script) (says_sayable c.args.bytes.now (said_by script) is))
     (returns-clause-script c)

@@ -1,7 +1,7 @@
 use Rattle.std.proofs.Common.{◌≡◌, true}
 use Rattle.rht_script.specs.CommandLines.{command_of}
-use Rattle.rht_script.specs.Sound.{IsCommandCall, is_sound_command}
-use Rattle.rht_script.proofs.SayableScripts.{command_sound, command_asked, IfOk-coded}
+use Rattle.rht_script.specs.Sound.{is_sound_command}
+use Rattle.rht_script.proofs.SayableScripts.{command_sound, IfOk-coded}
 use Rattle.rht_script.proofs.reader.parts.command_line.Goals as goal
 
 pub returns-clause-sound : goal.returns-clause-sound
@@ -10,10 +10,3 @@ returns-clause-sound c =
     rw (c.coded.ensures, c.first_command.ensures)
     (IfOk-coded (λ command. is_sound_command table.config command ≡ true) (command_of table c.new.result)
     (command_sound table c.new.result))
-
-pub returns-clause-asked : goal.returns-clause-asked
-returns-clause-asked c =
-    let table = c.args.table.now in
-    rw (c.coded.ensures, c.first_command.ensures)
-    (IfOk-coded (λ command. IsCommandCall command.1) (command_of table c.new.result)
-    (command_asked table c.new.result))

@@ -1,4 +1,4 @@
-use Rattle.std.proofs.Common.{◌∙◌, ap, ◌+◌, arith}
+use Rattle.std.proofs.Common.{arith}
 use Rattle.rht_script.proofs.Summaries.{sum_of_ports-more}
 use Rattle.rht_script.proofs.writer.summary.sum_of_ports.Goals as goal
 

@@ -2,7 +2,7 @@ use Rattle.std.specs.Prelude.{◌≡◌, ◌<◌}
 use Rattle.rht_chain.specs.declared.locked_walk.LockedWalkAt.TheVariants.{Key}
 use Rattle.rht_chain.specs.declared.probe.ProbeAt.TheVariants.{Walking}
 use Rattle.rht_run.specs.Rides.{IsRiding}
-use Rattle.rht_run.proofs.table.Table.walk.Given as goal
+use Rattle.rht_run.proofs.table.Table.walk_locked.Given as goal
 
 -- the walk stands before the key of this node
 abbrev pub invariant-loop : goal.invariant-loop
