@@ -338,7 +338,11 @@ module _ (g : Geometry) (caller : ℕ) (from : Option Cursor) (limit most : ℕ)
         visited = chain.visited;
         last = link;
         at_nodes = here;
-        strange = record { foreign = eqb-false link (marker_of chain.place) f; stops = stops };
+        strange = record {
+          foreign = eqb-false link (marker_of chain.place) f;
+          stops = stops;
+          few = let few = here.few in let counted = here.counted in omega (arith, few, counted);
+        };
       })
 
   pub led_at : (steps : List Performed) (room : Pairs) (chain : Chain) (link : ℕ) (here : AtNodes steps [] room chain link [])

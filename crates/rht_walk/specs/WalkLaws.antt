@@ -144,10 +144,11 @@ chain_steps g place word nodes = record { op = Load place; old = word } ∷ flat
 abbrev pub FindsBucket : Geometry → ℕ → ℕ → List ℕ → Bucket → Type 0
 FindsBucket g shape bucket entries found = (finding_ran g shape bucket entries).next ≡ Done found
 
--- a chain ends strangely: not at the bucket's own marker, and at no node, or where as many were visited as there are
+-- a chain ends strangely: not at the bucket's own marker, and at no node, or where as many were visited as there are, and no more
 pub record IsStrange (g : Geometry) (place : ℕ) (nodes : List NodeSeen) (last : ℕ) : Type 0 where
   pub foreign : last ≢ marker_of place
   pub stops : (node_of g.nodes last ≡ None) ⊎ (length nodes ≡ g.nodes)
+  pub few : length nodes ≤ g.nodes
 
 -- of a table in this slot with this shape
 module _ (g : Geometry) (table shape : ℕ) where
