@@ -2,8 +2,6 @@
 pub mod ToldInput
 -- where nothing fails, whole input is served and input at fault refused
 pub mod Completeness
--- where the table is roomy no walk has to begin anew
-pub mod RoomyWalks
 -- what a served run is printed as
 pub mod RunTexts
 -- the script of a number has nodes enough

@@ -28,7 +28,6 @@ use Rattle.rht_cli.specs.declared.form.Form.TheVariants.{Run, Gen}
 use Rattle.rht_cli.specs.Input.{IsScriptRead}
 use Rattle.rht_cli.specs.Forms.{Prints}
 use Rattle.rht_cli.specs.RunText.{whole_text, summary_text, IsRunText}
-use Rattle.rht_cli.proofs.RoomyWalks.{walks_taken}
 
 -- what is printed of what was served is the text of a run
 IsRunText-served : (printed : List (List Ending) → Closed → List ℕ) (said : Said) (endings : List (List Ending)) (closed : Closed)
@@ -39,8 +38,6 @@ IsRunText-served printed said endings closed all run = record {
   closed = closed;
   run = run;
   in_script_order = λ one. sym (calls_of-one said.config said.commands one all);
-  walks = λ roomy.
-      walks_taken (tag_of said.config.hash) (mix_named said.config) said.config said.auto said.commands endings closed run.served all roomy;
   written = refl;
 }
 

@@ -2,14 +2,10 @@
 -- What is so of that run stands in `HasRun`.
 -- The size is that of the current table in the last words of the run (`IsClosedOf`): growing and shrinking decide which one that is, and
 -- where the script doesn't say manual, workers do that by themselves.
-use Rattle.std.specs.Prelude.{◌≡◌, ◌≢◌, ℕ, List, map}
-use Rattle.std.specs.List.{AllByRecursion}
+use Rattle.std.specs.Prelude.{◌≡◌, ℕ, List, map}
 use Rattle.rht_model.specs.declared.bindings.Closed.{Closed}
-use Rattle.rht_model.specs.declared.history.Reply.TheVariants.{Again}
 use Rattle.rht_model.specs.Endings.{Ending}
-use Rattle.rht_core.specs.NeverRefused.{IsRoomyFor}
 use Rattle.rht_core.specs.Serving.{calls_of}
-use Rattle.rht_core.specs.ToldHistories.{endings_by}
 use Rattle.rht_run.specs.ServedRuns.{HasRun}
 use Rattle.rht_script.specs.Grammar.{Said}
 use Rattle.rht_script.specs.Text.{run_text}
@@ -23,10 +19,6 @@ whole_text endings closed = run_text endings closed.bindings.pairs closed.size
 abbrev pub summary_text : ℕ → List (List Ending) → Closed → List ℕ
 summary_text number endings closed = summary_line number endings closed.bindings.pairs
 
--- no command ended so that it has to begin anew: of commands only a walk can end so
-abbrev pub NoneAgain : List Ending → Type 0
-NoneAgain endings = AllByRecursion (λ ending. (table : ℕ) → ending.answer.reply ≢ Again table) endings
-
 -- The text is what is printed of a run which serves what the script says.
 pub record IsRunText (printed : List (List Ending) → Closed → List ℕ) (said : Said) (text : List ℕ) : Type 0 where
   -- how each worker's commands ended, and what was closed
@@ -36,7 +28,5 @@ pub record IsRunText (printed : List (List Ending) → Closed → List ℕ) (sai
   pub run : HasRun said.config said.auto said.commands endings closed
   -- where there is one worker its commands are all, in the order of the script
   pub in_script_order : said.config.callers ≡ 1 → calls_of 1 said.commands ≡ map (λ command. command.1) said.commands
-  -- where the table is roomy for the commands, no walk has to begin anew
-  pub walks : IsRoomyFor said.config said.commands → (caller : ℕ) → NoneAgain (endings_by caller endings)
   -- and the endings and what was closed are what is printed
   pub written : text ≡ printed endings closed

@@ -14,7 +14,8 @@ use Rattle.rht_model.specs.Answers.{port_of, answer_of, bindings_after, is_refus
 use Rattle.rht_model.specs.Endings.{Ending}
 use Rattle.rht_model.specs.Histories.{without_kick}
 use Rattle.rht_model.specs.Listing.{Lists}
-use Rattle.rht_core.specs.FewPorts.{BindsAmong}
+use Rattle.rht_model.specs.declared.history.Reply.{Reply}
+use Rattle.rht_core.specs.FewPorts.{BindsAmong, IsCallTaken}
 use Rattle.rht_core.specs.NodesUsed.{needs_node}
 use Rattle.rht_core.specs.Serving.{calls_of, IsServedRun}
 use Rattle.rht_stands.specs.StandsFor.{AreBound}
@@ -40,9 +41,18 @@ NoneRefused (call ∷ calls) [] = ⊥
 NoneRefused (call ∷ calls) (ending ∷ endings) =
     (is_some (port_of call) ≡ true → is_refusal ending.answer.reply ≡ false) × NoneRefused calls endings
 
--- no command about bindings was refused, and the table that was closed has the size with which it began
+-- each of these calls ended with such a reply
+abbrev pub EndWith : (Call → Reply → Type 0) → List Call → List Ending → Type 0
+EndWith Is [] [] = Unit {0}
+EndWith Is [] (ending ∷ endings) = ⊥
+EndWith Is (call ∷ calls) [] = ⊥
+EndWith Is (call ∷ calls) (ending ∷ endings) = Is call ending.answer.reply × EndWith Is calls endings
+
+-- No command about bindings was refused, no walk from the first bucket on had to begin anew, and each resizing that was refused found another
+-- caller at work. The table that was closed has the size with which it began.
 pub record AreAllTaken (config : Config) (commands : List (ℕ × Call)) (endings : List (List Ending)) (closed : Closed) : Type 0 where
   pub taken : (caller : ℕ) → caller < config.callers → NoneRefused (calls_of (caller + 1) commands) (endings_by caller endings)
+  pub calls : (caller : ℕ) → caller < config.callers → EndWith IsCallTaken (calls_of (caller + 1) commands) (endings_by caller endings)
   pub size : closed.size ≡ first_size config
 
 -- ---- one worker
@@ -84,7 +94,8 @@ pub record AreAsModel (kind : Kind) (calls : List Call) (endings : List Ending) 
 -- ---- the law
 
 module _ (M : Type 0) (mix : ℕ → ℕ → ℕ → ℕ) where
-  -- in every run that serves commands for which its table is roomy no command about bindings is refused, and the size stays as it began
+  -- in every run that serves commands for which its table is roomy no command about bindings is refused, no walk from the first bucket on has to
+  -- begin anew, and the size stays as it began
   abbrev pub RoomyTakesAll : Type 0
   RoomyTakesAll =
       (config : Config) (auto : Bool) (commands : List (ℕ × Call)) (endings : List (List Ending)) (closed : Closed)

@@ -484,13 +484,14 @@ pub fn told<M: Mix>()
 
 /// Where a run serves the commands of workers, no command about bindings is refused, if three things are so.
 /// The table begins with 64 buckets or more and doesn't shrink. It has as many nodes as there are commands that
-/// bind or rebind, or more. And these binds have 15 ports at most. The table is then closed with the size with
-/// which it began.
+/// bind or rebind, or more. And these binds have 15 ports at most. Then too no walk from the first bucket on has
+/// to begin anew, and a `Work` is refused only since another caller is at work. The table is closed with the size
+/// with which it began.
 ///
 /// Where there is one worker, 16 buckets are enough, and the ports may be any, if by the model fewer than 16 are
 /// bound after each command. Then each command about bindings is answered as the model answers it, in the order
 /// of the script, and what was closed is what the model leaves. A kick isn't looked at. It doesn't say that there
-/// is such a run, and nothing of how commands end that aren't about bindings.
+/// is such a run, and of one worker nothing of how commands end that aren't about bindings.
 pub fn never_refused<M: Mix>()
     ensures workers { RoomyTakesAll M M.mix_of }
     ensures one_worker { OneWorkerAsModel M M.mix_of }

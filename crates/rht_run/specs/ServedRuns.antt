@@ -53,8 +53,8 @@ pub record HasRun (config : Config) (auto : Bool) (commands : List (ℕ × Call)
   pub found : (caller : ℕ)
       → AllByRecursion (IsFoundThroughout (tag_of config.hash) (mix_named config) served.env served.events)
       ((traced_of {M = tag_of config.hash} (mix_named config) served.env served.events).traces caller).past
-  -- Where the table is roomy for the commands none about bindings is refused, and the size that was closed is the one with which the
-  -- table began.
+  -- Where the table is roomy for the commands none about bindings is refused, no walk from the first bucket on has to begin anew, and the
+  -- size that was closed is the one with which the table began.
   pub roomy : IsRoomyFor config commands → AreAllTaken config commands endings closed
   -- Where there is one worker, and the table is enough for its commands, each about bindings is answered as the model answers it, in their
   -- order, and what was closed is what the model leaves.

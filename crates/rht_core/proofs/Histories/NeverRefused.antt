@@ -1,4 +1,4 @@
--- Of the commands that a run serves none about bindings is refused, where the binds have at most 15 different ports, and the table has 64 first
+-- Of the commands that a run serves none about bindings is refused, and no walk has to begin anew, where the binds have at most 15 different ports, and the table has 64 first
 -- buckets or more, doesn't shrink, and has a node for each bind and rebind. One worker needs 16 buckets, and ports fewer than 16 at a time.
 --
 -- All workers: the finished calls are those of the commands, tidyings and `work`s, so the run has few ports, and no bind is refused but
@@ -41,7 +41,7 @@ use Rattle.rht_core.specs.Runs.{World, run_of, IsAdmitted, IsAdmittedEvent}
 use Rattle.rht_stands.specs.Closing.{IsClosedOf, current_size}
 use Rattle.rht_core.specs.FewPorts.{BindsAmong, HasFewPorts, IsNoTableMade, IsBindTaken, IsCallTaken, IsForOne}
 use Rattle.rht_core.specs.Laws.{IsPastCall}
-use Rattle.rht_core.specs.NeverRefused.{IsRoomyFor, NoneRefused, AreAllTaken, bindings_after_all, IsSmallFor, AreAsModel, RoomyTakesAll, OneWorkerAsModel}
+use Rattle.rht_core.specs.NeverRefused.{IsRoomyFor, NoneRefused, EndWith, AreAllTaken, bindings_after_all, IsSmallFor, AreAsModel, RoomyTakesAll, OneWorkerAsModel}
 use Rattle.rht_core.specs.NodesUsed.{needs_node}
 use Rattle.rht_core.specs.Numbered.{Numbered, history_of}
 use Rattle.rht_core.specs.Replies.{IsRightlyAnswered}
@@ -86,7 +86,7 @@ tries-all P tidies call own ending (first ∷ tidy ∷ done ∷ next ∷ dones) 
 
 module _ (auto : Bool) where
   -- so what is so of all commands besides is so of all calls
-  pub calls-serve : (P : Call → Type 0) → P Work → P Tidy → (calls : List Call) (endings : List Ending) (done : List Finished)
+  calls-serve : (P : Call → Type 0) → P Work → P Tidy → (calls : List Call) (endings : List Ending) (done : List Finished)
       → Serves auto calls endings done → AllByRecursion P calls → AllByRecursion (λ (d : Finished). P d.call) done
   calls-serve P work tidies [] [] done serves all = subst (AllByRecursion (λ (d : Finished). P d.call)) (sym serves) tt
   calls-serve P work tidies [] (ending ∷ endings) done serves all = absurd serves
@@ -100,6 +100,31 @@ module _ (auto : Bool) where
       let others = calls-serve P work tidies calls endings serves.rest serves.rest_is all.1 in
       subst (AllByRecursion Q) (sym (command_parts auto call ending (Serves auto calls endings) done serves))
       (AllByRecursion-append Q tries (behind ++ serves.rest) tried (AllByRecursion-append Q behind serves.rest made others))
+
+  -- what is so of each call is so of each command with its reply
+  tries-last : (Is : Call → Reply → Type 0) (call : Call) (ending : Ending) (tries : List Finished) → AreTries call ending tries
+      → AllByRecursion (λ (d : Finished). Is d.call d.reply) tries → Is call ending.answer.reply
+  tries-last Is call ending [] are all = absurd are
+  tries-last Is call ending (done ∷ []) are all = subst (λ (d : Finished). Is d.call d.reply) are.0 all.0
+  tries-last Is call ending (first ∷ tidy ∷ []) are all = absurd are
+  tries-last Is call ending (first ∷ tidy ∷ done ∷ []) are all = subst (λ (d : Finished). Is d.call d.reply) are.3 all.1.1.0
+  tries-last Is call ending (first ∷ tidy ∷ done ∷ next ∷ dones) are all = absurd are
+
+  end-with : (Is : Call → Reply → Type 0) (calls : List Call) (endings : List Ending) (done : List Finished) → Serves auto calls endings done
+      → AllByRecursion (λ (d : Finished). Is d.call d.reply) done → EndWith Is calls endings
+  end-with Is [] [] done serves all = tt
+  end-with Is [] (ending ∷ endings) done serves all = absurd serves
+  end-with Is (call ∷ calls) [] done serves all = absurd serves
+  end-with Is (call ∷ calls) (ending ∷ endings) done serves all =
+      let Q : Finished → Type 0 = λ d. Is d.call d.reply in
+      let tries = serves.first_is.tries in
+      let behind = serves.first_is.behind in
+      let parts = AllByRecursion-cut Q tries (behind ++ serves.rest)
+      (subst (AllByRecursion Q) (command_parts auto call ending (Serves auto calls endings) done serves) all) in
+      let rest = AllByRecursion-cut Q behind serves.rest parts.1 in (
+        tries-last Is call ending tries serves.first_is.are_tries parts.0,
+        end-with Is calls endings serves.rest serves.rest_is rest.1,
+      )
 
   -- where calls are refused for want of a node alone, and none is, no command is refused
   none-refused : (calls : List Call) (endings : List Ending) (done : List Finished) → Serves auto calls endings done
@@ -120,7 +145,7 @@ module _ (auto : Bool) where
       )
 
 -- what is so of all commands is so of those of a worker
-pub calls_of-all : (P : Call → Type 0) (worker : ℕ) (commands : List (ℕ × Call)) → AllByRecursion (λ (command : ℕ × Call). P command.1) commands
+calls_of-all : (P : Call → Type 0) (worker : ℕ) (commands : List (ℕ × Call)) → AllByRecursion (λ (command : ℕ × Call). P command.1) commands
     → AllByRecursion P (calls_of worker commands)
 calls_of-all P worker [] all = tt
 calls_of-all P worker (command ∷ commands) all = go (command.0 == worker) (calls_of-all P worker commands all.1)
@@ -165,7 +190,7 @@ module _ (M : Type 0) (mix : ℕ → ℕ → ℕ → ℕ) (env : Env) (auto : Bo
 
   -- ---- all workers
 
-  pub has_few_ports : IsRoomyFor env.config commands → HasFewPorts env w
+  has_few_ports : IsRoomyFor env.config commands → HasFewPorts env w
   has_few_ports roomy = record {
     first = roomy.first;
     keeps_size = roomy.keeps_size;
@@ -199,6 +224,9 @@ module _ (M : Type 0) (mix : ℕ → ℕ → ℕ → ℕ) (env : Env) (auto : Bo
             (AllByRecursion-weaker (λ (d : Finished). IsCallTaken d.call d.reply) (λ (d : Finished). IsBindTaken d.call d.reply)
             (λ d. IsBindTaken-call d.call d.reply) done (stays.taken c)))
             (some c);
+        calls = λ c low.
+            end-with auto IsCallTaken (calls_of (c + 1) commands) (endings_by c endings) (w.books c).finished (each c low).serves
+            (stays.taken c);
         size = is_closed.size ∙ same_size M mix env w.core.words stays.none_made;
       }
 
