@@ -1,6 +1,6 @@
 -- How many operations a look-up has made in each of its states. In a table each operation leaves fewer to come (`lessens`), tables come in
 -- the order in which they were attached, and there are at most eight.
-use Rattle.std.proofs.Common.{◌≡◌, ℕ, ◌+◌, ◌*◌, ◌<◌, ◌≤◌, nat_lt, Bool, List, true, Option, Some, None, refl, sym, subst, arith}
+use Rattle.std.proofs.Common.{◌≡◌, ℕ, ◌+◌, ◌*◌, ◌<◌, ◌≤◌, nat_lt, Bool, List, Option, Some, None, refl, sym, subst, arith}
 use Rattle.std.specs.Prelude.{◌==◌}
 use Rattle.std.proofs.Math.Nat.{mul-le-mul_right}
 use Rattle.std.proofs.lemmas.Bool.{cond_both}
@@ -23,11 +23,13 @@ use Rattle.rht_find.specs.declared.find.Head.{Head}
 use Rattle.rht_find.specs.declared.find.FindAt.{FindAt}
 use Rattle.rht_find.specs.declared.find.FindAt.TheVariants as at
 use Rattle.rht_find.proofs.FindBounds.{lessens}
-use Rattle.rht_ghost.proofs.Theory.Ghosts.{Ghost, has_table, index_at}
-use Rattle.rht_ghost.proofs.Theory.Wholes.{Whole, one_slot}
-use Rattle.rht_ghost.proofs.Theory.Passed.{TablesGrow}
+use Rattle.rht_ghost.proofs.Theory.Ghosts.{Ghost}
+use Rattle.rht_ghost.proofs.Theory.Wholes.{Whole, IsAt, one_slot}
+use Rattle.rht_ghost.proofs.Theory.Passed.{TablesGrow, at-stays}
+use Rattle.rht_ghost.proofs.Theory.Knowledge.{next_at}
 use Rattle.rht_ghost.proofs.Theory.Steps.{mem}
 use Rattle.rht_ghost.proofs.Pieces.TableLoads.{LeadsBehind, future_leads}
+use Rattle.rht_core.proofs.Meaning.TablesInForce.{current_slot}
 use Rattle.rht_core.proofs.Finding.Places.{Places}
 use Rattle.rht_core.proofs.Finding.Lookups.{LookMeans}
 use Rattle.rht_core.proofs.Returning.FewTables.{few_tables}
@@ -75,19 +77,24 @@ module _ (env : Env) where
   abbrev left_at : FindAt → ℕ
   left_at = left_in_table env
 
-  -- the most up to the last one in the table of this slot
-  abbrev most_at : Ghost → ℕ → ℕ
-  most_at G slot = most_in (table_steps env) (index_at G slot)
+  -- the most up to the last one in this table
+  abbrev most_at : ℕ → ℕ
+  most_at τ = most_in (table_steps env) τ
+
+  -- so many are within those of the table that this slot has
+  record IsWithin (G : Ghost) (slot made : ℕ) : Type 0 where
+    at : IsAt G slot
+    few : made ≤ most_at at.table
 
   -- it has made so many operations in this state
   abbrev pub IsSpent : Ghost → FindAt → ℕ → Type 0
   IsSpent G at.Opening made = made ≤ 0
   IsSpent G at.CurrentTable made = made ≤ 1
-  IsSpent G (at.Locating reach) made = made + left_at (at.Locating reach) ≤ most_at G reach.table
-  IsSpent G (at.Heading head) made = made + left_at (at.Heading head) ≤ most_at G head.table
-  IsSpent G (at.Key head node visited) made = made + left_at (at.Key head node visited) ≤ most_at G head.table
-  IsSpent G (at.Link head node visited) made = made + left_at (at.Link head node visited) ≤ most_at G head.table
-  IsSpent G (at.Future table) made = made ≤ most_at G table
+  IsSpent G (at.Locating reach) made = IsWithin G reach.table (made + left_at (at.Locating reach))
+  IsSpent G (at.Heading head) made = IsWithin G head.table (made + left_at (at.Heading head))
+  IsSpent G (at.Key head node visited) made = IsWithin G head.table (made + left_at (at.Key head node visited))
+  IsSpent G (at.Link head node visited) made = IsWithin G head.table (made + left_at (at.Link head node visited))
+  IsSpent G (at.Future table) made = IsWithin G table made
   IsSpent G (at.Owner node) made = made ≤ most_in (table_steps env) 7
   IsSpent G (at.Closing reply) made = made ≤ most_of (table_steps env)
 
@@ -104,30 +111,32 @@ module _ (env : Env) where
   IsOfTable slot (at.Closing reply) = ⊥
 
   -- where so many were left, one more was made and fewer are left
-  spent_in : (G : Ghost) (slot made left : ℕ) (state : FindAt) → IsOfTable slot state → index_at G slot ≤ 7
-      → made + left ≤ most_at G slot → left_at state < left → IsSpent G state (made + 1)
-  spent_in G slot made left at.Opening of low few less = absurd of
-  spent_in G slot made left at.CurrentTable of low few less = absurd of
-  spent_in G slot made left (at.Locating reach) of low few less =
-      subst (λ s. made + 1 + left_at (at.Locating reach) ≤ most_at G s) (sym of)
-      (fewer made left (left_at (at.Locating reach)) (most_at G slot) few less)
-  spent_in G slot made left (at.Heading head) of low few less =
-      subst (λ s. made + 1 + left_at (at.Heading head) ≤ most_at G s) (sym of)
-      (fewer made left (left_at (at.Heading head)) (most_at G slot) few less)
-  spent_in G slot made left (at.Key head node visited) of low few less =
-      subst (λ s. made + 1 + left_at (at.Key head node visited) ≤ most_at G s) (sym of)
-      (fewer made left (left_at (at.Key head node visited)) (most_at G slot) few less)
-  spent_in G slot made left (at.Link head node visited) of low few less =
-      subst (λ s. made + 1 + left_at (at.Link head node visited) ≤ most_at G s) (sym of)
-      (fewer made left (left_at (at.Link head node visited)) (most_at G slot) few less)
-  spent_in G slot made left (at.Future table) of low few less =
-      subst (λ s. made + 1 ≤ most_at G s) (sym of)
-      (none_left made 0 (most_at G slot) (fewer made left 0 (most_at G slot) few less))
-  spent_in G slot made left (at.Owner node) of low few less =
-      at_most (made + 1) (most_at G slot) (most_in (table_steps env) 7)
-      (none_left made 0 (most_at G slot) (fewer made left 0 (most_at G slot) few less))
-      (most_in-seven (table_steps env) (index_at G slot) low)
-  spent_in G slot made left (at.Closing reply) of low few less = absurd of
+  spent_in : (G : Ghost) (slot made left : ℕ) (state : FindAt) → IsOfTable slot state → (is : IsWithin G slot (made + left))
+      → is.at.table ≤ 7 → left_at state < left → IsSpent G state (made + 1)
+  spent_in G slot made left at.Opening of is low less = absurd of
+  spent_in G slot made left at.CurrentTable of is low less = absurd of
+  spent_in G slot made left (at.Locating reach) of is low less =
+      subst (λ s. IsWithin G s (made + 1 + left_at (at.Locating reach))) (sym of)
+      (record { at = is.at; few = fewer made left (left_at (at.Locating reach)) (most_at is.at.table) is.few less })
+  spent_in G slot made left (at.Heading head) of is low less =
+      subst (λ s. IsWithin G s (made + 1 + left_at (at.Heading head))) (sym of)
+      (record { at = is.at; few = fewer made left (left_at (at.Heading head)) (most_at is.at.table) is.few less })
+  spent_in G slot made left (at.Key head node visited) of is low less =
+      subst (λ s. IsWithin G s (made + 1 + left_at (at.Key head node visited))) (sym of)
+      (record { at = is.at; few = fewer made left (left_at (at.Key head node visited)) (most_at is.at.table) is.few less })
+  spent_in G slot made left (at.Link head node visited) of is low less =
+      subst (λ s. IsWithin G s (made + 1 + left_at (at.Link head node visited))) (sym of)
+      (record { at = is.at; few = fewer made left (left_at (at.Link head node visited)) (most_at is.at.table) is.few less })
+  spent_in G slot made left (at.Future table) of is low less =
+      subst (λ s. IsWithin G s (made + 1)) (sym of) (record {
+        at = is.at;
+        few = none_left made 0 (most_at is.at.table) (fewer made left 0 (most_at is.at.table) is.few less);
+      })
+  spent_in G slot made left (at.Owner node) of is low less =
+      at_most (made + 1) (most_at is.at.table) (most_in (table_steps env) 7)
+      (none_left made 0 (most_at is.at.table) (fewer made left 0 (most_at is.at.table) is.few less))
+      (most_in-seven (table_steps env) is.at.table low)
+  spent_in G slot made left (at.Closing reply) of is low less = absurd of
 
   -- ---- it stays in its table
 
@@ -171,20 +180,29 @@ module _ (env : Env) where
               omega (arith, less, both);
         })
 
-    low_index : (slot : ℕ) → index_at G slot < G.attached → index_at G slot ≤ 7
-    low_index slot l = let few = few_attached in omega (arith, l, few)
+    low_index : (slot : ℕ) (at : IsAt G slot) → at.table ≤ 7
+    low_index slot at = let few = few_attached in omega (arith, at.attached, few)
 
     -- ---- each operation
 
-    future_spent : (table made : ℕ) → index_at G table < G.attached → (future : Option ℕ)
-        → LeadsBehind env mix M G whole table future → made ≤ most_at G table → IsSpent G (next_table env future) (made + 1)
-    future_spent table made attached None last few =
+    future_spent : (table made : ℕ) (is : IsWithin G table made) (future : Option ℕ)
+        → LeadsBehind env mix M G whole is.at.table future → IsSpent G (next_table env future) (made + 1)
+    future_spent table made is None last =
         most_in-all (table_steps env) made
-        (at_most made (most_at G table) (most_in (table_steps env) 7) few
-        (most_in-seven (table_steps env) (index_at G table) (low_index table attached)))
-    future_spent table made attached (Some next) behind few =
-        subst (λ i. made + 1 + table_steps env ≤ most_in (table_steps env) i) (sym behind.index)
-        (most_in-next (table_steps env) (index_at G table) made few)
+        (at_most made (most_at is.at.table) (most_in (table_steps env) 7) is.few
+        (most_in-seven (table_steps env) is.at.table (low_index table is.at)))
+    future_spent table made is (Some next) behind = record {
+      at = next_at env mix G is.at.table next behind;
+      few = most_in-next (table_steps env) is.at.table made is.few;
+    }
+
+    -- the current table
+    current_at : IsAt G (table_of (M CurrentTable))
+    current_at = record {
+      table = G.current;
+      attached = whole.tables.current_in;
+      slot_is = sym (current_slot env mix words G whole);
+    }
 
     -- but the last one, behind which the call has ended
     pub spent_leads : (caller made : ℕ) (state : FindAt) → says state ≡ Go → IsFindAtIn env state
@@ -192,31 +210,30 @@ module _ (env : Env) where
         → IsSpent G (goes mix env port state (old_of words (plan_at env caller state))) (made + 1)
     spent_leads caller made at.Opening goes_on within known few = omega (arith, few)
     spent_leads caller made at.CurrentTable goes_on within known few =
-        most_in-first (table_steps env) (index_at G (table_of (old_of words (plan_at env caller at.CurrentTable)))) made few
+        record { at = current_at; few = most_in-first (table_steps env) G.current made few }
     spent_leads caller made (at.Locating reach) goes_on within known few =
         let word = old_of words (reach_plan reach) in
         let r = reach_after mix port reach word in
         spent_in G reach.table made (left_at (at.Locating reach)) (reached env r.0 r.1)
         (subst (λ s. IsOfTable s (reached env r.0 r.1)) (reach_after-table mix port reach word) (reached-of r.0 r.1))
-        (low_index reach.table known.0.0.attached) few (lessens mix env port (at.Locating reach) word within tt)
+        few (low_index reach.table few.at) (lessens mix env port (at.Locating reach) word within tt)
     spent_leads caller made (at.Heading head) goes_on within known few =
         let word = old_of words (plan_at env caller (at.Heading head)) in
         let link = head_of head.place word in
         spent_in G head.table made (left_at (at.Heading head)) _
         (led_to-of head 0 link (node_of env.geometry.nodes link))
-        (low_index head.table known.0.of.attached) few (lessens mix env port (at.Heading head) word within tt)
+        few (low_index head.table few.at) (lessens mix env port (at.Heading head) word within tt)
     spent_leads caller made (at.Key head node visited) goes_on within known few =
         let word = old_of words (plan_at env caller (at.Key head node visited)) in
         spent_in G head.table made (left_at (at.Key head node visited)) _ (compared-of port head node visited word)
-        (low_index head.table known.0.of.attached) few (lessens mix env port (at.Key head node visited) word within tt)
+        few (low_index head.table few.at) (lessens mix env port (at.Key head node visited) word within tt)
     spent_leads caller made (at.Link head node visited) goes_on within known few =
         let link = old_of words (plan_at env caller (at.Link head node visited)) in
         spent_in G head.table made (left_at (at.Link head node visited)) _
         (led_to-of head visited link (node_of env.geometry.nodes link))
-        (low_index head.table known.0.of.attached) few (lessens mix env port (at.Link head node visited) link within tt)
+        few (low_index head.table few.at) (lessens mix env port (at.Link head node visited) link within tt)
     spent_leads caller made (at.Future table) goes_on within known few =
-        future_spent table made known.0.attached (slot_of (M (Slot table FutureWord)))
-        (future_leads env mix M G whole table known.0.table) few
+        future_spent table made few (slot_of (M (Slot table FutureWord))) (future_leads env mix M G whole table few.at)
     spent_leads caller made (at.Owner node) goes_on within known few = most_in-all (table_steps env) made few
     spent_leads caller made (at.Closing reply) goes_on within known few = absurd (cc)
 
@@ -226,36 +243,31 @@ module _ (env : Env) where
     spent_most made at.Opening known few = most_of-first (table_steps env) made (omega (arith, few))
     spent_most made at.CurrentTable known few = most_of-first (table_steps env) made few
     spent_most made (at.Locating reach) known few =
-        most_of-in (table_steps env) (index_at G reach.table) made (left_at (at.Locating reach))
-        (low_index reach.table known.0.0.attached) few
+        most_of-in (table_steps env) few.at.table made (left_at (at.Locating reach)) (low_index reach.table few.at) few.few
     spent_most made (at.Heading head) known few =
-        most_of-in (table_steps env) (index_at G head.table) made (left_at (at.Heading head))
-        (low_index head.table known.0.of.attached) few
+        most_of-in (table_steps env) few.at.table made (left_at (at.Heading head)) (low_index head.table few.at) few.few
     spent_most made (at.Key head node visited) known few =
-        most_of-in (table_steps env) (index_at G head.table) made (left_at (at.Key head node visited))
-        (low_index head.table known.0.of.attached) few
+        most_of-in (table_steps env) few.at.table made (left_at (at.Key head node visited)) (low_index head.table few.at) few.few
     spent_most made (at.Link head node visited) known few =
-        most_of-in (table_steps env) (index_at G head.table) made (left_at (at.Link head node visited))
-        (low_index head.table known.0.of.attached) few
+        most_of-in (table_steps env) few.at.table made (left_at (at.Link head node visited)) (low_index head.table few.at) few.few
     spent_most made (at.Future table) known few =
-        most_of-in (table_steps env) (index_at G table) made 0 (low_index table known.0.attached) (omega (arith, few))
+        most_of-in (table_steps env) few.at.table made 0 (low_index table few.at) (omega (arith, few.few))
     spent_most made (at.Owner node) known few = most_of-in (table_steps env) 7 made 0 (omega arith) (omega (arith, few))
     spent_most made (at.Closing reply) known few = few
 
     -- and it stays so behind an operation of anybody else
     module _ (G' : Ghost) (grow : TablesGrow env mix G G') where
-      same_most : (slot : ℕ) → has_table (G.slot slot) ≡ true → (count : ℕ) → count ≤ most_at G slot → count ≤ most_at G' slot
-      same_most slot has count few =
-          subst (λ i. count ≤ most_in (table_steps env) i) (sym (grow.indices slot has)) few
+      same_most : (slot count : ℕ) → IsWithin G slot count → IsWithin G' slot count
+      same_most slot count is = record { at = at-stays env mix G G' grow slot is.at; few = is.few }
 
       pub spent_stays : (made : ℕ) (state : FindAt) → LookMeans env mix port seen since Says M G P state → IsSpent G state made
           → IsSpent G' state made
       spent_stays made at.Opening known few = few
       spent_stays made at.CurrentTable known few = few
-      spent_stays made (at.Locating reach) known few = same_most reach.table known.0.0.table _ few
-      spent_stays made (at.Heading head) known few = same_most head.table known.0.of.table _ few
-      spent_stays made (at.Key head node visited) known few = same_most head.table known.0.of.table _ few
-      spent_stays made (at.Link head node visited) known few = same_most head.table known.0.of.table _ few
-      spent_stays made (at.Future table) known few = same_most table known.0.table _ few
+      spent_stays made (at.Locating reach) known few = same_most reach.table _ few
+      spent_stays made (at.Heading head) known few = same_most head.table _ few
+      spent_stays made (at.Key head node visited) known few = same_most head.table _ few
+      spent_stays made (at.Link head node visited) known few = same_most head.table _ few
+      spent_stays made (at.Future table) known few = same_most table _ few
       spent_stays made (at.Owner node) known few = few
       spent_stays made (at.Closing reply) known few = few

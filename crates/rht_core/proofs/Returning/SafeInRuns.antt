@@ -18,9 +18,9 @@ use Rattle.rht_core.specs.Traces.{Did}
 use Rattle.rht_core.proofs.Events.Invariants.{StepOf, step_of}
 use Rattle.rht_ghost.proofs.Theory.Frames.{Made, GoesBack}
 use Rattle.rht_ghost.proofs.Theory.Ghosts.{Ghost, Owner, Free, NodeHeld, First, Leaving, Behind, Taken, PageOwner, PageFree, PageHeld, PageOf, SlotOwner, SlotFree, SlotHeld, Live, Retired, IsUsed, is_used, has_table, state_word}
-use Rattle.rht_ghost.proofs.Theory.Passed.{TablesGrow}
+use Rattle.rht_ghost.proofs.Theory.Passed.{TablesGrow, at-stays}
 use Rattle.rht_ghost.proofs.Theory.Steps.{mem, ghost_after}
-use Rattle.rht_ghost.proofs.Theory.Wholes.{Whole}
+use Rattle.rht_ghost.proofs.Theory.Wholes.{Whole, slot_at, at-there}
 use Rattle.rht_core.proofs.Returning.GoneBack.{gives_back}
 use Rattle.rht_core.proofs.Returning.MetBySome.{IsApart}
 use Rattle.rht_core.proofs.Returning.MetInRuns.{Met, has_met}
@@ -72,7 +72,10 @@ module _ (env : Env) (mix : ℕ → ℕ → ℕ → ℕ) (c : ℕ) (words : List
   freed_slot s taken frees = go (G.slot s) refl
     where
       still : has_table (G.slot s) ≡ true → ⊥
-      still has = let both : true ≡ false = sym (grow.slots s has) ∙ ap has_table frees in cc
+      still has =
+          let at = at-stays env mix G G' grow s (slot_at env mix whole.tables s has) in
+          let there = (at-there env mix made.whole.tables s at).has_slot in
+          let both : true ≡ false = sym there ∙ ap (λ t. has_table (G'.slot t)) at.slot_is ∙ ap has_table frees in cc
 
       go : (o : SlotOwner) → G.slot s ≡ o → (d : ℕ) × (G.slot s ≡ SlotHeld d)
       go SlotFree is = absurd (taken is)

@@ -247,8 +247,6 @@ module _ (env : Env) (mix : ℕ → ℕ → ℕ → ℕ) where
         placed = λ τ b j l at. inl at;
         attached = omega arith;
         current = is.later;
-        slots = λ s has. is.slots.has s ∙ has;
-        indices = is.slots.index;
         live = λ s τ now l. is.slots.was_live s τ now;
         pages = λ p τ of. of;
       }

@@ -3,7 +3,7 @@
 --
 -- It holds at the current table. Under the lock of the port's bucket in a table, where no node of the bucket has the port's key,
 -- it holds of the next table where there is one; and where there is none, the port is bound nowhere.
-use Rattle.std.proofs.Common.{◌≡◌, ◌≢◌, ◌⊎◌, ℕ, ◌+◌, ◌*◌, ◌/◌, ◌%◌, ◌^◌, ◌<◌, ◌≤◌, List, [], ◌∷◌, Option, Some, None, true, false, refl, sym, ◌∙◌, ap, inl, inr, subst, arith}
+use Rattle.std.proofs.Common.{◌≡◌, ◌≢◌, ◌⊎◌, ℕ, ◌+◌, ◌*◌, ◌/◌, ◌%◌, ◌^◌, ◌<◌, ◌≤◌, List, [], ◌∷◌, Option, Some, None, false, refl, sym, ◌∙◌, ap, inl, inr, subst, arith}
 use Rattle.std.proofs.lemmas.Bool.{cases_eq, cases_lt}
 use Rattle.std.proofs.Math.Nat.{mod-lt}
 use Rattle.rht_words.specs.declared.env.Env.{Env}
@@ -12,8 +12,8 @@ use Rattle.rht_words.proofs.Memory.{Memory}
 use Rattle.rht_words.proofs.ShapeSizes.{IsSizeUpTo-size_of}
 use Rattle.rht_words.specs.Members.{In}
 use Rattle.rht_policy.specs.Mix.{bucket_of}
-use Rattle.rht_ghost.proofs.Theory.Ghosts.{Table, Bucket, blank_bucket, is_entry, Ghost, First, PageOwner, PageFree, PageHeld, PageOf, Live, seat_in, seat, seated, table_of_page, table_at, has_table, index_at, none-some, some-same}
-use Rattle.rht_ghost.proofs.Theory.Wholes.{key_of, home, hash_in, IsNoBucket, MovesNone, seated_at, Whole, IsThere, force-there}
+use Rattle.rht_ghost.proofs.Theory.Ghosts.{Table, Bucket, blank_bucket, is_entry, Ghost, First, PageOwner, PageFree, PageHeld, PageOf, Live, seat_in, seat, seated, table_of_page, table_at, none-some, some-same}
+use Rattle.rht_ghost.proofs.Theory.Wholes.{key_of, home, hash_in, IsNoBucket, MovesNone, seated_at, Whole, IsThere, IsAt, force-there}
 use Rattle.rht_ghost.proofs.Theory.Entries.{IsWordOf, word_of, bucket-no_entry}
 
 -- none of these nodes has the key
@@ -411,10 +411,11 @@ module _ (env : Env) (mix : ℕ → ℕ → ℕ → ℕ) where
         → ((G.table τ).place b ≡ Some j) ⊎ (G'.bucket j ≡ blank_bucket)
     pub attached : G.attached ≤ G'.attached
     pub current : G.current ≤ G'.current
-    pub slots : (s : ℕ) → has_table (G.slot s) ≡ true → has_table (G'.slot s) ≡ true
-    pub indices : (s : ℕ) → has_table (G.slot s) ≡ true → index_at G' s ≡ index_at G s
     pub live : (s τ : ℕ) → G'.slot s ≡ Live τ → τ < G.attached → G.slot s ≡ Live τ
     pub pages : (p τ : ℕ) → G.page p ≡ PageOf τ → G'.page p ≡ PageOf τ
+
+  pub less-grown : {a b d : ℕ} → a < b → b ≤ d → a < d
+  less-grown l m = omega (arith, l, m)
 
   -- so everything stays from the first table on
   grows_from : (G G' : Ghost) → TablesGrow G G' → GrowsFrom 0 G G'
@@ -427,6 +428,14 @@ module _ (env : Env) (mix : ℕ → ℕ → ℕ → ℕ) where
     attached = grow.attached;
     current = grow.current;
     pages = λ p τ from. grow.pages p τ;
+  }
+
+  -- the table that a slot had is known by its index
+  abbrev pub at-stays : (G G' : Ghost) → TablesGrow G G' → (slot : ℕ) → IsAt G slot → IsAt G' slot
+  at-stays G G' grow slot at = record {
+    table = at.table;
+    attached = less-grown at.attached grow.attached;
+    slot_is = (grow.tables at.table at.attached).slot ∙ at.slot_is;
   }
 
   pub table_at-grows : (G G' : Ghost) → TablesGrow G G' → (j : ℕ) → table_at G j ≤ table_at G' j

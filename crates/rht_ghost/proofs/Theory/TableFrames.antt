@@ -105,8 +105,6 @@ module _ (env : Env) (mix : ℕ → ℕ → ℕ → ℕ) where
       placed = kept.placed;
       attached = kept.more;
       current = omega arith;
-      slots = λ s has. ap has_table (kept.slots s has) ∙ has;
-      indices = λ s has. ap table_of_slot (kept.slots s has);
       live = live_kept G table attached slot page kept;
       pages = kept.pages;
     }
@@ -332,6 +330,7 @@ module _ (env : Env) (mix : ℕ → ℕ → ℕ → ℕ) where
     work_kept c works = record {
       worker = works;
       current = refl;
+      left = λ s τ is l. kept.slots s (ap has_table is) ∙ is;
       emptied = λ more j at is. is;
       entries = λ j entry out. refl;
       chains = λ n j leaving.
