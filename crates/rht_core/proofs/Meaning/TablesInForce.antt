@@ -12,14 +12,10 @@ use Rattle.rht_words.specs.Members.{In, IsDistinct, NotIn}
 use Rattle.rht_words.proofs.Members.{count_below-most, length-count_below}
 use Rattle.rht_stands.specs.StandsFor.{in_force, tables_from}
 use Rattle.rht_ghost.proofs.Theory.Ghosts.{Ghost, index_at}
-use Rattle.rht_ghost.proofs.Theory.Wholes.{Whole, force-there, current-there, one_slot, IsThere, IsAt, at-there}
+use Rattle.rht_ghost.proofs.Theory.Wholes.{Whole, force-there, current-there, one_slot, AreThereFrom, IsAt, at-there}
 use Rattle.rht_ghost.proofs.Theory.Knowledge.{IsFollowed}
 use Rattle.rht_ghost.proofs.Theory.Steps.{mem}
 use Rattle.rht_ghost.proofs.Moves.Attaching.{last_of_future}
-
--- this table and all behind it are there
-abbrev pub AreThereFrom : Ghost → ℕ → Type 0
-AreThereFrom G τ = (σ : ℕ) → τ ≤ σ → σ < G.attached → IsThere G σ
 
 module _ (env : Env) (mix : ℕ → ℕ → ℕ → ℕ) (words : List ℕ) (G : Ghost)
     (whole : Whole env mix (mem env mix words) G) where

@@ -1,6 +1,7 @@
 -- What a caller in a read section could reach, by the words, it may still meet.
-use Rattle.std.proofs.Common.{◌≡◌, ℕ, ◌+◌, ◌<◌, ◌≤◌, List, Some, true, false, sym, ◌∙◌, ap, subst, arith, slice_index}
+use Rattle.std.proofs.Common.{◌≡◌, ℕ, ◌+◌, ◌<◌, ◌≤◌, List, Option, Some, None, refl, true, false, sym, ◌∙◌, ap, subst, arith, slice_index}
 use Rattle.std.specs.List.{AllByRecursion}
+use Rattle.std.specs.Option.{is_some}
 use Rattle.std.proofs.lemmas.Bool.{both_ways}
 use Rattle.rht_words.specs.declared.env.Env.{Env}
 use Rattle.rht_words.specs.Links.{head_of, slot_of}
@@ -14,10 +15,10 @@ use Rattle.rht_stands.specs.StandsFor.{shape_of, bucket_in}
 use Rattle.rht_core.specs.TablePages.{IsPageOfTable}
 use Rattle.rht_core.proofs.Counting.TablePages.{pages_in_words}
 use Rattle.rht_ghost.proofs.Theory.Ghosts.{Ghost, NodeHeld, SlotOwner, SlotHeld, PageHeld, PageOwner, PageOf, has_table, is_first, held_not_used, seat-first}
-use Rattle.rht_ghost.proofs.Theory.Wholes.{place_at, Whole}
+use Rattle.rht_ghost.proofs.Theory.Wholes.{place_at, Whole, AreThereFrom}
 use Rattle.rht_ghost.proofs.Theory.SeatedLinks.{next_of, link-next_of, head-seated}
 use Rattle.rht_ghost.proofs.Theory.Steps.{mem}
-use Rattle.rht_core.proofs.Meaning.TablesInForce.{current_slot, next_named, AreThereFrom}
+use Rattle.rht_core.proofs.Meaning.TablesInForce.{current_slot, next_named}
 use Rattle.rht_core.proofs.Meaning.BoundPorts.{bucket-within, first_link}
 use Rattle.rht_core.proofs.Returning.Readers.{Reader, IsOpen, ReaderRight}
 
@@ -52,7 +53,11 @@ module _ (env : Env) (mix : ℕ → ℕ → ℕ → ℕ) (words : List ℕ) (G :
     (right : ReaderRight env mix (mem env mix words) G c r) (reads : IsOpen r) (at : Standing) (stands : StandsRight G r at) where
   -- a table that the section may come to is there, and so are those behind it
   pub meets-there : (slot : ℕ) (meets : MeetsTable G r slot) → AreThereFrom G meets.table
-  meets-there slot meets σ from = whole.tables.there σ
+  meets-there slot meets = go r.from refl
+    where
+      go : (from : Option ℕ) → r.from ≡ from → AreThereFrom G meets.table
+      go None e = absurd (let both : true ≡ false = sym reads ∙ ap is_some e in cc)
+      go (Some τ) e = λ σ later. right.there τ e σ (let since = meets.since τ e in omega (arith, since, later))
 
   -- where the words of a table lead to a next one, this is the one behind it
   next_table : (slot next : ℕ) → MeetsTable G r slot

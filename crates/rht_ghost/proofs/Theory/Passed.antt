@@ -13,7 +13,7 @@ use Rattle.rht_words.proofs.ShapeSizes.{IsSizeUpTo-size_of}
 use Rattle.rht_words.specs.Members.{In}
 use Rattle.rht_policy.specs.Mix.{bucket_of}
 use Rattle.rht_ghost.proofs.Theory.Ghosts.{Table, Bucket, blank_bucket, is_entry, Ghost, First, PageOwner, PageFree, PageHeld, PageOf, Live, seat_in, seat, seated, table_of_page, table_at, none-some, some-same}
-use Rattle.rht_ghost.proofs.Theory.Wholes.{key_of, home, hash_in, IsNoBucket, MovesNone, seated_at, Whole, IsThere, IsAt, force-there}
+use Rattle.rht_ghost.proofs.Theory.Wholes.{key_of, home, hash_in, IsNoBucket, MovesNone, seated_at, Whole, IsThere, AreThereFrom, IsAt, force-there}
 use Rattle.rht_ghost.proofs.Theory.Entries.{IsWordOf, word_of, bucket-no_entry}
 
 -- none of these nodes has the key
@@ -404,7 +404,8 @@ module _ (env : Env) (mix : ℕ → ℕ → ℕ → ℕ) where
   -- ---- where all tables stay
 
   -- Tables come behind those that there are, and the current one is left behind. Of those that there are all stays that is said of them,
-  -- but that a table in use may be retired, and that buckets get words whose pages were missing: each of these is blank then.
+  -- but that a table in use may be retired, and that buckets get words whose pages were missing: each of these is blank then. A table that
+  -- comes is there, and one that was there still is.
   pub record TablesGrow (G G' : Ghost) : Type 0 where
     pub tables : (τ : ℕ) → τ < G.attached → TableStays G.page τ (G.table τ) (G'.table τ)
     pub placed : (τ b j : ℕ) → τ < G.attached → (G'.table τ).place b ≡ Some j
@@ -412,6 +413,7 @@ module _ (env : Env) (mix : ℕ → ℕ → ℕ → ℕ) where
     pub attached : G.attached ≤ G'.attached
     pub current : G.current ≤ G'.current
     pub live : (s τ : ℕ) → G'.slot s ≡ Live τ → τ < G.attached → G.slot s ≡ Live τ
+    pub there : (τ : ℕ) → τ < G'.attached → (τ < G.attached → IsThere G τ) → IsThere G' τ
     pub pages : (p τ : ℕ) → G.page p ≡ PageOf τ → G'.page p ≡ PageOf τ
 
   pub less-grown : {a b d : ℕ} → a < b → b ≤ d → a < d
@@ -437,6 +439,10 @@ module _ (env : Env) (mix : ℕ → ℕ → ℕ → ℕ) where
     attached = less-grown at.attached grow.attached;
     slot_is = (grow.tables at.table at.attached).slot ∙ at.slot_is;
   }
+
+  -- so tables of which all behind them are there are so still
+  pub there_from-grows : (G G' : Ghost) → TablesGrow G G' → (τ : ℕ) → AreThereFrom G τ → AreThereFrom G' τ
+  there_from-grows G G' grow τ there σ from l = grow.there σ l (there σ from)
 
   pub table_at-grows : (G G' : Ghost) → TablesGrow G G' → (j : ℕ) → table_at G j ≤ table_at G' j
   table_at-grows G G' grow j = table_at-from 0 G G' (grows_from G G' grow) j (omega arith)

@@ -43,6 +43,10 @@ pub record IsThere (G : Ghost) (τ : ℕ) : Type 0 where
   pub has_slot : has_table (G.slot (G.table τ).slot) ≡ true
   pub index : index_at G (G.table τ).slot ≡ τ
 
+-- this table and all behind it have
+abbrev pub AreThereFrom : Ghost → ℕ → Type 0
+AreThereFrom G τ = (σ : ℕ) → τ ≤ σ → σ < G.attached → IsThere G σ
+
 -- which of the tables that were attached it is that a slot has, or had
 pub record IsAt (G : Ghost) (slot : ℕ) : Type 0 where
   pub table : ℕ
