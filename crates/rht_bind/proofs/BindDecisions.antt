@@ -28,9 +28,9 @@ use Rattle.rht_bind.specs.declared.bind.growth.Full.{Full}
 use Rattle.rht_bind.specs.declared.bind.growth.Full.TheVariants as full
 use Rattle.rht_bind.specs.declared.bind.BindAt.{BindAt}
 use Rattle.rht_bind.specs.declared.bind.BindAt.TheVariants as at
-use Rattle.rht_ghost.proofs.Theory.Ghosts.{put-same, put-all, Ghost, table_at, with_armed, armed_by}
+use Rattle.rht_ghost.proofs.Theory.Ghosts.{put-same, put-all, Ghost, table_at, table_of_page, with_armed, armed_by}
 use Rattle.rht_ghost.proofs.Theory.Wholes.{key_of, place_at, word_index, Whole, at-there}
-use Rattle.rht_ghost.proofs.Theory.Passed.{home-table, Passed-stays}
+use Rattle.rht_ghost.proofs.Theory.Passed.{home-word, Passed-stays}
 use Rattle.rht_ghost.proofs.Theory.Knowns.{KnownBucket}
 use Rattle.rht_ghost.proofs.Theory.Knowledge.{plainly, HasLock, IsMember, Knowing, has_lock, idle_moves_none}
 use Rattle.rht_ghost.proofs.Theory.KnowledgeStays.{TableMeans-stay}
@@ -81,8 +81,9 @@ module _ (env : Env) (mix : ℕ → ℕ → ℕ → ℕ) (c : ℕ) (port owner :
       let lock = k.means.bucket.lock in
       let j = word_index env mix claimed.bucket.place in
       let τ = home_is.passing.at.table in
-      let table : table_at G j ≡ τ =
-      home-table env mix M G whole port τ j (at-there env mix whole.tables claimed.table home_is.passing.at) home_is.here in
+      let of =
+      (home-word env mix M G whole port τ j (at-there env mix whole.tables claimed.table home_is.passing.at) home_is.here).of in
+      let table : table_at G j ≡ τ = ap table_of_page of in
       let ready : IsArming env mix c j G = record {
         holder = lock.holder;
         current = omega (arith, whole.tables.current_in, table, last);
@@ -128,6 +129,7 @@ module _ (env : Env) (mix : ℕ → ℕ → ℕ → ℕ) (c : ℕ) (port owner :
                     (same_grow env mix G G' (same_tables env mix G G'.bucket G.node G.bound G.raised))
                     (armed_passes env mix c j G ready) port τ home_is.passing.passed;
                 here = home_is.here;
+                of = of;
                 armed = ap (λ x. x.armed) (put-same G.bucket j b);
                 unbound = unbound;
               };

@@ -1,5 +1,5 @@
--- The table that a slot has it had for the rest of a run, with the shape that it had. So it is of each slot that the words named before some
--- event as that of the current table, or as the future of one that had a table.
+-- Which table a slot has is known by the table's index for the rest of a run, with the shape that it had. So it is of each slot that the
+-- words named before some event as that of the current table, or as the future of one that had a table.
 use Rattle.std.proofs.Common.{◌≡◌, ℕ, ◌+◌, ◌<◌, ◌≤◌, List, [], ◌∷◌, ◌++◌, length, take, drop, sym, ap, ◌∙◌, subst, inl, inr, arith}
 use Rattle.std.specs.Prelude.{Some}
 use Rattle.std.proofs.Math.Seq.{take-length}
@@ -14,7 +14,7 @@ use Rattle.rht_core.specs.declared.event.Event.{Event}
 use Rattle.rht_core.specs.Runs.{World, run_of, IsAdmitted, IsAdmittedEvent}
 use Rattle.rht_core.specs.Seen.{words_before}
 use Rattle.rht_ghost.proofs.Theory.Ghosts.{Ghost}
-use Rattle.rht_ghost.proofs.Theory.Wholes.{Whole, IsAt}
+use Rattle.rht_ghost.proofs.Theory.Wholes.{Whole, IsAt, at-on}
 use Rattle.rht_ghost.proofs.Theory.Passed.{TablesGrow, at-stays}
 use Rattle.rht_ghost.proofs.Theory.Steps.{mem}
 use Rattle.rht_ghost.proofs.Pieces.TableLoads.{shape_word}
@@ -49,7 +49,7 @@ module _ (env : Env) (mix : ℕ → ℕ → ℕ → ℕ) where
   abbrev g : Geometry
   g = env.geometry
 
-  -- the slot has a table, of the shape that it had by the words then
+  -- the slot's table is known, of the shape that it had by the words then
   pub record HasStayed (G : Ghost) (was now : List ℕ) (slot : ℕ) : Type 0 where
     pub at : IsAt G slot
     pub shape : word_at g was (Slot slot ShapeWord) ≡ word_at g now (Slot slot ShapeWord)
@@ -81,7 +81,7 @@ module _ (env : Env) (mix : ℕ → ℕ → ℕ → ℕ) where
 
     future_at : (front slot : ℕ) → IsAt G front → slot_of (word_at g words (Slot front FutureWord)) ≡ Some slot → IsAt G slot
     future_at front slot at leads =
-        let next = next_named env mix words G whole at.table slot (λ σ from. whole.tables.there σ) at.attached
+        let next = next_named env mix words G whole at.table slot (at-on env mix whole.tables front at) at.attached
         (subst (λ s. slot_of (word_at g words (Slot s FutureWord)) ≡ Some slot) (sym at.slot_is) leads) in
         record { table = at.table + 1; attached = next.attached; slot_is = next.slot_is }
 

@@ -49,7 +49,7 @@ use Rattle.rht_core.specs.Traces.{Did}
 use Rattle.rht_stands.specs.StandsFor.{chain_from, bucket_in, bucket_nodes, stands_for, AreBound}
 use Rattle.rht_core.specs.ResizeCauses.{IsNoKeyLoad, CountsNode, AreCounted, FindsBucketAt, SawChain, SawLongChain, SawShortChain, IsWhole}
 use Rattle.rht_ghost.proofs.Theory.Ghosts.{Ghost, none-some}
-use Rattle.rht_ghost.proofs.Theory.Wholes.{chain_of, word_index, hash_in, place_at, place_at-index, index-within, stop, ChainedRight, Whole}
+use Rattle.rht_ghost.proofs.Theory.Wholes.{chain_of, word_index, hash_in, place_at, place_at-index, index-within, stop, ChainedRight, Whole, at-there}
 use Rattle.rht_ghost.proofs.Theory.Knowns.{StandsAt}
 use Rattle.rht_ghost.proofs.Theory.Passed.{hash-below, held-no_entry}
 use Rattle.rht_ghost.proofs.Theory.Knowledge.{IsAtHome, IsReaching, IsDiffering, BucketMeans}
@@ -322,7 +322,7 @@ module _ (env : Env) (mix : ℕ → ℕ → ℕ → ℕ) (words_at : ℕ → Lis
         number_is = subst (λ ws. number ≡ bucket_of mix port (G.table τ).shape (word_at g ws (Slot table SeedWord))) now number_is;
         within = below;
         stays = subst (λ p. StaysAt g words_at (G.table τ).shape number p from) (place_at-index env mix place is.bucket)
-            (stay τ number (word_index env mix place) is.passing.passed.attached below is.here).0;
+            (stay τ number (word_index env mix place) (at-there env mix whole.tables table is.passing.at) below is.here).0;
       })
 
   -- ---- the end of a walk

@@ -39,7 +39,7 @@ use Rattle.rht_ghost.proofs.Theory.Ghosts.{Ghost}
 use Rattle.rht_ghost.proofs.Theory.Knowledge.{IsAtHome}
 use Rattle.rht_ghost.proofs.Theory.Passed.{hash-below}
 use Rattle.rht_ghost.proofs.Theory.Steps.{mem}
-use Rattle.rht_ghost.proofs.Theory.Wholes.{Whole, hash_in, word_index, place_at-index}
+use Rattle.rht_ghost.proofs.Theory.Wholes.{Whole, hash_in, word_index, place_at-index, at-there}
 use Rattle.rht_ghost.proofs.Pieces.Probes.{place_of_probe}
 use Rattle.rht_core.proofs.Returning.Coming.{Tables, Nodes, to_next, IsBucketThere, first_reached}
 
@@ -88,7 +88,7 @@ module _ (env : Env) (mix : ℕ → ℕ → ℕ → ℕ) (words : List ℕ) (G :
     slot = slot;
     there = there;
     table = is.passing.at.table;
-    attached = is.passing.at.attached;
+    is_there = at-there env mix whole.tables slot is.passing.at;
     slot_is = is.passing.at.slot_is;
     number = hash_in env mix G port is.passing.at.table;
     below = hash-below env mix (mem env mix words) G whole port is.passing.at.table;

@@ -31,7 +31,7 @@ use Rattle.rht_ghost.proofs.Theory.Knowledge.{NodeMeans, MakingMeans, IsWayIn, T
 use Rattle.rht_ghost.proofs.Theory.Knowns.{KnownNode}
 use Rattle.rht_ghost.proofs.Theory.Passed.{home-word}
 use Rattle.rht_ghost.proofs.Theory.Steps.{mem}
-use Rattle.rht_ghost.proofs.Theory.Wholes.{Whole, IsAt, home, word_index, at-there}
+use Rattle.rht_ghost.proofs.Theory.Wholes.{Whole, IsAt, home, word_index, at-there, AreThereFrom}
 use Rattle.rht_core.proofs.Meaning.TablesInForce.{future-leads}
 use Rattle.rht_core.proofs.Returning.TiedBuckets.{IsTied, tied_of_seek}
 use Rattle.rht_core.proofs.Returning.Operating.{PageThere, EntryThere, Lies, locate_lies, probe_lies, unlock_lies}
@@ -93,14 +93,14 @@ module _ (env : Env) (mix : ℕ → ℕ → ℕ → ℕ) (words : List ℕ) (G :
     tied_page slot place there tied =
         record { table = tied.at.table; of = tied.of; there = table_of_slot slot tied.at there }
 
-    -- and the tables behind one
-    pub further : (τ count : ℕ) → τ + count < G.attached → ReachesTable env.geometry words at (G.table τ).slot
+    -- and the tables behind one that is there with these
+    pub further : (τ count : ℕ) → AreThereFrom G τ → τ + count < G.attached → ReachesTable env.geometry words at (G.table τ).slot
         → ReachesTable env.geometry words at (G.table (τ + count)).slot
-    further τ zero few there = subst (λ σ. ReachesTable env.geometry words at (G.table σ).slot) (omega arith) there
-    further τ (suc count) few there =
-        let next = further τ count (omega (arith, few)) there in
+    further τ zero on few there = subst (λ σ. ReachesTable env.geometry words at (G.table σ).slot) (omega arith) there
+    further τ (suc count) on few there =
+        let next = further τ count on (omega (arith, few)) there in
         let more = future-leads env mix words G whole (τ + count) (suc (G.attached - (τ + count + 2))) (omega (arith, few))
-        (λ σ from. whole.tables.there σ) in
+        (λ σ from. on σ (omega (arith, from))) in
         subst (λ σ. ReachesTable env.geometry words at (G.table σ).slot) (omega arith)
         (by_future (G.table (τ + count)).slot (G.table (τ + count + 1)).slot next more)
 

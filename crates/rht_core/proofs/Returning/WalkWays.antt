@@ -90,7 +90,7 @@ module _ (env : Env) (mix : ℕ → ℕ → ℕ → ℕ) (words : List ℕ) (G :
     slot = visit.table;
     there = at_table visit.table (inl refl);
     table = tied.walked.of.table;
-    attached = tied.walked.of.attached;
+    is_there = at-there env mix whole.tables visit.table tied.walked.of;
     slot_is = tied.walked.of.slot_is;
     number = visit.bucket;
     below = number_below env mix words G whole visit within.visit_in tied.walked;

@@ -113,7 +113,7 @@ module _ (env : Env) (mix : ℕ → ℕ → ℕ → ℕ) (c : ℕ) where
     can_retire slot works is = record {
       works = works.0;
       table = ap has_table is.live;
-      left_behind = let index : index_at G slot ≡ is.table = ap table_of_slot is.live in omega (arith, index, is.earlier);
+      left_behind = let index : index_at G slot ≡ is.table = ap table_of_slot is.live in omega (arith, index, is.before);
     }
 
     -- what it has emptied stays so where no emptied bucket of the current table changes
@@ -485,7 +485,7 @@ module _ (env : Env) (mix : ℕ → ℕ → ℕ → ℕ) (c : ℕ) where
             more = record {
               table = G.current;
               live = ap G.slot (sym root_is) ∙ whole.tables.force G.current (omega arith) whole.tables.current_in;
-              earlier = omega arith;
+              before = refl;
             };
           };
         }

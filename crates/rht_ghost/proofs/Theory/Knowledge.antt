@@ -1,6 +1,6 @@
 -- What a caller knows in each state: what that means of the words and the ghost, and that it has nothing more.
 -- It speaks of words and ghosts on which the caller holds the right, or which nobody changes.
-use Rattle.std.proofs.Common.{◌≡◌, ◌≢◌, ◌⊎◌, ℕ, ◌+◌, ◌%◌, ◌<◌, ◌≤◌, List, [], ◌∷◌, length, Option, Some, None, Bool, true, false}
+use Rattle.std.proofs.Common.{◌≡◌, ◌≢◌, ◌⊎◌, ℕ, ◌+◌, ◌/◌, ◌%◌, ◌<◌, ◌≤◌, List, [], ◌∷◌, length, Option, Some, None, Bool, true, false}
 use Rattle.std.specs.Prelude.{IfSome}
 use Rattle.rht_words.specs.declared.env.Env.{Env}
 use Rattle.rht_words.specs.Places.{Slot, ShapeWord, SeedWord, FutureWord, SerialWord, Node, ChainLink, KeyWord, OwnerWord, ListLink, IsBucketPlace}
@@ -126,6 +126,7 @@ module _ (env : Env) (mix : ℕ → ℕ → ℕ → ℕ) where
   pub record ArmedFor (G : Ghost) (c port τ j : ℕ) : Type 0 where
     pub passed : Passed env mix G port τ
     pub here : home env mix G port τ ≡ Some j
+    pub of : G.page (j / 64) ≡ PageOf τ
     pub armed : (G.bucket j).armed ≡ Some c
     pub unbound : G.bound port ≡ []
 
@@ -359,7 +360,7 @@ module _ (env : Env) (mix : ℕ → ℕ → ℕ → ℕ) where
   pub record IsLeftBehind (G : Ghost) (slot : ℕ) : Type 0 where
     pub table : ℕ
     pub live : G.slot slot ≡ Live table
-    pub earlier : table < G.current
+    pub before : table + 1 ≡ G.current
 
   -- the bucket of the current table that is to be emptied next, to which the way leads over entries, since that table is nested; and the
   -- entry at which it stands

@@ -157,8 +157,8 @@ module _ (env : Env) (mix : ℕ → ℕ → ℕ → ℕ) where
     IsLeftBehind-stay : (slot : ℕ) → IsLeftBehind env mix G slot → IsLeftBehind env mix G' slot
     IsLeftBehind-stay slot is = record {
       table = is.table;
-      live = stays.left slot is.table is.live is.earlier;
-      earlier = omega (arith, is.earlier, stays.current);
+      live = stays.left slot is.table is.live (omega (arith, is.before));
+      before = omega (arith, is.before, stays.current);
     }
 
     IsNearing-stay : (root : KnownRehash) (number : ℕ) (place : PlaceModel) → IsNearing env mix G root number place

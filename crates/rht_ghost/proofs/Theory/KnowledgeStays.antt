@@ -1,5 +1,5 @@
 -- What is known of nodes, tables and buckets outlives a step that leaves what it speaks of.
-use Rattle.std.proofs.Common.{◌≡◌, ℕ, ◌<◌, ◌≤◌, List, [], ◌∷◌, ◌++◌, Option, Some, None, true, refl, sym, ◌∙◌, ap, subst, inl, inr, arith}
+use Rattle.std.proofs.Common.{◌≡◌, ℕ, ◌/◌, ◌<◌, ◌≤◌, List, [], ◌∷◌, ◌++◌, Option, Some, None, refl, sym, ◌∙◌, ap, subst, inl, inr}
 use Rattle.std.specs.Prelude.{IfSome}
 use Rattle.rht_words.specs.declared.env.Env.{Env}
 use Rattle.rht_words.specs.Places.{Node, NodeWord, ChainLink, KeyWord, OwnerWord, ListLink}
@@ -126,6 +126,7 @@ module _ (env : Env) (mix : ℕ → ℕ → ℕ → ℕ) where
             armed = record {
               passed = stay.passed port is.table armed.passed;
               here = home-stays env mix G G' stay.grow port is.table j armed.passed.attached armed.here;
+              of = stay.grow.pages (j / 64) is.table armed.of;
               armed = ap (λ b. b.armed) (locks j is.lock.holder) ∙ armed.armed;
               unbound = unbound port is.table j armed;
             };

@@ -256,14 +256,14 @@ module _ (env : Env) (mix : ℕ → ℕ → ℕ → ℕ) where
 
     -- The first node of a port isn't on its way out of any bucket, where a caller that has locked the port's bucket in a table to which it
     -- has come found it there.
-    pub stays_in : (d port τ j n : ℕ) (behind : List ℕ) → Passed G port τ → home env mix G port τ ≡ Some j
+    pub stays_in : (d port τ j n : ℕ) (behind : List ℕ) → Passed G port τ → IsThere G τ → home env mix G port τ ≡ Some j
         → (G.bucket j).holder ≡ Some d → MovesNone env mix G d → G.bound port ≡ n ∷ behind
         → G.node n ≡ First j → (i : ℕ) → (G.bucket i).out ≢ Some n
-    stays_in d port τ j n behind passed at holds none b first i is =
+    stays_in d port τ j n behind passed is_there at holds none b first i is =
         let out = whole.moving.out i n is in
         let to = whole.owned.bound_to port n behind b in
         let there = (whole.owned.first_at n j first).at_home in
-        let table : table_at G j ≡ τ = home-table port τ j (whole.tables.there τ passed.attached) at in
+        let table : table_at G j ≡ τ = home-table port τ j is_there at in
         let here : home env mix G port G.current ≡ Some i = rw (sym to.key_is) out.here in
         elim (cases_eq G.current τ) [
           | inl e ↦

@@ -171,9 +171,12 @@ module _ (env : Env) (mix : ℕ → ℕ → ℕ → ℕ) where
   slot_at {M} {G} tables s has =
       let of = tables.slots s has in record { table = index_at G s; attached = of.attached; slot_is = of.slot }
 
-  -- one that a caller knows by its slot is there
+  -- one that a caller knows by its slot is there, and those behind it are
+  pub at-on : {M : Memory} {G : Ghost} → TablesRight M G → (slot : ℕ) (at : IsAt G slot) → AreThereFrom G at.table
+  at-on {M} {G} tables slot at σ from = tables.there σ
+
   pub at-there : {M : Memory} {G : Ghost} → TablesRight M G → (slot : ℕ) (at : IsAt G slot) → IsThere G at.table
-  at-there {M} {G} tables slot at = tables.there at.table at.attached
+  at-there {M} {G} tables slot at = at-on tables slot at at.table (omega arith) at.attached
 
   pub at-right : {M : Memory} {G : Ghost} → TablesRight M G → (slot : ℕ) (at : IsAt G slot) → TableRight M G at.table
   at-right {M} {G} tables slot at = tables.each at.table (at-there tables slot at)
