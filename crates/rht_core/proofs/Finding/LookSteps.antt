@@ -1,5 +1,5 @@
 -- How many operations a look-up has made in each of its states. In a table each operation leaves fewer to come (`lessens`), tables come in
--- the order in which they were attached, and there are at most eight.
+-- the order in which they were attached, and from the first one on there are at most eight, since these all have their slots.
 use Rattle.std.proofs.Common.{◌≡◌, ℕ, ◌+◌, ◌*◌, ◌<◌, ◌≤◌, nat_lt, Bool, List, Option, Some, None, refl, sym, subst, arith}
 use Rattle.std.specs.Prelude.{◌==◌}
 use Rattle.std.proofs.Math.Nat.{mul-le-mul_right}
@@ -9,7 +9,7 @@ use Rattle.rht_words.specs.declared.machine.Next.{Next}
 use Rattle.rht_words.specs.declared.machine.Next.TheVariants.{Go, Done}
 use Rattle.rht_words.specs.Links.{node_of, slot_of, table_of, head_of, marker_of}
 use Rattle.rht_words.specs.Operations.{old_of}
-use Rattle.rht_words.specs.Places.{Slot, FutureWord}
+use Rattle.rht_words.specs.Places.{CurrentTable, Slot, FutureWord}
 use Rattle.rht_words.specs.Ports.{word_of}
 use Rattle.rht_words.proofs.Memory.{Memory}
 use Rattle.rht_nest.specs.Reach.{ReachModel, reach_plan, reach_after}
@@ -24,8 +24,8 @@ use Rattle.rht_find.specs.declared.find.FindAt.{FindAt}
 use Rattle.rht_find.specs.declared.find.FindAt.TheVariants as at
 use Rattle.rht_find.proofs.FindBounds.{lessens}
 use Rattle.rht_ghost.proofs.Theory.Ghosts.{Ghost}
-use Rattle.rht_ghost.proofs.Theory.Wholes.{Whole, IsAt, one_slot}
-use Rattle.rht_ghost.proofs.Theory.Passed.{TablesGrow, at-stays}
+use Rattle.rht_ghost.proofs.Theory.Wholes.{Whole, IsAt, AreThereFrom, force-there, one_slot}
+use Rattle.rht_ghost.proofs.Theory.Passed.{TablesGrow, at-stays, there_from-grows}
 use Rattle.rht_ghost.proofs.Theory.Knowledge.{next_at}
 use Rattle.rht_ghost.proofs.Theory.Steps.{mem}
 use Rattle.rht_ghost.proofs.Pieces.TableLoads.{LeadsBehind, future_leads}
@@ -36,7 +36,7 @@ use Rattle.rht_core.proofs.Returning.FewTables.{few_tables}
 
 -- ---- of numbers: `t` operations in a table, and the load of its future
 
--- so many up to the last one in the table with this index, from the beginning of the call on
+-- so many up to the last one in a table, so many tables behind the first one, from the beginning of the call on
 abbrev most_in : ℕ → ℕ → ℕ
 most_in t index = 2 + index * (t + 1) + t
 
@@ -77,14 +77,18 @@ module _ (env : Env) where
   abbrev left_at : FindAt → ℕ
   left_at = left_in_table env
 
-  -- the most up to the last one in this table
+  -- the most up to the last one in a table, so many tables behind the first one
   abbrev most_at : ℕ → ℕ
-  most_at τ = most_in (table_steps env) τ
+  most_at count = most_in (table_steps env) count
 
-  -- so many are within those of the table that this slot has
-  record IsWithin (G : Ghost) (slot made : ℕ) : Type 0 where
-    at : IsAt G slot
-    few : made ≤ most_at at.table
+  -- so many are within those of the table that this slot has, by how many tables it is behind one of which all behind it are there
+  pub record IsWithin (G : Ghost) (slot made : ℕ) : Type 0 where
+    pub at : IsAt G slot
+    pub low : ℕ
+    pub on : AreThereFrom G low
+    pub count : ℕ
+    pub behind : low + count ≡ at.table
+    pub few : made ≤ most_at count
 
   -- it has made so many operations in this state
   abbrev pub IsSpent : Ghost → FindAt → ℕ → Type 0
@@ -110,32 +114,35 @@ module _ (env : Env) where
   IsOfTable slot (at.Owner node) = Unit {0}
   IsOfTable slot (at.Closing reply) = ⊥
 
+  -- the same of another number
+  with_few : {G : Ghost} {slot made more : ℕ} (is : IsWithin G slot made) → more ≤ most_at is.count → IsWithin G slot more
+  with_few is few =
+      record { at = is.at; low = is.low; on = is.on; count = is.count; behind = is.behind; few = few }
+
   -- where so many were left, one more was made and fewer are left
   spent_in : (G : Ghost) (slot made left : ℕ) (state : FindAt) → IsOfTable slot state → (is : IsWithin G slot (made + left))
-      → is.at.table ≤ 7 → left_at state < left → IsSpent G state (made + 1)
+      → is.count ≤ 7 → left_at state < left → IsSpent G state (made + 1)
   spent_in G slot made left at.Opening of is low less = absurd of
   spent_in G slot made left at.CurrentTable of is low less = absurd of
   spent_in G slot made left (at.Locating reach) of is low less =
       subst (λ s. IsWithin G s (made + 1 + left_at (at.Locating reach))) (sym of)
-      (record { at = is.at; few = fewer made left (left_at (at.Locating reach)) (most_at is.at.table) is.few less })
+      (with_few is (fewer made left (left_at (at.Locating reach)) (most_at is.count) is.few less))
   spent_in G slot made left (at.Heading head) of is low less =
       subst (λ s. IsWithin G s (made + 1 + left_at (at.Heading head))) (sym of)
-      (record { at = is.at; few = fewer made left (left_at (at.Heading head)) (most_at is.at.table) is.few less })
+      (with_few is (fewer made left (left_at (at.Heading head)) (most_at is.count) is.few less))
   spent_in G slot made left (at.Key head node visited) of is low less =
       subst (λ s. IsWithin G s (made + 1 + left_at (at.Key head node visited))) (sym of)
-      (record { at = is.at; few = fewer made left (left_at (at.Key head node visited)) (most_at is.at.table) is.few less })
+      (with_few is (fewer made left (left_at (at.Key head node visited)) (most_at is.count) is.few less))
   spent_in G slot made left (at.Link head node visited) of is low less =
       subst (λ s. IsWithin G s (made + 1 + left_at (at.Link head node visited))) (sym of)
-      (record { at = is.at; few = fewer made left (left_at (at.Link head node visited)) (most_at is.at.table) is.few less })
+      (with_few is (fewer made left (left_at (at.Link head node visited)) (most_at is.count) is.few less))
   spent_in G slot made left (at.Future table) of is low less =
-      subst (λ s. IsWithin G s (made + 1)) (sym of) (record {
-        at = is.at;
-        few = none_left made 0 (most_at is.at.table) (fewer made left 0 (most_at is.at.table) is.few less);
-      })
+      subst (λ s. IsWithin G s (made + 1)) (sym of)
+      (with_few is (none_left made 0 (most_at is.count) (fewer made left 0 (most_at is.count) is.few less)))
   spent_in G slot made left (at.Owner node) of is low less =
-      at_most (made + 1) (most_at is.at.table) (most_in (table_steps env) 7)
-      (none_left made 0 (most_at is.at.table) (fewer made left 0 (most_at is.at.table) is.few less))
-      (most_in-seven (table_steps env) is.at.table low)
+      at_most (made + 1) (most_at is.count) (most_in (table_steps env) 7)
+      (none_left made 0 (most_at is.count) (fewer made left 0 (most_at is.count) is.few less))
+      (most_in-seven (table_steps env) is.count low)
   spent_in G slot made left (at.Closing reply) of is low less = absurd of
 
   -- ---- it stays in its table
@@ -167,21 +174,22 @@ module _ (env : Env) where
     abbrev M : Memory
     M = mem env mix words
 
-    -- ---- there are at most eight tables
+    -- ---- there are at most eight tables from one on of which all behind it are there
 
-    few_attached : G.attached ≤ 8
-    few_attached =
-        few_tables (λ τ. (G.table τ).slot) 0 G.attached (record {
-          within = λ τ low l. (whole.tables.each τ (whole.tables.there τ (omega (arith, l)))).slot_in;
-          own = λ τ σ low less l same.
-              let first = whole.tables.there τ (omega (arith, less, l)) in
-              let second = whole.tables.there σ (omega (arith, l)) in
+    few_from : (low count : ℕ) → low + count ≤ G.attached → AreThereFrom G low → count ≤ 8
+    few_from low count all on =
+        few_tables (λ τ. (G.table τ).slot) low count (record {
+          within = λ τ from l. (whole.tables.each τ (on τ from (omega (arith, l, all)))).slot_in;
+          own = λ τ σ from less l same.
+              let first = on τ from (omega (arith, less, l, all)) in
+              let second = on σ (omega (arith, from, less)) (omega (arith, l, all)) in
               let both = one_slot env mix G τ σ first second same in
               omega (arith, less, both);
         })
 
-    low_index : (slot : ℕ) (at : IsAt G slot) → at.table ≤ 7
-    low_index slot at = let few = few_attached in omega (arith, at.attached, few)
+    low_index : (slot made : ℕ) (is : IsWithin G slot made) → is.count ≤ 7
+    low_index slot made is =
+        let few = few_from is.low (is.count + 1) (omega (arith, is.behind, is.at.attached)) is.on in omega (arith, few)
 
     -- ---- each operation
 
@@ -189,15 +197,19 @@ module _ (env : Env) where
         → LeadsBehind env mix M G whole is.at.table future → IsSpent G (next_table env future) (made + 1)
     future_spent table made is None last =
         most_in-all (table_steps env) made
-        (at_most made (most_at is.at.table) (most_in (table_steps env) 7) is.few
-        (most_in-seven (table_steps env) is.at.table (low_index table is.at)))
+        (at_most made (most_at is.count) (most_in (table_steps env) 7) is.few
+        (most_in-seven (table_steps env) is.count (low_index table made is)))
     future_spent table made is (Some next) behind = record {
       at = next_at env mix G is.at.table next behind;
-      few = most_in-next (table_steps env) is.at.table made is.few;
+      low = is.low;
+      on = is.on;
+      count = is.count + 1;
+      behind = omega (arith, is.behind);
+      few = most_in-next (table_steps env) is.count made is.few;
     }
 
     -- the current table
-    current_at : IsAt G (table_of (M CurrentTable))
+    abbrev current_at : IsAt G (table_of (M CurrentTable))
     current_at = record {
       table = G.current;
       attached = whole.tables.current_in;
@@ -210,28 +222,35 @@ module _ (env : Env) where
         → IsSpent G (goes mix env port state (old_of words (plan_at env caller state))) (made + 1)
     spent_leads caller made at.Opening goes_on within known few = omega (arith, few)
     spent_leads caller made at.CurrentTable goes_on within known few =
-        record { at = current_at; few = most_in-first (table_steps env) G.current made few }
+        record {
+          at = current_at;
+          low = G.current;
+          on = force-there env mix whole.tables;
+          count = 0;
+          behind = omega arith;
+          few = most_in-first (table_steps env) 0 made few;
+        }
     spent_leads caller made (at.Locating reach) goes_on within known few =
         let word = old_of words (reach_plan reach) in
         let r = reach_after mix port reach word in
         spent_in G reach.table made (left_at (at.Locating reach)) (reached env r.0 r.1)
         (subst (λ s. IsOfTable s (reached env r.0 r.1)) (reach_after-table mix port reach word) (reached-of r.0 r.1))
-        few (low_index reach.table few.at) (lessens mix env port (at.Locating reach) word within tt)
+        few (low_index reach.table _ few) (lessens mix env port (at.Locating reach) word within tt)
     spent_leads caller made (at.Heading head) goes_on within known few =
         let word = old_of words (plan_at env caller (at.Heading head)) in
         let link = head_of head.place word in
         spent_in G head.table made (left_at (at.Heading head)) _
         (led_to-of head 0 link (node_of env.geometry.nodes link))
-        few (low_index head.table few.at) (lessens mix env port (at.Heading head) word within tt)
+        few (low_index head.table _ few) (lessens mix env port (at.Heading head) word within tt)
     spent_leads caller made (at.Key head node visited) goes_on within known few =
         let word = old_of words (plan_at env caller (at.Key head node visited)) in
         spent_in G head.table made (left_at (at.Key head node visited)) _ (compared-of port head node visited word)
-        few (low_index head.table few.at) (lessens mix env port (at.Key head node visited) word within tt)
+        few (low_index head.table _ few) (lessens mix env port (at.Key head node visited) word within tt)
     spent_leads caller made (at.Link head node visited) goes_on within known few =
         let link = old_of words (plan_at env caller (at.Link head node visited)) in
         spent_in G head.table made (left_at (at.Link head node visited)) _
         (led_to-of head visited link (node_of env.geometry.nodes link))
-        few (low_index head.table few.at) (lessens mix env port (at.Link head node visited) link within tt)
+        few (low_index head.table _ few) (lessens mix env port (at.Link head node visited) link within tt)
     spent_leads caller made (at.Future table) goes_on within known few =
         future_spent table made few (slot_of (M (Slot table FutureWord))) (future_leads env mix M G whole table few.at)
     spent_leads caller made (at.Owner node) goes_on within known few = most_in-all (table_steps env) made few
@@ -243,22 +262,29 @@ module _ (env : Env) where
     spent_most made at.Opening known few = most_of-first (table_steps env) made (omega (arith, few))
     spent_most made at.CurrentTable known few = most_of-first (table_steps env) made few
     spent_most made (at.Locating reach) known few =
-        most_of-in (table_steps env) few.at.table made (left_at (at.Locating reach)) (low_index reach.table few.at) few.few
+        most_of-in (table_steps env) few.count made (left_at (at.Locating reach)) (low_index reach.table _ few) few.few
     spent_most made (at.Heading head) known few =
-        most_of-in (table_steps env) few.at.table made (left_at (at.Heading head)) (low_index head.table few.at) few.few
+        most_of-in (table_steps env) few.count made (left_at (at.Heading head)) (low_index head.table _ few) few.few
     spent_most made (at.Key head node visited) known few =
-        most_of-in (table_steps env) few.at.table made (left_at (at.Key head node visited)) (low_index head.table few.at) few.few
+        most_of-in (table_steps env) few.count made (left_at (at.Key head node visited)) (low_index head.table _ few) few.few
     spent_most made (at.Link head node visited) known few =
-        most_of-in (table_steps env) few.at.table made (left_at (at.Link head node visited)) (low_index head.table few.at) few.few
+        most_of-in (table_steps env) few.count made (left_at (at.Link head node visited)) (low_index head.table _ few) few.few
     spent_most made (at.Future table) known few =
-        most_of-in (table_steps env) few.at.table made 0 (low_index table few.at) (omega (arith, few.few))
+        most_of-in (table_steps env) few.count made 0 (low_index table _ few) (omega (arith, few.few))
     spent_most made (at.Owner node) known few = most_of-in (table_steps env) 7 made 0 (omega arith) (omega (arith, few))
     spent_most made (at.Closing reply) known few = few
 
     -- and it stays so behind an operation of anybody else
     module _ (G' : Ghost) (grow : TablesGrow env mix G G') where
       same_most : (slot count : ℕ) → IsWithin G slot count → IsWithin G' slot count
-      same_most slot count is = record { at = at-stays env mix G G' grow slot is.at; few = is.few }
+      same_most slot count is = record {
+        at = at-stays env mix G G' grow slot is.at;
+        low = is.low;
+        on = there_from-grows env mix G G' grow is.low is.on;
+        count = is.count;
+        behind = is.behind;
+        few = is.few;
+      }
 
       pub spent_stays : (made : ℕ) (state : FindAt) → LookMeans env mix port seen since Says M G P state → IsSpent G state made
           → IsSpent G' state made
