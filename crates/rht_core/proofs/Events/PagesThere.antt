@@ -9,7 +9,7 @@ use Rattle.rht_core.specs.Jobs.{Job, job_of}
 use Rattle.rht_core.specs.Runs.{Core, local_of, enrolling}
 use Rattle.rht_ghost.proofs.Theory.Ghosts.{Ghost}
 use Rattle.rht_ghost.proofs.Theory.Wholes.{Whole, at-there}
-use Rattle.rht_ghost.proofs.Theory.Passed.{home-stays, at-stays}
+use Rattle.rht_ghost.proofs.Theory.Passed.{home-stays, less-grown}
 use Rattle.rht_model.specs.Answers.{Answer}
 use Rattle.rht_ghost.proofs.Theory.Knowns.{KnownTable, OnWay}
 use Rattle.rht_ghost.proofs.Theory.Knowledge.{TableMeans}
@@ -33,8 +33,9 @@ module _ (env : Env) (mix : ℕ → ℕ → ℕ → ℕ) where
         let passing = means.shaped.passing in
         let at = passing.at in
         let grow = rely.tables.grow in
-        placed-stays env mix M M' G G' whole whole' port at.table place (at-there env mix whole.tables slot at)
-        (at-there env mix whole'.tables slot (at-stays env mix G G' grow slot at)) means.to
+        let there_is = at-there env mix whole.tables slot at in
+        placed-stays env mix M M' G G' whole whole' port at.table place there_is
+        (grow.there at.table (less-grown env mix at.attached grow.attached) (λ l. there_is)) means.to
         (IsWayTo-stay env mix G G' grow port at.table place at.attached means.to)
         (λ j here. home-stays env mix G G' grow port at.table j at.attached here) there
     there-stays (Some answer) _ means there = there

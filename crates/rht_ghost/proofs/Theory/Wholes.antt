@@ -167,10 +167,6 @@ module _ (env : Env) (mix : ℕ → ℕ → ℕ → ℕ) where
       let of = (tables.slots s has).slot in
       record { has_slot = ap (λ t. has_table (G.slot t)) of ∙ has; index = ap (index_at G) of }
 
-  abbrev pub slot_at : {M : Memory} {G : Ghost} → TablesRight M G → (s : ℕ) → has_table (G.slot s) ≡ true → IsAt G s
-  slot_at {M} {G} tables s has =
-      let of = tables.slots s has in record { table = index_at G s; attached = of.attached; slot_is = of.slot }
-
   -- one that a caller knows by its slot is there, and those behind it are
   pub at-on : {M : Memory} {G : Ghost} → TablesRight M G → (slot : ℕ) (at : IsAt G slot) → AreThereFrom G at.table
   at-on {M} {G} tables slot at σ from = tables.there σ
