@@ -290,7 +290,7 @@ module _ (L : Type 0) (mix : ℕ → ℕ → ℕ → ℕ) (env : Env) where
 
   -- ---- runs
 
-  event-looks : (events : List Event) (event : Event) → IsAdmitted kind events → IsAdmittedEvent kind event
+  unfoldable pub event-looks : (events : List Event) (event : Event) → IsAdmitted kind events → IsAdmittedEvent kind event
       → AreLooking L mix env events (R events) → AreLooking L mix env (events ++ event ∷ []) (traced_step mix (R events) event)
   unfolding next turn_at makes
   event-looks events event admitted may looking = record {
