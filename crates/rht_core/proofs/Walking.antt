@@ -20,3 +20,11 @@ pub mod KeptPairs
 pub mod WalkLeads
 -- what it knows outlives any operation
 pub mod WalkOutlives
+-- what walks know behind an event
+pub mod WalksAtEvents
+-- and when they end
+pub mod EndedWalks
+-- in every run
+pub mod WalkingRuns
+-- calls of a full walk
+pub mod FullWalks

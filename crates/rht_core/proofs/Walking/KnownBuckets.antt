@@ -129,11 +129,11 @@ module _ (env : Env) (mix : ℕ → ℕ → ℕ → ℕ) (from : Option Cursor) 
         serial = visit.serial;
         shape = visit.shape;
         upto = visit.bucket + 1;
+        low = let low = behind.low in omega (arith, low);
         attached = walked.of.attached;
         serial_is = behind.of.serial_is;
         fits = behind.of.fits;
-        ends = (refl, refl);
-        known = end_known visit behind;
+        ends = (refl, refl, end_known visit behind);
       })
       (λ few. visiting_known (record visit { bucket = visit.bucket + 1 }) (next_known visit behind)))
       (λ f. record {

@@ -38,23 +38,24 @@ module _ (env : Env) (mix : ℕ → ℕ → ℕ → ℕ) where
     pub distinct : IsDistinct (ports_of items)
     pub bound : AllByRecursion Bound items
 
-  -- it has a cursor to the bucket up to which it came, of the table's serial; or it has come to the end, behind which no table was
-  abbrev pub EndsAt : Ghost → (ℕ → Type 0) → ℕ → ℕ → ℕ → Option Cursor → Type 0
-  EndsAt G WasLast τ serial upto None = WasLast τ × ((port : ℕ) → hash_in env mix G port τ < upto)
-  EndsAt G WasLast τ serial upto (Some cursor) = (cursor.serial ≡ serial) × (cursor.bucket ≡ upto)
+  -- It has a cursor to the bucket up to which it came, of the table's serial, and what it shows is known where that was the last one, when so
+  -- many had been attached. Or it has come to the end, behind which no table was.
+  abbrev pub EndsAt : Ghost → ℕ → (ℕ → Type 0) → Type 0 → ℕ → ℕ → ℕ → Option Cursor → Type 0
+  EndsAt G all WasLast Known τ serial upto None = WasLast τ × ((port : ℕ) → hash_in env mix G port τ < upto) × Known
+  EndsAt G all WasLast Known τ serial upto (Some cursor) = (cursor.serial ≡ serial) × (cursor.bucket ≡ upto) × (τ + 1 ≡ all → Known)
 
-  -- the table that was walked, where the walk doesn't have to begin anew, when so many tables had been attached
+  -- the table that was walked, where the walk doesn't have to begin anew
   pub record HasWalkedTo (G : Ghost) (all : ℕ) (from : Option Cursor) (Missed WasLast : ℕ → Type 0) (Bound : ℕ × ℕ → Type 0) (items : List (ℕ × ℕ))
       (next : Option Cursor) : Type 0 where
     pub table : ℕ
     pub serial : ℕ
     pub shape : ℕ
     pub upto : ℕ
+    pub low : first_bucket from ≤ upto
     pub attached : table < all
     pub serial_is : (G.table table).serial ≡ serial
     pub fits : Fits serial shape from
-    pub ends : EndsAt G WasLast table serial upto next
-    pub known : table + 1 ≡ all → EndKnown G table (first_bucket from) upto Missed Bound items
+    pub ends : EndsAt G all WasLast (EndKnown G table (first_bucket from) upto Missed Bound items) table serial upto next
 
   module _ (from : Option Cursor) (begin now : ℕ) (Missed WasLast : ℕ → Type 0) (Bound : ℕ × ℕ → Type 0) (seen : ℕ → Bool)
       (items : List (ℕ × ℕ)) (M : Memory) (G : Ghost) (P : Places) where

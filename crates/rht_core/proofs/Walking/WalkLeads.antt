@@ -131,11 +131,15 @@ module _ (env : Env) (mix : ℕ → ℕ → ℕ → ℕ) (from : Option Cursor) 
           serial = end.visit.serial;
           shape = end.visit.shape;
           upto = end.visit.bucket + 1;
+          low = let low = end.behind.low in omega (arith, low);
           attached = omega (arith, is);
           serial_is = end.behind.of.serial_is;
           fits = end.behind.of.fits;
-          ends = (last_now (index_at G end.visit.table) is, λ port. subst (λ s. hash_in env mix G port (index_at G s) < end.visit.bucket + 1) (sym end.same) (end.all port));
-          known = end_known env mix from begin now Missed WasLast Bound seen items M G P whole end.visit end.behind;
+          ends = (
+            last_now (index_at G end.visit.table) is,
+            λ port. subst (λ s. hash_in env mix G port (index_at G s) < end.visit.bucket + 1) (sym end.same) (end.all port),
+            end_known env mix from begin now Missed WasLast Bound seen items M G P whole end.visit end.behind is,
+          );
         }) last
 
   -- ---- each state

@@ -68,29 +68,38 @@ module _ (env : Env) (mix : ℕ → ℕ → ℕ → ℕ) (from : Option Cursor) 
         bound = AllByRecursion-weaker Bound Bound' bound items known.bound;
       }
 
-  ends_still : (τ serial upto : ℕ) (next : Option Cursor) → τ < G.attached → EndsAt env mix G WasLast τ serial upto next
-      → EndsAt env mix G' WasLast' τ serial upto next
-  ends_still τ serial upto None low is =
-      (was_last τ is.0, λ port. subst (λ h. h < upto) (sym (hash-stays env mix G G' grow port τ low)) (is.1 port))
-  ends_still τ serial upto (Some cursor) low is = is
+  ends_still : (τ serial upto all all' : ℕ) → τ < all → all ≤ G.attached → all ≤ all' → (next : Option Cursor)
+      → EndsAt env mix G all WasLast (EndKnown env mix G τ (first_bucket from) upto Missed Bound items) τ serial upto next
+      → EndsAt env mix G' all' WasLast' (EndKnown env mix G' τ (first_bucket from) upto Missed' Bound' items) τ serial upto next
+  ends_still τ serial upto all all' low few more None is =
+      let below : τ < G.attached = omega (arith, low, few) in (
+        was_last τ is.0,
+        λ port. subst (λ h. h < upto) (sym (hash-stays env mix G G' grow port τ below)) (is.1 port),
+        known_still τ (first_bucket from) upto below is.2,
+      )
+  ends_still τ serial upto all all' low few more (Some cursor) is = (
+    is.0,
+    is.1,
+    λ last. known_still τ (first_bucket from) upto (omega (arith, low, few)) (is.2 (omega (arith, low, last, more))),
+  )
 
   -- of which so many tables were attached, or more by now
   pub walked_still : (all all' : ℕ) → all ≤ G.attached → all ≤ all' → (next : Option Cursor)
       → HasWalkedTo env mix G all from Missed WasLast Bound items next
       → HasWalkedTo env mix G' all' from Missed' WasLast' Bound' items next
   walked_still all all' few more next walked =
-      let low : walked.table < G.attached = (let below = walked.attached in omega (arith, below, few)) in
+      let below = walked.attached in
+      let low : walked.table < G.attached = omega (arith, below, few) in
       record {
         table = walked.table;
         serial = walked.serial;
         shape = walked.shape;
         upto = walked.upto;
-        attached = let below = walked.attached in omega (arith, below, more);
+        low = walked.low;
+        attached = omega (arith, below, more);
         serial_is = (grow.tables walked.table low).serial ∙ walked.serial_is;
         fits = walked.fits;
-        ends = ends_still walked.table walked.serial walked.upto next low walked.ends;
-        known = λ last. known_still walked.table (first_bucket from) walked.upto low
-            (walked.known (let below = walked.attached in omega (arith, below, last, more)));
+        ends = ends_still walked.table walked.serial walked.upto all all' below few more next walked.ends;
       }
 
   -- ---- one that goes on
