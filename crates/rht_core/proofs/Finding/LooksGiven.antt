@@ -127,7 +127,7 @@ module _ (env : Env) (mix : ℕ → ℕ → ℕ → ℕ) (now c n : ℕ) (M M' :
     either so other (inl is) = inl (so is)
     either so other (inr is) = inr (other is)
 
-    stage_then : (stage : Stage) → AllByRecursion (λ m. seen m ≡ true) (node_at stage)
+    pub stage_then : (stage : Stage) → AllByRecursion (λ m. seen m ≡ true) (node_at stage)
         → StageMeans env mix port seen since Said M G P stage → StageMeans env mix port seen since Said' M' G' P' stage
     stage_then (Reaching slot) stood (of, known) = (
       record { table = of.table; attached = of.attached; slot_is = of.slot_is },
