@@ -4,6 +4,8 @@ pub mod PortPlaces
 pub mod PortPlacesStay
 -- and behind one that gives back a node
 pub mod PortPlacesGiven
+-- the table of a slot
+pub mod SlotsOfTables
 -- what a walk knows in each of its states
 pub mod WalkFacts
 -- the nodes that were shown

@@ -115,6 +115,7 @@ module _ (L : Type 0) (mix : ℕ → ℕ → ℕ → ℕ) (env : Env) (events : 
             (λ τ. last_later L mix env events event looking turn of_ports count counted past.begin behind τ done_by behind (omega arith))
             (λ pair. bound_in past.begin behind behind pair done_by (omega arith))
             past.done.pairs (M L mix env events event looking turn of_ports count counted) looking.placed.ghost looking.placed.places
+            looking.placed.inv.whole
             (M' L mix env events event looking turn of_ports count counted) (G' L mix env events event looking turn of_ports count counted)
             (grow L mix env events event looking turn of_ports count counted)
             (count behind) (counts behind) (omega (arith, rises, end)) (omega (arith, same)) to was.walked;
@@ -162,6 +163,7 @@ module _ (L : Type 0) (mix : ℕ → ℕ → ℕ → ℕ) (env : Env) (events : 
         (IsBoundIn L mix env all_events begin behind) missed_by
         (λ τ. last_later L mix env events event looking turn of_ports count counted begin here τ (omega arith) behind (omega (arith, ends_here)))
         bound_by items (M L mix env events event looking turn of_ports count counted) looking.placed.ghost looking.placed.places
+        looking.placed.inv.whole
         (M' L mix env events event looking turn of_ports count counted) (G' L mix env events event looking turn of_ports count counted)
         (grow L mix env events event looking turn of_ports count counted)
         looking.placed.ghost.attached (counts behind) (omega arith) (omega (arith, all, grown)) to walked

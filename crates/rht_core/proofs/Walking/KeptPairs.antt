@@ -1,5 +1,5 @@
 -- What a walk knows with one pair more: a node was visited whose port wasn't shown, so there is room for its pair.
-use Rattle.std.proofs.Common.{◌≡◌, ◌⊎◌, ℕ, ◌+◌, ◌<◌, ◌≤◌, nat_lt, Bool, true, List, [], ◌∷◌, ◌++◌, length, map, Option, Some, refl, sym, ◌∙◌, ap, subst, inl, inr, arith}
+use Rattle.std.proofs.Common.{◌≡◌, ◌⊎◌, ℕ, ◌+◌, ◌<◌, ◌≤◌, Bool, true, List, [], ◌∷◌, ◌++◌, length, map, Option, Some, sym, ◌∙◌, ap, subst, inl, inr, arith}
 use Rattle.std.specs.Prelude.{if◌then◌else◌}
 use Rattle.std.proofs.lemmas.Bool.{lt-ltb}
 use Rattle.std.proofs.lemmas.List.{append-nil, length-map, map-append}
@@ -13,11 +13,11 @@ use Rattle.rht_model.specs.declared.history.Cursor.{Cursor}
 use Rattle.rht_model.specs.Rooms.{with_kept}
 use Rattle.rht_walk.specs.Walk.{Pairs, IsVisitIn}
 use Rattle.rht_walk.specs.WalkLaws.{first_bucket}
-use Rattle.rht_walk.specs.declared.walk.Visit.{Visit}
 use Rattle.rht_walk.specs.declared.walk.Chain.{Chain}
 use Rattle.rht_ghost.proofs.Theory.Ghosts.{Ghost, index_at}
 use Rattle.rht_ghost.proofs.Theory.Steps.{mem}
-use Rattle.rht_ghost.proofs.Theory.Wholes.{key_of, hash_in, word_index, Whole}
+use Rattle.rht_ghost.proofs.Theory.Wholes.{key_of, hash_in, word_index, Whole, home}
+use Rattle.rht_core.proofs.Walking.SlotsOfTables.{index_is}
 use Rattle.rht_core.proofs.Finding.Deaths.{DeathsRight, late-earlier, late_used}
 use Rattle.rht_core.proofs.Finding.Places.{Places, PlacesRight}
 use Rattle.rht_core.proofs.Finding.Stages.{Stage, Reaching, Heading, AtKey, AtLink, Ending, Owning, StageMeans}
@@ -192,7 +192,12 @@ module _ (env : Env) (mix : ℕ → ℕ → ℕ → ℕ) (from : Option Cursor) 
           → hash_in env mix G port τ ≡ chain.visit.bucket
           → HereAtLink env mix from begin now Missed WasLast Bound seen more M G P chain m chained.since port
       stage_key last port e low same = (
-        record { of = walked.of; here = ap (G.table τ).place same ∙ chained.place_is },
+        record {
+          of = walked.of;
+          here =
+              subst (λ σ. home env mix G port σ ≡ Some j) (index_is env mix M G whole slot walked.of)
+              (ap (G.table τ).place same ∙ chained.place_is);
+        },
         chained.late,
         inl (inr (subst (In port) (sym (ports_more last)) (In-append_right port (ports_of room.items) (key ∷ []) (inl e)))),
       )

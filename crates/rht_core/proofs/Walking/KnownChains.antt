@@ -1,8 +1,8 @@
 -- What a walk knows at the nodes of a bucket's chain, and how each load there leads on from it.
-use Rattle.std.proofs.Common.{◌≡◌, ◌≢◌, ◌⊎◌, ℕ, ◌+◌, ◌^◌, ◌<◌, ◌≤◌, Bool, true, List, [], ◌∷◌, ◌++◌, map, Option, Some, None, refl, sym, ◌∙◌, ap, subst, inl, inr, arith}
+use Rattle.std.proofs.Common.{◌≡◌, ◌≢◌, ◌⊎◌, ℕ, ◌+◌, ◌^◌, ◌<◌, ◌≤◌, Bool, true, List, ◌∷◌, ◌++◌, Option, Some, None, refl, sym, ◌∙◌, ap, subst, inl, inr, arith}
 use Rattle.std.proofs.lemmas.Bool.{cases_eq}
 use Rattle.rht_words.specs.declared.env.Env.{Env}
-use Rattle.rht_words.specs.Links.{link_of, marker_of, head_of}
+use Rattle.rht_words.specs.Links.{link_of, head_of}
 use Rattle.rht_words.specs.Members.{In}
 use Rattle.rht_words.specs.Operations.{old_of}
 use Rattle.rht_words.specs.Places.{IsBucketPlace}
@@ -11,23 +11,23 @@ use Rattle.rht_words.specs.Shapes.{unpacked, size_of}
 use Rattle.rht_words.proofs.Memory.{Memory}
 use Rattle.rht_model.specs.declared.history.Cursor.{Cursor}
 use Rattle.rht_walk.specs.Walk.{IsVisitIn, chain_of as chain_at, one_more}
-use Rattle.rht_walk.specs.WalkLaws.{first_bucket}
 use Rattle.rht_walk.specs.declared.walk.Visit.{Visit}
 use Rattle.rht_walk.specs.declared.walk.Chain.{Chain}
-use Rattle.rht_ghost.proofs.Theory.Ghosts.{Ghost, index_at, seat_of, table_at, none-some, some-same}
+use Rattle.rht_ghost.proofs.Theory.Ghosts.{Ghost, index_at, table_at, some-same}
 use Rattle.rht_ghost.proofs.Theory.Passed.{hash-below, place-word, place-table}
 use Rattle.rht_ghost.proofs.Theory.SeatedLinks.{head-seated, link_of-one}
 use Rattle.rht_ghost.proofs.Theory.Steps.{mem}
-use Rattle.rht_ghost.proofs.Theory.Wholes.{chain_of, key_of, hash_in, place_at, word_index, Whole, IsThere, slot-there}
-use Rattle.rht_core.proofs.Finding.Deaths.{DeathsRight, IsLate, late_next, late_used}
+use Rattle.rht_ghost.proofs.Theory.Wholes.{chain_of, key_of, hash_in, place_at, word_index, Whole, IsThere, at-there}
+use Rattle.rht_core.proofs.Finding.Deaths.{DeathsRight, IsLate, late_next}
 use Rattle.rht_core.proofs.Finding.Places.{Places, PlacesRight}
-use Rattle.rht_core.proofs.Finding.Stages.{Stage, Reaching, Heading, AtKey, AtLink, Ending}
-use Rattle.rht_core.proofs.Finding.StageSteps.{reached, missed, headed_to, headed_nowhere, key_differs, link_to, link_nowhere, all_visited, none_behind}
+use Rattle.rht_core.proofs.Finding.Stages.{Ending}
+use Rattle.rht_core.proofs.Finding.StageSteps.{headed_to, headed_nowhere, key_differs, link_to, link_nowhere, all_visited}
 use Rattle.rht_core.proofs.Returning.TiedWalks.{IsWalked, IsAtBucket, number_below}
 use Rattle.rht_core.proofs.Walking.BucketHeads.{bucket_right, loaded_head, head_placed}
 use Rattle.rht_core.proofs.Walking.PortPlaces.{PortPlacesRight, sits_first, ends_or_leads}
 use Rattle.rht_core.proofs.Walking.ShownNodes.{map-In}
-use Rattle.rht_core.proofs.Walking.WalkFacts.{ports_of, Said, number, IsLast, StageIs, RoomKnown, IsBefore, IsAbove, IsPassed, BucketsKnown, OfTable, IsAt, IsBehind, ChainKnown, IsInChain, HereAtKey, HereAtLink, IsNewKey, IsAtOwner}
+use Rattle.rht_core.proofs.Walking.SlotsOfTables.{reached, missed, none_behind, index_is}
+use Rattle.rht_core.proofs.Walking.WalkFacts.{ports_of, Said, StageIs, RoomKnown, IsPassed, BucketsKnown, IsAt, IsBehind, IsInChain, HereAtKey, HereAtLink, IsAtOwner}
 
 module _ (env : Env) (mix : ℕ → ℕ → ℕ → ℕ) (from : Option Cursor) (begin now : ℕ) (Missed WasLast : ℕ → Type 0) (Bound : ℕ × ℕ → Type 0)
     (seen : ℕ → Bool) (items : List (ℕ × ℕ)) (words : List ℕ) (G : Ghost) (P : Places) (whole : Whole env mix (mem env mix words) G)
@@ -102,11 +102,20 @@ module _ (env : Env) (mix : ℕ → ℕ → ℕ → ℕ) (from : Option Cursor) 
     abbrev slot : ℕ
     slot = visit.table
 
+    -- its table is that of the slot
+    same_table : index_at G slot ≡ tied.walked.of.table
+    same_table = index_is env mix M G whole slot tied.walked.of
+
     is_there : IsThere G (index_at G slot)
-    is_there = slot-there env mix whole.tables slot tied.walked.of.table
+    is_there = subst (IsThere G) (sym same_table) (at-there env mix whole.tables slot tied.walked.of)
 
     below : visit.bucket < size_of (unpacked (G.table (index_at G slot)).shape)
-    below = number_below env mix words G whole visit within tied.walked
+    below =
+        subst (λ τ. visit.bucket < size_of (unpacked (G.table τ).shape)) (sym same_table)
+        (number_below env mix words G whole visit within tied.walked)
+
+    here_is : (G.table (index_at G slot)).place visit.bucket ≡ Some j
+    here_is = subst (λ τ. (G.table τ).place visit.bucket ≡ Some j) (sym same_table) tied.here
 
     abbrev link : ℕ
     link = head_of place (old_of words (Load place))
@@ -115,7 +124,7 @@ module _ (env : Env) (mix : ℕ → ℕ → ℕ → ℕ) (from : Option Cursor) 
     head = head_of (place_at env mix j) (G.bucket j).plain
 
     link_is : link ≡ head
-    link_is = loaded_head env mix words G whole (index_at G slot) visit.bucket j is_there below tied.here place there refl
+    link_is = loaded_head env mix words G whole (index_at G slot) visit.bucket j is_there below here_is place there refl
 
     -- it leads to a node
     pub head_known : (x : ℕ) → link ≡ link_of x → begin + 1 ≤ now → At visit
@@ -125,15 +134,15 @@ module _ (env : Env) (mix : ℕ → ℕ → ℕ → ℕ) (from : Option Cursor) 
         record {
           of = at.of;
           low = at.low;
-          place_is = tied.here;
+          place_is = here_is;
           since = now;
           began = began;
           so_far = omega arith;
           late = inl (head-seated env mix M G whole j x
-              (bucket_right env mix words G whole (index_at G slot) visit.bucket j is_there below tied.here).chained to);
+              (bucket_right env mix words G whole (index_at G slot) visit.bucket j is_there below here_is).chained to);
           known = λ last.
               let known = at.known last in
-              let top = head_placed env mix words G whole (index_at G slot) visit.bucket j is_there below tied.here P now right last x to in
+              let top = head_placed env mix words G whole (index_at G slot) visit.bucket j is_there below here_is P now right last x to in
               record {
                 at = top.at;
                 is = top.is;
@@ -143,7 +152,7 @@ module _ (env : Env) (mix : ℕ → ℕ → ℕ → ℕ) (from : Option Cursor) 
                   here = λ port low same.
                       headed_to env mix port seen now now M G P whole right deaths (SaidHere port) slot j x
                       (reached env mix port seen now now M G P whole right deaths (SaidHere port) slot j (known.here port low same)
-                      (ap (G.table (index_at G slot)).place same ∙ tied.here)) to;
+                      (ap (G.table (index_at G slot)).place same ∙ here_is)) to;
                   ahead = known.ahead;
                   room = room_weaker slot _ _ (λ n less. inl less) known.room;
                 };
@@ -163,7 +172,7 @@ module _ (env : Env) (mix : ℕ → ℕ → ℕ → ℕ) (from : Option Cursor) 
                 none_behind env mix port seen 0 now M G P whole right deaths (SaidHere port) slot
                 (headed_nowhere env mix port seen 0 now M G P whole right deaths (SaidHere port) slot j
                 (reached env mix port seen 0 now M G P whole right deaths (SaidHere port) slot j (known.here port low same)
-                (ap (G.table (index_at G slot)).place same ∙ tied.here))
+                (ap (G.table (index_at G slot)).place same ∙ here_is))
                 (λ x l leads. none x l (link_is ∙ leads))) last;
             ahead = known.ahead;
             room = room_weaker slot _ _ (λ n less. omega (arith, less)) known.room;
@@ -183,10 +192,12 @@ module _ (env : Env) (mix : ℕ → ℕ → ℕ → ℕ) (from : Option Cursor) 
     bucket = word_index env mix chain.place
 
     there_now : IsThere G τ
-    there_now = slot-there env mix whole.tables table walked.of.table
+    there_now = subst (IsThere G) (sym (index_is env mix M G whole table walked.of)) (at-there env mix whole.tables table walked.of)
 
     number_low : chain.visit.bucket < size_of (unpacked (G.table τ).shape)
-    number_low = number_below env mix words G whole chain.visit within walked
+    number_low =
+        subst (λ σ. chain.visit.bucket < size_of (unpacked (G.table σ).shape)) (sym (index_is env mix M G whole table walked.of))
+        (number_below env mix words G whole chain.visit within walked)
 
     table_is : (G.table τ).place chain.visit.bucket ≡ Some bucket → table_at G bucket ≡ τ
     table_is is = place-table env mix M G whole τ chain.visit.bucket bucket there_now number_low is

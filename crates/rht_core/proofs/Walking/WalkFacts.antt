@@ -4,7 +4,6 @@ use Rattle.std.proofs.Common.{◌≡◌, ◌⊎◌, ℕ, ◌+◌, ◌<◌, ◌�
 use Rattle.std.specs.List.{AllByRecursion}
 use Rattle.rht_words.specs.declared.env.Env.{Env}
 use Rattle.rht_words.specs.Members.{In, IsDistinct}
-use Rattle.rht_words.specs.Shapes.{unpacked, size_of}
 use Rattle.rht_words.proofs.Memory.{Memory}
 use Rattle.rht_model.specs.declared.history.Cursor.{Cursor}
 use Rattle.rht_walk.specs.WalkLaws.{first_bucket, Fits}
@@ -18,7 +17,8 @@ use Rattle.rht_ghost.proofs.Theory.Ghosts.{Ghost, index_at}
 use Rattle.rht_ghost.proofs.Theory.Wholes.{key_of, hash_in, word_index}
 use Rattle.rht_core.proofs.Finding.Places.{Places}
 use Rattle.rht_core.proofs.Finding.Deaths.{IsLate}
-use Rattle.rht_core.proofs.Finding.Stages.{Stage, Reaching, AtKey, AtLink, IsAttached, StageMeans}
+use Rattle.rht_core.proofs.Finding.Stages.{Stage, Reaching, AtKey, AtLink, StageMeans}
+use Rattle.rht_core.proofs.Walking.SlotsOfTables.{IsAttached}
 
 -- the ports of pairs
 abbrev pub ports_of : List (ℕ × ℕ) → List ℕ

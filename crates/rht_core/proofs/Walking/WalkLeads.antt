@@ -1,17 +1,16 @@
 -- Each operation of a walk leads from what it knows to what it knows next, by the words and the ghost of one moment, since it loads a word or
 -- turns its section word.
-use Rattle.std.proofs.Common.{◌≡◌, ◌≢◌, ◌⊎◌, ℕ, ◌+◌, ◌%◌, ◌^◌, ◌<◌, ◌≤◌, nat_lt, Bool, true, List, [], ◌∷◌, length, Option, Some, None, refl, sym, ◌∙◌, ap, subst, inl, inr, arith}
+use Rattle.std.proofs.Common.{◌≡◌, ◌≢◌, ◌⊎◌, ℕ, ◌+◌, ◌%◌, ◌^◌, ◌<◌, ◌≤◌, nat_lt, Bool, true, List, [], ◌∷◌, length, Option, Some, None, refl, sym, ◌∙◌, ap, subst, inl, arith}
 use Rattle.std.specs.Prelude.{◌==◌}
 use Rattle.std.specs.List.{AllByRecursion}
-use Rattle.std.proofs.lemmas.Bool.{cond_both, eqb-true, ltb-false}
+use Rattle.std.proofs.lemmas.Bool.{cond_both, ltb-false}
 use Rattle.rht_words.specs.declared.env.Env.{Env}
 use Rattle.rht_words.specs.declared.geometry.Geometry.{Geometry}
-use Rattle.rht_words.specs.declared.machine.Next.TheVariants.{Go, Done}
 use Rattle.rht_words.specs.declared.machine.Start.{Start}
 use Rattle.rht_words.specs.declared.machine.Start.TheVariants as starts
 use Rattle.rht_words.specs.Links.{link_of, marker_of, node_of, head_of, slot_of, table_of, page_of}
 use Rattle.rht_words.specs.Operations.{old_of}
-use Rattle.rht_words.specs.Places.{CurrentTable, Slot, FutureWord, SerialWord, PageWord, Node, KeyWord, OwnerWord, place_of}
+use Rattle.rht_words.specs.Places.{CurrentTable, Slot, FutureWord, SerialWord, PageWord, Node, OwnerWord, place_of}
 use Rattle.rht_words.specs.Ports.{owner_of}
 use Rattle.rht_words.specs.declared.op.Op.TheVariants.{Load}
 use Rattle.rht_words.proofs.LinksRead.{links_tell_apart}
@@ -25,20 +24,22 @@ use Rattle.rht_walk.specs.declared.walk.Chain.{Chain}
 use Rattle.rht_walk.specs.declared.walk.WalkEnd.TheVariants as ends
 use Rattle.rht_walk.specs.declared.walk.WalkAt.{WalkAt}
 use Rattle.rht_walk.specs.declared.walk.WalkAt.TheVariants as at
-use Rattle.rht_ghost.proofs.Pieces.TableLoads.{slot_word, table_right, LeadsBehind, future_leads}
-use Rattle.rht_ghost.proofs.Theory.Ghosts.{Ghost, has_table, index_at, none-some}
+use Rattle.rht_ghost.proofs.Pieces.TableLoads.{LeadsBehind, future_leads}
+use Rattle.rht_ghost.proofs.Theory.Ghosts.{Ghost, index_at, none-some}
 use Rattle.rht_ghost.proofs.Theory.Steps.{mem}
 use Rattle.rht_ghost.proofs.Theory.WaysRead.{words_of_pages, read_by_entry, way_read, missing_home}
-use Rattle.rht_ghost.proofs.Theory.Wholes.{chain_of, key_of, hash_in, Whole, current-there, slot-there}
+use Rattle.rht_ghost.proofs.Theory.Wholes.{chain_of, key_of, hash_in, Whole, current-there, at-there, at-right}
+use Rattle.rht_ghost.proofs.Theory.Wholes as wholes
 use Rattle.rht_core.proofs.Finding.Deaths.{DeathsRight, IsLate, late-earlier}
 use Rattle.rht_core.proofs.Finding.Places.{Places, PlacesRight}
 use Rattle.rht_core.proofs.Finding.StageSteps.{at_current}
-use Rattle.rht_core.proofs.Returning.TiedWalks.{IsWalked, IsOnWayTo, IsAtBucket, tied_of_walk, number_below}
+use Rattle.rht_core.proofs.Returning.TiedWalks.{IsWalked, IsOnWayTo, tied_of_walk, number_below}
 use Rattle.rht_core.proofs.Walking.KeptPairs.{kept_known}
 use Rattle.rht_core.proofs.Walking.KnownBuckets.{begun_known, end_known, ended_known}
 use Rattle.rht_core.proofs.Walking.KnownChains.{missing_known, head_known, headless_known, key_known, link_known, linkless_known, all_known}
 use Rattle.rht_core.proofs.Walking.PortPlaces.{PortPlacesRight}
-use Rattle.rht_core.proofs.Walking.WalkFacts.{Said, IsNew, IsAt, IsBehind, IsInChain, HereAtKey, HereAtLink, IsAtEnd, WalkMeans}
+use Rattle.rht_core.proofs.Walking.SlotsOfTables.{IsAttached, at_attached, index_is}
+use Rattle.rht_core.proofs.Walking.WalkFacts.{Said, IsNew, IsAt, IsBehind, IsInChain, HereAtKey, IsAtEnd, WalkMeans}
 
 module _ (env : Env) (mix : ℕ → ℕ → ℕ → ℕ) (from : Option Cursor) (begin now : ℕ) (Missed WasLast : ℕ → Type 0) (Bound : ℕ × ℕ → Type 0)
     (seen : ℕ → Bool) (words : List ℕ) (G : Ghost) (P : Places) (whole : Whole env mix (mem env mix words) G)
@@ -105,10 +106,13 @@ module _ (env : Env) (mix : ℕ → ℕ → ℕ → ℕ) (from : Option Cursor) 
       entry-known : (entry : Option ℕ) → page_of env.geometry.pages (M (PageWord way.entry)) ≡ entry
           → let next = entry_seen way entry in Means (reached env.geometry limit shown visit next.0 next.1)
       entry-known None none =
-          let missing = missing_home env mix ((G.table (index_at G visit.table)).place visit.bucket)
-          (sym (way_read env mix M G whole (index_at G visit.table) visit.bucket (slot-there env mix whole.tables visit.table on.walked.of.table)
+          let of = on.walked.of in
+          let missing =
+          subst (λ τ. (G.table τ).place visit.bucket ≡ None) (sym (index_is env mix M G whole visit.table of))
+          (missing_home env mix ((G.table of.table).place visit.bucket)
+          (sym (way_read env mix M G whole of.table visit.bucket (at-there env mix whole.tables visit.table of)
           (number_below env mix words G whole visit within on.walked) way on.to)
-          ∙ read_by_entry (words_of_pages M) way env.geometry None same none) in
+          ∙ read_by_entry (words_of_pages M) way env.geometry None same none)) in
           ended visit on.walked (missing_known env mix from begin now Missed WasLast Bound seen items words G P whole right deaths of_ports visit
           missing known)
       entry-known (Some page) leads = entered-known page (entered way page) refl
@@ -121,7 +125,7 @@ module _ (env : Env) (mix : ℕ → ℕ → ℕ → ℕ) (from : Option Cursor) 
     strange_ends visit None walked behind = ended visit walked behind
     strange_ends visit (Some table) walked behind = tt
 
-    table_ends : (slot : ℕ) (future : Option ℕ) → has_table (G.slot slot) ≡ true → LeadsBehind env mix M G whole slot future
+    table_ends : (slot : ℕ) (future : Option ℕ) (of : IsAttached G slot) → LeadsBehind env mix M G whole (index_at G slot) future
         → ((τ : ℕ) → τ + 1 ≡ G.attached → WasLast τ) → IsAtEnd env mix from begin now Missed WasLast Bound seen items M G P slot
         → Means (unless_behind future (at.Closing (ends.Walked None)))
     table_ends slot (Some table) has behind last_now end = tt
@@ -173,19 +177,20 @@ module _ (env : Env) (mix : ℕ → ℕ → ℕ → ℕ) (from : Option Cursor) 
         rw is (record {
           none = none;
           ahead = λ port. at_current env mix port seen 0 now M G P whole right deaths
-              (Said env mix from begin now Missed WasLast Bound seen items M G P port) slot there.has_slot there.index
+              (Said env mix from begin now Missed WasLast Bound seen items M G P port)
               (λ unbound. inl (learns.absent port unbound));
         })
 
-    serial_is : (slot : ℕ) → has_table (G.slot slot) ≡ true → (G.table (index_at G slot)).serial ≡ M (Slot slot SerialWord)
-    serial_is slot has =
-        sym (slot_word env mix M G whole slot SerialWord has ∙ (table_right env mix M G whole slot has).serial_is)
+    serial_is : (slot : ℕ) → wholes.IsAt G slot → (G.table (index_at G slot)).serial ≡ M (Slot slot SerialWord)
+    serial_is slot at =
+        ap (λ τ. (G.table τ).serial) (index_is env mix M G whole slot at)
+        ∙ sym (ap (λ s. M (Slot s SerialWord)) (sym at.slot_is) ∙ (at-right env mix whole.tables slot at).serial_is)
 
     pub walk_leads : (state : WalkAt) → IsWalkAtIn env.geometry state → tied_of_walk env mix G state → HasMet state → MeansBy items state
         → Next state
     walk_leads at.Opening within tied met known = known
     walk_leads at.CurrentTable within tied met known = current_known known
-    walk_leads (at.Serial table) within tied met known = (serial_is table tied.table, known)
+    walk_leads (at.Serial table) within tied met known = (serial_is table tied, known)
     walk_leads (at.Shape table serial) within tied met known =
         begun_known env mix from begin now Missed WasLast Bound seen items M G P whole table serial _ known.0 known.1
     walk_leads (at.Entry visit way) within tied met known =
@@ -227,7 +232,7 @@ module _ (env : Env) (mix : ℕ → ℕ → ℕ → ℕ) (from : Option Cursor) 
     walk_leads (at.StrangeEnd visit) within tied met known =
         strange_ends items limit (length items) visit (slot_of (M (Slot visit.table FutureWord))) tied known
     walk_leads (at.TableEnd table) within tied met known =
-        table_ends items limit (length items) table (slot_of (M (Slot table FutureWord))) known.of.table
-        (future_leads env mix M G whole table known.of.table) learns.last_now known
+        table_ends items limit (length items) table (slot_of (M (Slot table FutureWord))) known.of
+        (future_leads env mix M G whole table (at_attached env mix M G whole table known.of)) learns.last_now known
     walk_leads (at.Closing (ends.Walked next)) within tied met known = known
     walk_leads (at.Closing (ends.Again table)) within tied met known = tt

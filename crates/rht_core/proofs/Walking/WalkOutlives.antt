@@ -1,5 +1,5 @@
 -- What a walk knows outlives an operation of anybody.
-use Rattle.std.proofs.Common.{◌≡◌, ◌⊎◌, ℕ, ◌+◌, ◌<◌, ◌≤◌, Bool, true, List, [], ◌∷◌, map, Option, Some, None, refl, sym, ◌∙◌, ap, subst, inl, inr, arith}
+use Rattle.std.proofs.Common.{◌≡◌, ◌⊎◌, ℕ, ◌+◌, ◌<◌, ◌≤◌, Bool, true, List, [], ◌∷◌, Option, Some, None, refl, sym, ◌∙◌, ap, subst, inl, inr, arith}
 use Rattle.std.specs.List.{AllByRecursion}
 use Rattle.rht_words.specs.declared.env.Env.{Env}
 use Rattle.rht_words.specs.Members.{In}
@@ -17,28 +17,33 @@ use Rattle.rht_walk.specs.declared.walk.WalkAt.{WalkAt}
 use Rattle.rht_walk.specs.declared.walk.WalkAt.TheVariants as at
 use Rattle.rht_ghost.proofs.Theory.Ghosts.{Ghost, index_at}
 use Rattle.rht_ghost.proofs.Theory.Passed.{TablesGrow, hash-stays}
-use Rattle.rht_ghost.proofs.Theory.Wholes.{key_of, hash_in, word_index}
+use Rattle.rht_ghost.proofs.Theory.Wholes.{key_of, hash_in, word_index, Whole}
+use Rattle.rht_ghost.proofs.Theory.Wholes as wholes
 use Rattle.rht_core.proofs.Finding.Deaths.{IsLate}
 use Rattle.rht_core.proofs.Finding.LooksGiven.{node_at}
 use Rattle.rht_core.proofs.Finding.LooksSeen.{stage-seen}
 use Rattle.rht_core.proofs.Finding.Places.{Places}
 use Rattle.rht_core.proofs.Finding.PlacesThen.{StagesOutlive}
-use Rattle.rht_core.proofs.Finding.Stages.{Stage, Reaching, AtKey, AtLink, Owning, IsAttached, StageMeans}
-use Rattle.rht_core.proofs.Returning.TiedWalks.{IsWalked, IsAtBucket, tied_of_walk}
+use Rattle.rht_core.proofs.Finding.Stages.{Stage, Reaching, AtKey, AtLink, Owning, StageMeans}
+use Rattle.rht_core.proofs.Returning.TiedWalks.{tied_of_walk}
 use Rattle.rht_core.proofs.Walking.ShownNodes.{map-agree}
-use Rattle.rht_core.proofs.Walking.WalkFacts.{ports_of, SaidOf, EndKnown, EndsAt, HasWalkedTo, RoomKnown, IsShown, IsPassed, BucketsKnown, OfTable, IsNew, IsAt, IsBehind, ChainKnown, IsInChain, HereAtKey, HereAtLink, IsAtOwner, IsAtEnd, WalkMeans}
+use Rattle.rht_core.proofs.Walking.WalkFacts.{SaidOf, EndKnown, EndsAt, HasWalkedTo, RoomKnown, IsPassed, BucketsKnown, OfTable, IsNew, IsAt, IsBehind, IsInChain, HereAtKey, HereAtLink, IsAtOwner, IsAtEnd, WalkMeans}
+use Rattle.rht_core.proofs.Walking.SlotsOfTables.{IsAttached, index_stays, attached_stays, attached_at}
 
 module _ (env : Env) (mix : ℕ → ℕ → ℕ → ℕ) (from : Option Cursor) (begin now : ℕ) (Missed WasLast : ℕ → Type 0) (Bound : ℕ × ℕ → Type 0)
     (Missed' WasLast' : ℕ → Type 0) (Bound' : ℕ × ℕ → Type 0) (missed : (port : ℕ) → Missed port → Missed' port)
     (was_last : (τ : ℕ) → WasLast τ → WasLast' τ) (bound : (pair : ℕ × ℕ) → Bound pair → Bound' pair)
-    (items : List (ℕ × ℕ)) (M : Memory) (G : Ghost) (P : Places) (M' : Memory) (G' : Ghost) (grow : TablesGrow env mix G G') where
-
+    (items : List (ℕ × ℕ)) (M : Memory) (G : Ghost) (P : Places) (whole : Whole env mix M G)
+    (M' : Memory) (G' : Ghost) (grow : TablesGrow env mix G G') where
   -- ---- tables
+
+  index_still : (slot : ℕ) → IsAttached G slot → index_at G' slot ≡ index_at G slot
+  index_still = index_stays env mix M G whole G' grow
 
   number_same : (slot : ℕ) → IsAttached G slot → (port : ℕ)
       → hash_in env mix G' port (index_at G' slot) ≡ hash_in env mix G port (index_at G slot)
   number_same slot of port =
-      ap (hash_in env mix G' port) (grow.indices slot of.table) ∙ hash-stays env mix G G' grow port (index_at G slot) of.attached
+      ap (hash_in env mix G' port) (index_still slot of) ∙ hash-stays env mix G G' grow port (index_at G slot) of.attached
 
   -- the last table was the last one
   last_was : (τ : ℕ) → τ < G.attached → τ + 1 ≡ G'.attached → τ + 1 ≡ G.attached
@@ -46,7 +51,7 @@ module _ (env : Env) (mix : ℕ → ℕ → ℕ → ℕ) (from : Option Cursor) 
 
   slot_last : (slot : ℕ) → IsAttached G slot → index_at G' slot + 1 ≡ G'.attached → index_at G slot + 1 ≡ G.attached
   slot_last slot of last =
-      last_was (index_at G slot) of.attached (ap (λ t. t + 1) (sym (grow.indices slot of.table)) ∙ last)
+      last_was (index_at G slot) of.attached (ap (λ t. t + 1) (sym (index_still slot of)) ∙ last)
 
   said : (port : ℕ) → SaidOf Missed items port → SaidOf Missed' items port
   said port (inl was) = inl (missed port was)
@@ -196,7 +201,7 @@ module _ (env : Env) (mix : ℕ → ℕ → ℕ → ℕ) (from : Option Cursor) 
           → OfTable env mix from begin now Missed WasLast Bound seen items M G P visit
           → OfTable env mix from begin now' Missed' WasLast' Bound' seen' items M' G' P' visit
       table_then visit attached of = record {
-        serial_is = ap (λ τ. (G'.table τ).serial) (grow.indices visit.table attached.table)
+        serial_is = ap (λ τ. (G'.table τ).serial) (index_still visit.table attached)
             ∙ (grow.tables (index_at G visit.table) attached.attached).serial ∙ of.serial_is;
         fits = of.fits;
       }
@@ -234,7 +239,7 @@ module _ (env : Env) (mix : ℕ → ℕ → ℕ → ℕ) (from : Option Cursor) 
       chain_then chain m Here Here' least attached stood here at = record {
         of = table_then chain.visit attached at.of;
         low = at.low;
-        place_is = ap (λ τ. (G'.table τ).place chain.visit.bucket) (grow.indices chain.visit.table attached.table)
+        place_is = ap (λ τ. (G'.table τ).place chain.visit.bucket) (index_still chain.visit.table attached)
             ∙ (grow.tables (index_at G chain.visit.table) attached.attached).places chain.visit.bucket (word_index env mix chain.place) at.place_is;
         since = at.since;
         began = at.began;
@@ -287,18 +292,16 @@ module _ (env : Env) (mix : ℕ → ℕ → ℕ → ℕ) (from : Option Cursor) 
       at_end_then slot end = record {
         visit = end.visit;
         same = end.same;
-        of = record {
-          table = grow.slots slot end.of.table;
-          attached =
-              let same = grow.indices slot end.of.table in
-              let more = grow.attached in
-              let low = end.of.attached in omega (arith, same, more, low);
-        };
+        of = attached_stays env mix M G whole G' grow slot end.of;
         all = λ port. subst (λ h. h < end.visit.bucket + 1) (sym (number_same slot end.of port)) (end.all port);
         behind = behind_then end.visit (subst (IsAttached G) (sym end.same) end.of) end.behind;
       }
 
     -- ---- each state
+
+    -- the table at which it stands
+    has : (slot : ℕ) → wholes.IsAt G slot → IsAttached G slot
+    has = attached_at env mix M G whole
 
     -- who stands at a table or a node stands somewhere
     pub walk_outlives : (state : WalkAt) → tied_of_walk env mix G state → AllByRecursion (λ n. seen n ≡ true) (standing_of_walk state).nodes
@@ -310,22 +313,26 @@ module _ (env : Env) (mix : ℕ → ℕ → ℕ → ℕ) (from : Option Cursor) 
     walk_outlives (at.Serial table) tied stood (inr keeps) known = new_then keeps table known
     walk_outlives (at.Shape table serial) tied stood (inl none) known = absurd (let tables = ap (λ (s : Standing). s.tables) none in cc)
     walk_outlives (at.Shape table serial) tied stood (inr keeps) known = (
-      ap (λ τ. (G'.table τ).serial) (grow.indices table tied.table) ∙ (grow.tables (index_at G table) tied.attached).serial ∙ known.0,
+      ap (λ τ. (G'.table τ).serial) (index_still table (has table tied))
+          ∙ (grow.tables (index_at G table) (has table tied).attached).serial ∙ known.0,
       new_then keeps table known.1,
     )
     walk_outlives (at.Entry visit way) tied stood (inl none) known = absurd (let tables = ap (λ (s : Standing). s.tables) none in cc)
-    walk_outlives (at.Entry visit way) tied stood (inr keeps) known = at_then keeps visit tied.walked.of known
+    walk_outlives (at.Entry visit way) tied stood (inr keeps) known = at_then keeps visit (has visit.table tied.walked.of) known
     walk_outlives (at.Heading visit place) tied stood (inl none) known = absurd (let tables = ap (λ (s : Standing). s.tables) none in cc)
-    walk_outlives (at.Heading visit place) tied stood (inr keeps) known = at_then keeps visit tied.walked.of known
+    walk_outlives (at.Heading visit place) tied stood (inr keeps) known = at_then keeps visit (has visit.table tied.walked.of) known
     walk_outlives (at.Key chain node) tied stood (inl none) known = absurd (let tables = ap (λ (s : Standing). s.tables) none in cc)
     walk_outlives (at.Key chain node) tied stood (inr keeps) known =
-        chain_then keeps chain node _ _ _ tied.of stood.0 (λ since port. key_then keeps chain node since port stood.0) known
+        chain_then keeps chain node _ _ _ (has chain.visit.table tied.of) stood.0
+        (λ since port. key_then keeps chain node since port stood.0) known
     walk_outlives (at.Owner chain node port) tied stood (inl none) known = absurd (let tables = ap (λ (s : Standing). s.tables) none in cc)
-    walk_outlives (at.Owner chain node port) tied stood (inr keeps) known = owner_then keeps chain node port tied.of stood.0 known
+    walk_outlives (at.Owner chain node port) tied stood (inr keeps) known =
+        owner_then keeps chain node port (has chain.visit.table tied.of) stood.0 known
     walk_outlives (at.Link chain node) tied stood (inl none) known = absurd (let tables = ap (λ (s : Standing). s.tables) none in cc)
     walk_outlives (at.Link chain node) tied stood (inr keeps) known =
-        chain_then keeps chain node _ _ _ tied.of stood.0 (λ since port. link_then keeps chain node since port stood.0) known
+        chain_then keeps chain node _ _ _ (has chain.visit.table tied.of) stood.0
+        (λ since port. link_then keeps chain node since port stood.0) known
     walk_outlives (at.StrangeEnd visit) tied stood (inl none) known = absurd (let tables = ap (λ (s : Standing). s.tables) none in cc)
-    walk_outlives (at.StrangeEnd visit) tied stood (inr keeps) known = behind_then keeps visit tied.of known
+    walk_outlives (at.StrangeEnd visit) tied stood (inr keeps) known = behind_then keeps visit (has visit.table tied.of) known
     walk_outlives (at.TableEnd table) tied stood (inl none) known = absurd (let tables = ap (λ (s : Standing). s.tables) none in cc)
     walk_outlives (at.TableEnd table) tied stood (inr keeps) known = at_end_then keeps table known

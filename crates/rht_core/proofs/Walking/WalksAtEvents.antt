@@ -298,7 +298,8 @@ module _ (L : Type 0) (mix : ℕ → ℕ → ℕ → ℕ) (env : Env) where
             begun = omega (arith, longer, begun);
             roomy = roomy;
             known = walk_outlives env mix from begin now Missed Was Bound (MissedOf more c begin) (WasLast count' begin (length more))
-                (BoundOf more c begin) missed was bound room.items M G placed.places M' G' grow (met_now L mix env looking) then_places.places
+                (BoundOf more c begin) missed was bound room.items M G placed.places
+                placed.inv.whole M' G' grow (met_now L mix env looking) then_places.places
                 then_places.stages then_places.kept (length more) (omega (arith, longer)) absent_then seen (turn.then c) see.met_too state tied
                 (subst (λ at. AllByRecursion (λ n. seen n ≡ true) at.nodes) is see.stands)
                 (subst (λ at. (at ≡ stands_nowhere) ⊎ ((n : ℕ) → seen n ≡ true → turn.then c n ≡ true)) is see.turns) known;
@@ -318,8 +319,8 @@ module _ (L : Type 0) (mix : ℕ → ℕ → ℕ → ℕ) (env : Env) where
       by_more items state tied stood known =
           walk_outlives env mix from begin now (MissedOf events c begin) (WasLast count begin now) (BoundOf events c begin)
           (MissedOf more c begin) (WasLast count' begin (length more)) (BoundOf more c begin) (missed_later c begin)
-          (λ τ. last_later begin now τ (omega arith) (length more) (omega (arith, longer))) (bound_later c begin) items M G placed.places M G
-          same_grow seen placed.places
+          (λ τ. last_later begin now τ (omega arith) (length more) (omega (arith, longer))) (bound_later c begin) items M G
+          placed.places placed.inv.whole M G same_grow seen placed.places
           (λ port seen since began Said Said' said absent seen_met stage stood known.
           stage_said env mix port seen since Said Said' said M G placed.places stage known)
           (λ i n p is at. at) now (omega arith) missed_now seen seen (λ n is. is) state tied stood (inr (λ n is. is)) known
