@@ -28,9 +28,9 @@ use Rattle.rht_bind.specs.declared.bind.growth.Full.{Full}
 use Rattle.rht_bind.specs.declared.bind.growth.Full.TheVariants as full
 use Rattle.rht_bind.specs.declared.bind.BindAt.{BindAt}
 use Rattle.rht_bind.specs.declared.bind.BindAt.TheVariants as at
-use Rattle.rht_ghost.proofs.Theory.Ghosts.{put-same, put-all, Ghost, index_at, table_at, with_armed, armed_by}
-use Rattle.rht_ghost.proofs.Theory.Wholes.{key_of, place_at, word_index, Whole, slot-there}
-use Rattle.rht_ghost.proofs.Theory.Passed.{home-table, Passed-stays}
+use Rattle.rht_ghost.proofs.Theory.Ghosts.{put-same, put-all, Ghost, table_at, table_of_page, with_armed, armed_by}
+use Rattle.rht_ghost.proofs.Theory.Wholes.{key_of, place_at, word_index, Whole, at-there}
+use Rattle.rht_ghost.proofs.Theory.Passed.{home-word, Passed-stays}
 use Rattle.rht_ghost.proofs.Theory.Knowns.{KnownBucket}
 use Rattle.rht_ghost.proofs.Theory.Knowledge.{plainly, HasLock, IsMember, Knowing, has_lock, idle_moves_none}
 use Rattle.rht_ghost.proofs.Theory.KnowledgeStays.{TableMeans-stay}
@@ -71,17 +71,19 @@ module _ (env : Env) (mix : ℕ → ℕ → ℕ → ℕ) (c : ℕ) (port owner :
   -- ---- the table behind
 
   -- where no table is behind that in which the port was looked for in vain, the bind is armed in its bucket
-  arms : (claimed : Claimed) (count : ℕ) → G.bound port ≡ [] → index_at G claimed.table + 1 ≡ G.attached
-      → BindKnows (at.Future claimed count) M G → BindMoved (at.Future claimed count) (at.Count claimed, Go)
-  arms claimed count unbound last known =
+  arms : (claimed : Claimed) (count : ℕ) → G.bound port ≡ [] → (known : BindKnows (at.Future claimed count) M G)
+      → known.knowing.means.table.passing.at.table + 1 ≡ G.attached
+      → BindMoved (at.Future claimed count) (at.Count claimed, Go)
+  arms claimed count unbound known last =
       let op = plan_at env c (at.Future claimed count) in
       let k = known.knowing in
       let home_is = k.means.table in
       let lock = k.means.bucket.lock in
       let j = word_index env mix claimed.bucket.place in
-      let τ = index_at G claimed.table in
-      let table : table_at G j ≡ τ =
-      home-table env mix M G whole port τ j (slot-there env mix whole.tables claimed.table home_is.passing.table) home_is.here in
+      let τ = home_is.passing.at.table in
+      let of =
+      (home-word env mix M G whole port τ j (at-there env mix whole.tables claimed.table home_is.passing.at) home_is.here).of in
+      let table : table_at G j ≡ τ = ap table_of_page of in
       let ready : IsArming env mix c j G = record {
         holder = lock.holder;
         current = omega (arith, whole.tables.current_in, table, last);
@@ -127,6 +129,7 @@ module _ (env : Env) (mix : ℕ → ℕ → ℕ → ℕ) (c : ℕ) (port owner :
                     (same_grow env mix G G' (same_tables env mix G G'.bucket G.node G.bound G.raised))
                     (armed_passes env mix c j G ready) port τ home_is.passing.passed;
                 here = home_is.here;
+                of = of;
                 armed = ap (λ x. x.armed) (put-same G.bucket j b);
                 unbound = unbound;
               };
@@ -141,25 +144,25 @@ module _ (env : Env) (mix : ℕ → ℕ → ℕ → ℕ) (c : ℕ) (port owner :
       (knows_of port owner (own port owner claimed.attempt.node) (at_home port owner claimed) bucket) M G
       → BindKnows (unlocking_full claimed why) M G
   full_knows claimed why bucket lock k =
-      record { knowing = plainly env mix k.only k.means.node k.means.table.passing.table lock; fits = tt }
+      record { knowing = plainly env mix k.only k.means.node k.means.table.passing.at lock; fits = tt }
 
   -- the future of a table in which the port was looked for in vain: where there is none, a chain that is
   -- full takes no node
   future_next : (claimed : Claimed) (count : ℕ) (future : Option ℕ)
       → FutureIs env mix c (holds_claimed claimed) (Some (own port owner claimed.attempt.node))
       (missed port owner claimed) words G whole port future
-      → (future ≡ None → index_at G claimed.table + 1 ≡ G.attached)
-      → BindKnows (at.Future claimed count) M G
+      → (known : BindKnows (at.Future claimed count) M G)
+      → (future ≡ None → known.knowing.means.table.passing.at.table + 1 ≡ G.attached)
       → BindMoved (at.Future claimed count) (future_or_count claimed count future, Go)
-  future_next claimed count None unbound last known =
+  future_next claimed count None unbound known last =
       by_test (λ t. BindMoved (at.Future claimed count)
       (cond t (unlocking_full claimed full.Chain) (at.Count claimed), Go)) (nat_le 16 count)
       (λ t. reads env mix whole refl refl (inl refl)
       (full_knows claimed full.Chain (missed port owner claimed)
       (has_lock env mix c G claimed.bucket.place claimed.bucket.word known.knowing.means.bucket.lock)
       known.knowing))
-      (λ t. arms claimed count unbound (last refl) known)
-  future_next claimed count (Some next) passing last known =
+      (λ t. arms claimed count unbound known (last refl))
+  future_next claimed count (Some next) passing known last =
       reads env mix whole refl refl (inl refl) (record {
         knowing =
             plainly env mix known.knowing.only known.knowing.means.node passing
@@ -174,10 +177,10 @@ module _ (env : Env) (mix : ℕ → ℕ → ℕ → ℕ) (c : ℕ) (port owner :
       future_next claimed count (slot_of (M (Slot claimed.table FutureWord)))
       (future_is env mix c (holds_claimed claimed) (Some (own port owner claimed.attempt.node))
       (missed port owner claimed) words G whole port claimed.table claimed.bucket.place
-      claimed.bucket.word (Some claimed.shape) known.knowing known.knowing.means.bucket)
+      claimed.bucket.word (Some claimed.shape) known.knowing known.knowing.means.bucket) known
       (is_last env mix c (holds_claimed claimed) (Some (own port owner claimed.attempt.node))
       (missed port owner claimed) words G whole port claimed.table claimed.bucket.place
-      (Some claimed.shape) known.knowing) known
+      (Some claimed.shape) known.knowing)
 
   -- ---- the count
 

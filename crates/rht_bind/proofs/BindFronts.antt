@@ -32,8 +32,8 @@ use Rattle.rht_bind.specs.declared.bind.FoundList.{FoundList}
 use Rattle.rht_bind.specs.declared.bind.ending.Ending.TheVariants as endings
 use Rattle.rht_bind.specs.declared.bind.BindAt.{BindAt}
 use Rattle.rht_bind.specs.declared.bind.BindAt.TheVariants as at
-use Rattle.rht_ghost.proofs.Theory.Ghosts.{put-same, Ghost, index_at}
-use Rattle.rht_ghost.proofs.Theory.Wholes.{place_at, word_index, place_at-index, index-within, Whole}
+use Rattle.rht_ghost.proofs.Theory.Ghosts.{put-same, Ghost}
+use Rattle.rht_ghost.proofs.Theory.Wholes.{place_at, word_index, place_at-index, index-within, Whole, at-there}
 use Rattle.rht_ghost.proofs.Theory.Knowns.{Nowhere, FirstLink}
 use Rattle.rht_ghost.proofs.Theory.Knowledge.{plainly, HasOnly, HoldsLock, Knowing, idle_moves_none}
 use Rattle.rht_ghost.proofs.Theory.Answering.{IsRight, keeps}
@@ -229,10 +229,11 @@ module _ (env : Env) (mix : ℕ → ℕ → ℕ → ℕ) (c : ℕ) (port owner :
             let is = k.means.bucket in
             let rest = list.first ∷ is.behind in
             let back = place_at-index env mix bucket.place is.found.standing.lock.bucket in
+            let is_there = at-there env mix whole.tables list.claimed.table k.means.table.passing.at in
             let made =
             front_made env mix c port bucket.place bucket.word list.first n list.before M stored G whole is
             listed k.means.node.key k.means.node.list (idle_moves_none env mix M G whole c k.only)
-            (index_at G list.claimed.table) k.means.table.passing.passed k.means.table.here write in
+            k.means.table.passing.at.table k.means.table.passing.passed is_there k.means.table.here write in
             let before : now port ≡ owners_in env mix M rest = ap (owners_in env mix M) is.bound_to in
             let first : owner_of (stored (Node n OwnerWord)) ≡ owner =
             ap owner_of (front_owner list.before write ∙ k.means.node.owner)
@@ -250,7 +251,7 @@ module _ (env : Env) (mix : ℕ → ℕ → ℕ → ℕ) (c : ℕ) (port owner :
                   front_known env mix c port bucket.place bucket.word list.first n list.before M stored G
                   whole is
                   listed k.means.node.key k.means.node.list (idle_moves_none env mix M G whole c k.only)
-                  (index_at G list.claimed.table) k.means.table.passing.passed k.means.table.here;
+                  k.means.table.passing.at.table k.means.table.passing.passed is_there k.means.table.here;
               made = made;
               does = record {
                 behind_maps = behind_maps;

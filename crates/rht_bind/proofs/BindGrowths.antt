@@ -36,8 +36,8 @@ use Rattle.rht_bind.specs.declared.bind.growth.Refusal.{Refusal}
 use Rattle.rht_bind.specs.declared.bind.growth.Refusal.TheVariants as refusals
 use Rattle.rht_bind.specs.declared.bind.BindAt.{BindAt}
 use Rattle.rht_bind.specs.declared.bind.BindAt.TheVariants as at
-use Rattle.rht_ghost.proofs.Theory.Ghosts.{put_in, put_in-all, PageOf, PageHeld, SlotHeld, Live, is_page_for, made_table, put, put-all, Ghost, index_at}
-use Rattle.rht_ghost.proofs.Theory.Wholes.{Whole, slot-there}
+use Rattle.rht_ghost.proofs.Theory.Ghosts.{put_in, put_in-all, PageOf, PageHeld, SlotHeld, Live, is_page_for, made_table, put, put-all, Ghost}
+use Rattle.rht_ghost.proofs.Theory.Wholes.{Whole, IsAt, at-there}
 use Rattle.rht_ghost.proofs.Theory.Knowns.{Nowhere, Unlocked, MakesNothing, HasMade}
 use Rattle.rht_ghost.proofs.Theory.Knowledge.{plainly, Knowing}
 use Rattle.rht_ghost.proofs.Theory.Answering.{Tells, keeps}
@@ -248,8 +248,11 @@ module _ (env : Env) (mix : ℕ → ℕ → ℕ → ℕ) (c : ℕ) (port owner :
     abbrev found : ℕ
     found = M (Slot growing.table FutureWord)
 
+    abbrev at_last : IsAt G growing.table
+    at_last = known.knowing.means.table
+
     abbrev τ : ℕ
-    τ = index_at G growing.table
+    τ = at_last.table
 
     -- what the bind holds with the table, and what it knows
     abbrev has_table_made : Holding
@@ -272,8 +275,7 @@ module _ (env : Env) (mix : ℕ → ℕ → ℕ → ℕ) (c : ℕ) (port owner :
         → BindMoved (at.Attaching growing slot shape)
         (behind_attempt (has_attached growing.attempt) (ended_attempt once slot), Go)
     won none =
-        let is = whole.tables.slots growing.table known.knowing.means.table in
-        let is_there = slot-there env mix whole.tables growing.table known.knowing.means.table in
+        let is_there = at-there env mix whole.tables growing.table at_last in
         let made_is = known.knowing.means.making in
         let M' = mem env mix (applied words op) in
         let ready : IsAttaching env mix c slot shape seed serial M G = record { made = made_is; seed_is = refl; serial_is = refl } in
@@ -283,9 +285,9 @@ module _ (env : Env) (mix : ℕ → ℕ → ℕ → ℕ) (c : ℕ) (port owner :
         subst (λ v. IsWrite env.geometry M M' (Slot growing.table FutureWord) v) value
         (is_write env.geometry words (Slot growing.table FutureWord) op all (within, tt) refl) in
         let none_there : M (Slot (G.table τ).slot FutureWord) ≡ 0 =
-        subst (λ s. M (Slot s FutureWord) ≡ 0) (sym is.slot) none in
+        subst (λ s. M (Slot s FutureWord) ≡ 0) (sym at_last.slot_is) none in
         let write : IsWrite env.geometry M M' (Slot (G.table τ).slot FutureWord) (future_of slot) =
-        subst (λ s. IsWrite env.geometry M M' (Slot s FutureWord) (future_of slot)) (sym is.slot) here in
+        subst (λ s. IsWrite env.geometry M M' (Slot s FutureWord) (future_of slot)) (sym at_last.slot_is) here in
         let made =
         attach env mix c slot shape seed serial τ M M' G whole ready is_there none_there write in
         let kept =

@@ -18,3 +18,5 @@ pub mod Undoing
 pub mod Finding
 -- what is given back, and that no open section could reach it
 pub mod Returning
+-- what walks show
+pub mod Walking

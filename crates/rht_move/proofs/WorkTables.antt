@@ -239,7 +239,7 @@ module _ (env : Env) (mix : ℕ → ℕ → ℕ → ℕ) (c : ℕ) (words : List
       subst (λ ps. SilentStep env mix c words G op (holds_table (Some slot) ps) holds_work
       (knowing holds_work (Rooted root (From last)))) is
       (attach_step env mix c holds_work about words G all whole last slot shape
-      known.means.work.more.aim_is.table none knows) in
+      known.means.work.more.aim_is.at none knows) in
       let write = is_write env.geometry words (Slot last FutureWord) op all (l, tt) refl in
       let future : mem env mix (applied words op) (Slot last FutureWord) ≡ future_of slot =
       write.same ∙ ap (λ w. cond (w == 0) (future_of slot) w) none in

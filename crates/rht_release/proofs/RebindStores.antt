@@ -30,8 +30,8 @@ use Rattle.rht_release.specs.declared.found_port.FoundPort.{FoundPort}
 use Rattle.rht_release.specs.declared.rebind.RebindEnd.TheVariants as ends
 use Rattle.rht_release.specs.declared.rebind.RebindAt.{RebindAt}
 use Rattle.rht_release.specs.declared.rebind.RebindAt.TheVariants as at
-use Rattle.rht_ghost.proofs.Theory.Ghosts.{put-same, put-other, First, Taken, Ghost, is_taken_by, held_not_first, taken_by_one, index_at}
-use Rattle.rht_ghost.proofs.Theory.Wholes.{word_index, place_at, place_at-index, outs, Whole, MovesNone}
+use Rattle.rht_ghost.proofs.Theory.Ghosts.{put-same, put-other, First, Taken, Ghost, is_taken_by, held_not_first, taken_by_one}
+use Rattle.rht_ghost.proofs.Theory.Wholes.{word_index, place_at, place_at-index, outs, Whole, MovesNone, at-there}
 use Rattle.rht_ghost.proofs.Theory.Passed.{stays_in}
 use Rattle.rht_ghost.proofs.Theory.Knowledge.{plainly, HasOnly, HoldsLock, HasTakenOut, Knowing, idle_moves_none, IsAtHome}
 use Rattle.rht_ghost.proofs.Theory.Frames.{Made}
@@ -132,7 +132,7 @@ module _ (env : Env) (mix : ℕ → ℕ → ℕ → ℕ) (c : ℕ) (port owner n
           bound_to = bound;
           moves_none = none;
           not_out = stays_in env mix M G whole c port
-              (index_at G found.table) j m [] table.passing.passed table.here
+              table.passing.at.table j m [] table.passing.passed (at-there env mix whole.tables found.table table.passing.at) table.here
               lock.holder none bound first;
         }
 

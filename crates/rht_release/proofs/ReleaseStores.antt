@@ -26,8 +26,8 @@ use Rattle.rht_model.proofs.ReleasedOwners.{release_reply-there, owners_released
 use Rattle.rht_release.specs.ReleaseHeld.{holds_bucket, holds_removed}
 use Rattle.rht_release.specs.FoundPort.{relink_of}
 use Rattle.rht_release.specs.declared.found_port.FoundPort.{FoundPort}
-use Rattle.rht_ghost.proofs.Theory.Ghosts.{index_at, put-same, put-other, Bucket, Owner, NodeHeld, First, Taken, Ghost, is_taken_by, taken_by_one}
-use Rattle.rht_ghost.proofs.Theory.Wholes.{list_of, place_at, word_index, place_at-index, MovesNone, Whole, outs as count_outs}
+use Rattle.rht_ghost.proofs.Theory.Ghosts.{put-same, put-other, Bucket, Owner, NodeHeld, First, Taken, Ghost, is_taken_by, taken_by_one}
+use Rattle.rht_ghost.proofs.Theory.Wholes.{list_of, place_at, word_index, place_at-index, MovesNone, Whole, outs as count_outs, at-there}
 use Rattle.rht_ghost.proofs.Theory.Knowns.{knows_plain, Nowhere, KnownBucket, TakenOut, LocksTakenOut, KnownList, CutsOut, LeadsTo, Promotes, Known, NoOwner, last_of, first_of_list}
 use Rattle.rht_ghost.proofs.Theory.Knowledge.{plainly, HasOnly, idle_moves_none, HoldsLock, IsAtHome, HasTakenOut, Knowing, IsFound, BucketMeans}
 use Rattle.rht_ghost.proofs.Theory.Passed.{stays_in}
@@ -252,7 +252,8 @@ module _ (env : Env) (mix : ℕ → ℕ → ℕ → ℕ) (c : ℕ) (port owner :
         let j = word_index env mix found.bucket.place in
         let s = is.standing.stands in
         let first = whole.owned.member j m (subst (In m) (sym s.split) (in-middle m s.front s.rear)) in
-        stays_in env mix M G whole c port (index_at G found.table) j m behind at.passing.passed at.here
+        stays_in env mix M G whole c port at.passing.at.table j m behind at.passing.passed
+        (at-there env mix whole.tables found.table at.passing.at) at.here
         is.standing.lock.holder none bound first
 
     -- ---- a node behind the first one is cut out of the list

@@ -66,12 +66,10 @@ module _ (env : Env) (Good Fit : ℕ → Type 0) (keeps_works : AreMadeGood env 
     bind-seen port owner once state knows = record {
       future = λ claimed length is.
           let home = (subst (λ s. JobKnows env mix c (binds port owner once s) M G) is knows).knowing.means.table in
-          let slot = whole.tables.slots claimed.table home.passing.table in
-          subst Good home.shape_is (good _ slot.attached);
+          subst Good home.shape_is (good _ home.passing.at.attached);
       count = λ claimed is.
           let home = (subst (λ s. JobKnows env mix c (binds port owner once s) M G) is knows).knowing.means.table in
-          let slot = whole.tables.slots claimed.table home.passing.table in
-          subst Good home.shape_is (good _ slot.attached);
+          subst Good home.shape_is (good _ home.passing.at.attached);
     }
 
     -- and so has the last one that a resizing finds
@@ -86,7 +84,7 @@ module _ (env : Env) (Good Fit : ℕ → Type 0) (keeps_works : AreMadeGood env 
         ap (λ s. old_of words (work.plan_at env c s)) is
         ∙ ap (λ g. old_of words (last_table_plan_at g seek.at)) seek_in.geometry_same
         ∙ ap (λ s. old_of words (last_table_plan_at env.geometry s)) shape in
-        subst Good (sym found) (slot-good env mix Good words G whole good slot aim.table)
+        subst Good (sym found) (slot-good env mix Good words G whole good slot aim.at)
 
   module _ (c : ℕ) (words : List ℕ) (G : Ghost) (whole : Whole env mix (mem env mix words) G) (good : AreAll Good G) where
     goes-good : (job : Job) → JobIn env mix c job → JobKnows env mix c job (mem env mix words) G → Now job

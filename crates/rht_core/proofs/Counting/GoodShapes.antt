@@ -1,7 +1,7 @@
 -- What is true of the shape of each table, since each new one is made by that of the last one: then it is so of all tables.
 --
 -- A call that knows the shape of the last table chooses a size by it, and attaches a table that it has made of that size.
-use Rattle.std.proofs.Common.{◌≡◌, ℕ, ◌+◌, ◌*◌, ◌<◌, ◌≤◌, Bool, true, false, cond, min, nat_lt, List, refl, sym, ap, ◌∙◌, subst, arith}
+use Rattle.std.proofs.Common.{◌≡◌, ℕ, ◌+◌, ◌*◌, ◌<◌, ◌≤◌, Bool, true, false, cond, min, nat_lt, List, refl, sym, ◌∙◌, subst, arith}
 use Rattle.std.specs.Prelude.{Option, Some, None, ◌==◌}
 use Rattle.rht_words.specs.declared.env.Env.{Env}
 use Rattle.rht_words.specs.declared.geometry.Geometry.{Geometry}
@@ -27,10 +27,11 @@ use Rattle.rht_move.specs.declared.work.choice.Choice.TheVariants as choices
 use Rattle.rht_move.specs.declared.work.WorkAt.{WorkAt}
 use Rattle.rht_move.specs.declared.work.WorkAt.TheVariants as at
 use Rattle.rht_move.specs.Work.{after_at, IsWorkAtIn}
-use Rattle.rht_ghost.proofs.Theory.Ghosts.{Ghost, has_table, index_at, table_at, put-all, made_table}
+use Rattle.rht_ghost.proofs.Theory.Ghosts.{Ghost, table_at, put-all, made_table}
 use Rattle.rht_ghost.proofs.Theory.Ways.{entered_table}
-use Rattle.rht_ghost.proofs.Theory.Wholes.{Whole, slot-there}
+use Rattle.rht_ghost.proofs.Theory.Wholes.{Whole, IsAt}
 use Rattle.rht_ghost.proofs.Theory.Steps.{Move, Attaches, Enters, ghost_after, mem, by_test}
+use Rattle.rht_ghost.proofs.Pieces.TableLoads.{shape_word}
 use Rattle.rht_core.proofs.Counting.MakingWorks.{MakeGoes, WorkMakes, work-leads}
 use Rattle.rht_core.proofs.Counting.MakingBinds.{BindMakes, bind-leads}
 
@@ -163,8 +164,6 @@ module _ (env : Env) (mix : ℕ → ℕ → ℕ → ℕ) (Good : ℕ → Type 0)
 
   -- the shape of a slot that has a table
   pub slot-good : (words : List ℕ) (G : Ghost) → Whole env mix (mem env mix words) G → AreAll Good G → (slot : ℕ)
-      → has_table (G.slot slot) ≡ true → Good (mem env mix words (Slot slot ShapeWord))
-  slot-good words G whole good slot has =
-      let of = whole.tables.slots slot has in
-      let right = whole.tables.each (index_at G slot) (slot-there env mix whole.tables slot has) in
-      subst Good (sym right.shape_is ∙ ap (λ s. mem env mix words (Slot s ShapeWord)) of.slot) (good (index_at G slot) of.attached)
+      → IsAt G slot → Good (mem env mix words (Slot slot ShapeWord))
+  slot-good words G whole good slot at =
+      subst Good (sym (shape_word env mix (mem env mix words) G whole slot at)) (good at.table at.attached)

@@ -143,8 +143,7 @@ module _ (env : Env) where
             let here = subst AtSized is of in
             let G = here.does.ghost in
             let table = here.does.knows.knowing.means.table in
-            let slot = here.does.whole.tables.slots claimed.table table.passing.table in
-            subst IsSized table.shape_is (here.sized _ slot.attached)
+            subst IsSized table.shape_is (here.sized _ table.passing.at.attached)
 
         bind-flat : (state : BindAt) → AtSized state → (attempt : Attempt) (locate : LocateModel) (shape : ℕ)
             → state ≡ at.Locating attempt locate → locate.at ≡ locates.Seed shape → is_nested shape ≡ false
@@ -153,8 +152,7 @@ module _ (env : Env) where
             let G = here.does.ghost in
             let shaped : TableMeans env mix G (Shaped port locate.table shape) =
             subst (λ s. TableMeans env mix G (known_locate port locate.table s)) seed here.does.knows.knowing.means.table in
-            let slot = here.does.whole.tables.slots locate.table shaped.passing.table in
-            (subst IsSized shaped.shape_is (here.sized _ slot.attached)).flat
+            (subst IsSized shaped.shape_is (here.sized _ shaped.passing.at.attached)).flat
 
         bind-sees : (state : BindAt) → AtSized state → IsCalmAt env Any Any state did.old
         bind-sees state of = record {
@@ -181,7 +179,7 @@ module _ (env : Env) where
           let found : did.old ≡ old_of does.words (last_table_plan_at seek.geometry seek.at) =
           does.found ∙ ap (old_of does.words) does.planned in
           subst IsSized (sym (found ∙ ap (λ s. old_of does.words (last_table_plan_at seek.geometry s)) shape))
-          (slot-good env mix IsSized does.words does.ghost does.whole here.sized slot aim.table)
+          (slot-good env mix IsSized does.words does.ghost does.whole here.sized slot aim.at)
 
       -- so each call goes on so, or ends so
       one-leads : (c : ℕ) (job : Job) (steps : List Did) → (does : Performs mix env job did) → AreSized does.ghost

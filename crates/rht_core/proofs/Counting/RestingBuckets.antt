@@ -127,4 +127,5 @@ module _ (env : Env) (mix : ℕ → ℕ → ℕ → ℕ) (words : List ℕ) (G :
       ] in
       plain.0
       ∙ ap (λ (b : Bucket). b.plain)
-      (behind-blank env mix (mem env mix words) G whole τ is.bucket word.1.index behind word.0 word.1.here (nobody word.1.index))
+      (behind-blank env mix (mem env mix words) G whole τ is.bucket word.1.index behind in_slot.there word.0 word.1.here
+      (nobody word.1.index))

@@ -18,7 +18,7 @@ use Rattle.rht_core.specs.Runs.{Core, World, planned_in, world_step, run_of, ope
 use Rattle.rht_core.specs.Seen.{words_before}
 use Rattle.rht_stands.specs.StandsFor.{bucket_in}
 use Rattle.rht_ghost.proofs.Theory.Ghosts.{Ghost}
-use Rattle.rht_ghost.proofs.Theory.Wholes.{place_at, index-place_at, Whole, IsThere}
+use Rattle.rht_ghost.proofs.Theory.Wholes.{place_at, index-place_at, Whole, IsThere, there-attached}
 use Rattle.rht_ghost.proofs.Theory.Entries.{one_bucket}
 use Rattle.rht_ghost.proofs.Theory.Passed.{TablesGrow}
 use Rattle.rht_ghost.proofs.Theory.PlacesRead.{placed_in_words}
@@ -44,7 +44,7 @@ module _ (env : Env) (mix : ℕ → ℕ → ℕ → ℕ) where
   -- so it is of each bucket that a table has, and of the table's seed
   abbrev pub BucketsStay : (ℕ → List ℕ) → Ghost → ℕ → Type 0
   BucketsStay words_at G from =
-      (τ number j : ℕ) → τ < G.attached → number < size_of (unpacked (G.table τ).shape)
+      (τ number j : ℕ) → IsThere G τ → number < size_of (unpacked (G.table τ).shape)
       → (G.table τ).place number ≡ Some j
       → StaysAt env.geometry words_at (G.table τ).shape number (place_at env mix j) from
       × SeedStays env.geometry words_at (G.table τ).slot (G.table τ).seed from
@@ -94,12 +94,12 @@ module _ (env : Env) (mix : ℕ → ℕ → ℕ → ℕ) where
             (of.step.made.others (suc c) (λ e. absurd (omega arith))).tables.grow
 
     module _ (τ slot seed shape number j : ℕ) where
-      -- by the invariant this table is attached, has this slot, seed and shape, and has this word for the bucket with this number
+      -- by the invariant this table is there, has this slot, seed and shape, and has this word for the bucket with this number
       record HasBucket (core : Core L) : Type 0 where
         ghost : Ghost
         inv : Inv env mix L core ghost
         all : AllIn L mix env core
-        attached : τ < ghost.attached
+        there : IsThere ghost τ
         slot_is : (ghost.table τ).slot ≡ slot
         seed_is : (ghost.table τ).seed ≡ seed
         shape_is : (ghost.table τ).shape ≡ shape
@@ -111,12 +111,13 @@ module _ (env : Env) (mix : ℕ → ℕ → ℕ → ℕ) where
       event-has w event may has =
           let after = kept env mix L w.core has.ghost event has.all has.inv in
           let grow = event-grows w.core has.ghost after.ghost event after.ghost_kept in
-          let stays = grow.tables τ has.attached in
+          let attached = there-attached env mix has.inv.whole.tables τ has.there in
+          let stays = grow.tables τ attached in
           record {
             ghost = after.ghost;
             inv = after.inv;
             all = event-all L mix env w event may has.all;
-            attached = omega (arith, has.attached, grow.attached);
+            there = grow.there τ (omega (arith, attached, grow.attached)) (λ l. has.there);
             slot_is = stays.slot ∙ has.slot_is;
             seed_is = stays.seed ∙ has.seed_is;
             shape_is = stays.shape ∙ has.shape_is;
@@ -126,19 +127,19 @@ module _ (env : Env) (mix : ℕ → ℕ → ℕ → ℕ) where
       has-seed : (core : Core L) → HasBucket core → word_at env.geometry core.words (Slot slot SeedWord) ≡ seed
       has-seed core has =
           ap (λ s. word_at env.geometry core.words (Slot s SeedWord)) (sym has.slot_is)
-          ∙ (has.inv.whole.tables.each τ (has.inv.whole.tables.there τ has.attached)).seed_is ∙ has.seed_is
+          ∙ (has.inv.whole.tables.each τ has.there).seed_is ∙ has.seed_is
 
       module _ (core : Core L) (has : HasBucket core) (below : number < size_of (unpacked shape)) where
         has-there : bucket_in env.geometry core.words shape number ≡ Some (place_at env mix j)
         has-there =
             subst (λ s. bucket_in env.geometry core.words s number ≡ Some (place_at env mix j)) has.shape_is
-            (there_now core.words has.ghost has.inv.whole τ number j (has.inv.whole.tables.there τ has.attached)
+            (there_now core.words has.ghost has.inv.whole τ number j has.there
             (subst (λ s. number < size_of (unpacked s)) (sym has.shape_is) below) has.here)
 
         has-only : (other : ℕ) → other < size_of (unpacked shape)
             → bucket_in env.geometry core.words shape other ≡ Some (place_at env mix j) → other ≡ number
         has-only other m is =
-            only_now core.words has.ghost has.inv.whole τ number j (has.inv.whole.tables.there τ has.attached)
+            only_now core.words has.ghost has.inv.whole τ number j has.there
             (subst (λ s. number < size_of (unpacked s)) (sym has.shape_is) below) has.here other (subst (λ s. other < size_of (unpacked s)) (sym has.shape_is) m)
             (subst (λ s. bucket_in env.geometry core.words s other ≡ Some (place_at env mix j)) (sym has.shape_is) is)
 
@@ -177,7 +178,7 @@ module _ (env : Env) (mix : ℕ → ℕ → ℕ → ℕ) where
           ghost = G;
           inv = inv;
           all = runs-all L mix env past parts.0;
-          attached = l;
+          there = l;
           slot_is = refl;
           seed_is = refl;
           shape_is = refl;

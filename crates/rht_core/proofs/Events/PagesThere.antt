@@ -1,15 +1,15 @@
 -- A page that a job may miss stays once it is there, whatever others do: this is what lets a call that misses it answer as of an
 -- earlier event. What nobody but the call's own operations would take away outlives what all others do, as does what the caller knows.
-use Rattle.std.proofs.Common.{◌≡◌, ◌≢◌, ℕ, Option, Some, None, ◌∙◌, ap, subst}
+use Rattle.std.proofs.Common.{◌≡◌, ◌≢◌, ℕ, Option, Some, None, subst}
 use Rattle.rht_words.specs.declared.op.Op.{Op}
 use Rattle.rht_words.specs.declared.env.Env.{Env}
 use Rattle.rht_words.specs.Operations.{applied}
 use Rattle.rht_words.proofs.Memory.{Memory}
 use Rattle.rht_core.specs.Jobs.{Job, job_of}
 use Rattle.rht_core.specs.Runs.{Core, local_of, enrolling}
-use Rattle.rht_ghost.proofs.Theory.Ghosts.{Ghost, index_at}
-use Rattle.rht_ghost.proofs.Theory.Wholes.{home, Whole}
-use Rattle.rht_ghost.proofs.Theory.Passed.{home-stays}
+use Rattle.rht_ghost.proofs.Theory.Ghosts.{Ghost}
+use Rattle.rht_ghost.proofs.Theory.Wholes.{Whole, at-there}
+use Rattle.rht_ghost.proofs.Theory.Passed.{home-stays, less-grown}
 use Rattle.rht_model.specs.Answers.{Answer}
 use Rattle.rht_ghost.proofs.Theory.Knowns.{KnownTable, OnWay}
 use Rattle.rht_ghost.proofs.Theory.Knowledge.{TableMeans}
@@ -31,11 +31,13 @@ module _ (env : Env) (mix : ℕ → ℕ → ℕ → ℕ) where
     there-stays None known means there = there
     there-stays (Some answer) (OnWay port slot shape place further) means there =
         let passing = means.shaped.passing in
+        let at = passing.at in
         let grow = rely.tables.grow in
-        placed-stays env mix M M' G G' whole whole' port slot place passing.table (grow.slots slot passing.table) means.to
-        (IsWayTo-stay env mix G G' grow port slot place passing.table passing.passed.attached means.to)
-        (λ j here. ap (home env mix G' port) (grow.indices slot passing.table)
-        ∙ home-stays env mix G G' grow port (index_at G slot) j passing.passed.attached here) there
+        let there_is = at-there env mix whole.tables slot at in
+        placed-stays env mix M M' G G' whole whole' port at.table place there_is
+        (grow.there at.table (less-grown env mix at.attached grow.attached) (λ l. there_is)) means.to
+        (IsWayTo-stay env mix G G' grow port at.table place at.attached means.to)
+        (λ j here. home-stays env mix G G' grow port at.table j at.attached here) there
     there-stays (Some answer) _ means there = there
 
     pub IsThere-rely : (job : Job) → JobKnows env mix c job M G → IsThere job M → IsThere job M'

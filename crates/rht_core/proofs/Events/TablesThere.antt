@@ -1,6 +1,6 @@
--- A slot that has a table has one for the rest of a run, with the shape that it had. So it is of each slot that the words named before some
--- event as that of the current table, or as the future of one that had a table.
-use Rattle.std.proofs.Common.{◌≡◌, ℕ, ◌+◌, ◌<◌, ◌≤◌, true, List, [], ◌∷◌, ◌++◌, length, take, drop, sym, ap, ◌∙◌, subst, inl, inr, arith}
+-- Which table a slot has is known by the table's index for the rest of a run, with the shape that it had. So it is of each slot that the
+-- words named before some event as that of the current table, or as the future of one that had a table.
+use Rattle.std.proofs.Common.{◌≡◌, ℕ, ◌+◌, ◌<◌, ◌≤◌, List, [], ◌∷◌, ◌++◌, length, take, drop, sym, ap, ◌∙◌, subst, inl, inr, arith}
 use Rattle.std.specs.Prelude.{Some}
 use Rattle.std.proofs.Math.Seq.{take-length}
 use Rattle.std.proofs.lemmas.Bool.{cases_lt}
@@ -13,10 +13,11 @@ use Rattle.rht_words.proofs.EachElement.{AllByRecursion-cut}
 use Rattle.rht_core.specs.declared.event.Event.{Event}
 use Rattle.rht_core.specs.Runs.{World, run_of, IsAdmitted, IsAdmittedEvent}
 use Rattle.rht_core.specs.Seen.{words_before}
-use Rattle.rht_ghost.proofs.Theory.Ghosts.{Ghost, has_table, index_at}
-use Rattle.rht_ghost.proofs.Theory.Wholes.{Whole, current-there, slot-there}
-use Rattle.rht_ghost.proofs.Theory.Passed.{TablesGrow}
+use Rattle.rht_ghost.proofs.Theory.Ghosts.{Ghost}
+use Rattle.rht_ghost.proofs.Theory.Wholes.{Whole, IsAt, at-on}
+use Rattle.rht_ghost.proofs.Theory.Passed.{TablesGrow, at-stays}
 use Rattle.rht_ghost.proofs.Theory.Steps.{mem}
+use Rattle.rht_ghost.proofs.Pieces.TableLoads.{shape_word}
 use Rattle.rht_core.proofs.Meaning.TablesInForce.{current_slot, next_named}
 use Rattle.rht_core.proofs.Events.Worlds.{induct_by_last, take-push, run_of-push}
 use Rattle.rht_core.proofs.Events.RangesInRuns.{AllIn, opens-all, event-all}
@@ -48,9 +49,9 @@ module _ (env : Env) (mix : ℕ → ℕ → ℕ → ℕ) where
   abbrev g : Geometry
   g = env.geometry
 
-  -- the slot has a table, of the shape that it had by the words then
+  -- the slot's table is known, of the shape that it had by the words then
   pub record HasStayed (G : Ghost) (was now : List ℕ) (slot : ℕ) : Type 0 where
-    pub has : has_table (G.slot slot) ≡ true
+    pub at : IsAt G slot
     pub shape : word_at g was (Slot slot ShapeWord) ≡ word_at g now (Slot slot ShapeWord)
 
   -- so has each that had one
@@ -63,7 +64,7 @@ module _ (env : Env) (mix : ℕ → ℕ → ℕ → ℕ) where
   TablesStayed-same one other G now same stayed i slot low had =
       let is = stayed i slot low (HadTable-same g now other one (λ j few. sym (same j few)) i slot low had) in
       record {
-        has = is.has;
+        at = is.at;
         shape = sym (ap (λ ws. word_at g ws (Slot slot ShapeWord)) (same i low)) ∙ is.shape
             ∙ ap (λ ws. word_at g ws (Slot slot ShapeWord)) (same now (omega arith));
       }
@@ -71,42 +72,35 @@ module _ (env : Env) (mix : ℕ → ℕ → ℕ → ℕ) where
   -- ---- by the words of one moment
 
   module _ (words : List ℕ) (G : Ghost) (whole : Whole env mix (mem env mix words) G) where
-    current_has : (slot : ℕ) → table_of (word_at g words CurrentTable) ≡ slot → has_table (G.slot slot) ≡ true
-    current_has slot is =
-        subst (λ s. has_table (G.slot s) ≡ true) (sym (current_slot env mix words G whole) ∙ is)
-        (current-there env mix whole.tables).has_slot
+    current_at : (slot : ℕ) → table_of (word_at g words CurrentTable) ≡ slot → IsAt G slot
+    current_at slot is = record {
+      table = G.current;
+      attached = whole.tables.current_in;
+      slot_is = sym (current_slot env mix words G whole) ∙ is;
+    }
 
-    future_has : (front slot : ℕ) → has_table (G.slot front) ≡ true → slot_of (word_at g words (Slot front FutureWord)) ≡ Some slot
-        → has_table (G.slot slot) ≡ true
-    future_has front slot has leads =
-        let of = whole.tables.slots front has in
-        let next = next_named env mix words G whole (index_at G front) slot (λ σ from. whole.tables.there σ) of.attached
-        (subst (λ s. slot_of (word_at g words (Slot s FutureWord)) ≡ Some slot) (sym of.slot) leads) in
-        subst (λ s. has_table (G.slot s) ≡ true) next.slot_is (whole.tables.there (index_at G front + 1) next.attached).has_slot
-
-    -- the word of its slot is the table's shape
-    shape_in : (slot : ℕ) → has_table (G.slot slot) ≡ true → word_at g words (Slot slot ShapeWord) ≡ (G.table (index_at G slot)).shape
-    shape_in slot has =
-        let of = whole.tables.slots slot has in
-        ap (λ s. word_at g words (Slot s ShapeWord)) (sym of.slot) ∙ (whole.tables.each (index_at G slot) (slot-there env mix whole.tables slot has)).shape_is
+    future_at : (front slot : ℕ) → IsAt G front → slot_of (word_at g words (Slot front FutureWord)) ≡ Some slot → IsAt G slot
+    future_at front slot at leads =
+        let next = next_named env mix words G whole at.table slot (at-on env mix whole.tables front at) at.attached
+        (subst (λ s. slot_of (word_at g words (Slot s FutureWord)) ≡ Some slot) (sym at.slot_is) leads) in
+        record { table = at.table + 1; attached = next.attached; slot_is = next.slot_is }
 
   -- where tables grow from one moment to another
   grown : (was now : List ℕ) (G G' : Ghost) → Whole env mix (mem env mix was) G → Whole env mix (mem env mix now) G'
-      → TablesGrow env mix G G' → (slot : ℕ) → has_table (G.slot slot) ≡ true → HasStayed G' was now slot
-  grown was now G G' whole then grow slot has =
-      let of = whole.tables.slots slot has in
-      let after = grow.slots slot has in
+      → TablesGrow env mix G G' → (slot : ℕ) → IsAt G slot → HasStayed G' was now slot
+  grown was now G G' whole then grow slot at =
+      let after = at-stays env mix G G' grow slot at in
       record {
-        has = after;
-        shape = shape_in was G whole slot has ∙ sym (grow.tables (index_at G slot) of.attached).shape
-            ∙ ap (λ τ. (G'.table τ).shape) (sym (grow.indices slot has)) ∙ sym (shape_in now G' then slot after);
+        at = after;
+        shape = shape_word env mix (mem env mix was) G whole slot at ∙ sym (grow.tables at.table at.attached).shape
+            ∙ sym (shape_word env mix (mem env mix now) G' then slot after);
       }
 
   -- what was so before this event, and what the words say now
   module _ (words_at : ℕ → List ℕ) (G : Ghost) (now : ℕ) (whole : Whole env mix (mem env mix (words_at now)) G)
       (early : (i slot : ℕ) → i < now → HadTable g words_at i slot → HasStayed G (words_at i) (words_at now) slot) where
-    here : (i slot : ℕ) → i ≡ now → has_table (G.slot slot) ≡ true → HasStayed G (words_at i) (words_at now) slot
-    here i slot same has = record { has = has; shape = ap (λ n. word_at g (words_at n) (Slot slot ShapeWord)) same }
+    here : (i slot : ℕ) → i ≡ now → IsAt G slot → HasStayed G (words_at i) (words_at now) slot
+    here i slot same at = record { at = at; shape = ap (λ n. word_at g (words_at n) (Slot slot ShapeWord)) same }
 
     pub stayed_now : TablesStayed words_at G now
     stayed_now _ _ within (as_current i slot is) = elim (cases_lt i now) [
@@ -114,7 +108,7 @@ module _ (env : Env) (mix : ℕ → ℕ → ℕ → ℕ) where
       | inr high ↦
           let same : i ≡ now = omega (arith, within, high) in
           here i slot same
-          (current_has (words_at now) G whole slot (subst (λ n. table_of (word_at g (words_at n) CurrentTable) ≡ slot) same is))
+          (current_at (words_at now) G whole slot (subst (λ n. table_of (word_at g (words_at n) CurrentTable) ≡ slot) same is))
     ]
     stayed_now _ _ within (as_future i front slot had leads) =
         let before = stayed_now i front within had in
@@ -123,14 +117,14 @@ module _ (env : Env) (mix : ℕ → ℕ → ℕ → ℕ) where
           | inr high ↦
               let same : i ≡ now = omega (arith, within, high) in
               here i slot same
-              (future_has (words_at now) G whole front slot before.has
+              (future_at (words_at now) G whole front slot before.at
               (subst (λ n. slot_of (word_at g (words_at n) (Slot front FutureWord)) ≡ Some slot) same leads))
         ]
     stayed_now _ _ within (as_before i j slot had later) =
         let before = stayed_now i slot (omega (arith, within, later)) had in
         elim (cases_lt j now) [
           | inl low ↦ early j slot low (as_before i j slot had later)
-          | inr high ↦ here j slot (omega (arith, within, high)) before.has
+          | inr high ↦ here j slot (omega (arith, within, high)) before.at
         ]
 
   -- ---- a run
@@ -178,9 +172,9 @@ module _ (env : Env) (mix : ℕ → ℕ → ℕ → ℕ) where
               (λ i slot low had.
               let few : i ≤ length events = omega (arith, low, longer) in
               let was = has.stayed i slot few (HadTable-same g (length events) words_at (words_before L mix env events) agree i slot few had) in
-              let is = grown w.core.words (words_at (length more)) has.ghost k.ghost has.inv.whole whole grow slot was.has in
+              let is = grown w.core.words (words_at (length more)) has.ghost k.ghost has.inv.whole whole grow slot was.at in
               record {
-                has = is.has;
+                at = is.at;
                 shape = ap (λ ws. word_at g ws (Slot slot ShapeWord)) (agree i few) ∙ was.shape
                     ∙ ap (λ ws. word_at g ws (Slot slot ShapeWord)) (words_now events) ∙ is.shape;
               });

@@ -70,7 +70,7 @@ module _ (env : Env) (mix : ℕ → ℕ → ℕ → ℕ) (now c n : ℕ) (M M' :
   pub met_kept : (m : ℕ) → met m ≡ true → IsKept m
   met_kept m is = or_left (met m) (is_some (seat_of (G.node m))) is
 
-  seatless_met : (m : ℕ) → IsKept m → seat_of (G.node m) ≡ None → met m ≡ true
+  pub seatless_met : (m : ℕ) → IsKept m → seat_of (G.node m) ≡ None → met m ≡ true
   seatless_met m kept none = elim (or_cases (met m) (is_some (seat_of (G.node m))) kept) [
     | inl is ↦ is
     | inr sits ↦ let both : false ≡ true = sym (ap is_some none) ∙ sits in cc

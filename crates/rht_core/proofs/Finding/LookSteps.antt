@@ -1,6 +1,6 @@
 -- How many operations a look-up has made in each of its states. In a table each operation leaves fewer to come (`lessens`), tables come in
--- the order in which they were attached, and there are at most eight.
-use Rattle.std.proofs.Common.{◌≡◌, ℕ, ◌+◌, ◌*◌, ◌<◌, ◌≤◌, nat_lt, Bool, List, true, Option, Some, None, refl, sym, subst, arith}
+-- the order in which they were attached, and from the first one on there are at most eight, since these all have their slots.
+use Rattle.std.proofs.Common.{◌≡◌, ℕ, ◌+◌, ◌*◌, ◌<◌, ◌≤◌, nat_lt, Bool, List, Option, Some, None, refl, sym, subst, arith}
 use Rattle.std.specs.Prelude.{◌==◌}
 use Rattle.std.proofs.Math.Nat.{mul-le-mul_right}
 use Rattle.std.proofs.lemmas.Bool.{cond_both}
@@ -9,7 +9,7 @@ use Rattle.rht_words.specs.declared.machine.Next.{Next}
 use Rattle.rht_words.specs.declared.machine.Next.TheVariants.{Go, Done}
 use Rattle.rht_words.specs.Links.{node_of, slot_of, table_of, head_of, marker_of}
 use Rattle.rht_words.specs.Operations.{old_of}
-use Rattle.rht_words.specs.Places.{Slot, FutureWord}
+use Rattle.rht_words.specs.Places.{CurrentTable, Slot, FutureWord}
 use Rattle.rht_words.specs.Ports.{word_of}
 use Rattle.rht_words.proofs.Memory.{Memory}
 use Rattle.rht_nest.specs.Reach.{ReachModel, reach_plan, reach_after}
@@ -23,18 +23,20 @@ use Rattle.rht_find.specs.declared.find.Head.{Head}
 use Rattle.rht_find.specs.declared.find.FindAt.{FindAt}
 use Rattle.rht_find.specs.declared.find.FindAt.TheVariants as at
 use Rattle.rht_find.proofs.FindBounds.{lessens}
-use Rattle.rht_ghost.proofs.Theory.Ghosts.{Ghost, has_table, index_at}
-use Rattle.rht_ghost.proofs.Theory.Wholes.{Whole, one_slot}
-use Rattle.rht_ghost.proofs.Theory.Passed.{TablesGrow}
+use Rattle.rht_ghost.proofs.Theory.Ghosts.{Ghost}
+use Rattle.rht_ghost.proofs.Theory.Wholes.{Whole, IsAt, AreThereFrom, force-there, one_slot}
+use Rattle.rht_ghost.proofs.Theory.Passed.{TablesGrow, at-stays, there_from-grows}
+use Rattle.rht_ghost.proofs.Theory.Knowledge.{next_at}
 use Rattle.rht_ghost.proofs.Theory.Steps.{mem}
 use Rattle.rht_ghost.proofs.Pieces.TableLoads.{LeadsBehind, future_leads}
+use Rattle.rht_core.proofs.Meaning.TablesInForce.{current_slot}
 use Rattle.rht_core.proofs.Finding.Places.{Places}
 use Rattle.rht_core.proofs.Finding.Lookups.{LookMeans}
 use Rattle.rht_core.proofs.Returning.FewTables.{few_tables}
 
 -- ---- of numbers: `t` operations in a table, and the load of its future
 
--- so many up to the last one in the table with this index, from the beginning of the call on
+-- so many up to the last one in a table, so many tables behind the first one, from the beginning of the call on
 abbrev most_in : ℕ → ℕ → ℕ
 most_in t index = 2 + index * (t + 1) + t
 
@@ -75,19 +77,28 @@ module _ (env : Env) where
   abbrev left_at : FindAt → ℕ
   left_at = left_in_table env
 
-  -- the most up to the last one in the table of this slot
-  abbrev most_at : Ghost → ℕ → ℕ
-  most_at G slot = most_in (table_steps env) (index_at G slot)
+  -- the most up to the last one in a table, so many tables behind the first one
+  abbrev most_at : ℕ → ℕ
+  most_at count = most_in (table_steps env) count
+
+  -- so many are within those of the table that this slot has, by how many tables it is behind one of which all behind it are there
+  pub record IsWithin (G : Ghost) (slot made : ℕ) : Type 0 where
+    pub at : IsAt G slot
+    pub low : ℕ
+    pub on : AreThereFrom G low
+    pub count : ℕ
+    pub behind : low + count ≡ at.table
+    pub few : made ≤ most_at count
 
   -- it has made so many operations in this state
   abbrev pub IsSpent : Ghost → FindAt → ℕ → Type 0
   IsSpent G at.Opening made = made ≤ 0
   IsSpent G at.CurrentTable made = made ≤ 1
-  IsSpent G (at.Locating reach) made = made + left_at (at.Locating reach) ≤ most_at G reach.table
-  IsSpent G (at.Heading head) made = made + left_at (at.Heading head) ≤ most_at G head.table
-  IsSpent G (at.Key head node visited) made = made + left_at (at.Key head node visited) ≤ most_at G head.table
-  IsSpent G (at.Link head node visited) made = made + left_at (at.Link head node visited) ≤ most_at G head.table
-  IsSpent G (at.Future table) made = made ≤ most_at G table
+  IsSpent G (at.Locating reach) made = IsWithin G reach.table (made + left_at (at.Locating reach))
+  IsSpent G (at.Heading head) made = IsWithin G head.table (made + left_at (at.Heading head))
+  IsSpent G (at.Key head node visited) made = IsWithin G head.table (made + left_at (at.Key head node visited))
+  IsSpent G (at.Link head node visited) made = IsWithin G head.table (made + left_at (at.Link head node visited))
+  IsSpent G (at.Future table) made = IsWithin G table made
   IsSpent G (at.Owner node) made = made ≤ most_in (table_steps env) 7
   IsSpent G (at.Closing reply) made = made ≤ most_of (table_steps env)
 
@@ -103,31 +114,36 @@ module _ (env : Env) where
   IsOfTable slot (at.Owner node) = Unit {0}
   IsOfTable slot (at.Closing reply) = ⊥
 
+  -- the same of another number
+  with_few : {G : Ghost} {slot made more : ℕ} (is : IsWithin G slot made) → more ≤ most_at is.count → IsWithin G slot more
+  with_few is few =
+      record { at = is.at; low = is.low; on = is.on; count = is.count; behind = is.behind; few = few }
+
   -- where so many were left, one more was made and fewer are left
-  spent_in : (G : Ghost) (slot made left : ℕ) (state : FindAt) → IsOfTable slot state → index_at G slot ≤ 7
-      → made + left ≤ most_at G slot → left_at state < left → IsSpent G state (made + 1)
-  spent_in G slot made left at.Opening of low few less = absurd of
-  spent_in G slot made left at.CurrentTable of low few less = absurd of
-  spent_in G slot made left (at.Locating reach) of low few less =
-      subst (λ s. made + 1 + left_at (at.Locating reach) ≤ most_at G s) (sym of)
-      (fewer made left (left_at (at.Locating reach)) (most_at G slot) few less)
-  spent_in G slot made left (at.Heading head) of low few less =
-      subst (λ s. made + 1 + left_at (at.Heading head) ≤ most_at G s) (sym of)
-      (fewer made left (left_at (at.Heading head)) (most_at G slot) few less)
-  spent_in G slot made left (at.Key head node visited) of low few less =
-      subst (λ s. made + 1 + left_at (at.Key head node visited) ≤ most_at G s) (sym of)
-      (fewer made left (left_at (at.Key head node visited)) (most_at G slot) few less)
-  spent_in G slot made left (at.Link head node visited) of low few less =
-      subst (λ s. made + 1 + left_at (at.Link head node visited) ≤ most_at G s) (sym of)
-      (fewer made left (left_at (at.Link head node visited)) (most_at G slot) few less)
-  spent_in G slot made left (at.Future table) of low few less =
-      subst (λ s. made + 1 ≤ most_at G s) (sym of)
-      (none_left made 0 (most_at G slot) (fewer made left 0 (most_at G slot) few less))
-  spent_in G slot made left (at.Owner node) of low few less =
-      at_most (made + 1) (most_at G slot) (most_in (table_steps env) 7)
-      (none_left made 0 (most_at G slot) (fewer made left 0 (most_at G slot) few less))
-      (most_in-seven (table_steps env) (index_at G slot) low)
-  spent_in G slot made left (at.Closing reply) of low few less = absurd of
+  spent_in : (G : Ghost) (slot made left : ℕ) (state : FindAt) → IsOfTable slot state → (is : IsWithin G slot (made + left))
+      → is.count ≤ 7 → left_at state < left → IsSpent G state (made + 1)
+  spent_in G slot made left at.Opening of is low less = absurd of
+  spent_in G slot made left at.CurrentTable of is low less = absurd of
+  spent_in G slot made left (at.Locating reach) of is low less =
+      subst (λ s. IsWithin G s (made + 1 + left_at (at.Locating reach))) (sym of)
+      (with_few is (fewer made left (left_at (at.Locating reach)) (most_at is.count) is.few less))
+  spent_in G slot made left (at.Heading head) of is low less =
+      subst (λ s. IsWithin G s (made + 1 + left_at (at.Heading head))) (sym of)
+      (with_few is (fewer made left (left_at (at.Heading head)) (most_at is.count) is.few less))
+  spent_in G slot made left (at.Key head node visited) of is low less =
+      subst (λ s. IsWithin G s (made + 1 + left_at (at.Key head node visited))) (sym of)
+      (with_few is (fewer made left (left_at (at.Key head node visited)) (most_at is.count) is.few less))
+  spent_in G slot made left (at.Link head node visited) of is low less =
+      subst (λ s. IsWithin G s (made + 1 + left_at (at.Link head node visited))) (sym of)
+      (with_few is (fewer made left (left_at (at.Link head node visited)) (most_at is.count) is.few less))
+  spent_in G slot made left (at.Future table) of is low less =
+      subst (λ s. IsWithin G s (made + 1)) (sym of)
+      (with_few is (none_left made 0 (most_at is.count) (fewer made left 0 (most_at is.count) is.few less)))
+  spent_in G slot made left (at.Owner node) of is low less =
+      at_most (made + 1) (most_at is.count) (most_in (table_steps env) 7)
+      (none_left made 0 (most_at is.count) (fewer made left 0 (most_at is.count) is.few less))
+      (most_in-seven (table_steps env) is.count low)
+  spent_in G slot made left (at.Closing reply) of is low less = absurd of
 
   -- ---- it stays in its table
 
@@ -158,33 +174,47 @@ module _ (env : Env) where
     abbrev M : Memory
     M = mem env mix words
 
-    -- ---- there are at most eight tables
+    -- ---- there are at most eight tables from one on of which all behind it are there
 
-    few_attached : G.attached ≤ 8
-    few_attached =
-        few_tables (λ τ. (G.table τ).slot) 0 G.attached (record {
-          within = λ τ low l. (whole.tables.each τ (whole.tables.there τ (omega (arith, l)))).slot_in;
-          own = λ τ σ low less l same.
-              let first = whole.tables.there τ (omega (arith, less, l)) in
-              let second = whole.tables.there σ (omega (arith, l)) in
+    few_from : (low count : ℕ) → low + count ≤ G.attached → AreThereFrom G low → count ≤ 8
+    few_from low count all on =
+        few_tables (λ τ. (G.table τ).slot) low count (record {
+          within = λ τ from l. (whole.tables.each τ (on τ from (omega (arith, l, all)))).slot_in;
+          own = λ τ σ from less l same.
+              let first = on τ from (omega (arith, less, l, all)) in
+              let second = on σ (omega (arith, from, less)) (omega (arith, l, all)) in
               let both = one_slot env mix G τ σ first second same in
               omega (arith, less, both);
         })
 
-    low_index : (slot : ℕ) → index_at G slot < G.attached → index_at G slot ≤ 7
-    low_index slot l = let few = few_attached in omega (arith, l, few)
+    low_index : (slot made : ℕ) (is : IsWithin G slot made) → is.count ≤ 7
+    low_index slot made is =
+        let few = few_from is.low (is.count + 1) (omega (arith, is.behind, is.at.attached)) is.on in omega (arith, few)
 
     -- ---- each operation
 
-    future_spent : (table made : ℕ) → index_at G table < G.attached → (future : Option ℕ)
-        → LeadsBehind env mix M G whole table future → made ≤ most_at G table → IsSpent G (next_table env future) (made + 1)
-    future_spent table made attached None last few =
+    future_spent : (table made : ℕ) (is : IsWithin G table made) (future : Option ℕ)
+        → LeadsBehind env mix M G whole is.at.table future → IsSpent G (next_table env future) (made + 1)
+    future_spent table made is None last =
         most_in-all (table_steps env) made
-        (at_most made (most_at G table) (most_in (table_steps env) 7) few
-        (most_in-seven (table_steps env) (index_at G table) (low_index table attached)))
-    future_spent table made attached (Some next) behind few =
-        subst (λ i. made + 1 + table_steps env ≤ most_in (table_steps env) i) (sym behind.index)
-        (most_in-next (table_steps env) (index_at G table) made few)
+        (at_most made (most_at is.count) (most_in (table_steps env) 7) is.few
+        (most_in-seven (table_steps env) is.count (low_index table made is)))
+    future_spent table made is (Some next) behind = record {
+      at = next_at env mix G is.at.table next behind;
+      low = is.low;
+      on = is.on;
+      count = is.count + 1;
+      behind = omega (arith, is.behind);
+      few = most_in-next (table_steps env) is.count made is.few;
+    }
+
+    -- the current table
+    abbrev current_at : IsAt G (table_of (M CurrentTable))
+    current_at = record {
+      table = G.current;
+      attached = whole.tables.current_in;
+      slot_is = sym (current_slot env mix words G whole);
+    }
 
     -- but the last one, behind which the call has ended
     pub spent_leads : (caller made : ℕ) (state : FindAt) → says state ≡ Go → IsFindAtIn env state
@@ -192,31 +222,37 @@ module _ (env : Env) where
         → IsSpent G (goes mix env port state (old_of words (plan_at env caller state))) (made + 1)
     spent_leads caller made at.Opening goes_on within known few = omega (arith, few)
     spent_leads caller made at.CurrentTable goes_on within known few =
-        most_in-first (table_steps env) (index_at G (table_of (old_of words (plan_at env caller at.CurrentTable)))) made few
+        record {
+          at = current_at;
+          low = G.current;
+          on = force-there env mix whole.tables;
+          count = 0;
+          behind = omega arith;
+          few = most_in-first (table_steps env) 0 made few;
+        }
     spent_leads caller made (at.Locating reach) goes_on within known few =
         let word = old_of words (reach_plan reach) in
         let r = reach_after mix port reach word in
         spent_in G reach.table made (left_at (at.Locating reach)) (reached env r.0 r.1)
         (subst (λ s. IsOfTable s (reached env r.0 r.1)) (reach_after-table mix port reach word) (reached-of r.0 r.1))
-        (low_index reach.table known.0.0.attached) few (lessens mix env port (at.Locating reach) word within tt)
+        few (low_index reach.table _ few) (lessens mix env port (at.Locating reach) word within tt)
     spent_leads caller made (at.Heading head) goes_on within known few =
         let word = old_of words (plan_at env caller (at.Heading head)) in
         let link = head_of head.place word in
         spent_in G head.table made (left_at (at.Heading head)) _
         (led_to-of head 0 link (node_of env.geometry.nodes link))
-        (low_index head.table known.0.of.attached) few (lessens mix env port (at.Heading head) word within tt)
+        few (low_index head.table _ few) (lessens mix env port (at.Heading head) word within tt)
     spent_leads caller made (at.Key head node visited) goes_on within known few =
         let word = old_of words (plan_at env caller (at.Key head node visited)) in
         spent_in G head.table made (left_at (at.Key head node visited)) _ (compared-of port head node visited word)
-        (low_index head.table known.0.of.attached) few (lessens mix env port (at.Key head node visited) word within tt)
+        few (low_index head.table _ few) (lessens mix env port (at.Key head node visited) word within tt)
     spent_leads caller made (at.Link head node visited) goes_on within known few =
         let link = old_of words (plan_at env caller (at.Link head node visited)) in
         spent_in G head.table made (left_at (at.Link head node visited)) _
         (led_to-of head visited link (node_of env.geometry.nodes link))
-        (low_index head.table known.0.of.attached) few (lessens mix env port (at.Link head node visited) link within tt)
+        few (low_index head.table _ few) (lessens mix env port (at.Link head node visited) link within tt)
     spent_leads caller made (at.Future table) goes_on within known few =
-        future_spent table made known.0.attached (slot_of (M (Slot table FutureWord)))
-        (future_leads env mix M G whole table known.0.table) few
+        future_spent table made few (slot_of (M (Slot table FutureWord))) (future_leads env mix M G whole table few.at)
     spent_leads caller made (at.Owner node) goes_on within known few = most_in-all (table_steps env) made few
     spent_leads caller made (at.Closing reply) goes_on within known few = absurd (cc)
 
@@ -226,36 +262,38 @@ module _ (env : Env) where
     spent_most made at.Opening known few = most_of-first (table_steps env) made (omega (arith, few))
     spent_most made at.CurrentTable known few = most_of-first (table_steps env) made few
     spent_most made (at.Locating reach) known few =
-        most_of-in (table_steps env) (index_at G reach.table) made (left_at (at.Locating reach))
-        (low_index reach.table known.0.0.attached) few
+        most_of-in (table_steps env) few.count made (left_at (at.Locating reach)) (low_index reach.table _ few) few.few
     spent_most made (at.Heading head) known few =
-        most_of-in (table_steps env) (index_at G head.table) made (left_at (at.Heading head))
-        (low_index head.table known.0.of.attached) few
+        most_of-in (table_steps env) few.count made (left_at (at.Heading head)) (low_index head.table _ few) few.few
     spent_most made (at.Key head node visited) known few =
-        most_of-in (table_steps env) (index_at G head.table) made (left_at (at.Key head node visited))
-        (low_index head.table known.0.of.attached) few
+        most_of-in (table_steps env) few.count made (left_at (at.Key head node visited)) (low_index head.table _ few) few.few
     spent_most made (at.Link head node visited) known few =
-        most_of-in (table_steps env) (index_at G head.table) made (left_at (at.Link head node visited))
-        (low_index head.table known.0.of.attached) few
+        most_of-in (table_steps env) few.count made (left_at (at.Link head node visited)) (low_index head.table _ few) few.few
     spent_most made (at.Future table) known few =
-        most_of-in (table_steps env) (index_at G table) made 0 (low_index table known.0.attached) (omega (arith, few))
+        most_of-in (table_steps env) few.count made 0 (low_index table _ few) (omega (arith, few.few))
     spent_most made (at.Owner node) known few = most_of-in (table_steps env) 7 made 0 (omega arith) (omega (arith, few))
     spent_most made (at.Closing reply) known few = few
 
     -- and it stays so behind an operation of anybody else
     module _ (G' : Ghost) (grow : TablesGrow env mix G G') where
-      same_most : (slot : ℕ) → has_table (G.slot slot) ≡ true → (count : ℕ) → count ≤ most_at G slot → count ≤ most_at G' slot
-      same_most slot has count few =
-          subst (λ i. count ≤ most_in (table_steps env) i) (sym (grow.indices slot has)) few
+      same_most : (slot count : ℕ) → IsWithin G slot count → IsWithin G' slot count
+      same_most slot count is = record {
+        at = at-stays env mix G G' grow slot is.at;
+        low = is.low;
+        on = there_from-grows env mix G G' grow is.low is.on;
+        count = is.count;
+        behind = is.behind;
+        few = is.few;
+      }
 
       pub spent_stays : (made : ℕ) (state : FindAt) → LookMeans env mix port seen since Says M G P state → IsSpent G state made
           → IsSpent G' state made
       spent_stays made at.Opening known few = few
       spent_stays made at.CurrentTable known few = few
-      spent_stays made (at.Locating reach) known few = same_most reach.table known.0.0.table _ few
-      spent_stays made (at.Heading head) known few = same_most head.table known.0.of.table _ few
-      spent_stays made (at.Key head node visited) known few = same_most head.table known.0.of.table _ few
-      spent_stays made (at.Link head node visited) known few = same_most head.table known.0.of.table _ few
-      spent_stays made (at.Future table) known few = same_most table known.0.table _ few
+      spent_stays made (at.Locating reach) known few = same_most reach.table _ few
+      spent_stays made (at.Heading head) known few = same_most head.table _ few
+      spent_stays made (at.Key head node visited) known few = same_most head.table _ few
+      spent_stays made (at.Link head node visited) known few = same_most head.table _ few
+      spent_stays made (at.Future table) known few = same_most table _ few
       spent_stays made (at.Owner node) known few = few
       spent_stays made (at.Closing reply) known few = few

@@ -127,24 +127,30 @@ module _ (env : Env) (mix : ℕ → ℕ → ℕ → ℕ) (now c n : ℕ) (M M' :
     either so other (inl is) = inl (so is)
     either so other (inr is) = inr (other is)
 
-    stage_then : (stage : Stage) → AllByRecursion (λ m. seen m ≡ true) (node_at stage)
+    pub stage_then : (stage : Stage) → AllByRecursion (λ m. seen m ≡ true) (node_at stage)
         → StageMeans env mix port seen since Said M G P stage → StageMeans env mix port seen since Said' M' G' P' stage
-    stage_then (Reaching slot) stood (of, known) = (record { table = of.table; attached = of.attached }, or_so (toward_then _) known)
+    stage_then (Reaching slot) stood (of, known) = (
+      record { table = of.table; attached = of.attached; slot_is = of.slot_is },
+      or_so (toward_then _) known,
+    )
     stage_then (Heading slot j) stood (at, known) = (
-      record { of = record { table = at.of.table; attached = at.of.attached }; here = at.here },
+      record { of = record { table = at.of.table; attached = at.of.attached; slot_is = at.of.slot_is }; here = at.here },
       or_so (either (λ sits. same_port ∙ sits) (beyond_then _)) known,
     )
     stage_then (AtKey slot j m visited) stood (at, was_late, known) = (
-      record { of = record { table = at.of.table; attached = at.of.attached }; here = at.here },
+      record { of = record { table = at.of.table; attached = at.of.attached; slot_is = at.of.slot_is }; here = at.here },
       late m stood.0 was_late,
       or_so (either (ahead_then j m visited stood.0) (beyond_then _)) known,
     )
     stage_then (AtLink slot j m visited) stood (at, was_late, known) = (
-      record { of = record { table = at.of.table; attached = at.of.attached }; here = at.here },
+      record { of = record { table = at.of.table; attached = at.of.attached; slot_is = at.of.slot_is }; here = at.here },
       late m stood.0 was_late,
       or_so (either (below_then j m visited stood.0) (beyond_then _)) known,
     )
-    stage_then (Ending slot) stood (of, known) = (record { table = of.table; attached = of.attached }, or_so (beyond_then _) known)
+    stage_then (Ending slot) stood (of, known) = (
+      record { table = of.table; attached = of.attached; slot_is = of.slot_is },
+      or_so (beyond_then _) known,
+    )
     stage_then (Owning m) stood (was_late, key) = (
       late m stood.0 was_late,
       same m KeyWord (late_used env mix M G P whole since m was_late).0 ∙ key,
@@ -162,7 +168,13 @@ module _ (env : Env) (mix : ℕ → ℕ → ℕ → ℕ) (now c n : ℕ) (M M' :
     look_given at.Opening stood known = tt
     look_given at.CurrentTable stood known = tt
     look_given (at.Locating reach) stood known =
-        (stays (Reaching reach.table) tt known.0, reaching-stays env mix G G' grow port reach known.0.0 known.1)
+        let of = known.0.0 in (
+          (
+            record { table = of.table; attached = of.attached; slot_is = of.slot_is },
+            or_so (Says Missing) (Says' Missing) (said Missing) (toward_then of.table) known.0.1,
+          ),
+          reaching-stays env mix G G' grow port reach of known.1,
+        )
     look_given (at.Heading head) stood known = stays (Heading head.table (word_index env mix head.place)) tt known
     look_given (at.Key head node visited) stood known =
         stays (AtKey head.table (word_index env mix head.place) node visited) stood known

@@ -50,7 +50,7 @@ module _ (env : Env) (mix : ℕ → ℕ → ℕ → ℕ) (port : ℕ) (seen seen
     in_middle so (inr (inl is)) = inr (inl (so is))
     in_middle so (inr (inr is)) = inr (inr is)
 
-    stage-seen : (Said : Type 0) (stage : Stage) → StageMeans env mix port seen since Said M G P stage
+    pub stage-seen : (Said : Type 0) (stage : Stage) → StageMeans env mix port seen since Said M G P stage
         → StageMeans env mix port seen' since Said M G P stage
     stage-seen Said (Reaching slot) known = known
     stage-seen Said (Heading slot j) known = known

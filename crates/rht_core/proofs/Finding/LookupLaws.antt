@@ -23,7 +23,7 @@ use Rattle.rht_core.proofs.Tracing.TracedJobs.{IsAtJob}
 use Rattle.rht_core.proofs.Tracing.RepliesInRuns.{Holds, Answered, runs-right}
 
 -- the answer of a look-up looks the same whether `work` has something to do or not
-plain_reply : (reply : Reply) (owners : List ℕ) → find_reply owners ≡ without_kick reply → reply ≡ find_reply owners
+pub plain_reply : (reply : Reply) (owners : List ℕ) → find_reply owners ≡ without_kick reply → reply ≡ find_reply owners
 plain_reply (Bound kick) [] is = absurd (cc)
 plain_reply (Bound kick) (first ∷ others) is = absurd (cc)
 plain_reply (Released kick) [] is = absurd (cc)
@@ -31,7 +31,7 @@ plain_reply (Released kick) (first ∷ others) is = absurd (cc)
 plain_reply _ owners is = sym is
 
 -- the reply of an answer, where there is one
-abbrev reply_in : Option Answer → Reply
+abbrev pub reply_in : Option Answer → Reply
 reply_in None = Missing
 reply_in (Some answer) = answer.reply
 

@@ -24,16 +24,16 @@ use Rattle.rht_find.specs.FindStanding.{standing_of_find}
 use Rattle.rht_find.specs.declared.find.Head.{Head}
 use Rattle.rht_find.specs.declared.find.FindAt.{FindAt}
 use Rattle.rht_find.specs.declared.find.FindAt.TheVariants as at
-use Rattle.rht_ghost.proofs.Theory.Ghosts.{Ghost, lock_bit, index_at, none-some}
-use Rattle.rht_ghost.proofs.Theory.Wholes.{chain_of, key_of, place_at, word_index, place_at-index, Whole, current-there, slot-there}
-use Rattle.rht_ghost.proofs.Theory.Passed.{TablesGrow, home-within, home-no_entry}
+use Rattle.rht_ghost.proofs.Theory.Ghosts.{Ghost, lock_bit, none-some}
+use Rattle.rht_ghost.proofs.Theory.Wholes.{chain_of, key_of, place_at, word_index, place_at-index, Whole, current-there, at-there}
+use Rattle.rht_ghost.proofs.Theory.Passed.{at-stays, TablesGrow, home-within, home-no_entry}
 use Rattle.rht_ghost.proofs.Theory.Steps.{mem}
 use Rattle.rht_ghost.proofs.Pieces.TableLoads.{LeadsBehind, future_leads}
 use Rattle.rht_ghost.proofs.Pieces.Reaches.{IsReachingHome}
 use Rattle.rht_core.proofs.Finding.Places.{Places, PlacesRight}
 use Rattle.rht_core.proofs.Finding.PlacesSteps.{PlacesNext}
 use Rattle.rht_core.proofs.Finding.Deaths.{DeathsRight, IsLate}
-use Rattle.rht_core.proofs.Finding.Stages.{Stage, Reaching, Heading, AtKey, AtLink, Ending, Owning, IsHome, StageMeans, stage_stays}
+use Rattle.rht_core.proofs.Finding.Stages.{Stage, Reaching, Heading, AtKey, AtLink, Ending, Owning, IsHome, StageMeans, stage_stays, toward_known}
 use Rattle.rht_core.proofs.Finding.StageSteps.{at_current, headed_to, headed_nowhere, key_differs, key_is_it, link_to, link_nowhere, all_visited, walks_again, none_behind, goes_on}
 use Rattle.rht_core.proofs.Finding.ReachSteps.{ReachLeads, reach_leads, reaching-stays}
 
@@ -49,7 +49,8 @@ module _ (env : Env) (mix : ℕ → ℕ → ℕ → ℕ) (port : ℕ) (seen : �
   abbrev pub LookMeans : Memory → Ghost → Places → FindAt → Type 0
   LookMeans M G P at.Opening = Unit {0}
   LookMeans M G P at.CurrentTable = Unit {0}
-  LookMeans M G P (at.Locating reach) = StageIs M G P (Reaching reach.table) × IsReachingHome env mix G port reach.table reach.at
+  LookMeans M G P (at.Locating reach) =
+      (means : StageIs M G P (Reaching reach.table)) × IsReachingHome env mix G port means.0.table reach.at
   LookMeans M G P (at.Heading head) = StageIs M G P (Heading head.table (bucket_of_head head))
   LookMeans M G P (at.Key head node visited) = StageIs M G P (AtKey head.table (bucket_of_head head) node visited)
   LookMeans M G P (at.Link head node visited) = StageIs M G P (AtLink head.table (bucket_of_head head) node visited)
@@ -80,8 +81,7 @@ module _ (env : Env) (mix : ℕ → ℕ → ℕ → ℕ) (port : ℕ) (seen : �
         let slot = (G.table G.current).slot in
         let is : table_of (M CurrentTable) ≡ slot =
         (let word = whole.tables.current_is in omega (arith, right_now.slot_in, word)) in
-        rw is (at_current env mix port seen since now M G P whole right deaths (Says Missing) slot there.has_slot
-        there.index absent)
+        rw is (at_current env mix port seen since now M G P whole right deaths (Says Missing) absent)
 
     -- ---- the end of a chain
 
@@ -138,9 +138,8 @@ module _ (env : Env) (mix : ℕ → ℕ → ℕ → ℕ) (port : ℕ) (seen : �
         ≡ head_of (place_at env mix (bucket_of_head head)) (G.bucket (bucket_of_head head)).plain
     head_word head there home_is =
         let j = bucket_of_head head in
-        let τ = index_at G head.table in
-        let of = home_is.of in
-        let is_there = slot-there env mix whole.tables head.table of.table in
+        let τ = home_is.of.table in
+        let is_there = at-there env mix whole.tables head.table home_is.of in
         let locked = (whole.buckets j (home-within env mix M G whole port τ j is_there home_is.here)
         (home-no_entry env mix M G whole port τ j is_there home_is.here)).locked in
         let place : place_at env mix j ≡ head.place = place_at-index env mix head.place there in
@@ -151,7 +150,7 @@ module _ (env : Env) (mix : ℕ → ℕ → ℕ → ℕ) (port : ℕ) (seen : �
 
     -- ---- the future of a table
 
-    future_known : (slot : ℕ) → Means (Ending slot) → (future : Option ℕ) → LeadsBehind env mix M G whole slot future
+    future_known : (slot : ℕ) (ending : Means (Ending slot)) (future : Option ℕ) → LeadsBehind env mix M G whole ending.0.table future
         → Knows (next_table env future)
     future_known slot ending None last =
         none_behind env mix port seen since now M G P whole right deaths (Says Missing) slot ending last
@@ -163,9 +162,9 @@ module _ (env : Env) (mix : ℕ → ℕ → ℕ → ℕ) (port : ℕ) (seen : �
     reached_known : (next : ReachModel × Next Bucket)
         → ReachLeads env mix port seen since now words G P whole right deaths (Says Missing) next
         → Knows (reached env next.0 next.1)
-    reached_known (m, Go) leads = (leads.means, leads.tells)
-    reached_known (m, Done (buckets.At place)) leads = leads.means
-    reached_known (m, Done (buckets.Absent entry)) leads = leads.means
+    reached_known (m, Go) leads = leads
+    reached_known (m, Done (buckets.At place)) leads = leads
+    reached_known (m, Done (buckets.Absent entry)) leads = leads
 
     -- where its section has met the node at which it stands
     abbrev pub HasMet : FindAt → Type 0
@@ -218,7 +217,7 @@ module _ (env : Env) (mix : ℕ → ℕ → ℕ → ℕ) (port : ℕ) (seen : �
         })
         (node_of env.geometry.nodes link) refl
     look_leads caller (at.Future table) within met known =
-        future_known table known (slot_of (M (Slot table FutureWord))) (future_leads env mix M G whole table known.0.table)
+        future_known table known (slot_of (M (Slot table FutureWord))) (future_leads env mix M G whole table known.0)
     look_leads caller (at.Owner node) within met known = found node known.0 known.1
     look_leads caller (at.Closing reply) within met known = known
 
@@ -241,7 +240,7 @@ module _ (env : Env) (mix : ℕ → ℕ → ℕ → ℕ) (port : ℕ) (seen : �
   pub look_says : (state : FindAt) → LookMeans env mix port seen since Says M G P state → LookMeans env mix port seen since Says' M G P state
   look_says at.Opening known = tt
   look_says at.CurrentTable known = tt
-  look_says (at.Locating reach) known = (stage_says (Reaching reach.table) known.0, known.1)
+  look_says (at.Locating reach) known = ((known.0.0, or_else known.0.1), known.1)
   look_says (at.Heading head) known = stage_says (Heading head.table (word_index env mix head.place)) known
   look_says (at.Key head node visited) known = stage_says (AtKey head.table (word_index env mix head.place) node visited) known
   look_says (at.Link head node visited) known = stage_says (AtLink head.table (word_index env mix head.place) node visited) known
@@ -265,7 +264,11 @@ module _ (env : Env) (mix : ℕ → ℕ → ℕ → ℕ) (port : ℕ) (seen : �
   look_stays at.Opening known = tt
   look_stays at.CurrentTable known = tt
   look_stays (at.Locating reach) known = (
-    stays (Reaching reach.table) known.0,
+    (
+      at-stays env mix G G' grow reach.table known.0.0,
+      toward_known env mix port seen since now M G P M' G' whole whole' right step grow began (Says Missing) (Says' Missing)
+          (said Missing) absent known.0.0.table known.0.1,
+    ),
     reaching-stays env mix G G' grow port reach known.0.0 known.1,
   )
   look_stays (at.Heading head) known = stays (Heading head.table (word_index env mix head.place)) known

@@ -75,7 +75,7 @@ module _ (L : Type 0) (mix : ℕ → ℕ → ℕ → ℕ) (env : Env) where
 
   -- ---- each event
 
-  begin-looks : (events : List Event) (c : ℕ) (call : Call) (machine : Option (Doing L)) (looking : AreLooking L mix env events (R events))
+  pub begin-looks : (events : List Event) (c : ℕ) (call : Call) (machine : Option (Doing L)) (looking : AreLooking L mix env events (R events))
       → (turn : Turns L mix env events (Begin c call) looking)
       → beginning_in (R events).world.core c call ≡ machine → EachLooks L mix env events (Begin c call) looking turn
   begin-looks events c call None looking turn is = λ d.
@@ -111,7 +111,7 @@ module _ (L : Type 0) (mix : ℕ → ℕ → ℕ → ℕ) (env : Env) where
             (trace_begin_other L mix r c call d other)
       ]
 
-  step-looks : (events : List Event) (c : ℕ) (plan : Option Op) → IsAdmitted kind events → (looking : AreLooking L mix env events (R events))
+  pub step-looks : (events : List Event) (c : ℕ) (plan : Option Op) → IsAdmitted kind events → (looking : AreLooking L mix env events (R events))
       → (turn : Turns L mix env events (Step c) looking)
       → planned_in (R events).world.core c ≡ plan → EachLooks L mix env events (Step c) looking turn
   step-looks events c None admitted looking turn is = λ d.
@@ -265,7 +265,7 @@ module _ (L : Type 0) (mix : ℕ → ℕ → ℕ → ℕ) (env : Env) where
             meets_then env mix L events core core' placed (met_now L mix env looking) (ApartNow L mix env looking) makes c
             (looking.readers c) (looking.meets c low) (leads c low) not_met
 
-        sees_on : SeesOn L mix env core core' (met_now L mix env looking) (looking.readers c).chains (readers' c).chains c
+        pub sees_on : SeesOn L mix env core core' (met_now L mix env looking) (looking.readers c).chains (readers' c).chains c
         sees_on = record {
           met_too = λ n is. met-of looking.readers env.geometry.callers c n low is;
           stood = stood env mix L events core core' placed (met_now L mix env looking) (ApartNow L mix env looking) makes c
@@ -290,7 +290,7 @@ module _ (L : Type 0) (mix : ℕ → ℕ → ℕ → ℕ) (env : Env) where
 
   -- ---- runs
 
-  event-looks : (events : List Event) (event : Event) → IsAdmitted kind events → IsAdmittedEvent kind event
+  unfoldable pub event-looks : (events : List Event) (event : Event) → IsAdmitted kind events → IsAdmittedEvent kind event
       → AreLooking L mix env events (R events) → AreLooking L mix env (events ++ event ∷ []) (traced_step mix (R events) event)
   unfolding next turn_at makes
   event-looks events event admitted may looking = record {
@@ -306,7 +306,7 @@ module _ (L : Type 0) (mix : ℕ → ℕ → ℕ → ℕ) (env : Env) where
       each (Begin c call) turn = begin-looks events c call (beginning_in (R events).world.core c call) looking turn refl
       each (Step c) turn = step-looks events c (planned_in (R events).world.core c) admitted looking turn refl
 
-  opening-looks : AreLooking L mix env [] (R [])
+  pub opening-looks : AreLooking L mix env [] (R [])
   opening-looks = record {
     placed = placed_opening env mix L;
     readers = λ c. reads_nothing;

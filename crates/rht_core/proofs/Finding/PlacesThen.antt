@@ -15,11 +15,15 @@ use Rattle.rht_ghost.proofs.Theory.Frames.{Made}
 use Rattle.rht_ghost.proofs.Theory.Steps.{Move, ReturnsNode, ghost_after, ReadyFor}
 use Rattle.rht_core.proofs.Finding.Places.{Places, PlacesRight}
 use Rattle.rht_core.proofs.Finding.Deaths.{DeathsRight, DeathsMove, deaths_after}
-use Rattle.rht_core.proofs.Finding.GivenBack.{IsUnmet, kept_places, same_seat, was_used, dead_was, right_then, deaths_then}
+use Rattle.rht_core.proofs.Finding.GivenBack.{IsUnmet, kept_places, same_seat, was_used, met_kept, place_stays, dead_was, right_then, deaths_then}
 use Rattle.rht_core.proofs.Finding.Lookups.{LookMeans, look_stays}
-use Rattle.rht_core.proofs.Finding.LooksGiven.{look_given}
+use Rattle.rht_core.proofs.Finding.LooksGiven.{node_at, stage_then, look_given}
+use Rattle.rht_core.proofs.Finding.Stages.{Stage, StageMeans, stage_stays}
 use Rattle.rht_core.proofs.Finding.PlacesSteps.{places_step}
 use Rattle.rht_core.proofs.Returning.GoneBack.{returned, owners_stay}
+use Rattle.rht_core.proofs.Walking.PortPlaces.{PortPlacesRight}
+use Rattle.rht_core.proofs.Walking.PortPlacesStay.{port_places_then}
+use Rattle.rht_core.proofs.Walking.PortPlacesGiven.{port_places_given}
 
 -- a node that is given back: no open section has met it, and no node's word changes
 pub record IsGiven (env : Env) (M M' : Memory) (met : ℕ → Bool) (n : ℕ) : Type 0 where
@@ -46,6 +50,14 @@ LooksOutlive env mix now M G P M' G' P' met =
     → (state : FindAt) → AllByRecursion (λ n. seen n ≡ true) (standing_of_find state).nodes
     → LookMeans env mix port seen since Says M G P state → LookMeans env mix port seen since Says' M' G' P' state
 
+-- And what they know in a stage outlives it, where their section has met the node at which they stand.
+abbrev pub StagesOutlive : Env → (ℕ → ℕ → ℕ → ℕ) → ℕ → Memory → Ghost → Places → Memory → Ghost → Places → (ℕ → Bool) → Type 1
+StagesOutlive env mix now M G P M' G' P' met =
+    (port : ℕ) (seen : ℕ → Bool) (since : ℕ) → since ≤ now
+    → (Said Said' : Type 0) → (Said → Said') → (G'.bound port ≡ [] → Said') → ((n : ℕ) → seen n ≡ true → met n ≡ true)
+    → (stage : Stage) → AllByRecursion (λ n. seen n ≡ true) (node_at stage)
+    → StageMeans env mix port seen since Said M G P stage → StageMeans env mix port seen since Said' M' G' P' stage
+
 pub record PlacesThen (env : Env) (mix : ℕ → ℕ → ℕ → ℕ) (now : ℕ) (M : Memory) (G : Ghost) (P : Places) (M' : Memory) (G' : Ghost)
     (met : ℕ → Bool) : Type 1 where
   pub places : Places
@@ -54,6 +66,9 @@ pub record PlacesThen (env : Env) (mix : ℕ → ℕ → ℕ → ℕ) (now : ℕ
   pub dead : (n t : ℕ) → IsUsed (G'.node n) → seat_of (G'.node n) ≡ None → places.dead n ≡ Some t
       → DiesNow now G n t ⊎ HadDied G P n t
   pub looks : LooksOutlive env mix now M G P M' G' places met
+  pub stages : StagesOutlive env mix now M G P M' G' places met
+  pub of_ports : PortPlacesRight env mix M G P now → PortPlacesRight env mix M' G' places (now + 1)
+  pub kept : (i n p : ℕ) → met n ≡ true → P.place i n ≡ Some p → places.place i n ≡ Some p
 
 module _ (env : Env) (mix : ℕ → ℕ → ℕ → ℕ) (now c : ℕ) (M : Memory) (G : Ghost) (P : Places) (M' : Memory)
     (whole : Whole env mix M G) (right : PlacesRight env mix G P M now) (met : ℕ → Bool) where
@@ -89,6 +104,11 @@ module _ (env : Env) (mix : ℕ → ℕ → ℕ → ℕ) (now c : ℕ) (M : Memo
         looks = λ port seen since began Says Says' said absent seen_met state stood known.
             look_stays env mix port seen since now M G P M' G' whole made.whole right step (grow G' made) began Says Says' said absent
             state known;
+        stages = λ port seen since began Said Said' said absent seen_met stage stood known.
+            stage_stays env mix port seen since now M G P M' G' whole made.whole right step (grow G' made) began Said Said' said absent
+            stage known;
+        of_ports = port_places_then env mix now M G P M' G' whole made.whole right step (grow G' made);
+        kept = λ i n p is. step.move.kept i n p;
       }
 
   -- and one that does
@@ -106,6 +126,13 @@ module _ (env : Env) (mix : ℕ → ℕ → ℕ → ℕ) (now c : ℕ) (M : Memo
     looks = λ port seen since began Says Says' said absent seen_met state stood known.
         look_given env mix now c n M M' G P whole right mine given.words met given.unmet port seen seen_met since
         (grow (with_owner G n Free) made) Says Says' said state stood known;
+    stages = λ port seen since began Said Said' said absent seen_met stage stood known.
+        stage_then env mix now c n M M' G P whole right mine given.words met given.unmet port seen seen_met since Said Said' said stage stood
+        known;
+    of_ports = port_places_given env mix now c n M M' G P whole right mine given.words met given.unmet;
+    kept = λ i m p is at.
+        place_stays env mix now c n M M' G P whole right mine given.words met given.unmet i m
+        (met_kept env mix now c n M M' G P whole right mine given.words met given.unmet m is) ∙ at;
   }
 
   pub places_then : (move : Move) → ReadyFor env mix c M G move → Made env mix c M G M' (ghost_after env mix c move G)

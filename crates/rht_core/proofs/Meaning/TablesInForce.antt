@@ -11,15 +11,11 @@ use Rattle.rht_words.proofs.LinksRead.{entries_come_back}
 use Rattle.rht_words.specs.Members.{In, IsDistinct, NotIn}
 use Rattle.rht_words.proofs.Members.{count_below-most, length-count_below}
 use Rattle.rht_stands.specs.StandsFor.{in_force, tables_from}
-use Rattle.rht_ghost.proofs.Theory.Ghosts.{Ghost, has_table, index_at}
-use Rattle.rht_ghost.proofs.Theory.Wholes.{Whole, force-there, current-there, one_slot, IsThere, slot-there}
+use Rattle.rht_ghost.proofs.Theory.Ghosts.{Ghost, index_at}
+use Rattle.rht_ghost.proofs.Theory.Wholes.{Whole, force-there, current-there, one_slot, AreThereFrom, IsAt, at-there}
 use Rattle.rht_ghost.proofs.Theory.Knowledge.{IsFollowed}
 use Rattle.rht_ghost.proofs.Theory.Steps.{mem}
 use Rattle.rht_ghost.proofs.Moves.Attaching.{last_of_future}
-
--- this table and all behind it are there
-abbrev pub AreThereFrom : Ghost → ℕ → Type 0
-AreThereFrom G τ = (σ : ℕ) → τ ≤ σ → σ < G.attached → IsThere G σ
 
 module _ (env : Env) (mix : ℕ → ℕ → ℕ → ℕ) (words : List ℕ) (G : Ghost)
     (whole : Whole env mix (mem env mix words) G) where
@@ -219,14 +215,12 @@ module _ (env : Env) (mix : ℕ → ℕ → ℕ → ℕ) (words : List ℕ) (G :
       subst (In (G.table τ).slot) (sym tables_in_force) (in_slots τ G.current in_use low (omega (arith, low, high)))
 
   -- so is one that has no future
-  pub last_stands : (slot : ℕ) → has_table (G.slot slot) ≡ true → M (Slot slot FutureWord) ≡ 0 → In slot (in_force g words)
-  last_stands slot has none =
-      let τ = index_at G slot in
-      let of = whole.tables.slots slot has in
-      let last = last_of_future env mix M G whole τ (slot-there env mix whole.tables slot has)
-      (ap (λ s. M (Slot s FutureWord)) of.slot ∙ none) in
+  pub last_stands : (slot : ℕ) → IsAt G slot → M (Slot slot FutureWord) ≡ 0 → In slot (in_force g words)
+  last_stands slot at none =
+      let last = last_of_future env mix M G whole at.table (at-there env mix whole.tables slot at)
+      (ap (λ s. M (Slot s FutureWord)) at.slot_is ∙ none) in
       let here = whole.tables.current_in in
-      subst (λ s. In s (in_force g words)) of.slot (table_in_force τ (omega (arith, last, here)) of.attached)
+      subst (λ s. In s (in_force g words)) at.slot_is (table_in_force at.table (omega (arith, last, here)) at.attached)
 
   -- from a table that is no more in force they lead to the current one, where it and all behind it are there
   pub leads_to_current : (τ : ℕ) → AreThereFrom G τ → τ ≤ G.current

@@ -122,7 +122,7 @@ module _ (env : Env) (words_at : ℕ → List ℕ) (mix : ℕ → ℕ → ℕ �
       let means = does.knows.knowing.means in
       let word : did.old ≡ mem env mix does.words (Slot claimed.table FutureWord) =
       does.found ∙ ap (old_of does.words) does.planned in
-      let few = future_few env mix does.words does.ghost claimed.table does.whole means.table.passing.table in
+      let few = future_few env mix does.words does.ghost claimed.table does.whole means.table.passing.at in
       record {
         none = record {
           word = record { there = (does.within.at_in.table_in, tt); loads = does.planned };

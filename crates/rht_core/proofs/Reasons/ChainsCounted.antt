@@ -48,8 +48,8 @@ use Rattle.rht_chain.specs.declared.probe.Probed.{Probed}
 use Rattle.rht_core.specs.Traces.{Did}
 use Rattle.rht_stands.specs.StandsFor.{chain_from, bucket_in, bucket_nodes, stands_for, AreBound}
 use Rattle.rht_core.specs.ResizeCauses.{IsNoKeyLoad, CountsNode, AreCounted, FindsBucketAt, SawChain, SawLongChain, SawShortChain, IsWhole}
-use Rattle.rht_ghost.proofs.Theory.Ghosts.{Ghost, index_at, none-some}
-use Rattle.rht_ghost.proofs.Theory.Wholes.{chain_of, word_index, hash_in, place_at, place_at-index, index-within, stop, ChainedRight, Whole}
+use Rattle.rht_ghost.proofs.Theory.Ghosts.{Ghost, none-some}
+use Rattle.rht_ghost.proofs.Theory.Wholes.{chain_of, word_index, hash_in, place_at, place_at-index, index-within, stop, ChainedRight, Whole, at-there}
 use Rattle.rht_ghost.proofs.Theory.Knowns.{StandsAt}
 use Rattle.rht_ghost.proofs.Theory.Passed.{hash-below, held-no_entry}
 use Rattle.rht_ghost.proofs.Theory.Knowledge.{IsAtHome, IsReaching, IsDiffering, BucketMeans}
@@ -313,16 +313,16 @@ module _ (env : Env) (mix : ℕ → ℕ → ℕ → ℕ) (words_at : ℕ → Lis
   home-place : (table shape place from : ℕ) → IsAtHome env mix G port table (Some shape) place → words ≡ words_at from
       → BucketsStay env mix words_at G from → HasPlace g words_at mix port table shape place from
   home-place table shape place from is now stay =
-      let τ = index_at G table in
+      let τ = is.passing.at.table in
       let number = hash_in env mix G port τ in
       let below = hash-below env mix M G whole port τ in
-      let number_is = hash_in-words env mix words G whole port table (G.table τ).shape is.passing.table refl in
+      let number_is = hash_in-words env mix words G whole port table (G.table τ).shape is.passing.at refl in
       subst (λ s. HasPlace g words_at mix port table s place from) is.shape_is (record {
         number = number;
         number_is = subst (λ ws. number ≡ bucket_of mix port (G.table τ).shape (word_at g ws (Slot table SeedWord))) now number_is;
         within = below;
         stays = subst (λ p. StaysAt g words_at (G.table τ).shape number p from) (place_at-index env mix place is.bucket)
-            (stay τ number (word_index env mix place) is.passing.passed.attached below is.here).0;
+            (stay τ number (word_index env mix place) (at-there env mix whole.tables table is.passing.at) below is.here).0;
       })
 
   -- ---- the end of a walk
@@ -452,7 +452,7 @@ module _ (env : Env) (mix : ℕ → ℕ → ℕ → ℕ) (words_at : ℕ → Lis
   found-in : (table shape place : ℕ) (steps : List Did) → IsAtHome env mix G port table (Some shape) place
       → FoundSoFar g words_at mix port table shape place steps → FoundIn table shape place steps
   found-in table shape place steps is (inl none) =
-      let τ = index_at G table in
+      let τ = is.passing.at.table in
       let number = hash_in env mix G port τ in
       record {
         bucket = number;

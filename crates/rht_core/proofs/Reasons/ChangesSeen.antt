@@ -27,14 +27,14 @@ use Rattle.rht_core.specs.Seen.{words_before}
 use Rattle.rht_core.specs.ResizeCauses.{Attaches}
 use Rattle.rht_core.specs.Attached.{ChangesMissing, EnterCause, HasGoneOn, ChangesWorkLock, HasWorkLock, WorkLockCause, ChangesTable, ChangesCurrent, MovesOn, HasTakenSlot, EachBehind, AttachesDue, IsOwnTable, ChangesState, StateCause, MakesTables, RetiresTable}
 use Rattle.rht_ghost.proofs.Theory.Ghosts.{Ghost, PageHeld, has_table, SlotHeld, index_at}
-use Rattle.rht_ghost.proofs.Theory.Wholes.{Whole, force-there}
+use Rattle.rht_ghost.proofs.Theory.Wholes.{Whole, force-there, IsThere, AreThereFrom, slot-there}
 use Rattle.rht_ghost.proofs.Theory.Steps.{mem, ghost_after, Holding, Does}
 use Rattle.rht_words.specs.Operations.{op_value}
 use Rattle.rht_words.specs.Planned.{IsWord}
 use Rattle.rht_words.proofs.PlannedWords.{old_of-fits, word_after-fits}
 use Rattle.rht_words.proofs.Memory.{Memory}
 use Rattle.rht_words.proofs.Rounding.{powers-rise}
-use Rattle.std.proofs.lemmas.Bool.{le-ltb, both_ways}
+use Rattle.std.proofs.lemmas.Bool.{cases_eq, le-ltb, both_ways}
 use Rattle.std.proofs.lemmas.List.{append_assoc, take-append-drop}
 use Rattle.rht_ghost.proofs.Theory.Knowledge.{IsMade}
 use Rattle.rht_core.proofs.Machines.JobSteps.{JobNext}
@@ -294,6 +294,12 @@ module _ (M : Type 0) (mix : ℕ → ℕ → ℕ → ℕ) (env : Env) (events : 
     retires words G caller slot whole now can stores lock gone =
         let of = whole.tables.slots slot can.table in
         let τ = index_at G slot in
+        -- it is there, and so are those in use
+        let on : AreThereFrom G τ =
+        λ σ from few. elim (cases_eq σ τ) [
+          | inl e ↦ subst (IsThere G) (sym e) (slot-there env mix whole.tables slot can.table)
+          | inr ne ↦ let left = can.left_behind in force-there env mix whole.tables σ (omega (arith, left, from, ne)) few
+        ] in
         subst (λ ws. RetiresTable g ws slot steps did) now (record {
           lock = lock;
           gone_on = gone;
@@ -306,8 +312,7 @@ module _ (M : Type 0) (mix : ℕ → ℕ → ℕ → ℕ) (env : Env) (events : 
               let current = table.current in
               absurd (omega (arith, same, left, current));
           left = subst (λ s. In (table_of (word_at g words CurrentTable)) (tables_from g words 8 (Some s))) of.slot
-              (leads_to_current env mix words G whole τ (λ σ from. whole.tables.there σ)
-              (let left = can.left_behind in omega (arith, left)));
+              (leads_to_current env mix words G whole τ on (let left = can.left_behind in omega (arith, left)));
         })
 
     stated : (job : Job) (slot : ℕ) (performs : Performs mix env job did) → performs.words ≡ words_at did.index
@@ -448,7 +453,7 @@ module _ (M : Type 0) (mix : ℕ → ℕ → ℕ → ℕ) (env : Env) (events : 
               entered job entry performs now saw going changed.entry_in
               (entered_by_move env mix performs.caller performs.words performs.ghost did (held_of job) (held_next next) performs.whole
               performs.all performs.found entry changed.entry_in
-              (missing_is_entry env mix performs.words performs.ghost performs.whole entry changed.table way has.has) changed.there
+              (missing_is_entry env mix performs.words performs.ghost performs.whole entry changed.table way has.at) changed.there
               changed.other step.move step.ready step.made.whole does);
           work = λ changed. elim (work_lock job performs now changed) [
             | inl here ↦ (works_then job next (same_call mix env job did.old) here.has, inl here.takes)

@@ -17,8 +17,7 @@ use Rattle.rht_move.specs.declared.work.WorkAt.TheVariants as at
 use Rattle.rht_core.specs.Traces.{Did}
 use Rattle.rht_core.specs.Jobs.{Job, works, held_of, held_next, job_after}
 use Rattle.rht_ghost.proofs.Theory.Ghosts.{Table, Ghost, put-same, made_table, some-same}
-use Rattle.rht_core.proofs.Meaning.TablesInForce.{AreThereFrom}
-use Rattle.rht_ghost.proofs.Theory.Wholes.{Whole, IsThere, force-there}
+use Rattle.rht_ghost.proofs.Theory.Wholes.{AreThereFrom, Whole, IsThere, force-there}
 use Rattle.rht_ghost.proofs.Theory.Readiness.{IsAttaching}
 use Rattle.rht_ghost.proofs.Theory.Steps.{bare, Move, Attaches, Holding, DoesAttach, ReadyFor, Does, ghost_after, mem}
 use Rattle.rht_core.proofs.Tracing.TracedJobs.{Performs}

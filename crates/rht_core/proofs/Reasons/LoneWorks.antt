@@ -53,8 +53,8 @@ use Rattle.rht_move.specs.Work.{plan_at, after_at, lock_seen, letting_go, last_s
 use Rattle.rht_core.specs.Jobs.{works}
 use Rattle.rht_core.specs.Traces.{Did}
 use Rattle.rht_core.specs.Seen.{TurnsSection}
-use Rattle.rht_ghost.proofs.Theory.Ghosts.{has_table, index_at}
 use Rattle.rht_ghost.proofs.Theory.Steps.{mem, by_test}
+use Rattle.rht_ghost.proofs.Theory.Wholes.{IsAt, at-on}
 use Rattle.rht_core.proofs.Tracing.TracedJobs.{Performs}
 use Rattle.rht_core.proofs.Reasons.AttachedTables.{IsNoFutureExchange, lock-none, make-none}
 use Rattle.rht_core.proofs.Reasons.MadeSizes.{made_flat}
@@ -278,23 +278,22 @@ module _ (env : Env) (c : ℕ) (words_at : ℕ → List ℕ) (mix : ℕ → ℕ 
 
   -- a table that is there and has no future is the last one
   ends-here : (job : WorkAt) (did : Did) (does : Performs mix env (works job) did) (slot : ℕ)
-      → has_table (does.ghost.slot slot) ≡ true → slot_of (mem env mix does.words (Slot slot FutureWord)) ≡ None
+      → IsAt does.ghost slot → slot_of (mem env mix does.words (Slot slot FutureWord)) ≡ None
       → (shape : ℕ) × IsLastIn env mix does.words slot shape
-  ends-here job did does slot has none =
+  ends-here job did does slot at none =
       let G = does.ghost in
-      let τ = index_at G slot in
-      let of = does.whole.tables.slots slot has in
-      let last = none_last env mix (mem env mix does.words) G does.whole τ (λ σ from. does.whole.tables.there σ) of.attached
-      (ap (λ s. slot_of (mem env mix does.words (Slot s FutureWord))) of.slot ∙ none) in (
+      let τ = at.table in
+      let last = none_last env mix (mem env mix does.words) G does.whole τ (at-on env mix does.whole.tables slot at) at.attached
+      (ap (λ s. slot_of (mem env mix does.words (Slot s FutureWord))) at.slot_is ∙ none) in (
         (G.table τ).shape,
         last_in env mix does.words G does.whole slot (G.table τ).shape
-            (record { table = τ; last = last; slot_is = of.slot; shape_is = refl }),
+            (record { table = τ; last = last; slot_is = at.slot_is; shape_is = refl }),
       )
 
   -- the search for the last table
   calm-seek : (state : WorkAt) (did : Did) (does : Performs mix env (works state) did) (now : List ℕ)
       → AreSame env (applied does.words did.op) now → (slot : ℕ) (next : Option ℕ)
-      → plan_at env does.caller state ≡ last_table_plan_at env.geometry (seeks.Future slot) → has_table (does.ghost.slot slot) ≡ true
+      → plan_at env does.caller state ≡ last_table_plan_at env.geometry (seeks.Future slot) → IsAt does.ghost slot
       → slot_of did.old ≡ next → CalmSeek (next_or_shape slot next) now
   calm-seek state did does now still slot None plan has finds =
       let found = found-word state did does (last_table_plan_at env.geometry (seeks.Future slot)) plan in
@@ -321,7 +320,7 @@ module _ (env : Env) (c : ℕ) (words_at : ℕ → List ℕ) (mix : ℕ → ℕ 
   calm-last root h (seeks.Future slot) did does all now still calm =
       calm-seek (at.LastTable root (record { geometry = h; at = seeks.Future slot })) did does now still slot (slot_of did.old)
       (ap (λ (g : Geometry). last_table_plan_at g (seeks.Future slot)) does.within.seek_in.geometry_same)
-      does.knows.knowing.means.work.more.aim_is.table refl
+      does.knows.knowing.means.work.more.aim_is.at refl
   calm-last root h (seeks.Shape slot) did does all now still calm =
       let state = at.LastTable root (record { geometry = h; at = seeks.Shape slot }) in
       let plan = ap (λ (g : Geometry). last_table_plan_at g (seeks.Shape slot)) does.within.seek_in.geometry_same in
@@ -337,7 +336,7 @@ module _ (env : Env) (c : ℕ) (words_at : ℕ → List ℕ) (mix : ℕ → ℕ 
       let state = at.EntryTable emptying (record { geometry = h; at = seeks.Future slot }) in
       let plan = ap (λ (g : Geometry). last_table_plan_at g (seeks.Future slot)) does.within.seek_in.geometry_same in (
         leaves-flat state did does now still (subst (IsNoFutureExchange env.geometry) (sym plan) (λ table old new l e. cc)) flat,
-        calm-seek state did does now still slot (slot_of did.old) plan does.knows.knowing.means.work.more.aim_is.table refl,
+        calm-seek state did does now still slot (slot_of did.old) plan does.knows.knowing.means.work.more.aim_is.at refl,
       )
   calm-table emptying h (seeks.Shape slot) did does all now still flat calm =
       let state = at.EntryTable emptying (record { geometry = h; at = seeks.Shape slot }) in

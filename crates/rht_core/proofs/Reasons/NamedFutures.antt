@@ -1,13 +1,14 @@
 -- What a word of a future says where it was loaded: it is 0, or names the slot of the table behind.
-use Rattle.std.proofs.Common.{◌≡◌, ℕ, ◌≤◌, ◌+◌, true, false, cond, ◌≢◌, ◌<◌, ◌-◌, nat_le, List, refl, sym, ap, ◌∙◌, inl, inr, arith}
+use Rattle.std.proofs.Common.{◌≡◌, ℕ, ◌≤◌, ◌+◌, false, cond, ◌≢◌, ◌<◌, ◌-◌, nat_le, List, refl, ap, ◌∙◌, inl, inr, arith}
 use Rattle.std.specs.Prelude.{Some, None, ◌&&◌}
 use Rattle.std.proofs.lemmas.Bool.{cases_lt, lt-ltb, le-ltb, leb-true, and_parts, leb-false}
 use Rattle.rht_words.specs.declared.env.Env.{Env}
 use Rattle.rht_words.specs.Places.{Slot, FutureWord}
 use Rattle.rht_words.specs.Links.{slot_of, table_of, future_of}
-use Rattle.rht_ghost.proofs.Theory.Ghosts.{Ghost, has_table, index_at}
-use Rattle.rht_ghost.proofs.Theory.Wholes.{future_in, Whole, slot-there}
+use Rattle.rht_ghost.proofs.Theory.Ghosts.{Ghost}
+use Rattle.rht_ghost.proofs.Theory.Wholes.{Whole, IsAt, at-on}
 use Rattle.rht_ghost.proofs.Theory.Steps.{mem, by_test}
+use Rattle.rht_ghost.proofs.Pieces.TableLoads.{future_word}
 
 -- a word of a future that names no slot is 0
 pub no_slot : (word : ℕ) → word ≤ 8 → slot_of word ≡ None → word ≡ 0
@@ -47,16 +48,13 @@ nonzero_named word few some =
 -- a table's future is none, or one of the slots
 pub future_few : (env : Env) (mix : ℕ → ℕ → ℕ → ℕ) (words : List ℕ) (G : Ghost) (slot : ℕ)
     → Whole env mix (mem env mix words) G
-    → has_table (G.slot slot) ≡ true → mem env mix words (Slot slot FutureWord) ≤ 8
-future_few env mix words G slot whole table =
-    let τ = index_at G slot in
-    let is = whole.tables.slots slot table in
-    let word = (whole.tables.each τ (slot-there env mix whole.tables slot table)).future_is in
-    let here : mem env mix words (Slot slot FutureWord) ≡ future_in env mix G τ =
-    ap (λ s. mem env mix words (Slot s FutureWord)) (sym is.slot) ∙ word in
+    → IsAt G slot → mem env mix words (Slot slot FutureWord) ≤ 8
+future_few env mix words G slot whole at =
+    let τ = at.table in
+    let here = future_word env mix (mem env mix words) G whole slot at in
     elim (cases_lt (τ + 1) G.attached) [
       | inl more ↦
-          let low = (whole.tables.each (τ + 1) (whole.tables.there (τ + 1) more)).slot_in in
+          let low = (whole.tables.each (τ + 1) (at-on env mix whole.tables slot at (τ + 1) (omega arith) more)).slot_in in
           let next = ap (λ t. cond t (future_of (G.table (τ + 1)).slot) 0) (lt-ltb (τ + 1) G.attached more) in
           omega (arith, here, next, low)
       | inr last ↦

@@ -33,8 +33,8 @@ use Rattle.rht_core.specs.Seen.{IsNoShapeLoad, LastWalked}
 use Rattle.rht_core.specs.Traces.{Did, performed_of, IsRising}
 use Rattle.rht_core.proofs.Tracing.StepsInTraces.{rising-behind, rising_around}
 use Rattle.rht_core.proofs.Reasons.UnboundSeen.{SeesNoFuture, unbound-missed}
-use Rattle.rht_ghost.proofs.Theory.Ghosts.{Ghost, index_at}
-use Rattle.rht_ghost.proofs.Theory.Wholes.{hash_in, Whole, IsThere, slot-there}
+use Rattle.rht_ghost.proofs.Theory.Ghosts.{Ghost}
+use Rattle.rht_ghost.proofs.Theory.Wholes.{hash_in, Whole, IsThere, at-there}
 use Rattle.rht_ghost.proofs.Theory.Passed.{hash-below}
 use Rattle.rht_ghost.proofs.Theory.PlacesRead.{middle_behind, entries_in_words}
 use Rattle.rht_ghost.proofs.Theory.WaysRead.{words_of_pages, nested_placed}
@@ -261,11 +261,12 @@ module _ (env : Env) (words_at : ℕ → List ℕ) where
         → MissesPage g words_at mix port slot shape place.entry did
     misses-page port slot shape place did on now same is none =
         let j = place.entry in
-        let τ = index_at G slot in
+        let at = on.shaped.passing.at in
+        let τ = at.table in
         let number = hash_in env mix G port τ in
-        let is_there = slot-there env mix whole.tables slot on.shaped.passing.table in
+        let is_there = at-there env mix whole.tables slot at in
         let shape_is = on.shaped.shape_is in
-        let number_is = hash_in-words env mix words G whole port slot shape on.shaped.passing.table shape_is in
+        let number_is = hash_in-words env mix words G whole port slot shape at shape_is in
         let ends = way_ends τ number is_there on.to.nested place same on.to.way none in
         record {
           entry_in = (open_on_way env mix M G whole port slot shape place on).within;

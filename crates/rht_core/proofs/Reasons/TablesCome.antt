@@ -133,7 +133,7 @@ module _ (M : Type 0) (mix : ℕ → ℕ → ℕ → ℕ) (env : Env) (events : 
         sym walked.found ∙ load-found (Slot table ShapeWord) at was walked.loaded ∙ stayed.shape in
         let none : word_at g (words_at did.index) (Slot table FutureWord) ≡ 0 =
         sym (ap (old_of (words_at did.index)) attaches.exchanges) ∙ now.found ∙ attaches.found in
-        let stands = last_stands env mix (words_at did.index) here.0.ghost here.0.inv.whole table stayed.has none in
+        let stands = last_stands env mix (words_at did.index) here.0.ghost here.0.inv.whole table stayed.at none in
         let parts = AllByRecursion-cut (IsAdmittedEvent env.config.kind) (take did.index events) (drop did.index events)
         (subst (IsAdmitted env.config.kind) (sym (take-append-drop did.index events)) admitted) in
         subst (λ s. size_of (unpacked s) ≤ 2 ^ 17) (sym read) ((tables M mix env (take did.index events) parts.0).0.each table stands).most

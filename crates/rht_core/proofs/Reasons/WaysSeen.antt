@@ -69,7 +69,7 @@ module _ (env : Env) (words_at : ℕ → List ℕ) (mix : ℕ → ℕ → ℕ �
       let loads : did.op ≡ Load (place_of env.geometry (Slot m.table FutureWord)) =
       plan ∙ ap (λ (h : Geometry). Load (place_of h (Slot m.table FutureWord))) same in
       let word : did.old ≡ mem env mix words (Slot m.table FutureWord) = found ∙ ap (old_of words) loads in
-      let few = future_few env mix words G m.table whole means.shaped.passing.table in
+      let few = future_few env mix words G m.table whole means.shaped.passing.at in
       record {
         none = record {
           word = record { there = (within, tt); loads = loads };

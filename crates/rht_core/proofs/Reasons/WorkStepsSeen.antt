@@ -44,7 +44,7 @@ use Rattle.rht_core.specs.ResizeCauses.{FindsSlotsTaken, AreSlotsTaken, AreRunsT
 use Rattle.rht_core.specs.Seen.{TurnsSection}
 use Rattle.rht_core.specs.WorkCauses.{StoresOther, SawNoTableDue}
 use Rattle.rht_ghost.proofs.Theory.Ghosts.{index_at}
-use Rattle.rht_ghost.proofs.Theory.Wholes.{force-there, current-there}
+use Rattle.rht_ghost.proofs.Theory.Wholes.{force-there, current-there, IsAt, one_table}
 use Rattle.rht_ghost.proofs.Theory.Steps.{mem}
 use Rattle.rht_ghost.proofs.Theory.Knowns.{Onward, Rooted}
 use Rattle.rht_ghost.proofs.Theory.Knowledge.{WorkMeans}
@@ -85,7 +85,7 @@ module _ (env : Env) (mix : ℕ → ℕ → ℕ → ℕ) where
       does.within.seek_in.geometry_same) in
       subst (λ shape. is_nested shape ≡ true → size_of (unpacked shape) ≤ 2 ^ 17) (sym found)
       (nested_size env mix does.caller (mem env mix does.words) does.ghost does.whole slot
-      does.knows.knowing.means.work.more.aim_is.table)
+      does.knows.knowing.means.work.more.aim_is.at)
 
   -- nor is the next one the current one itself
   other_future : (root : ℕ) (due : Due) (did : Did) → Performs mix env (works (at.RootFuture root due)) did
@@ -119,10 +119,12 @@ module _ (env : Env) (mix : ℕ → ℕ → ℕ → ℕ) where
   other_last emptying h slot did does same =
       let G = does.ghost in
       let is = does.knows.knowing.means.work.more in
-      let tables = does.whole.tables in
-      let one = (current-there env mix tables).index in
-      let both : index_at G slot ≡ G.current = ap (index_at G)
-      (sym same ∙ sym is.next.empties.followed.root_is) ∙ one in
+      let root : IsAt G slot = record {
+        table = G.current;
+        attached = does.whole.tables.current_in;
+        slot_is = is.next.empties.followed.root_is ∙ same;
+      } in
+      let both = one_table env mix does.whole.tables slot root is.aim_is.at in
       let later = is.aim_is.later in
       absurd (omega (arith, both, later))
 

@@ -12,7 +12,7 @@ use Rattle.rht_words.proofs.Members.{In-AllByRecursion}
 use Rattle.rht_core.specs.Reach.{ReachesTable, at_table, by_future, ReachesNode, at_node, in_bucket, ReachesListed, at_listed, ComesTo}
 use Rattle.rht_stands.specs.StandsFor.{shape_of, bucket_in}
 use Rattle.rht_ghost.proofs.Theory.Ghosts.{Ghost}
-use Rattle.rht_ghost.proofs.Theory.Wholes.{place_at, Whole}
+use Rattle.rht_ghost.proofs.Theory.Wholes.{place_at, Whole, IsThere}
 use Rattle.rht_ghost.proofs.Theory.Steps.{mem}
 use Rattle.rht_ghost.proofs.Theory.PlacesRead.{placed_in_words}
 
@@ -66,7 +66,7 @@ module _ (env : Env) (mix : ℕ → ℕ → ℕ → ℕ) (words : List ℕ) (G :
     pub slot : ℕ
     pub there : ReachesTable env.geometry words at slot
     pub table : ℕ
-    pub attached : table < G.attached
+    pub is_there : IsThere G table
     pub slot_is : (G.table table).slot ≡ slot
     pub number : ℕ
     pub below : number < size_of (unpacked (G.table table).shape)
@@ -78,12 +78,11 @@ module _ (env : Env) (mix : ℕ → ℕ → ℕ → ℕ) (words : List ℕ) (G :
       → ReachesNode env.geometry words at node
   first_reached j node is leads =
       let τ = is.table in
-      let is_there = whole.tables.there τ is.attached in
-      let right = whole.tables.each τ is_there in
+      let right = whole.tables.each τ is.is_there in
       let shape : shape_of env.geometry words is.slot ≡ (G.table τ).shape =
       ap (shape_of env.geometry words) (sym is.slot_is) ∙ right.shape_is in
       let place : bucket_in env.geometry words (G.table τ).shape is.number ≡ Some (place_at env mix j) =
-      placed_in_words env mix (mem env mix words) G whole τ is.number is_there is.below
+      placed_in_words env mix (mem env mix words) G whole τ is.number is.is_there is.below
       ∙ ap (option_map (place_at env mix)) is.here in
       in_bucket is.slot is.number (place_at env mix j) node is.there
       (subst (λ s. is.number < size_of (unpacked s)) (sym shape) is.below)

@@ -21,9 +21,8 @@ use Rattle.rht_find.specs.declared.find.FindAt.{FindAt}
 use Rattle.rht_find.specs.declared.find.FindAt.TheVariants as at
 use Rattle.rht_core.specs.Reach.{at_table, at_current, by_future, at_node, by_chain, ReachesTable, ReachesNode}
 use Rattle.rht_ghost.proofs.Theory.Ghosts.{Ghost}
-use Rattle.rht_ghost.proofs.Theory.Wholes.{Whole, hash_in, word_index, place_at-index}
+use Rattle.rht_ghost.proofs.Theory.Wholes.{Whole, hash_in, word_index, place_at-index, at-there}
 use Rattle.rht_ghost.proofs.Theory.Passed.{hash-below}
-use Rattle.rht_ghost.proofs.Theory.Ghosts.{index_at}
 use Rattle.rht_ghost.proofs.Theory.Steps.{mem}
 use Rattle.rht_core.proofs.Finding.Places.{Places}
 use Rattle.rht_core.proofs.Finding.Stages.{IsHome}
@@ -71,13 +70,13 @@ module _ (env : Env) (mix : ℕ → ℕ → ℕ → ℕ) (port : ℕ) (seen : �
   bucket_there : (head : Head) → (home_is : IsHome env mix port G head.table (word_index env mix head.place))
       → IsBucketThere env mix words G whole (standing_of_find (at.Heading head)) (word_index env mix head.place)
   bucket_there head home_is =
-      let τ = index_at G head.table in
+      let τ = home_is.of.table in
       record {
         slot = head.table;
         there = at_table head.table (inl refl);
         table = τ;
-        attached = home_is.of.attached;
-        slot_is = (whole.tables.slots head.table home_is.of.table).slot;
+        is_there = at-there env mix whole.tables head.table home_is.of;
+        slot_is = home_is.of.slot_is;
         number = hash_in env mix G port τ;
         below = hash-below env mix (mem env mix words) G whole port τ;
         here = home_is.here;

@@ -35,11 +35,11 @@ use Rattle.rht_chain.specs.declared.probe.Probed.{Probed}
 use Rattle.rht_chain.specs.declared.probe.ProbeAt.{ProbeAt}
 use Rattle.rht_chain.specs.declared.probe.ProbeAt.TheVariants as probes
 use Rattle.rht_core.specs.Reach.{ReachesTable, ReachesNode, by_chain}
-use Rattle.rht_ghost.proofs.Theory.Ghosts.{Ghost, index_at}
+use Rattle.rht_ghost.proofs.Theory.Ghosts.{Ghost}
 use Rattle.rht_ghost.proofs.Theory.Knowledge.{IsAtHome}
 use Rattle.rht_ghost.proofs.Theory.Passed.{hash-below}
 use Rattle.rht_ghost.proofs.Theory.Steps.{mem}
-use Rattle.rht_ghost.proofs.Theory.Wholes.{Whole, hash_in, word_index, place_at-index}
+use Rattle.rht_ghost.proofs.Theory.Wholes.{Whole, hash_in, word_index, place_at-index, at-there}
 use Rattle.rht_ghost.proofs.Pieces.Probes.{place_of_probe}
 use Rattle.rht_core.proofs.Returning.Coming.{Tables, Nodes, to_next, IsBucketThere, first_reached}
 
@@ -87,11 +87,11 @@ module _ (env : Env) (mix : ℕ → ℕ → ℕ → ℕ) (words : List ℕ) (G :
   home_there port slot shape place there is = record {
     slot = slot;
     there = there;
-    table = index_at G slot;
-    attached = (whole.tables.slots slot is.passing.table).attached;
-    slot_is = (whole.tables.slots slot is.passing.table).slot;
-    number = hash_in env mix G port (index_at G slot);
-    below = hash-below env mix (mem env mix words) G whole port (index_at G slot);
+    table = is.passing.at.table;
+    is_there = at-there env mix whole.tables slot is.passing.at;
+    slot_is = is.passing.at.slot_is;
+    number = hash_in env mix G port is.passing.at.table;
+    below = hash-below env mix (mem env mix words) G whole port is.passing.at.table;
     here = is.here;
   }
 

@@ -42,7 +42,7 @@ use Rattle.rht_core.specs.Reach.{ReachesTable, at_table, at_current, by_future, 
 use Rattle.rht_ghost.proofs.Theory.Ghosts.{Ghost}
 use Rattle.rht_ghost.proofs.Theory.Knowledge.{WorkMeans, IsNext}
 use Rattle.rht_ghost.proofs.Theory.Steps.{mem}
-use Rattle.rht_ghost.proofs.Theory.Wholes.{Whole, word_index}
+use Rattle.rht_ghost.proofs.Theory.Wholes.{Whole, word_index, current-there}
 use Rattle.rht_core.proofs.Returning.Coming.{Comes, Tables, Nodes, all_tables, all_nodes, stays, to_nowhere, to_tables, to_nodes, to_next, if_one-all, IsBucketThere}
 use Rattle.rht_core.proofs.Returning.ComingWays.{first_there}
 
@@ -215,7 +215,7 @@ module _ (env : Env) (mix : ℕ → ℕ → ℕ → ℕ) (words : List ℕ) (G :
     slot = emptying.rehash.root;
     there = there;
     table = G.current;
-    attached = whole.tables.current_in;
+    is_there = current-there env mix whole.tables;
     slot_is = next.empties.followed.root_is;
     number = emptying.number;
     below = next.below;

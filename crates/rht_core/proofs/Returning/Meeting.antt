@@ -32,7 +32,7 @@ use Rattle.rht_core.proofs.Events.SoundRuns.{has_place, made_in}
 use Rattle.rht_core.proofs.Events.Worlds.{beginning-some, planned-some}
 use Rattle.rht_core.proofs.Finding.PlacesInRuns.{Placed, EventMakes}
 use Rattle.rht_ghost.proofs.Theory.Ghosts.{Ghost, is_first, is_listed}
-use Rattle.rht_ghost.proofs.Theory.Passed.{TablesGrow}
+use Rattle.rht_ghost.proofs.Theory.Passed.{TablesGrow, at-stays}
 use Rattle.rht_ghost.proofs.Theory.Frames.{GoesBack}
 use Rattle.rht_ghost.proofs.Theory.Steps.{mem, ghost_after}
 use Rattle.rht_core.proofs.Returning.ComingJobs.{job_outside, first_stands}
@@ -50,9 +50,7 @@ stays_met : (env : Env) (mix : ℕ → ℕ → ℕ → ℕ) (G G' : Ghost) (r : 
     → StandsRight G' (meets_too G' r) at
 stays_met env mix G G' r grow at stands = record {
   tables = AllByRecursion-weaker (MeetsTable G r) (MeetsTable G' (meets_too G' r)) (λ slot meets. record {
-    table = meets.table;
-    attached = (let few = meets.attached in omega (arith, few, grow.attached));
-    slot_is = meets.slot_is ∙ sym (grow.tables meets.table meets.attached).slot;
+    at = at-stays env mix G G' grow slot meets.at;
     since = meets.since;
   }) at.tables stands.tables;
   nodes = AllByRecursion-weaker _ _ (λ n met. or_left (r.chains n) (is_open r && is_first (G'.node n)) met) at.nodes stands.nodes;

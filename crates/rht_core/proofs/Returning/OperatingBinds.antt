@@ -49,7 +49,7 @@ module _ (env : Env) (mix : ℕ → ℕ → ℕ → ℕ) (port owner : ℕ) (onc
   entry_page attempt table shape place grow within knows page is =
       let from = standing_of_bind (at.Entering attempt table shape place grow) in
       let on = subst (λ (state : GrowAt). TableMeans env mix G (known_growing port table shape place state)) is knows.knowing.means.table in
-      let entry = way_entry env mix words G whole from _ table place on.shaped.passing.table (at_table table (inl refl)) on.to in
+      let entry = way_entry env mix words G whole from _ table place on.shaped.passing.at (at_table table (inl refl)) on.to in
       let there = entry_in env mix G place.entry entry.open_in.open_is.entry in
       let same : word_index env mix grow.entry ≡ place.entry =
       ap (word_index env mix) (knows.fits ∙ ap (λ g. place_of g (PageWord place.entry)) within.geometry_same)
@@ -74,7 +74,7 @@ module _ (env : Env) (mix : ℕ → ℕ → ℕ → ℕ) (port owner : ℕ) (onc
       let from = standing_of_bind (at.Probing attempt table shape probe) in
       let known = knows.knowing.means.table in
       probe_lies env mix words G _ from (Own (at.Probing attempt table shape probe)) probe within.probe_in refl (λ n i. i)
-      (home_page env mix words G whole from port table _ known.passing.table (at_table table (inl refl)) known.here)
+      (home_page env mix words G whole from port table _ known.passing.at (at_table table (inl refl)) known.here)
   bind_lies (at.FoundOwner claimed found) within knows tied =
       record { address = Node found OwnerWord; there = within.found_in; on = refl; may = inr (refl, inl (inl refl)) }
   bind_lies (at.ListLink list) within knows tied = record {
@@ -113,7 +113,7 @@ module _ (env : Env) (mix : ℕ → ℕ → ℕ → ℕ) (port owner : ℕ) (onc
       let from = standing_of_bind (at.Publish node table relink kick) in
       let known = knows.knowing.means.table in
       relink_lies env mix words G _ from (Own (at.Publish node table relink kick)) relink within.relink_in refl (λ n i. i)
-      (home_page env mix words G whole from port table _ known.passing.table (at_table table (inl refl)) known.here)
+      (home_page env mix words G whole from port table _ known.passing.at (at_table table (inl refl)) known.here)
   bind_lies (at.Unlocking attempt table unlock next) within knows tied =
       let from = standing_of_bind (at.Unlocking attempt table unlock next) in
       unlock_lies env mix words G _ from (Own (at.Unlocking attempt table unlock next)) unlock within.unlock_in refl

@@ -32,12 +32,12 @@ module _ (env : Env) (mix : ℕ → ℕ → ℕ → ℕ) (port : ℕ) (seen : �
   find_lies c low (at.Locating reach) within known =
       let from = standing_of_find (at.Locating reach) in
       reach_lies env mix words G _ from _ reach within refl (inl refl) (λ place is.
-      let way = subst (λ (state : ReachAt). IsReachingHome env mix G port reach.table state) is known.1 in
-      way_entry env mix words G whole from _ reach.table place known.0.0.table (at_table reach.table (inl refl)) way)
+      let way = subst (λ (state : ReachAt). IsReachingHome env mix G port known.0.0.table state) is known.1 in
+      way_entry env mix words G whole from _ reach.table place known.0.0 (at_table reach.table (inl refl)) way)
   find_lies c low (at.Heading head) within known =
       let from = standing_of_find (at.Heading head) in
       page_lies env mix words G _ from _ (plan_at env c (at.Heading head)) head.place within.place_in refl refl
-      (home_page env mix words G whole from port head.table _ known.0.of.table (at_table head.table (inl refl)) known.0.here)
+      (home_page env mix words G whole from port head.table _ known.0.of (at_table head.table (inl refl)) known.0.here)
   find_lies c low (at.Key head node visited) within known =
       record { address = Node node KeyWord; there = within.node_in; on = refl; may = inr (refl, inl (inl refl)) }
   find_lies c low (at.Link head node visited) within known =

@@ -26,12 +26,12 @@ use Rattle.rht_ghost.proofs.Pieces.Locates.{known_locate}
 use Rattle.rht_ghost.proofs.Pieces.Makes.{known_of_make}
 use Rattle.rht_ghost.proofs.Pieces.NewNodes.{known_at}
 use Rattle.rht_ghost.proofs.Pieces.OpenEntries.{way_open}
-use Rattle.rht_ghost.proofs.Theory.Ghosts.{Ghost, NodeHeld, SlotHeld, has_table, index_at, some-same}
+use Rattle.rht_ghost.proofs.Theory.Ghosts.{Ghost, NodeHeld, SlotHeld, some-same}
 use Rattle.rht_ghost.proofs.Theory.Knowledge.{NodeMeans, MakingMeans, IsWayIn, TableMeans}
 use Rattle.rht_ghost.proofs.Theory.Knowns.{KnownNode}
 use Rattle.rht_ghost.proofs.Theory.Passed.{home-word}
 use Rattle.rht_ghost.proofs.Theory.Steps.{mem}
-use Rattle.rht_ghost.proofs.Theory.Wholes.{Whole, home, word_index, slot-there}
+use Rattle.rht_ghost.proofs.Theory.Wholes.{Whole, IsAt, home, word_index, at-there, AreThereFrom}
 use Rattle.rht_core.proofs.Meaning.TablesInForce.{future-leads}
 use Rattle.rht_core.proofs.Returning.TiedBuckets.{IsTied, tied_of_seek}
 use Rattle.rht_core.proofs.Returning.Operating.{PageThere, EntryThere, Lies, locate_lies, probe_lies, unlock_lies}
@@ -68,40 +68,39 @@ module _ (env : Env) (mix : ℕ → ℕ → ℕ → ℕ) (words : List ℕ) (G :
 
     -- ---- buckets and entries of tables that it could reach
 
-    table_of_slot : (slot : ℕ) → has_table (G.slot slot) ≡ true → ReachesTable env.geometry words at slot
-        → ReachesTable env.geometry words at (G.table (index_at G slot)).slot
-    table_of_slot slot has there =
-        subst (ReachesTable env.geometry words at) (sym (whole.tables.slots slot has).slot) there
+    table_of_slot : (slot : ℕ) (of : IsAt G slot) → ReachesTable env.geometry words at slot
+        → ReachesTable env.geometry words at (G.table of.table).slot
+    table_of_slot slot of there = subst (ReachesTable env.geometry words at) (sym of.slot_is) there
 
-    pub home_page : (port slot j : ℕ) → has_table (G.slot slot) ≡ true → ReachesTable env.geometry words at slot
-        → home env mix G port (index_at G slot) ≡ Some j → Page (j / 64)
-    home_page port slot j has there here = record {
-      table = index_at G slot;
-      of = (home-word env mix M G whole port (index_at G slot) j (slot-there env mix whole.tables slot has) here).of;
-      there = table_of_slot slot has there;
+    pub home_page : (port slot j : ℕ) (of : IsAt G slot) → ReachesTable env.geometry words at slot
+        → home env mix G port of.table ≡ Some j → Page (j / 64)
+    home_page port slot j of there here = record {
+      table = of.table;
+      of = (home-word env mix M G whole port of.table j (at-there env mix whole.tables slot of) here).of;
+      there = table_of_slot slot of there;
     }
 
-    pub way_entry : (number slot : ℕ) (place : PlaceModel) → has_table (G.slot slot) ≡ true → ReachesTable env.geometry words at slot
-        → IsWayIn env mix G number (index_at G slot) place → Entry place.entry
-    way_entry number slot place has there to = record {
-      table = index_at G slot;
-      open_in = way_open env mix M G whole (index_at G slot) number (slot-there env mix whole.tables slot has) to.nested place to.way;
-      there = table_of_slot slot has there;
+    pub way_entry : (number slot : ℕ) (place : PlaceModel) (of : IsAt G slot) → ReachesTable env.geometry words at slot
+        → IsWayIn env mix G number of.table place → Entry place.entry
+    way_entry number slot place of there to = record {
+      table = of.table;
+      open_in = way_open env mix M G whole of.table number (at-there env mix whole.tables slot of) to.nested place to.way;
+      there = table_of_slot slot of there;
     }
 
     pub tied_page : (slot place : ℕ) → ReachesTable env.geometry words at slot → IsTied env mix G slot place
         → Page (word_index env mix place / 64)
     tied_page slot place there tied =
-        record { table = index_at G slot; of = tied.of; there = table_of_slot slot tied.table there }
+        record { table = tied.at.table; of = tied.of; there = table_of_slot slot tied.at there }
 
-    -- and the tables behind one
-    pub further : (τ count : ℕ) → τ + count < G.attached → ReachesTable env.geometry words at (G.table τ).slot
+    -- and the tables behind one that is there with these
+    pub further : (τ count : ℕ) → AreThereFrom G τ → τ + count < G.attached → ReachesTable env.geometry words at (G.table τ).slot
         → ReachesTable env.geometry words at (G.table (τ + count)).slot
-    further τ zero few there = subst (λ σ. ReachesTable env.geometry words at (G.table σ).slot) (omega arith) there
-    further τ (suc count) few there =
-        let next = further τ count (omega (arith, few)) there in
+    further τ zero on few there = subst (λ σ. ReachesTable env.geometry words at (G.table σ).slot) (omega arith) there
+    further τ (suc count) on few there =
+        let next = further τ count on (omega (arith, few)) there in
         let more = future-leads env mix words G whole (τ + count) (suc (G.attached - (τ + count + 2))) (omega (arith, few))
-        (λ σ from. whole.tables.there σ) in
+        (λ σ from. on σ (omega (arith, from))) in
         subst (λ σ. ReachesTable env.geometry words at (G.table σ).slot) (omega arith)
         (by_future (G.table (τ + count)).slot (G.table (τ + count + 1)).slot next more)
 
@@ -113,7 +112,7 @@ module _ (env : Env) (mix : ℕ → ℕ → ℕ → ℕ) (words : List ℕ) (G :
     locate_way at m within inside there known =
         locate_lies env mix words G h at Own m within inside there (λ place shape early is.
         let on = subst (λ state. TableMeans env mix G (known_locate port m.table state)) is known in
-        way_entry at _ m.table place on.shaped.passing.table (at_table m.table there) on.to)
+        way_entry at _ m.table place on.shaped.passing.at (at_table m.table there) on.to)
 
     seek_lies_at : (own : Option KnownNode) (state : SeekAt) → IsSeekAtIn env.geometry state → h.section ≡ true → tied_of_seek env mix G state
         → TableMeans env mix G (known_of_seek port own state).table
@@ -124,7 +123,7 @@ module _ (env : Env) (mix : ℕ → ℕ → ℕ → ℕ) (words : List ℕ) (G :
     seek_lies_at own (seeks.Probing table shape probe) within inside tied known =
         let at = standing_of_seek (seeks.Probing table shape probe) in
         probe_lies env mix words G h at Own probe within.probe_in inside (λ n i. i)
-        (home_page at port table _ known.passing.table (at_table table (inl refl)) known.here)
+        (home_page at port table _ known.passing.at (at_table table (inl refl)) known.here)
     seek_lies_at own (seeks.Future table bucket) within inside tied known = record {
       address = Slot table FutureWord;
       there = (within.table_in, tt);

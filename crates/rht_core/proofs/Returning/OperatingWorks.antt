@@ -74,7 +74,8 @@ module _ (env : Env) (mix : ℕ → ℕ → ℕ → ℕ) (words : List ℕ) (G :
     later_there : (τ : ℕ) → G.current < τ → τ < G.attached → ReachesTable env.geometry words from (G.table τ).slot
     later_there τ later few =
         subst (λ σ. ReachesTable env.geometry words from (G.table σ).slot) (omega (arith, later))
-        (further env mix words G whole from G.current (τ - G.current) (omega (arith, later, few)) current_there)
+        (further env mix words G whole from G.current (τ - G.current) (force-there env mix whole.tables)
+        (omega (arith, later, few)) current_there)
 
     -- and the bucket that is emptied
     emptied_page : (rehash : KnownRehash) (at : KnownPlace) → IsNext env mix c G rehash at

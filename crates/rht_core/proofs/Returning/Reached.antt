@@ -1,6 +1,7 @@
 -- What a caller in a read section could reach, by the words, it may still meet.
-use Rattle.std.proofs.Common.{◌≡◌, ℕ, ◌+◌, ◌<◌, ◌≤◌, List, Some, true, false, sym, ◌∙◌, ap, subst, arith, slice_index}
+use Rattle.std.proofs.Common.{◌≡◌, ℕ, ◌+◌, ◌<◌, ◌≤◌, List, Option, Some, None, refl, true, false, sym, ◌∙◌, ap, subst, arith, slice_index}
 use Rattle.std.specs.List.{AllByRecursion}
+use Rattle.std.specs.Option.{is_some}
 use Rattle.std.proofs.lemmas.Bool.{both_ways}
 use Rattle.rht_words.specs.declared.env.Env.{Env}
 use Rattle.rht_words.specs.Links.{head_of, slot_of}
@@ -14,20 +15,18 @@ use Rattle.rht_stands.specs.StandsFor.{shape_of, bucket_in}
 use Rattle.rht_core.specs.TablePages.{IsPageOfTable}
 use Rattle.rht_core.proofs.Counting.TablePages.{pages_in_words}
 use Rattle.rht_ghost.proofs.Theory.Ghosts.{Ghost, NodeHeld, SlotOwner, SlotHeld, PageHeld, PageOwner, PageOf, has_table, is_first, held_not_used, seat-first}
-use Rattle.rht_ghost.proofs.Theory.Wholes.{place_at, Whole}
+use Rattle.rht_ghost.proofs.Theory.Wholes.{place_at, Whole, AreThereFrom, IsAt}
 use Rattle.rht_ghost.proofs.Theory.SeatedLinks.{next_of, link-next_of, head-seated}
 use Rattle.rht_ghost.proofs.Theory.Steps.{mem}
-use Rattle.rht_core.proofs.Meaning.TablesInForce.{current_slot, next_named, AreThereFrom}
+use Rattle.rht_core.proofs.Meaning.TablesInForce.{current_slot, next_named}
 use Rattle.rht_core.proofs.Meaning.BoundPorts.{bucket-within, first_link}
 use Rattle.rht_core.proofs.Returning.Readers.{Reader, IsOpen, ReaderRight}
 
 -- a table that a section may come to: it was attached, and is the one that was current when the section was
 -- opened or a later one
 pub record MeetsTable (G : Ghost) (r : Reader) (slot : ℕ) : Type 0 where
-  pub table : ℕ
-  pub attached : table < G.attached
-  pub slot_is : slot ≡ (G.table table).slot
-  pub since : (τ : ℕ) → r.from ≡ Some τ → τ ≤ table
+  pub at : IsAt G slot
+  pub since : (τ : ℕ) → r.from ≡ Some τ → τ ≤ at.table
 
 -- what is known of where the caller stands
 pub record StandsRight (G : Ghost) (r : Reader) (at : Standing) : Type 0 where
@@ -51,8 +50,12 @@ module _ (env : Env) (mix : ℕ → ℕ → ℕ → ℕ) (words : List ℕ) (G :
     (whole : Whole env mix (mem env mix words) G) (c : ℕ) (r : Reader)
     (right : ReaderRight env mix (mem env mix words) G c r) (reads : IsOpen r) (at : Standing) (stands : StandsRight G r at) where
   -- a table that the section may come to is there, and so are those behind it
-  pub meets-there : (slot : ℕ) (meets : MeetsTable G r slot) → AreThereFrom G meets.table
-  meets-there slot meets σ from = whole.tables.there σ
+  pub meets-there : (slot : ℕ) (meets : MeetsTable G r slot) → AreThereFrom G meets.at.table
+  meets-there slot meets = go r.from refl
+    where
+      go : (from : Option ℕ) → r.from ≡ from → AreThereFrom G meets.at.table
+      go None e = absurd (let both : true ≡ false = sym reads ∙ ap is_some e in cc)
+      go (Some τ) e = λ σ later. right.there τ e σ (let since = meets.since τ e in omega (arith, since, later))
 
   -- where the words of a table lead to a next one, this is the one behind it
   next_table : (slot next : ℕ) → MeetsTable G r slot
@@ -60,12 +63,10 @@ module _ (env : Env) (mix : ℕ → ℕ → ℕ → ℕ) (words : List ℕ) (G :
       → MeetsTable G r next
   next_table slot next meets leads =
       let named =
-      next_named env mix words G whole meets.table next (meets-there slot meets) meets.attached
-      (subst (λ s. slot_of (mem env mix words (Slot s FutureWord)) ≡ Some next) meets.slot_is leads) in
+      next_named env mix words G whole meets.at.table next (meets-there slot meets) meets.at.attached
+      (subst (λ s. slot_of (mem env mix words (Slot s FutureWord)) ≡ Some next) (sym meets.at.slot_is) leads) in
       record {
-        table = meets.table + 1;
-        attached = named.attached;
-        slot_is = sym named.slot_is;
+        at = record { table = meets.at.table + 1; attached = named.attached; slot_is = named.slot_is };
         since = λ τ from. let before = meets.since τ from in omega (arith, before);
       }
 
@@ -73,9 +74,11 @@ module _ (env : Env) (mix : ℕ → ℕ → ℕ → ℕ) (words : List ℕ) (G :
   pub reaches-table : (slot : ℕ) → ReachesTable env.geometry words at slot → MeetsTable G r slot
   reaches-table slot (at_table s there) = AllByRecursion-In (MeetsTable G r) s at.tables stands.tables there
   reaches-table slot (at_current none) = record {
-    table = G.current;
-    attached = whole.tables.current_in;
-    slot_is = current_slot env mix words G whole;
+    at = record {
+      table = G.current;
+      attached = whole.tables.current_in;
+      slot_is = sym (current_slot env mix words G whole);
+    };
     since = right.low;
   }
   reaches-table slot (by_future s next reached leads) = next_table s next (reaches-table s reached) leads
@@ -86,11 +89,11 @@ module _ (env : Env) (mix : ℕ → ℕ → ℕ → ℕ) (words : List ℕ) (G :
       → bucket_in env.geometry words (shape_of env.geometry words slot) bucket ≡ Some place
       → next_of env (head_of place (slice_index words place)) ≡ Some node → is_first (G.node node) ≡ true
   bucket-first slot bucket place node meets below there leads =
-      let is = bucket-within env mix words G whole meets.table bucket place
-      (meets-there slot meets meets.table (omega arith) meets.attached)
-      (subst (λ t. bucket < size_of (unpacked (shape_of env.geometry words t))) meets.slot_is below)
+      let is = bucket-within env mix words G whole meets.at.table bucket place
+      (meets-there slot meets meets.at.table (omega arith) meets.at.attached)
+      (subst (λ t. bucket < size_of (unpacked (shape_of env.geometry words t))) (sym meets.at.slot_is) below)
       (subst (λ t. bucket_in env.geometry words
-      (shape_of env.geometry words t) bucket ≡ Some place) meets.slot_is there) in
+      (shape_of env.geometry words t) bucket ≡ Some place) (sym meets.at.slot_is) there) in
       let j = is.index in
       let first : next_of env (head_of (place_at env mix j) (G.bucket j).plain) ≡ Some node =
       ap (next_of env) (sym (first_link env mix words G whole j is.within is.plain))
@@ -134,17 +137,17 @@ module _ (env : Env) (mix : ℕ → ℕ → ℕ → ℕ) (words : List ℕ) (G :
   pub reaches-slot : (slot : ℕ) → ReachesTable env.geometry words at slot → has_table (G.slot slot) ≡ true
   reaches-slot slot reached =
       let meets = reaches-table slot reached in
-      subst (λ s. has_table (G.slot s) ≡ true) (sym meets.slot_is)
-      (meets-there slot meets meets.table (omega arith) meets.attached).has_slot
+      subst (λ s. has_table (G.slot s) ≡ true) meets.at.slot_is
+      (meets-there slot meets meets.at.table (omega arith) meets.at.attached).has_slot
 
   pub reaches-page : (page : ℕ) → ReachesPage env.geometry words at page
       → (τ : ℕ) × (G.page page ≡ PageOf τ)
   reaches-page page reached =
       let meets = reaches-table reached.slot reached.table in
-      let τ = meets.table in
-      let there = meets-there reached.slot meets τ (omega arith) meets.attached in
+      let τ = meets.at.table in
+      let there = meets-there reached.slot meets τ (omega arith) meets.at.attached in
       let shape : shape_of env.geometry words reached.slot ≡ (G.table τ).shape =
-      ap (shape_of env.geometry words) meets.slot_is ∙ (whole.tables.each τ there).shape_is in (
+      ap (shape_of env.geometry words) (sym meets.at.slot_is) ∙ (whole.tables.each τ there).shape_is in (
         τ,
         (pages_in_words env mix words G whole τ there page).0
             (subst (λ s. IsPageOfTable env.geometry words s page) shape reached.of),

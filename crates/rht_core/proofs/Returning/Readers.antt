@@ -11,7 +11,7 @@ use Rattle.rht_words.proofs.LinksRead.{links_tell_apart}
 use Rattle.rht_words.proofs.Memory.{Memory}
 use Rattle.rht_words.specs.Members.{In}
 use Rattle.rht_ghost.proofs.Theory.Ghosts.{Owner, First, Leaving, Behind, Ghost, is_first, is_listed, first-listed, listed-used, IsUsed, seat_of, not_first-seatless, seat-first}
-use Rattle.rht_ghost.proofs.Theory.Wholes.{chain_of, list_of, key_of, seated_at, Whole}
+use Rattle.rht_ghost.proofs.Theory.Wholes.{chain_of, list_of, key_of, seated_at, Whole, AreThereFrom, force-there}
 use Rattle.rht_ghost.proofs.Theory.SeatedLinks.{next_of, link-next_of, chain-first}
 use Rattle.rht_ghost.proofs.Theory.Frames.{LinksStay}
 use Rattle.rht_ghost.proofs.Pieces.Lists.{list_next, list_among}
@@ -60,6 +60,8 @@ module _ (env : Env) (mix : ℕ → ℕ → ℕ → ℕ) where
     -- a section is open exactly while its word is odd
     pub odd : (M (Section c) % 2 ≡ 1) ↔ IsOpen r
     pub low : (τ : ℕ) → r.from ≡ Some τ → τ ≤ G.current
+    -- the tables that it may come to are there
+    pub there : (τ : ℕ) → r.from ≡ Some τ → AreThereFrom G τ
     -- who doesn't read meets nothing
     pub reading : (n : ℕ) → r.lists n ≡ true → IsOpen r
     -- who reads may meet what is in chains and lists
@@ -74,12 +76,13 @@ module _ (env : Env) (mix : ℕ → ℕ → ℕ → ℕ) where
     pub list_leads : (n m : ℕ) → r.lists n ≡ true → next_of env (list_of M n) ≡ Some m → r.lists m ≡ true
 
   -- What any operation leaves that a section may meet, but those that open and leave sections: whether its
-  -- word is odd; nodes that it may meet are or were ports'; and their links, where they are in no chain and
+  -- word is odd; the tables that it may come to; nodes that it may meet are or were ports'; and their links, where they are in no chain and
   -- in no list, but that one may be led to a node in a chain.
   pub record LeavesStale (M : Memory) (G : Ghost) (M' : Memory) (G' : Ghost) (c : ℕ)
       (r : Reader) : Type 0 where
     pub section : M' (Section c) % 2 ≡ M (Section c) % 2
     pub current : G.current ≤ G'.current
+    pub there : (τ : ℕ) → r.from ≡ Some τ → AreThereFrom G τ → AreThereFrom G' τ
     pub used : (n : ℕ) → r.lists n ≡ true → IsUsed (G.node n) → IsUsed (G'.node n)
     pub chains : LinksStay env mix M G M' G'
     pub lists : (n : ℕ) → n < env.geometry.nodes → IsUsed (G.node n) → is_listed (G'.node n) ≡ false
@@ -220,6 +223,7 @@ module _ (env : Env) (mix : ℕ → ℕ → ℕ → ℕ) where
         (λ is. leaves.section ∙ right.odd.1 is),
       );
       low = λ τ is. let before = right.low τ is in omega (arith, before, leaves.current);
+      there = λ τ is. leaves.there τ is (right.there τ is);
       reading = lists-open;
       firsts = first-met;
       listed = listed-met;
@@ -249,6 +253,7 @@ module _ (env : Env) (mix : ℕ → ℕ → ℕ → ℕ) where
   reader-opens M G c whole is = record {
     odd = ((λ odd. refl), (λ reads. is));
     low = λ τ same. let e : G.current ≡ τ = cc in omega (arith, e);
+    there = λ τ same σ from. let e : G.current ≡ τ = cc in force-there env mix whole.tables σ (omega (arith, e, from));
     reading = λ n met. refl;
     firsts = λ n reads first. first;
     listed = λ n reads listed. listed;
@@ -265,6 +270,7 @@ module _ (env : Env) (mix : ℕ → ℕ → ℕ → ℕ) where
   reader-leaves M G c is = record {
     odd = ((λ odd. absurd (omega (arith, is, odd))), (λ reads. absurd (cc)));
     low = λ τ same. absurd (cc);
+    there = λ τ same. absurd (cc);
     reading = λ n met. absurd (cc);
     firsts = λ n reads first. absurd (cc);
     listed = λ n reads listed. absurd (cc);

@@ -62,12 +62,9 @@ module _ (env : Env) (mix : ℕ → ℕ → ℕ → ℕ) where
   marks_none : (place plain : ℕ) → plain % 2 ≡ 0 → head_of place plain ≡ marker_of place → plain ≡ 0
   marks_none place plain even is = grind (arith, nat_tests, even, is)
 
-  module _ (M : Memory) (G : Ghost) (whole : Whole env mix M G) (τ b j : ℕ) (behind : τ < G.current)
+  module _ (M : Memory) (G : Ghost) (whole : Whole env mix M G) (τ b j : ℕ) (behind : τ < G.current) (is_there : IsThere G τ)
       (below : b < size_of (unpacked (G.table τ).shape)) (here : (G.table τ).place b ≡ Some j) where
-    -- its table is there, and is the bucket's
-    is_there : IsThere G τ
-    is_there = whole.tables.there τ (omega (arith, behind, whole.tables.current_in))
-
+    -- its table is the bucket's
     table : table_at G j ≡ τ
     table = place-table env mix M G whole τ b j is_there below here
 

@@ -17,10 +17,10 @@ use Rattle.rht_core.specs.Standings.{standing}
 use Rattle.rht_core.specs.Traces.{Did}
 use Rattle.rht_core.proofs.Events.Invariants.{StepOf, step_of}
 use Rattle.rht_ghost.proofs.Theory.Frames.{Made, GoesBack}
-use Rattle.rht_ghost.proofs.Theory.Ghosts.{Ghost, Owner, Free, NodeHeld, First, Leaving, Behind, Taken, PageOwner, PageFree, PageHeld, PageOf, SlotOwner, SlotFree, SlotHeld, Live, Retired, IsUsed, is_used, has_table, state_word}
-use Rattle.rht_ghost.proofs.Theory.Passed.{TablesGrow}
+use Rattle.rht_ghost.proofs.Theory.Ghosts.{Ghost, Owner, Free, NodeHeld, First, Leaving, Behind, Taken, PageOwner, PageFree, PageHeld, PageOf, SlotOwner, SlotFree, SlotHeld, Live, Retired, IsUsed, is_used, has_table, state_word, index_at}
+use Rattle.rht_ghost.proofs.Theory.Passed.{TablesGrow, less-grown}
 use Rattle.rht_ghost.proofs.Theory.Steps.{mem, ghost_after}
-use Rattle.rht_ghost.proofs.Theory.Wholes.{Whole}
+use Rattle.rht_ghost.proofs.Theory.Wholes.{Whole, slot-there}
 use Rattle.rht_core.proofs.Returning.GoneBack.{gives_back}
 use Rattle.rht_core.proofs.Returning.MetBySome.{IsApart}
 use Rattle.rht_core.proofs.Returning.MetInRuns.{Met, has_met}
@@ -72,7 +72,11 @@ module _ (env : Env) (mix : ℕ → ℕ → ℕ → ℕ) (c : ℕ) (words : List
   freed_slot s taken frees = go (G.slot s) refl
     where
       still : has_table (G.slot s) ≡ true → ⊥
-      still has = let both : true ≡ false = sym (grow.slots s has) ∙ ap has_table frees in cc
+      still has =
+          let of = whole.tables.slots s has in
+          let there = grow.there (index_at G s) (less-grown env mix of.attached grow.attached) (λ l. slot-there env mix whole.tables s has) in
+          let same : (G'.table (index_at G s)).slot ≡ s = (grow.tables (index_at G s) of.attached).slot ∙ of.slot in
+          let both : true ≡ false = sym there.has_slot ∙ ap (λ t. has_table (G'.slot t)) same ∙ ap has_table frees in cc
 
       go : (o : SlotOwner) → G.slot s ≡ o → (d : ℕ) × (G.slot s ≡ SlotHeld d)
       go SlotFree is = absurd (taken is)
@@ -138,9 +142,9 @@ module _ (env : Env) (mix : ℕ → ℕ → ℕ → ℕ) (words : List ℕ) (G :
   not_free (TableIn slot) free reached =
       let meets = reaches-table env mix words G whole c r right reads at stands slot reached in
       let has = reaches-slot env mix words G whole c r right reads at stands slot reached in
-      let there = meets-there env mix words G whole c r right reads at stands slot meets meets.table (omega arith) meets.attached in
-      let low = (whole.tables.each meets.table there).slot_in in
-      let none = free_state (G.slot slot) (sym (whole.slots.states slot (subst (λ s. s < 8) (sym meets.slot_is) low)) ∙ free) in
+      let there = meets-there env mix words G whole c r right reads at stands slot meets meets.at.table (omega arith) meets.at.attached in
+      let low = (whole.tables.each meets.at.table there).slot_in in
+      let none = free_state (G.slot slot) (sym (whole.slots.states slot (subst (λ s. s < 8) meets.at.slot_is low)) ∙ free) in
       let both : true ≡ false = sym has ∙ ap has_table none in cc
 
 -- ---- runs

@@ -7,6 +7,7 @@ use Rattle.rht_words.specs.Places.{Section}
 use Rattle.rht_words.proofs.Memory.{Memory}
 use Rattle.rht_ghost.proofs.Theory.Ghosts.{Ghost}
 use Rattle.rht_ghost.proofs.Theory.Frames.{Made, GoesBack}
+use Rattle.rht_ghost.proofs.Theory.Passed.{there_from-grows}
 use Rattle.rht_core.proofs.Returning.Readers.{Reader, ReaderRight, LeavesStale, meets_too, reader-stays}
 
 module _ (env : Env) (mix : ℕ → ℕ → ℕ → ℕ) where
@@ -15,16 +16,19 @@ module _ (env : Env) (mix : ℕ → ℕ → ℕ → ℕ) where
   made-leaves : (d c : ℕ) (M M' : Memory) (G G' : Ghost) (r : Reader) → Made env mix d M G M' G'
       → ((n : ℕ) → GoesBack env mix d G G' n → r.lists n ≡ false)
       → M' (Section c) % 2 ≡ M (Section c) % 2 → LeavesStale env mix M G M' G' c r
-  made-leaves d c M M' G G' r made unmet section = record {
-    section = section;
-    current = (made.others (suc d) (λ e. absurd (omega arith))).tables.grow.current;
-    used = λ n met used. elim (made.stale.owners.used n used) [
-      | inl stays ↦ stays
-      | inr back ↦ absurd (both_ways (r.lists n) (unmet n back) met)
-    ];
-    chains = made.stale.chains;
-    lists = made.stale.lists;
-  }
+  made-leaves d c M M' G G' r made unmet section =
+      let grow = (made.others (suc d) (λ e. absurd (omega arith))).tables.grow in
+      record {
+        section = section;
+        current = grow.current;
+        there = λ τ is. there_from-grows env mix G G' grow τ;
+        used = λ n met used. elim (made.stale.owners.used n used) [
+          | inl stays ↦ stays
+          | inr back ↦ absurd (both_ways (r.lists n) (unmet n back) met)
+        ];
+        chains = made.stale.chains;
+        lists = made.stale.lists;
+      }
 
   -- so what is true of what it may meet is true then
   pub made-keeps : (d c : ℕ) (M M' : Memory) (G G' : Ghost) (r : Reader) → Made env mix d M G M' G'

@@ -1,6 +1,6 @@
 -- The bucket that a call has locked is one of the table at which its state stands. Where what is known of the state doesn't say so, it is kept
 -- from the state in which the bucket was come to.
-use Rattle.std.proofs.Common.{◌≡◌, ℕ, ◌/◌, Bool, true, min, nat_le, nat_eq, List, Option, Some, None, refl, sym, subst}
+use Rattle.std.proofs.Common.{◌≡◌, ℕ, ◌/◌, Bool, min, nat_le, nat_eq, List, Option, Some, None, refl, sym, subst}
 use Rattle.std.specs.Prelude.{◌==◌, ◌%◌}
 use Rattle.std.proofs.lemmas.Bool.{cond_both}
 use Rattle.rht_words.specs.declared.env.Env.{Env}
@@ -75,18 +75,18 @@ use Rattle.rht_release.proofs.RebindKnowledge.{known_of_rebind, own}
 use Rattle.rht_release.proofs.ReleaseKnowledge.{known_of_release}
 use Rattle.rht_release.proofs.Seeks.{known_of_seek}
 use Rattle.rht_ghost.proofs.Pieces.Probes.{place_of_probe}
-use Rattle.rht_ghost.proofs.Theory.Ghosts.{Ghost, PageOf, has_table, index_at}
+use Rattle.rht_ghost.proofs.Theory.Ghosts.{Ghost, PageOf}
 use Rattle.rht_ghost.proofs.Theory.Knowledge.{IsAtHome, TableMeans}
 use Rattle.rht_ghost.proofs.Theory.Knowns.{KnownNode}
 use Rattle.rht_ghost.proofs.Theory.Passed.{home-word}
 use Rattle.rht_ghost.proofs.Theory.Steps.{mem}
-use Rattle.rht_ghost.proofs.Theory.Wholes.{Whole, word_index, slot-there}
+use Rattle.rht_ghost.proofs.Theory.Wholes.{Whole, IsAt, word_index, at-there}
 
 module _ (env : Env) (mix : ℕ → ℕ → ℕ → ℕ) (G : Ghost) where
   -- the bucket with this word is in a page of the table in this slot
   pub record IsTied (slot place : ℕ) : Type 0 where
-    pub table : has_table (G.slot slot) ≡ true
-    pub of : G.page (word_index env mix place / 64) ≡ PageOf (index_at G slot)
+    pub at : IsAt G slot
+    pub of : G.page (word_index env mix place / 64) ≡ PageOf at.table
 
   -- ---- by state
 
@@ -232,7 +232,7 @@ module _ (env : Env) (mix : ℕ → ℕ → ℕ → ℕ) (G : Ghost) where
   all-tied seek (Done (Some found)) tied = tied
 
   all_followed-tied : (found : FoundPort) (next : Option ℕ) → tied_at found → tied_of_all (all.list_followed found next)
-  all_followed-tied found None tied = record { table = tied.table; of = tied.of }
+  all_followed-tied found None tied = record { at = tied.at; of = tied.of }
   all_followed-tied found (Some n) tied = tied
 
   release-tied : (seek : SeekModel) (next : Next (Option FoundPort)) → tied_sought (seek.at, next) → tied_of_release (release.sought seek next)
@@ -242,7 +242,7 @@ module _ (env : Env) (mix : ℕ → ℕ → ℕ → ℕ) (G : Ghost) where
 
   release_followed-tied : (found : FoundPort) (node : ℕ) (next : Option ℕ) → tied_at found
       → tied_of_release (release.list_followed found node next)
-  release_followed-tied found node None tied = record { table = tied.table; of = tied.of }
+  release_followed-tied found node None tied = record { at = tied.at; of = tied.of }
   release_followed-tied found node (Some n) tied = tied
 
   release_cut-tied : (g : Geometry) (found : FoundPort) (node link : ℕ) (before : Option ℕ) → tied_at found
@@ -338,14 +338,14 @@ module _ (env : Env) (mix : ℕ → ℕ → ℕ → ℕ) (G : Ghost) where
     future-tied : (claimed : Claimed) (length : ℕ) (future : Option ℕ) → IsTied claimed.table claimed.bucket.place
         → tied_of_bind (bind.future_or_count claimed length future)
     future-tied claimed length None tied =
-        cond_both (nat_le 16 length) _ _ tied_of_bind (λ t. record { table = tied.table; of = tied.of }) (λ f. tt)
-    future-tied claimed length (Some next) tied = record { table = tied.table; of = tied.of }
+        cond_both (nat_le 16 length) _ _ tied_of_bind (λ t. record { at = tied.at; of = tied.of }) (λ f. tt)
+    future-tied claimed length (Some next) tied = record { at = tied.at; of = tied.of }
 
     count-tied : (claimed : Claimed) (count : ℕ) → IsTied claimed.table claimed.bucket.place → tied_of_bind (bind.checked_count env' claimed count)
     count-tied claimed count tied =
-        cond_both (is_above_max (min count 65536) env'.config.max) _ _ tied_of_bind (λ t. record { table = tied.table; of = tied.of })
+        cond_both (is_above_max (min count 65536) env'.config.max) _ _ tied_of_bind (λ t. record { at = tied.at; of = tied.of })
         (λ f. cond_both (is_above_100 (min count 65536) (size_of (unpacked claimed.shape)) env'.config.max) _ _ tied_of_bind
-        (λ t. record { table = tied.table; of = tied.of }) (λ f. tt))
+        (λ t. record { at = tied.at; of = tied.of }) (λ f. tt))
 
     unlocked-tied : (attempt : Attempt) (next : Then Reply) → tied_of_bind (bind.unlocked env' attempt next)
     unlocked-tied attempt (Table table) = tt
@@ -392,8 +392,9 @@ module _ (env : Env) (mix : ℕ → ℕ → ℕ → ℕ) (words : List ℕ) (G :
   -- where a call is at a port's bucket, as it is known
   home_tied : (slot place : ℕ) (shape : Option ℕ) → IsAtHome env mix G port slot shape place → IsTied env mix G slot place
   home_tied slot place shape is = record {
-    table = is.passing.table;
-    of = (home-word env mix (mem env mix words) G whole port (index_at G slot) _ (slot-there env mix whole.tables slot is.passing.table) is.here).of;
+    at = is.passing.at;
+    of = (home-word env mix (mem env mix words) G whole port is.passing.at.table _ (at-there env mix whole.tables slot is.passing.at)
+        is.here).of;
   }
 
   seek_ties_at : (own : Option KnownNode) (state : SeekAt) (word : ℕ) → TableMeans env mix G (known_of_seek port own state).table
@@ -404,7 +405,7 @@ module _ (env : Env) (mix : ℕ → ℕ → ℕ → ℕ) (words : List ℕ) (G :
       probed-tied env mix G table shape (place_of_probe probe.at) probe _ (home_tied table _ (Some shape) known)
       (probe-place env mix G probe probe.at word)
   seek_ties_at own (seeks.Future table bucket) word known =
-      let tied = home_tied table bucket.place None known in record { table = tied.table; of = tied.of }
+      let tied = home_tied table bucket.place None known in record { at = tied.at; of = tied.of }
   seek_ties_at own (seeks.Leaving table unlock future) word known = left-tied env mix G env.geometry table unlock future
 
   seek_ties : (own : Option KnownNode) (m : SeekModel) (word : ℕ) → m.geometry ≡ env.geometry
@@ -434,7 +435,7 @@ module _ (env : Env) (mix : ℕ → ℕ → ℕ → ℕ) (words : List ℕ) (G :
       release_followed-tied env mix G found node (node_of env.geometry.nodes word) tied
   release_ties (releasing.LinkBehind found node before) word within known tied =
       release_cut-tied env mix G env.geometry found node word before tied
-  release_ties (releasing.CuttingOut found node before link) word within known tied = record { table = tied.table; of = tied.of }
+  release_ties (releasing.CuttingOut found node before link) word within known tied = record { at = tied.at; of = tied.of }
   release_ties (releasing.ChainLink found second) word within known tied = release_linked-tied env mix G env.geometry found word second tied
   release_ties (releasing.SecondLink found second link) word within known tied = tied
   release_ties (releasing.Promoting found relink) word within known tied = promoted-tied env mix G found relink relink.at tied
@@ -453,7 +454,7 @@ module _ (env : Env) (mix : ℕ → ℕ → ℕ → ℕ) (words : List ℕ) (G :
       let r = seek_after mix port seek word in
       rebind-tied env mix G node r.0 r.1 (seek_ties (Some (own port owner new node)) seek word within.seek_in.geometry_same known)
   rebind_ties new (rebinding.Owner node found) word within known tied =
-      cond_both (owner_of word == owner) _ _ (tied_of_rebind env mix G) (λ t. tied) (λ f. record { table = tied.table; of = tied.of })
+      cond_both (owner_of word == owner) _ _ (tied_of_rebind env mix G) (λ t. tied) (λ f. record { at = tied.at; of = tied.of })
   rebind_ties new (rebinding.ChainLink node found) word within known tied = tied
   rebind_ties new (rebinding.Link node found link) word within known tied = tied
   rebind_ties new (rebinding.Replacing node found relink) word within known tied = replaced-tied env mix G node found relink relink.at tied
@@ -473,7 +474,7 @@ module _ (env : Env) (mix : ℕ → ℕ → ℕ → ℕ) (words : List ℕ) (G :
   bind_ties once (binding.Probing attempt table shape probe) word known tied =
       let r = probe_after probe word in at_probed-tied env mix G env port env.config.kind attempt table shape r.0 r.1
   bind_ties once (binding.FoundOwner claimed found) word known tied =
-      let home = home_tied claimed.table claimed.bucket.place _ known in record { table = home.table; of = home.of }
+      let home = home_tied claimed.table claimed.bucket.place _ known in record { at = home.at; of = home.of }
   bind_ties once (binding.ListLink list) word known tied = tt
   bind_ties once (binding.ChainLink list) word known tied = tt
   bind_ties once (binding.LinkBehind list link) word known tied = home_tied list.claimed.table list.claimed.bucket.place _ known

@@ -1,5 +1,5 @@
 -- The bucket that a call has locked is one of the table at which it stands: said of jobs. It outlives what others do.
-use Rattle.std.proofs.Common.{◌≡◌, ℕ, ◌/◌, List, length, Option, Some, None, sym, ◌∙◌, ap, subst}
+use Rattle.std.proofs.Common.{◌≡◌, ℕ, ◌/◌, List, length, Option, Some, None, sym, ◌∙◌, subst}
 use Rattle.std.specs.Prelude.{IfSome}
 use Rattle.rht_words.specs.declared.env.Env.{Env}
 use Rattle.rht_words.specs.declared.machine.Next.{Next}
@@ -26,8 +26,8 @@ use Rattle.rht_words.specs.Operations.{old_of}
 use Rattle.rht_walk.specs.Walk as walk
 use Rattle.rht_core.proofs.Returning.TiedWalks.{tied_of_walk, walk-stays, walk_ties}
 use Rattle.rht_core.proofs.Returning.TiedBuckets.{IsTied, tied_of_seek, tied_of_all, tied_of_release, tied_of_rebind, tied_of_bind, all_ties, release_ties, rebind_ties, bind_ties}
-use Rattle.rht_ghost.proofs.Theory.Ghosts.{Ghost, PageOf}
-use Rattle.rht_ghost.proofs.Theory.Passed.{TablesGrow}
+use Rattle.rht_ghost.proofs.Theory.Ghosts.{Ghost}
+use Rattle.rht_ghost.proofs.Theory.Passed.{TablesGrow, at-stays}
 use Rattle.rht_ghost.proofs.Theory.Steps.{mem}
 use Rattle.rht_ghost.proofs.Theory.Wholes.{Whole, word_index}
 
@@ -61,8 +61,8 @@ module _ (env : Env) (mix : ℕ → ℕ → ℕ → ℕ) where
   module _ (G G' : Ghost) (grow : TablesGrow env mix G G') where
     tied-stays : (slot place : ℕ) → IsTied env mix G slot place → IsTied env mix G' slot place
     tied-stays slot place tied = record {
-      table = grow.slots slot tied.table;
-      of = grow.pages (word_index env mix place / 64) _ tied.of ∙ ap PageOf (sym (grow.indices slot tied.table));
+      at = at-stays env mix G G' grow slot tied.at;
+      of = grow.pages (word_index env mix place / 64) _ tied.of;
     }
 
     seek-stays : (state : SeekAt) → tied_of_seek env mix G state → tied_of_seek env mix G' state

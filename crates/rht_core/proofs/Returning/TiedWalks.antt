@@ -1,11 +1,10 @@
 -- The bucket of a walk, and the way to it, are those of the table that it walks, by what its operations found. That outlives whatever leaves
--- tables what they are, since no table is given back.
+-- tables what they are.
 use Rattle.std.proofs.Common.{◌≡◌, ℕ, ◌+◌, ◌<◌, nat_lt, nat_le, List, Option, Some, None, refl, sym, ◌∙◌, ap, subst, inl, arith}
 use Rattle.std.specs.Prelude.{◌==◌}
 use Rattle.std.proofs.lemmas.Bool.{cond_both, and_parts, ltb-true}
 use Rattle.rht_words.specs.declared.env.Env.{Env}
 use Rattle.rht_words.specs.declared.geometry.Geometry.{Geometry}
-use Rattle.rht_words.specs.declared.machine.Next.TheVariants.{Done}
 use Rattle.rht_words.specs.declared.machine.Start.{Start}
 use Rattle.rht_words.specs.declared.machine.Start.TheVariants as starts
 use Rattle.rht_words.specs.declared.op.Op.TheVariants.{Load}
@@ -25,36 +24,35 @@ use Rattle.rht_walk.specs.declared.walk.WalkAt.{WalkAt}
 use Rattle.rht_walk.specs.declared.walk.WalkAt.TheVariants as at
 use Rattle.rht_walk.proofs.WalkStays.{some_buckets}
 use Rattle.rht_ghost.proofs.Pieces.TableLoads.{shape_word}
-use Rattle.rht_ghost.proofs.Theory.Ghosts.{Ghost, index_at}
+use Rattle.rht_ghost.proofs.Theory.Ghosts.{Ghost}
 use Rattle.rht_ghost.proofs.Theory.Knowledge.{IsWayIn}
-use Rattle.rht_ghost.proofs.Theory.Passed.{TablesGrow}
+use Rattle.rht_ghost.proofs.Theory.Passed.{TablesGrow, at-stays}
 use Rattle.rht_ghost.proofs.Theory.Steps.{mem}
 use Rattle.rht_ghost.proofs.Theory.WaysRead.{words_of_pages, read_by_entry, flat_read, way_read, way_next, place_of_bucket}
 use Rattle.rht_ghost.proofs.Theory.WaysStay.{IsWayIn-stay}
-use Rattle.rht_ghost.proofs.Theory.Wholes.{Whole, word_index, IsThere, current-there, slot-there}
-use Rattle.rht_core.proofs.Finding.Stages.{IsAttached}
+use Rattle.rht_ghost.proofs.Theory.Wholes.{Whole, word_index, IsThere, IsAt, current-there, at-there}
 
 module _ (env : Env) (mix : ℕ → ℕ → ℕ → ℕ) (G : Ghost) where
   -- the bucket is in a table that was attached, of this shape
   pub record IsWalked (visit : Visit) : Type 0 where
-    pub of : IsAttached G visit.table
-    pub shape_is : (G.table (index_at G visit.table)).shape ≡ visit.shape
+    pub of : IsAt G visit.table
+    pub shape_is : (G.table of.table).shape ≡ visit.shape
 
   -- the entry is on the way to it
   pub record IsOnWayTo (visit : Visit) (way : PlaceModel) : Type 0 where
     pub walked : IsWalked visit
-    pub to : IsWayIn env mix G visit.bucket (index_at G visit.table) way
+    pub to : IsWayIn env mix G visit.bucket walked.of.table way
 
   -- and its word is here
   pub record IsAtBucket (visit : Visit) (place : ℕ) : Type 0 where
     pub walked : IsWalked visit
-    pub here : (G.table (index_at G visit.table)).place visit.bucket ≡ Some (word_index env mix place)
+    pub here : (G.table walked.of.table).place visit.bucket ≡ Some (word_index env mix place)
 
   abbrev pub tied_of_walk : WalkAt → Type 0
   tied_of_walk at.Opening = Unit {0}
   tied_of_walk at.CurrentTable = Unit {0}
-  tied_of_walk (at.Serial table) = IsAttached G table
-  tied_of_walk (at.Shape table serial) = IsAttached G table
+  tied_of_walk (at.Serial table) = IsAt G table
+  tied_of_walk (at.Shape table serial) = IsAt G table
   tied_of_walk (at.Entry visit way) = IsOnWayTo visit way
   tied_of_walk (at.Heading visit place) = IsAtBucket visit place
   tied_of_walk (at.Key chain node) = IsWalked chain.visit
@@ -67,45 +65,29 @@ module _ (env : Env) (mix : ℕ → ℕ → ℕ → ℕ) (G : Ghost) where
 -- ---- it outlives whatever leaves tables what they are
 
 module _ (env : Env) (mix : ℕ → ℕ → ℕ → ℕ) (G G' : Ghost) (grow : TablesGrow env mix G G') where
-  attached-stays : (slot : ℕ) → IsAttached G slot → IsAttached G' slot
-  attached-stays slot of = record {
-    table = grow.slots slot of.table;
-    attached =
-        let same = grow.indices slot of.table in
-        let more = grow.attached in
-        let was = of.attached in omega (arith, same, more, was);
-  }
-
-  walked-stays : (visit : Visit) → IsWalked env mix G visit → IsWalked env mix G' visit
+  abbrev walked-stays : (visit : Visit) → IsWalked env mix G visit → IsWalked env mix G' visit
   walked-stays visit is = record {
-    of = attached-stays visit.table is.of;
-    shape_is =
-        ap (λ τ. (G'.table τ).shape) (grow.indices visit.table is.of.table)
-        ∙ (grow.tables (index_at G visit.table) is.of.attached).shape
-        ∙ is.shape_is;
+    of = at-stays env mix G G' grow visit.table is.of;
+    shape_is = (grow.tables is.of.table is.of.attached).shape ∙ is.shape_is;
   }
 
   way-stays : (visit : Visit) (way : PlaceModel) → IsOnWayTo env mix G visit way → IsOnWayTo env mix G' visit way
   way-stays visit way is = record {
     walked = walked-stays visit is.walked;
-    to =
-        subst (λ τ. IsWayIn env mix G' visit.bucket τ way) (sym (grow.indices visit.table is.walked.of.table))
-        (IsWayIn-stay env mix G G' grow visit.bucket (index_at G visit.table) way is.walked.of.attached is.to);
+    to = IsWayIn-stay env mix G G' grow visit.bucket is.walked.of.table way is.walked.of.attached is.to;
   }
 
   bucket-stays : (visit : Visit) (place : ℕ) → IsAtBucket env mix G visit place → IsAtBucket env mix G' visit place
   bucket-stays visit place is = record {
     walked = walked-stays visit is.walked;
-    here =
-        ap (λ τ. (G'.table τ).place visit.bucket) (grow.indices visit.table is.walked.of.table)
-        ∙ (grow.tables (index_at G visit.table) is.walked.of.attached).places visit.bucket (word_index env mix place) is.here;
+    here = (grow.tables is.walked.of.table is.walked.of.attached).places visit.bucket (word_index env mix place) is.here;
   }
 
   pub walk-stays : (state : WalkAt) → tied_of_walk env mix G state → tied_of_walk env mix G' state
   walk-stays at.Opening tied = tt
   walk-stays at.CurrentTable tied = tt
-  walk-stays (at.Serial table) tied = attached-stays table tied
-  walk-stays (at.Shape table serial) tied = attached-stays table tied
+  walk-stays (at.Serial table) tied = at-stays env mix G G' grow table tied
+  walk-stays (at.Shape table serial) tied = at-stays env mix G G' grow table tied
   walk-stays (at.Entry visit way) tied = way-stays visit way tied
   walk-stays (at.Heading visit place) tied = bucket-stays visit place tied
   walk-stays (at.Key chain node) tied = walked-stays chain.visit tied
@@ -125,25 +107,24 @@ module _ (env : Env) (mix : ℕ → ℕ → ℕ → ℕ) (words : List ℕ) (G :
   Tied = tied_of_walk env mix G
 
   -- the number of the bucket is one of the table's
-  pub number_below : (visit : Visit) → IsVisitIn visit → IsWalked env mix G visit
-      → visit.bucket < size_of (unpacked (G.table (index_at G visit.table)).shape)
+  pub number_below : (visit : Visit) → IsVisitIn visit → (is : IsWalked env mix G visit)
+      → visit.bucket < size_of (unpacked (G.table is.of.table).shape)
   number_below visit within is = subst (λ s. visit.bucket < size_of (unpacked s)) (sym is.shape_is) within.bucket_in
 
-  current_attached : IsAttached G (table_of (M CurrentTable))
+  current_attached : IsAt G (table_of (M CurrentTable))
   current_attached =
-      let there = current-there env mix whole.tables in
-      let right = whole.tables.each G.current there in
-      let is : table_of (M CurrentTable) ≡ (G.table G.current).slot =
-      (let word = whole.tables.current_is in omega (arith, right.slot_in, word)) in
-      subst (IsAttached G) (sym is) (record {
-        table = there.has_slot;
-        attached = (whole.tables.slots (G.table G.current).slot there.has_slot).attached;
-      })
+      let right = whole.tables.each G.current (current-there env mix whole.tables) in
+      record {
+        table = G.current;
+        attached = whole.tables.current_in;
+        slot_is = let word = whole.tables.current_is in omega (arith, right.slot_in, word);
+      }
 
   module _ (from : Option Cursor) (limit shown : ℕ) where
     visiting-tied : (visit : Visit) → IsVisitIn visit → IsWalked env mix G visit → Tied (visiting env.geometry visit)
     visiting-tied visit within is =
-        let τ = index_at G visit.table in
+        let τ = is.of.table in
+        let is_there = at-there env mix whole.tables visit.table is.of in
         let number = visit.bucket in
         cond_both (is_nested visit.shape) _ _ Tied
         (λ nested. record {
@@ -155,15 +136,15 @@ module _ (env : Env) (mix : ℕ → ℕ → ℕ → ℕ) (words : List ℕ) (G :
         })
         (λ flat.
         let below = number_below visit within is in
-        let there = flat_read env mix M G whole τ number (slot-there env mix whole.tables visit.table is.of.table) below (ap is_nested is.shape_is ∙ flat)
+        let there = flat_read env mix M G whole τ number is_there below (ap is_nested is.shape_is ∙ flat)
         ∙ ap (λ s. Some (flat_place env.geometry s number)) is.shape_is in
         record {
           walked = is;
-          here = (place_of_bucket env mix M G whole τ number (slot-there env mix whole.tables visit.table is.of.table) below (flat_place env.geometry visit.shape number) there).here;
+          here = (place_of_bucket env mix M G whole τ number is_there below (flat_place env.geometry visit.shape number) there).here;
         })
 
-    begun-tied : (start : Option Cursor) (table serial shape : ℕ) → table < 8 → IsAttached G table
-        → (G.table (index_at G table)).shape ≡ shape → Tied (begun env.geometry start table serial shape)
+    begun-tied : (start : Option Cursor) (table serial shape : ℕ) → table < 8 → (of : IsAt G table)
+        → (G.table of.table).shape ≡ shape → Tied (begun env.geometry start table serial shape)
     begun-tied None table serial shape low of is =
         visiting-tied _ (record { table_in = low; bucket_in = some_buckets shape }) (record { of = of; shape_is = is })
     begun-tied (Some cursor) table serial shape low of is =
@@ -208,13 +189,13 @@ module _ (env : Env) (mix : ℕ → ℕ → ℕ → ℕ) (words : List ℕ) (G :
     module _ (visit : Visit) (way : PlaceModel) (within : IsVisitIn visit) (same : way.geometry ≡ env.geometry)
         (is : IsOnWayTo env mix G visit way) where
       abbrev τ : ℕ
-      τ = index_at G visit.table
+      τ = is.walked.of.table
 
       below : visit.bucket < size_of (unpacked (G.table τ).shape)
       below = number_below visit within is.walked
 
       is_there : IsThere G τ
-      is_there = slot-there env mix whole.tables visit.table is.walked.of.table
+      is_there = at-there env mix whole.tables visit.table is.walked.of
 
       abbrev led_by : Option ℕ
       led_by = page_of env.geometry.pages (M (PageWord way.entry))
@@ -249,7 +230,7 @@ module _ (env : Env) (mix : ℕ → ℕ → ℕ → ℕ) (words : List ℕ) (G :
     walk_ties c at.CurrentTable within tied = current_attached
     walk_ties c (at.Serial table) within tied = tied
     walk_ties c (at.Shape table serial) within tied =
-        begun-tied from table serial _ within tied (sym (shape_word env mix M G whole table tied.table))
+        begun-tied from table serial _ within tied (sym (shape_word env mix M G whole table tied))
     walk_ties c (at.Entry visit way) within tied =
         let led = ap (λ (g : Geometry). page_of g.pages (old_of words (Load (place_of g (PageWord way.entry))))) within.way_in.geometry_same in
         entry-tied visit way within.visit_in within.way_in.geometry_same tied (page_of way.geometry.pages (old_of words (place_plan way))) (sym led)

@@ -24,10 +24,10 @@ use Rattle.rht_walk.specs.declared.walk.WalkEnd.TheVariants as ends
 use Rattle.rht_walk.specs.declared.walk.WalkAt.{WalkAt}
 use Rattle.rht_walk.specs.declared.walk.WalkAt.TheVariants as at
 use Rattle.rht_core.specs.Reach.{at_table, at_current, at_node, by_chain, ReachesTable, ReachesNode}
-use Rattle.rht_ghost.proofs.Theory.Ghosts.{Ghost, index_at}
+use Rattle.rht_ghost.proofs.Theory.Ghosts.{Ghost}
 use Rattle.rht_ghost.proofs.Theory.Passed.{place-word}
 use Rattle.rht_ghost.proofs.Theory.Steps.{mem}
-use Rattle.rht_ghost.proofs.Theory.Wholes.{Whole, word_index, place_at-index, slot-there}
+use Rattle.rht_ghost.proofs.Theory.Wholes.{Whole, word_index, place_at-index, at-there}
 use Rattle.rht_core.proofs.Returning.Coming.{Comes, to_nowhere, to_tables, to_nodes, IsBucketThere, first_reached}
 use Rattle.rht_core.proofs.Returning.Operating.{Lies, page_lies, entry_lies}
 use Rattle.rht_core.proofs.Returning.OperatingWays.{way_entry}
@@ -89,9 +89,9 @@ module _ (env : Env) (mix : ℕ → ℕ → ℕ → ℕ) (words : List ℕ) (G :
   bucket_there visit place within tied = record {
     slot = visit.table;
     there = at_table visit.table (inl refl);
-    table = index_at G visit.table;
-    attached = tied.walked.of.attached;
-    slot_is = (whole.tables.slots visit.table tied.walked.of.table).slot;
+    table = tied.walked.of.table;
+    is_there = at-there env mix whole.tables visit.table tied.walked.of;
+    slot_is = tied.walked.of.slot_is;
     number = visit.bucket;
     below = number_below env mix words G whole visit within.visit_in tied.walked;
     here = tied.here;
@@ -149,18 +149,19 @@ module _ (env : Env) (mix : ℕ → ℕ → ℕ → ℕ) (words : List ℕ) (G :
       record { address = Slot table ShapeWord; there = (within, tt); on = refl; may = λ w. inr (refl, inl refl) }
   walk_lies room c low (at.Entry visit way) within tied =
       entry_lies env mix words G _ _ _ way within.way_in refl
-      (way_entry env mix words G whole (standing_of_walk (at.Entry visit way)) visit.bucket visit.table way tied.walked.of.table
+      (way_entry env mix words G whole (standing_of_walk (at.Entry visit way)) visit.bucket visit.table way tied.walked.of
       (at_table visit.table (inl refl)) tied.to)
   walk_lies room c low (at.Heading visit place) within tied =
-      let τ = index_at G visit.table in
+      let τ = tied.walked.of.table in
       page_lies env mix words G _ _ _ (plan_at env.geometry c (at.Heading visit place)) place within.place_in refl refl (record {
         table = τ;
         of =
-            (place-word env mix (mem env mix words) G whole τ visit.bucket (word_index env mix place) (slot-there env mix whole.tables visit.table tied.walked.of.table)
+            (place-word env mix (mem env mix words) G whole τ visit.bucket (word_index env mix place)
+            (at-there env mix whole.tables visit.table tied.walked.of)
             (number_below env mix words G whole visit within.visit_in tied.walked) tied.here).of;
         there =
             subst (ReachesTable env.geometry words (standing_of_walk (at.Heading visit place)))
-            (sym (whole.tables.slots visit.table tied.walked.of.table).slot) (at_table visit.table (inl refl));
+            (sym tied.walked.of.slot_is) (at_table visit.table (inl refl));
       })
   walk_lies room c low (at.Key chain node) within tied =
       record { address = Node node KeyWord; there = within.node_in; on = refl; may = inr (refl, inl (inl refl)) }

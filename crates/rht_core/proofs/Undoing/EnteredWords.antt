@@ -11,8 +11,8 @@ use Rattle.rht_nest.specs.Tables.{is_nested}
 use Rattle.rht_core.specs.Traces.{Did}
 use Rattle.rht_core.specs.Seen.{CameTo}
 use Rattle.rht_core.specs.Refused.{IsMissingEntry, IsWaysEnd}
-use Rattle.rht_ghost.proofs.Theory.Ghosts.{PageOf, has_entries, Ghost, has_table, index_at, is_entry, is_entry_of, entry_word, table_of_page, table_at}
-use Rattle.rht_ghost.proofs.Theory.Wholes.{IsNested, Whole, slot-there, IsThere}
+use Rattle.rht_ghost.proofs.Theory.Ghosts.{PageOf, has_entries, Ghost, is_entry, is_entry_of, entry_word, table_of_page, table_at}
+use Rattle.rht_ghost.proofs.Theory.Wholes.{IsNested, Whole, IsThere, IsAt, at-there}
 use Rattle.rht_ghost.proofs.Theory.Entries.{page_within, entry_in, entry_nested}
 use Rattle.rht_ghost.proofs.Theory.MissingEntries.{missed_at, ends_at_entry}
 use Rattle.rht_ghost.proofs.Theory.Readiness.{IsEntering}
@@ -60,16 +60,15 @@ module _ (env : Env) (mix : ℕ → ℕ → ℕ → ℕ) where
 
   -- an entry of a table that was attached at which a way ends is none of a bucket's words
   pub missing_is_entry : (words : List ℕ) (G : Ghost) → Whole env mix (mem env mix words) G → (j slot : ℕ)
-      → IsWaysEnd env.geometry words slot j → has_table (G.slot slot) ≡ true → is_entry G j ≡ true
-  missing_is_entry words G whole j slot way has =
+      → IsWaysEnd env.geometry words slot j → IsAt G slot → is_entry G j ≡ true
+  missing_is_entry words G whole j slot way at_slot =
       let M = mem env mix words in
-      let of = whole.tables.slots slot has in
-      let τ = index_at G slot in
+      let τ = at_slot.table in
       let table = G.table τ in
-      let there = slot-there env mix whole.tables slot has in
+      let there = at-there env mix whole.tables slot at_slot in
       let right = whole.tables.each τ there in
       let shape : M (Slot slot ShapeWord) ≡ table.shape =
-      ap (λ s. M (Slot s ShapeWord)) (sym of.slot) ∙ right.shape_is in
+      ap (λ s. M (Slot s ShapeWord)) (sym at_slot.slot_is) ∙ right.shape_is in
       elim right.placed [
         | inl flat ↦
             let is : is_nested table.shape ≡ true = sym (ap is_nested shape) ∙ way.nested in

@@ -22,7 +22,7 @@ use Rattle.rht_bind.specs.declared.bind.BindAt.TheVariants as binding
 use Rattle.rht_core.specs.Jobs.{Job, binds, works, job_plan, held_of}
 use Rattle.rht_core.specs.Traces.{Did}
 use Rattle.rht_core.specs.Seen.{CameTo}
-use Rattle.rht_ghost.proofs.Theory.Ghosts.{Ghost, index_at, table_at}
+use Rattle.rht_ghost.proofs.Theory.Ghosts.{Ghost, table_at}
 use Rattle.rht_ghost.proofs.Theory.Wholes.{Whole}
 use Rattle.rht_ghost.proofs.Theory.Knowledge.{TableMeans}
 use Rattle.rht_ghost.proofs.Pieces.OpenEntries.{known_growing, open_in_table}
@@ -75,10 +75,10 @@ module _ (env : Env) (mix : ℕ → ℕ → ℕ → ℕ) (c : ℕ) (M : Memory) 
         let at_place : place_of g (PageWord place.entry) ≡ place_of g (PageWord entry) =
         sym (there ∙ ap (λ h. place_of h (PageWord place.entry)) same) ∙ on_place in
         let same_entry : place.entry ≡ entry = omega (arith, at_place) in
-        let table_is : table_at G entry ≡ index_at G table =
+        let at = means.shaped.passing.at in
+        let table_is : table_at G entry ≡ at.table =
         ap (table_at G) (sym same_entry) ∙ (open_in_table env mix M G whole port table shape place means).table in
-        let of = whole.tables.slots table means.shaped.passing.table in
-        subst (λ slot. CameTo g slot steps) (sym (ap (λ τ. (G.table τ).slot) table_is ∙ of.slot)) came
+        subst (λ slot. CameTo g slot steps) (sym (ap (λ τ. (G.table τ).slot) table_is ∙ at.slot_is)) came
     grow-came port table shape place grow (grows.Giving other give) same there means is came =
         absurd (let both = sym is ∙ exchanges in cc)
 

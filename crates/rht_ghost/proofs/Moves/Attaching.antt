@@ -93,6 +93,17 @@ module _ (env : Env) (mix : ℕ → ℕ → ℕ → ℕ) where
     page_before p σ k = put_in-all (λ q o. o ≡ PageOf σ → G.page q ≡ PageOf σ) (is_page_for shape) (PageOf G.attached)
         G.page (λ q there is. let same : G.attached ≡ σ = cc in absurd (omega (arith, same, k))) (λ q there is. is) p
 
+    same_new : tables G.attached ≡ new
+    same_new = put-same G.table G.attached new
+
+    live : slots slot ≡ Live G.attached
+    live = put-same G.slot slot (Live G.attached)
+
+    -- the new one is in its slot
+    new_live : (σ : ℕ) → σ ≡ G.attached → slots (tables σ).slot ≡ Live σ
+    new_live σ e =
+        ap (λ i. slots (tables i).slot) e ∙ ap (λ (t : Table). slots t.slot) same_new ∙ live ∙ ap Live (sym e)
+
     pub attached_kept : TablesKept env mix G tables (G.attached + 1) slots page
     attached_kept = same_kept env mix G tables (G.attached + 1) slots page table_same (omega arith)
         (λ s has. put-other G.slot slot (Live G.attached) s (no_table s has))
@@ -100,6 +111,7 @@ module _ (env : Env) (mix : ℕ → ℕ → ℕ → ℕ) where
         (λ has k. let less : G.attached < G.attached = k in absurd (omega (arith, less))) (λ t ne has k. refl))
         (λ p σ. put_in-all (λ q o. G.page q ≡ PageOf σ → o ≡ PageOf σ) (is_page_for shape) (PageOf G.attached) G.page
         (λ q there is. let z : PageHeld d ≡ PageOf σ = sym (mine q there) ∙ is in absurd (cc)) (λ q there is. is) p)
+        (λ σ from k. live-there env mix G' σ (new_live σ (omega (arith, from, k))))
 
     -- ---- the tables
 
@@ -145,12 +157,6 @@ module _ (env : Env) (mix : ℕ → ℕ → ℕ → ℕ) where
         (future_of slot) write (slot_word-apart G last FutureWord) σ is_there (table_same σ k) (λ p. page_before p σ k))
 
     -- the new one
-    same_new : tables G.attached ≡ new
-    same_new = put-same G.table G.attached new
-
-    live : slots slot ≡ Live G.attached
-    live = put-same G.slot slot (Live G.attached)
-
     own_word : (w : SlotWord) → IsSlotWord w → M' (Slot slot w) ≡ M (Slot slot w)
     own_word w is = other_word slot w ready.made.has.within is
         (λ e. let same : last ≡ slot = cc in no_table last there.has_slot same)
@@ -221,10 +227,6 @@ module _ (env : Env) (mix : ℕ → ℕ → ℕ → ℕ) where
           (le-ltb (G.attached + 1) (G.attached + 1) (omega arith)));
       placed = subst (λ t. PlacedRight env mix t page G.attached) (sym same_new) new_placed;
     }
-
-    new_live : (σ : ℕ) → σ ≡ G.attached → slots (tables σ).slot ≡ Live σ
-    new_live σ e =
-        ap (λ i. slots (tables i).slot) e ∙ ap (λ (t : Table). slots t.slot) same_new ∙ live ∙ ap Live (sym e)
 
     slot_is : (s : ℕ) → has_table (slots s) ≡ true → SlotIsOf env mix G' s
     slot_is s has = elim (cases_eq s slot) [

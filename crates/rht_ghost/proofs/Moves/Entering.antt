@@ -15,7 +15,7 @@ use Rattle.rht_ghost.proofs.Theory.EnteredPages.{entry-here, entry-inside, entry
 use Rattle.rht_ghost.proofs.Theory.Passed.{TableStays, same-TableStays}
 use Rattle.rht_ghost.proofs.Theory.Readiness.{entered, IsEntering}
 use Rattle.rht_ghost.proofs.Theory.Frames.{Others, Made, stale_write, same_owners}
-use Rattle.rht_ghost.proofs.Theory.TableFrames.{TablesKept, there_kept, IsNoBucketWord, no_table-no_bucket, Whole-retabled, Rely-retabled, TableRight-kept, placed_kept}
+use Rattle.rht_ghost.proofs.Theory.TableFrames.{TablesKept, none_fresh, there_kept, IsNoBucketWord, no_table-no_bucket, Whole-retabled, Rely-retabled, TableRight-kept, placed_kept}
 
 -- an entry whose word is 0 leads to no page
 no_page : (entry : Option ℕ) → entry_word entry ≡ 0 → entry ≡ None
@@ -117,6 +117,7 @@ module _ (env : Env) (mix : ℕ → ℕ → ℕ → ℕ) where
       slots = λ s has. refl;
       back = λ s has l. refl;
       pages = page_stays;
+      fresh = none_fresh env mix G _;
     }
 
     -- what is behind an entry is so still

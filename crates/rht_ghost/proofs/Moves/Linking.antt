@@ -11,9 +11,9 @@ use Rattle.rht_words.proofs.Memory.{Memory, IsWrite}
 use Rattle.rht_words.specs.Members.{In, NotIn}
 use Rattle.rht_words.proofs.Members.{not_in_from, count_below-more}
 use Rattle.rht_words.proofs.ChainLemmas.{IsSegment-members}
-use Rattle.rht_ghost.proofs.Theory.Ghosts.{put, put-same, put-other, put-all, Free, NodeHeld, First, Leaving, Behind, Ghost, is_first, is_used, is_taken_by, IsUsed, seat_of, seat_in, seat, seat-used, listed-used, held_not_used, held_by_one, none-some, some-same, table_at, is_entry}
-use Rattle.rht_ghost.proofs.Theory.Wholes.{chain_of, list_of, key_of, place_at, home, stop, IsNoBucket, BucketRight, ArmedRight, IsHomeOf, IsFirstAt, IsBehindIn, IsBoundTo, Owned, ArenaRight, IsBuilt, Whole, none_out, out-seated, firsts, raisers}
-use Rattle.rht_ghost.proofs.Theory.Passed.{home-within, home-table, held-bucket, PassesStay, IsArmedFor, held-no_entry}
+use Rattle.rht_ghost.proofs.Theory.Ghosts.{put, put-same, put-other, put-all, Free, NodeHeld, First, Leaving, Behind, Ghost, is_first, is_used, is_taken_by, IsUsed, seat_of, seat_in, seat, seat-used, listed-used, held_not_used, held_by_one, none-some, some-same, table_at, is_entry, table_of_page}
+use Rattle.rht_ghost.proofs.Theory.Wholes.{chain_of, list_of, key_of, place_at, home, stop, IsNoBucket, BucketRight, ArmedRight, IsHomeOf, IsFirstAt, IsBehindIn, IsBoundTo, Owned, ArenaRight, IsBuilt, Whole, none_out, out-seated, firsts, raisers, force-there}
+use Rattle.rht_ghost.proofs.Theory.Passed.{home-within, held-bucket, PassesStay, IsArmedFor, held-no_entry}
 use Rattle.rht_ghost.proofs.Theory.Knowledge.{ArmedFor, IsEmptied}
 use Rattle.rht_ghost.proofs.Theory.Reliance.{bound_used}
 use Rattle.rht_ghost.proofs.Theory.Readiness.{linked_bucket, linked, IsReady}
@@ -34,16 +34,19 @@ module _ (env : Env) (mix : ℕ → ℕ → ℕ → ℕ) where
     same = same_tables env mix G (put G.bucket here (linked_bucket (G.bucket here) n))
         (put G.node n (First here)) (put G.bound port (n ∷ [])) (put G.raised d false)
 
-    within : here < 64 * env.geometry.pages
-    within = home-within env mix M G whole port ready.table here
-        (whole.tables.there ready.table ready.armed.passed.attached) ready.armed.here
-
     -- the bucket is one of a table in force, to which the port belongs
+    table : table_at G here ≡ ready.table
+    table = ap table_of_page ready.armed.of
+
+    within : here < 64 * env.geometry.pages
+    within =
+        let right = whole.moving.armed here d ready.armed.armed in
+        home-within env mix M G whole port ready.table here
+        (force-there env mix whole.tables ready.table (omega (arith, right.current, table)) ready.armed.passed.attached) ready.armed.here
+
     home_of : IsHomeOf env mix G port here
     home_of =
         let right = whole.moving.armed here d ready.armed.armed in
-        let table = home-table env mix M G whole port ready.table here
-        (whole.tables.there ready.table ready.armed.passed.attached) ready.armed.here in
         record {
           here = ap (home env mix G port) table ∙ ready.armed.here;
           current = right.current;
@@ -161,8 +164,8 @@ module _ (env : Env) (mix : ℕ → ℕ → ℕ → ℕ) where
         both_armed e =
             let mine = ready.armed in
             let theirs = whole.moving.armed i c for.armed in
-            let their_table = home-table env mix M G whole p τ i (whole.tables.there τ for.passed.attached) for.here in
-            let my_table = home-table env mix M G whole port ready.table here (whole.tables.there ready.table mine.passed.attached) mine.here in
+            let their_table : table_at G i ≡ τ = ap table_of_page for.of in
+            let my_table = table in
             let at_home : home env mix G port τ ≡ Some i = ap (λ q. home env mix G q τ) (sym e) ∙ for.here in
             let my_home : home env mix G p ready.table ≡ Some here = ap (λ q. home env mix G q ready.table) e ∙ mine.here in
             elim (cases_lt τ ready.table) [

@@ -13,7 +13,7 @@ use Rattle.rht_ghost.proofs.Theory.Wholes.{IsNoBucket, SlotsRight, PagesRight, W
 use Rattle.rht_ghost.proofs.Theory.Readiness.{ArePagesOf}
 use Rattle.rht_ghost.proofs.Theory.Frames.{Others, Made, stale_write, same_owners}
 use Rattle.rht_ghost.proofs.Theory.WholeFrames.{no_bucket}
-use Rattle.rht_ghost.proofs.Theory.TableFrames.{TablesKept, same_kept, IsNoBucketWord, no_table-no_bucket, Whole-retabled, Rely-retabled, TablesRight-kept, EntriesRight-kept}
+use Rattle.rht_ghost.proofs.Theory.TableFrames.{TablesKept, same_kept, none_fresh, IsNoBucketWord, no_table-no_bucket, Whole-retabled, Rely-retabled, TablesRight-kept, EntriesRight-kept}
 
 -- no word of the map of pages is a bucket's or a node's
 pub map_word-apart : (G : Ghost) (index : ℕ) → IsNoBucketWord G (PageMap index)
@@ -50,6 +50,7 @@ module _ (env : Env) (mix : ℕ → ℕ → ℕ → ℕ) where
       (λ s has. refl) (λ s has l. refl)
       (λ p τ. put_in-all (λ q o. G.page q ≡ PageOf τ → o ≡ PageOf τ) (has_bit index bits) after G.page
       (λ q there is. absurd (none τ (sym (was.owned q there) ∙ is))) (λ q there is. is) p)
+      (none_fresh env mix G _)
 
   module _ (index bits v : ℕ) (before after : PageOwner) (M M' : Memory) (G : Ghost) (whole : Whole env mix M G)
       (was : ArePagesOf env mix G index bits before) (none_before : NoTable before) (none_after : NoTable after)

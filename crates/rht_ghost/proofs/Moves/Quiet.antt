@@ -271,6 +271,7 @@ module _ (env : Env) (mix : ℕ → ℕ → ℕ → ℕ) where
           work = λ works. record {
             worker = works;
             current = refl;
+            left = λ s τ live l. live;
             emptied = λ more i. put-all (λ k b. table_at G k ≡ G.current → IsEmptied env mix (G.bucket k)
                 → IsEmptied env mix b) G.bucket j armed
                 (λ table empty. absurd (omega (arith, is.last, table, more))) (λ k apart table empty. empty) i;

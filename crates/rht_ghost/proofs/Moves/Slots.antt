@@ -10,7 +10,7 @@ use Rattle.rht_ghost.proofs.Theory.Wholes.{retired_stay, SlotsRight, Whole}
 use Rattle.rht_ghost.proofs.Theory.Knowledge.{HasSlot}
 use Rattle.rht_ghost.proofs.Theory.Frames.{Others, Made, same_tables, stale_write, same_owners}
 use Rattle.rht_ghost.proofs.Theory.WholeFrames.{SlotsRight-write}
-use Rattle.rht_ghost.proofs.Theory.TableFrames.{TablesKept, live_kept, same_kept, IsNoBucketWord, Whole-retabled, Rely-retabled, TablesRight-kept, PagesRight-kept, EntriesRight-kept}
+use Rattle.rht_ghost.proofs.Theory.TableFrames.{TablesKept, live_kept, same_kept, none_fresh, IsNoBucketWord, Whole-retabled, Rely-retabled, TablesRight-kept, PagesRight-kept, EntriesRight-kept}
 use Rattle.rht_ghost.proofs.Moves.Quiet.{aside}
 
 -- a slot with state word 0 is free
@@ -46,6 +46,7 @@ module _ (env : Env) (mix : ℕ → ℕ → ℕ → ℕ) where
         (λ t has. put-other G.slot s owner t (no_table t has))
         (put-all (λ t o. has_table o ≡ true → table_of_slot o < G.attached → o ≡ G.slot t) G.slot s owner
         (λ has k. let z : true ≡ false = sym has ∙ now in absurd (cc)) (λ t ne has k. refl)) (λ p τ is. is)
+        (none_fresh env mix G _)
 
     slots_right : SlotsRight env mix M' G'
     slots_right = record {
@@ -122,7 +123,8 @@ module _ (env : Env) (mix : ℕ → ℕ → ℕ → ℕ) where
       → Made env mix d M G M' G
   fill_slot d s w v M M' G whole has of_table write =
       let kept : TablesKept env mix G G.table G.attached G.slot G.page =
-      same_kept env mix G G.table G.attached G.slot G.page (λ τ l. refl) (omega arith) (λ t is. refl) (λ t has l. refl) (λ p τ is. is) in
+      same_kept env mix G G.table G.attached G.slot G.page (λ τ l. refl) (omega arith) (λ t is. refl) (λ t has l. refl) (λ p τ is. is)
+      (none_fresh env mix G _) in
       let words = slot_word-apart G s w in
       let no_table : (t : ℕ) → has_table (G.slot t) ≡ true → t ≢ s = λ t is e.
       (let z : true ≡ false = sym is ∙ ap (λ i. has_table (G.slot i)) e ∙ ap has_table has.mine in cc) in

@@ -6,7 +6,7 @@ use Rattle.rht_words.specs.Places.{Address, CurrentTable, WorkLock, PortCount, S
 use Rattle.rht_words.proofs.Memory.{Memory, IsWrite}
 use Rattle.rht_words.proofs.ChainLemmas.{IsSegment-members}
 use Rattle.rht_ghost.proofs.Theory.Ghosts.{Ghost, First, Leaving, SlotOwner, SlotHeld, Live, lock_bit, state_word, has_table, index_at, table_of_slot, table_at, is_used, seat_of}
-use Rattle.rht_ghost.proofs.Theory.Wholes.{AreRetired, list_of, key_of, TablesRight, PagesRight, OutRight, MovingRight, IsLeavingAt, Owned, Whole}
+use Rattle.rht_ghost.proofs.Theory.Wholes.{AreRetired, list_of, key_of, TablesRight, PagesRight, OutRight, MovingRight, IsLeavingAt, Owned, Whole, IsThere}
 use Rattle.rht_ghost.proofs.Theory.Passed.{TablesGrow, Passed-stays, same-TableStays}
 use Rattle.rht_ghost.proofs.Theory.Reliance.{TablesStay}
 use Rattle.rht_ghost.proofs.Theory.Frames.{Others, Made, UsedStay, used_stay, seat_stays, chains_stay, passes_same, stale_write, same_owners}
@@ -77,15 +77,18 @@ module _ (env : Env) (mix : ℕ → ℕ → ℕ → ℕ) where
       words : UsedStay env mix M G M'
       words = used_stay env mix M M' G a v whole is.write is.word.no_node
 
+      -- a table that is there is so still
+      restated_there : (τ : ℕ) → IsThere G τ → IsThere after τ
+      restated_there τ was =
+          let s = (G.table τ).slot in
+          record { has_slot = is.slots.has s ∙ was.has_slot; index = is.slots.index s was.has_slot ∙ was.index }
+
       restated_tables : TablesRight env mix M' after
       restated_tables = record {
         current_in = is.current_in;
         current_is = is.current_is;
         force = λ τ from l. is.slots.live τ l from;
-        there = λ τ l.
-            let was = whole.tables.there τ l in
-            let s = (G.table τ).slot in
-            record { has_slot = is.slots.has s ∙ was.has_slot; index = is.slots.index s was.has_slot ∙ was.index };
+        there = λ τ l. restated_there τ (whole.tables.there τ l);
         each = λ τ now.
             let s = (G.table τ).slot in
             let has = sym (is.slots.has s) ∙ now.has_slot in
@@ -111,10 +114,7 @@ module _ (env : Env) (mix : ℕ → ℕ → ℕ → ℕ) where
         bits = λ p l. rw (is.write.others (PageMap (p / 64)) (omega arith) (is.word.no_page_map (p / 64)))
             (whole.pages.bits p l);
         page_of = whole.pages.page_of;
-        there = λ p τ of.
-            let was = whole.pages.there p τ of in
-            let s = (G.table τ).slot in
-            record { has_slot = is.slots.has s ∙ was.has_slot; index = is.slots.index s was.has_slot ∙ was.index };
+        there = λ p τ of. restated_there τ (whole.pages.there p τ of);
         blank = λ j blank. whole.pages.blank j (no_bucket env mix G after refl (G.page (j / 64)) j blank);
       }
 
@@ -247,9 +247,8 @@ module _ (env : Env) (mix : ℕ → ℕ → ℕ → ℕ) where
         placed = λ τ b j l at. inl at;
         attached = omega arith;
         current = is.later;
-        slots = λ s has. is.slots.has s ∙ has;
-        indices = is.slots.index;
         live = λ s τ now l. is.slots.was_live s τ now;
+        there = λ τ l was. restated_there τ (was l);
         pages = λ p τ of. of;
       }
 

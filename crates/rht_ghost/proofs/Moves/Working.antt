@@ -110,7 +110,11 @@ module _ (env : Env) (mix : ℕ → ℕ → ℕ → ℕ) (c : ℕ) where
         record { works = works.0; root = root; emptied = subst (IsEmptying env mix G root) size is }
 
     pub can_retire : (slot : ℕ) → DoesWork c G (Some slot) → IsLeftBehind env mix G slot → CanRetire env mix c slot G
-    can_retire slot works is = record { works = works.0; table = is.table; left_behind = is.earlier }
+    can_retire slot works is = record {
+      works = works.0;
+      table = ap has_table is.live;
+      left_behind = let index : index_at G slot ≡ is.table = ap table_of_slot is.live in omega (arith, index, is.before);
+    }
 
     -- what it has emptied stays so where no emptied bucket of the current table changes
     emptying_stays : (root : KnownRehash) (count : ℕ) (bucket : ℕ → Bucket) (node : ℕ → Owner) → IsEmptying env mix G root count
@@ -463,9 +467,7 @@ module _ (env : Env) (mix : ℕ → ℕ → ℕ → ℕ) (c : ℕ) where
         → IsEmptying env mix G root count → count ≡ size_of (unpacked root.shape)
         → IsWrite env.geometry M M' CurrentTable root.future → Worked M G M' (published G) (LeavesBehind root.root)
     publish_work works root count M' is all write =
-        let here = current-there env mix whole.tables in
         let root_is = is.followed.root_is in
-        let index : index_at G root.root ≡ G.current = ap (index_at G) (sym root_is) ∙ here.index in
         record {
           made = publish env mix c M G whole (can_publish works root count is all) M'
               (subst (IsWrite env.geometry M M' CurrentTable) (sym is.followed.future_is) write);
@@ -481,8 +483,9 @@ module _ (env : Env) (mix : ℕ → ℕ → ℕ → ℕ) (c : ℕ) where
               ],
             );
             more = record {
-              table = ap (λ s. has_table (G.slot s)) (sym root_is) ∙ here.has_slot;
-              earlier = omega (arith, index);
+              table = G.current;
+              live = ap G.slot (sym root_is) ∙ whole.tables.force G.current (omega arith) whole.tables.current_in;
+              before = refl;
             };
           };
         }

@@ -1,6 +1,6 @@
 -- The exchange that is to attach the table which the caller has made behind that of a slot: it finds that no table is behind that one and
 -- attaches, or leaves the future as it is, and then the caller gives the table back.
-use Rattle.std.proofs.Common.{◌≡◌, ◌≢◌, ℕ, ◌+◌, ◌<◌, ◌≤◌, ◌==◌, List, [], length, Option, Some, None, true, cond, refl, sym, ◌∙◌, ap, subst, arith}
+use Rattle.std.proofs.Common.{◌≡◌, ◌≢◌, ℕ, ◌+◌, ◌<◌, ◌≤◌, ◌==◌, List, [], length, Option, Some, None, cond, refl, sym, ◌∙◌, ap, subst, arith}
 use Rattle.std.proofs.lemmas.Bool.{ne_eqb}
 use Rattle.rht_words.specs.declared.env.Env.{Env}
 use Rattle.rht_words.specs.declared.op.Op.{Op}
@@ -15,8 +15,8 @@ use Rattle.rht_words.proofs.Members.{range_with_len-In}
 use Rattle.rht_arena.specs.GiveRun.{give_run_new, pages_of_give_run}
 use Rattle.rht_nest.specs.Tables.{table_pages, run_first, run_pages, pages_of_table}
 use Rattle.rht_nest.proofs.MakesStay.{table_pages-some}
-use Rattle.rht_ghost.proofs.Theory.Ghosts.{put, put-all, put_in, put_in-all, PageHeld, PageOf, SlotHeld, Live, Ghost, has_table, index_at, made_table, is_page_for}
-use Rattle.rht_ghost.proofs.Theory.Wholes.{Whole, slot-there}
+use Rattle.rht_ghost.proofs.Theory.Ghosts.{put, put-all, put_in, put_in-all, PageHeld, PageOf, SlotHeld, Live, Ghost, made_table, is_page_for}
+use Rattle.rht_ghost.proofs.Theory.Wholes.{Whole, IsAt, at-there}
 use Rattle.rht_ghost.proofs.Theory.Knowns.{Known, MakesNothing, HasTaken, HasMade}
 use Rattle.rht_ghost.proofs.Theory.Knowledge.{IsMade}
 use Rattle.rht_ghost.proofs.Theory.Readiness.{IsAttaching}
@@ -66,26 +66,24 @@ module _ (env : Env) (mix : ℕ → ℕ → ℕ → ℕ) (c : ℕ) where
     knows_made slot shape = knowing env mix c h known (Some slot) (pages_of_table env.geometry shape) (HasMade slot shape)
 
     -- nothing was behind the table in this slot
-    pub attach_step : (last slot shape : ℕ) → has_table (G.slot last) ≡ true → old_of words (attaching last slot) ≡ 0
+    pub attach_step : (last slot shape : ℕ) → IsAt G last → old_of words (attaching last slot) ≡ 0
         → knows_made slot shape M G
         → SilentStep env mix c words G (attaching last slot) (holds_made slot shape) (holding env mix c h known None [])
         (knowing env mix c h known None [] MakesNothing)
-    attach_step last slot shape table found knows =
+    attach_step last slot shape at found knows =
         let op = attaching last slot in
         let M' = mem env mix (applied words op) in
         let made = knows.means.making in
-        let is = whole.tables.slots last table in
-        let τ = index_at G last in
-        let there = slot-there env mix whole.tables last table in
-        let here = whole.tables.each τ there in
-        let l : last < 8 = subst (λ s. s < 8) is.slot here.slot_in in
+        let τ = at.table in
+        let there = at-there env mix whole.tables last at in
+        let l : last < 8 = subst (λ s. s < 8) at.slot_is (whole.tables.each τ there).slot_in in
         let value : word_after (old_of words op) op ≡ future_of slot = ap (λ w. cond (w == 0) (future_of slot) w) found in
         let write : IsWrite env.geometry M M' (Slot (G.table τ).slot FutureWord) (future_of slot) =
-        subst (λ s. IsWrite env.geometry M M' (Slot s FutureWord) (future_of slot)) (sym is.slot)
+        subst (λ s. IsWrite env.geometry M M' (Slot s FutureWord) (future_of slot)) (sym at.slot_is)
         (subst (λ v. IsWrite env.geometry M M' (Slot last FutureWord) v) value
         (is_write env.geometry words (Slot last FutureWord) op all (l, tt) refl)) in
         let none : M (Slot (G.table τ).slot FutureWord) ≡ 0 =
-        ap (λ s. M (Slot s FutureWord)) is.slot ∙ found in
+        ap (λ s. M (Slot s FutureWord)) at.slot_is ∙ found in
         let seed = M (Slot slot SeedWord) in
         let serial = M (Slot slot SerialWord) in
         let ready : IsAttaching env mix c slot shape seed serial M G = record { made = made; seed_is = refl; serial_is = refl } in

@@ -17,7 +17,7 @@ use Rattle.rht_ghost.proofs.Theory.Wholes.{Whole}
 use Rattle.rht_ghost.proofs.Theory.Readiness.{ArePagesOf}
 use Rattle.rht_ghost.proofs.Theory.Knowns.{Known, KnownSlot, KnownMaking, MakesNothing, HasPages, HasTaken}
 use Rattle.rht_ghost.proofs.Theory.Knowledge.{SlotMeans, ArePagesMine, MakingMeans, Knowing}
-use Rattle.rht_ghost.proofs.Theory.TableFrames.{TablesKept, Knowing-retabled, same_kept}
+use Rattle.rht_ghost.proofs.Theory.TableFrames.{TablesKept, Knowing-retabled, same_kept, none_fresh}
 use Rattle.rht_ghost.proofs.Theory.Steps.{Quiet, TakesSlot, GivesSlot, TakesPages, GivesPages, Holding, ClearsBits, SetsBits, mem, SilentStep, silent, loads}
 use Rattle.rht_ghost.proofs.Moves.Slots.{slot_word-apart, slots_kept, take_slot, give_slot, fill_slot, take_serial}
 use Rattle.rht_ghost.proofs.Moves.Pages.{map_word-apart, pages_kept, take_pages, give_pages}
@@ -64,7 +64,7 @@ module _ (env : Env) (mix : ℕ → ℕ → ℕ → ℕ) (c : ℕ) (h : Holding)
 
     same_tables : TablesKept env mix G G.table G.attached G.slot G.page
     same_tables = same_kept env mix G G.table G.attached G.slot G.page (λ τ l. refl) (omega arith) (λ t is. refl)
-        (λ t has l. refl) (λ p τ is. is)
+        (λ t has l. refl) (λ p τ is. is) (none_fresh env mix G _)
 
     -- a known word of the slot that stays
     known_word : (slot : KnownSlot) (M' : Memory) (w : SlotWord) (word : Option ℕ)

@@ -8,7 +8,7 @@ use Rattle.rht_words.specs.Members.{In}
 use Rattle.rht_words.proofs.Members.{in-middle, not_in_from}
 use Rattle.rht_words.proofs.Memory.{Memory, IsWrite}
 use Rattle.rht_ghost.proofs.Theory.Ghosts.{put, put-same, put-all, NodeHeld, First, Behind, Bucket, Ghost, is_taken_by, held_not_used, with_owner}
-use Rattle.rht_ghost.proofs.Theory.Wholes.{list_of, key_of, place_at, word_index, place_at-index, home, MovesNone, outs, Whole}
+use Rattle.rht_ghost.proofs.Theory.Wholes.{list_of, key_of, place_at, word_index, place_at-index, home, MovesNone, outs, Whole, IsThere}
 use Rattle.rht_ghost.proofs.Theory.Passed.{Passed, stays_in}
 use Rattle.rht_ghost.proofs.Theory.Knowns.{Replaces, StandsAt}
 use Rattle.rht_ghost.proofs.Theory.Knowledge.{HasOnly, HoldsLock, IsInList}
@@ -45,7 +45,7 @@ module _ (env : Env) (mix : ℕ → ℕ → ℕ → ℕ) (c port place word firs
 
   -- the caller has no entry on its way, and has come to the bucket by this table
   module _ (none : MovesNone env mix G c) (τ : ℕ) (passed : Passed env mix G port τ)
-      (at : home env mix G port τ ≡ Some j) where
+      (is_there : IsThere G τ) (at : home env mix G port τ ≡ Some j) where
     found_in : IsFoundIn env mix c port j first stands.front stands.rear before M M' G is.behind
     found_in =
         let lock = is.found.standing.lock in
@@ -58,7 +58,7 @@ module _ (env : Env) (mix : ℕ → ℕ → ℕ → ℕ) (c port place word firs
           key_is = is.found.key_is;
           bound_to = is.bound_to;
           moves_none = none;
-          not_out = stays_in env mix M G whole c port τ j first is.behind passed at lock.holder none is.bound_to
+          not_out = stays_in env mix M G whole c port τ j first is.behind passed is_there at lock.holder none is.bound_to
               (whole.owned.member j first there);
         }
 
@@ -93,20 +93,20 @@ module _ (env : Env) (mix : ℕ → ℕ → ℕ → ℕ) (c port place word firs
           single = λ one. absurd (let both : Single ≡ Listed = sym one ∙ listed in cc);
         }
 
-    pub front_known : MovesNone env mix G c → (τ : ℕ) → Passed env mix G port τ
+    pub front_known : MovesNone env mix G c → (τ : ℕ) → Passed env mix G port τ → IsThere G τ
         → home env mix G port τ ≡ Some j → IsRebinding env mix change M G
-    front_known none τ passed at =
+    front_known none τ passed is_there at =
         inr (inl (replacing_known env mix c port j first stands.front stands.rear before M M' G is.behind
-        (found_in none τ passed at) n (first ∷ is.behind) (Behind port) can))
+        (found_in none τ passed is_there at) n (first ∷ is.behind) (Behind port) can))
 
-    pub front_made : MovesNone env mix G c → (τ : ℕ) → Passed env mix G port τ
+    pub front_made : MovesNone env mix G c → (τ : ℕ) → Passed env mix G port τ → IsThere G τ
         → home env mix G port τ ≡ Some j
         → IsWrite env.geometry M M' (relink_address j before)
         (relink_value (place_at env mix j) (link_of n) before)
         → Made env mix c M G M' fronted
-    front_made none τ passed at write =
+    front_made none τ passed is_there at write =
         replace env mix c port j first stands.front stands.rear before M M' G whole is.behind
-        (found_in none τ passed at) n
+        (found_in none τ passed is_there at) n
         (first ∷ is.behind) (Behind port) can write
 
   -- ---- what the caller has behind it

@@ -1,7 +1,7 @@
 -- The operations on the way to a port's bucket: the current table, a table's shape and seed, and its future; and in a nested table the
 -- future once more, before the entries. Where that leads to no table, what follows if the bucket is missing is known early: the port is bound
 -- nowhere then, unless the bucket is there.
-use Rattle.std.proofs.Common.{◌≡◌, ℕ, ◌+◌, ◌<◌, List, [], Option, Some, None, true, cond, refl, sym, ◌∙◌, ap, subst, inr, arith}
+use Rattle.std.proofs.Common.{◌≡◌, ℕ, ◌+◌, ◌<◌, List, [], Option, Some, None, cond, refl, sym, ◌∙◌, ap, subst, inr, arith}
 use Rattle.std.specs.Option.{option_map}
 use Rattle.rht_words.specs.declared.env.Env.{Env}
 use Rattle.rht_words.specs.declared.geometry.Geometry.{Geometry}
@@ -27,11 +27,11 @@ use Rattle.rht_nest.specs.declared.locate.Located.{Located}
 use Rattle.rht_nest.specs.declared.locate.LocatedBucket.{LocatedBucket}
 use Rattle.rht_nest.specs.declared.locate.LocatedBucket.TheVariants as buckets
 use Rattle.rht_nest.specs.Early.{early_of_locate}
-use Rattle.rht_ghost.proofs.Theory.Ghosts.{Ghost, has_table, index_at, none-some}
-use Rattle.rht_ghost.proofs.Theory.Wholes.{Whole, home, place_at, word_index, current-there}
+use Rattle.rht_ghost.proofs.Theory.Ghosts.{Ghost, none-some}
+use Rattle.rht_ghost.proofs.Theory.Wholes.{Whole, IsAt, home, place_at, word_index, current-there, at-there, one_table}
 use Rattle.rht_ghost.proofs.Theory.Passed.{passed_first, unbound_at_last, unbound_missing, go_on, go_beyond}
 use Rattle.rht_ghost.proofs.Theory.Knowns.{KnownNode, KnownTable, Passes, Shaped, OnWay, AtHome, KnownBucket, knows_plain}
-use Rattle.rht_ghost.proofs.Theory.Knowledge.{plainly, TableMeans, IsPassing, IsRightBehind, IsOnWay, IsMissed, Knowing}
+use Rattle.rht_ghost.proofs.Theory.Knowledge.{plainly, TableMeans, IsPassing, next_at, IsOnWay, IsAtHome, IsMissed, Knowing}
 use Rattle.rht_ghost.proofs.Theory.WaysRead.{IsPlaced, words_of_pages, read_by_entry, on_way_read, on_way_next, at_home}
 use Rattle.rht_ghost.proofs.Theory.Answering.{IsLegalOn, KnowsEarly, none_early, foresees, stays_early}
 use Rattle.rht_ghost.proofs.Pieces.TableLoads.{LeadsBehind, future_leads, shape_word, way_begins, flat_home, way_missing, way_home}
@@ -84,9 +84,8 @@ module _ (env : Env) (mix : ℕ → ℕ → ℕ → ℕ) (c : ℕ) (h : Holding)
         let is : table_of (M CurrentTable) ≡ slot = (let word = whole.tables.current_is in omega
         (arith, right.slot_in, word)) in
         rw is (record {
-          table = there.has_slot;
-          passed = rw there.index
-              (passed_first env mix M G whole port);
+          at = record { table = G.current; attached = whole.tables.current_in; slot_is = refl };
+          passed = passed_first env mix M G whole port;
         })
 
     -- ---- the future of a table
@@ -95,13 +94,8 @@ module _ (env : Env) (mix : ℕ → ℕ → ℕ → ℕ) (c : ℕ) (h : Holding)
     abbrev Leads : ℕ → Option ℕ → Type 0
     Leads = LeadsBehind env mix M G whole
 
-    behind-table : (slot : ℕ) → has_table (G.slot slot) ≡ true → Leads slot (slot_of (M (Slot slot FutureWord)))
+    behind-table : (slot : ℕ) (at : IsAt G slot) → Leads at.table (slot_of (M (Slot slot FutureWord)))
     behind-table = future_leads env mix M G whole
-
-    -- a table right behind another one was attached
-    behind_attached : (slot next : ℕ) → IsRightBehind env mix G slot next → index_at G slot + 1 < G.attached
-    behind_attached slot next behind =
-        let attached = (whole.tables.slots next behind.table).attached in omega (arith, attached, behind.index)
 
     -- What the future of a table is read as, in which the port was looked for in vain: no table, and the port is bound nowhere; or the
     -- table behind it, and the port has been passed there too.
@@ -114,28 +108,30 @@ module _ (env : Env) (mix : ℕ → ℕ → ℕ → ℕ) (c : ℕ) (h : Holding)
         → IsMissed env mix c M G place word port
         → FutureIs port (slot_of (M (Slot slot FutureWord)))
     future_is port slot place word shape knows missed =
-        go (slot_of (M (Slot slot FutureWord))) (behind-table slot knows.means.table.passing.table)
+        go (slot_of (M (Slot slot FutureWord))) (behind-table slot home_is.passing.at)
       where
-        go : (future : Option ℕ) → Leads slot future → FutureIs port future
+        home_is : IsAtHome env mix G port slot shape place
+        home_is = knows.means.table
+
+        τ : ℕ
+        τ = home_is.passing.at.table
+
+        go : (future : Option ℕ) → Leads τ future → FutureIs port future
         go None last =
-            let at = knows.means.table in
-            unbound_at_last env mix M G whole port (index_at G slot) (word_index env mix place) at.passing.passed at.here
-            missed.none missed.lock.still last
-        go (Some next) behind =
-            let at = knows.means.table in
-            record {
-              table = behind.table;
-              passed = rw behind.index (go_on env mix M G whole port (index_at G slot) (word_index env mix place)
-                  at.passing.passed at.here missed.none missed.lock.still missed.lock.unarmed
-                  (behind_attached slot next behind));
-            }
+            unbound_at_last env mix M G whole port τ (word_index env mix place) home_is.passing.passed home_is.here missed.none
+            missed.lock.still last
+        go (Some next) behind = record {
+          at = next_at env mix G τ next behind;
+          passed = go_on env mix M G whole port τ (word_index env mix place) home_is.passing.passed home_is.here
+              missed.none missed.lock.still missed.lock.unarmed behind.attached;
+        }
 
     -- where it is read as none, the table is the last one
     pub is_last : (port slot place : ℕ) (shape : Option ℕ)
-        → Knowing env mix c h (knows_plain node (AtHome port slot shape place) bucket) M G
-        → slot_of (M (Slot slot FutureWord)) ≡ None → index_at G slot + 1 ≡ G.attached
+        → (knows : Knowing env mix c h (knows_plain node (AtHome port slot shape place) bucket) M G)
+        → slot_of (M (Slot slot FutureWord)) ≡ None → knows.means.table.passing.at.table + 1 ≡ G.attached
     is_last port slot place shape knows none =
-        subst (Leads slot) none (behind-table slot knows.means.table.passing.table)
+        let at = knows.means.table.passing.at in subst (Leads at.table) none (behind-table slot at)
 
     -- ---- the entries of a nested table
 
@@ -154,12 +150,12 @@ module _ (env : Env) (mix : ℕ → ℕ → ℕ → ℕ) (c : ℕ) (h : Holding)
     missing_knows port slot shape place None same knows is = knows
     missing_knows port slot shape place (Some next) same knows is =
         let on = knows.means.table in
-        let behind = on.behind in
+        let passing = on.shaped.passing in
+        let τ = passing.at.table in
         with_table (OnWay port slot shape place (Some next)) (Passes port next) knows (record {
-          table = behind.table;
-          passed = rw behind.index (go_beyond env mix M G whole port (index_at G slot) on.shaped.passing.passed
-              (way_missing env mix M G whole port slot on.shaped.passing.table place same on.to (leads place None same is))
-              (behind_attached slot next behind));
+          at = next_at env mix G τ next on.behind;
+          passed = go_beyond env mix M G whole port τ passing.passed
+              (way_missing env mix M G whole port slot passing.at place same on.to (leads place None same is)) on.behind.attached;
         })
 
     -- where it leads to one, there is the next entry, or the bucket
@@ -171,7 +167,8 @@ module _ (env : Env) (mix : ℕ → ℕ → ℕ → ℕ) (c : ℕ) (h : Holding)
         let on = knows.means.table in
         with_table (OnWay port m.table shape place early) (OnWay port m.table shape next early) knows (record {
           shaped = on.shaped;
-          to = on_way_next env mix M G whole port m.table on.shaped.passing.table place on.to next page
+          to = on_way_next env mix M G whole port on.shaped.passing.at.table
+              (at-there env mix whole.tables m.table on.shaped.passing.at) place on.to next page
               (leads place (Some page) same is) e;
           behind = on.behind;
         })
@@ -179,7 +176,7 @@ module _ (env : Env) (mix : ℕ → ℕ → ℕ → ℕ) (c : ℕ) (h : Holding)
         let on = knows.means.table in
         with_table (OnWay port m.table shape place early) (AtHome port m.table (Some shape) there) knows
         (at_home env mix M G whole port m.table shape there on.shaped.passing on.shaped.shape_is
-        (way_home env mix M G whole port m.table on.shaped.passing.table place same on.to page there
+        (way_home env mix M G whole port m.table on.shaped.passing.at place same on.to page there
         (leads place (Some page) same is) e))
 
     entry_knows : (port : ℕ) (m : LocateModel) (shape : ℕ) (early : Option ℕ) (place : PlaceModel)
@@ -199,7 +196,7 @@ module _ (env : Env) (mix : ℕ → ℕ → ℕ → ℕ) (c : ℕ) (h : Holding)
     seed_knows port slot shape knows =
         let m : LocateModel = record { geometry = env.geometry; table = slot; at = locates.Seed shape } in
         let shaped = knows.means.table in
-        let has = shaped.passing.table in
+        let at = shaped.passing.at in
         let number = bucket_of mix port shape (M (Slot slot SeedWord)) in
         by_test (λ t. LocateKnows port (cond {A = LocateModel × Next Located} t
         (record m { at = locates.Early shape (nested_place env.geometry shape number) }, Go)
@@ -208,15 +205,16 @@ module _ (env : Env) (mix : ℕ → ℕ → ℕ → ℕ) (c : ℕ) (h : Holding)
         (λ nested. with_table (Shaped port slot shape) (OnWay port slot shape (nested_place env.geometry shape number) None)
         knows (record {
           shaped = shaped;
-          to = way_begins env mix M G whole port slot has shape shaped.shape_is nested;
+          to = way_begins env mix M G whole port slot at shape shaped.shape_is nested;
           behind = tt;
         }))
         (λ flat. with_table (Shaped port slot shape) (AtHome port slot (Some shape) (flat_place env.geometry shape number))
         knows (at_home env mix M G whole port slot shape (flat_place env.geometry shape number) shaped.passing shaped.shape_is
-        (flat_home env mix M G whole port slot has shape shaped.shape_is flat)))
+        (flat_home env mix M G whole port slot at shape shaped.shape_is flat)))
 
-    early_knows : (port slot shape : ℕ) (place : PlaceModel) → knowing (OnWay port slot shape place None) M G
-        → (future : Option ℕ) → Leads slot future → knowing (OnWay port slot shape place future) M G
+    early_knows : (port slot shape : ℕ) (place : PlaceModel) → (knows : knowing (OnWay port slot shape place None) M G)
+        → (future : Option ℕ) → Leads knows.means.table.shaped.passing.at.table future
+        → knowing (OnWay port slot shape place future) M G
     early_knows port slot shape place knows None last = knows
     early_knows port slot shape place knows (Some next) behind =
         let on = knows.means.table in
@@ -228,15 +226,14 @@ module _ (env : Env) (mix : ℕ → ℕ → ℕ → ℕ) (c : ℕ) (h : Holding)
         → let m : LocateModel = record { geometry = env.geometry; table = slot; at = at } in
         LocateKnows port (locate_after mix port m (old_of words (locate_plan m))) M G
     step_knows port slot locates.Shape within knows =
-        let has = knows.means.table.table in
         with_table (Passes port slot) (Shaped port slot (M (Slot slot ShapeWord))) knows (record {
           passing = knows.means.table;
-          shape_is = sym (shape_word env mix M G whole slot has);
+          shape_is = sym (shape_word env mix M G whole slot knows.means.table.at);
         })
     step_knows port slot (locates.Seed shape) within knows = seed_knows port slot shape knows
     step_knows port slot (locates.Early shape place) within knows =
         early_knows port slot shape place knows (slot_of (M (Slot slot FutureWord)))
-        (behind-table slot knows.means.table.shaped.passing.table)
+        (behind-table slot knows.means.table.shaped.passing.at)
     step_knows port slot (locates.Entry shape early place) within knows =
         let m : LocateModel = record { geometry = env.geometry; table = slot; at = locates.Entry shape early place } in
         entry_knows port m shape early place within.nested_in.place_in.geometry_same knows (led_by place) refl
@@ -316,33 +313,40 @@ module _ (env : Env) (mix : ℕ → ℕ → ℕ → ℕ) (c : ℕ) (h : Holding)
           (early_of_locate absent at) (early_of_locate absent next) none
 
       -- at the load of a future that leads to no table the port is bound nowhere, or its bucket is there
-      foresees_now : (slot shape : ℕ) (place : PlaceModel) → IsOnWay env mix G port slot shape place None
-          → (future : Option ℕ) → Leads slot future
+      foresees_now : (slot shape : ℕ) (place : PlaceModel) (on : IsOnWay env mix G port slot shape place None)
+          → (future : Option ℕ) → Leads on.shaped.passing.at.table future
           → KnowsFrom slot (locates.Early shape place) slot (locates.Entry shape future place) words
       foresees_now slot shape place on (Some next) behind =
           says_none slot (locates.Early shape place) (locates.Entry shape (Some next) place) words refl
-      foresees_now slot shape place on None last = go (home env mix G port (index_at G slot)) refl
+      foresees_now slot shape place on None last = go (home env mix G port at.table) refl
         where
-          read : read_place (words_of_pages M) place ≡ option_map (place_at env mix) (home env mix G port (index_at G slot))
-          read = on_way_read env mix M G whole port slot on.shaped.passing.table place on.to
+          at : IsAt G slot
+          at = on.shaped.passing.at
 
-          go : (word : Option ℕ) → home env mix G port (index_at G slot) ≡ word
+          read : read_place (words_of_pages M) place ≡ option_map (place_at env mix) (home env mix G port at.table)
+          read = on_way_read env mix M G whole port at.table (at-there env mix whole.tables slot at) place on.to
+
+          go : (word : Option ℕ) → home env mix G port at.table ≡ word
               → KnowsFrom slot (locates.Early shape place) slot (locates.Entry shape None place) words
           go None here =
               foresees env.config.kind c call ⊥ (IsPlaced M place) now None absent (legal (ap (owners_in env mix M)
-              (unbound_missing env mix M G whole port (index_at G slot) on.shaped.passing.passed here last)))
+              (unbound_missing env mix M G whole port at.table on.shaped.passing.passed here last)))
           go (Some j) here = λ answer known. inr (inr (λ none.
               none-some none (read ∙ ap (option_map (place_at env mix)) here)))
 
       -- an entry that leads to another one leads where the bucket is, or isn't
       stays_now : (slot shape : ℕ) (early : Option ℕ) (place next : PlaceModel)
-          → IsOnWay env mix G port slot shape place early → IsOnWay env mix G port slot shape next early
+          → (on : IsOnWay env mix G port slot shape place early) → (further : IsOnWay env mix G port slot shape next early)
+          → further.shaped.passing.at.table ≡ on.shaped.passing.at.table
           → KnowsFrom slot (locates.Entry shape early place) slot (locates.Entry shape early next) words
-      stays_now slot shape None place next on further =
+      stays_now slot shape None place next on further same =
+          let here = on.shaped.passing.at in
+          let there = further.shaped.passing.at in
           stays_early env.config.kind c call (IsPlaced M place) (IsPlaced M next) now (Some absent)
-          (λ there none. there (on_way_read env mix M G whole port slot on.shaped.passing.table place on.to
-          ∙ sym (on_way_read env mix M G whole port slot further.shaped.passing.table next further.to) ∙ none))
-      stays_now slot shape (Some early) place next on further =
+          (λ placed none. placed (on_way_read env mix M G whole port here.table (at-there env mix whole.tables slot here) place on.to
+          ∙ ap (λ τ. option_map (place_at env mix) (home env mix G port τ)) (sym same)
+          ∙ sym (on_way_read env mix M G whole port there.table (at-there env mix whole.tables slot there) next further.to) ∙ none))
+      stays_now slot shape (Some early) place next on further same =
           says_none slot (locates.Entry shape (Some early) place) (locates.Entry shape (Some early) next) words
           refl
 
@@ -365,6 +369,7 @@ module _ (env : Env) (mix : ℕ → ℕ → ℕ → ℕ) (c : ℕ) (h : Holding)
       entered_says m shape early place page same knows is (starts.Running next) e =
           let further = entered_knows port m shape early place page same knows is (starts.Running next) e in
           stays_now m.table shape early place next knows.means.table further.means.table
+          (one_table env mix whole.tables m.table knows.means.table.shaped.passing.at further.means.table.shaped.passing.at)
       entered_says m shape early place page same knows is (starts.Done there) e = tt
 
       entry_says : (m : LocateModel) (shape : ℕ) (early : Option ℕ) (place : PlaceModel)
@@ -396,7 +401,7 @@ module _ (env : Env) (mix : ℕ → ℕ → ℕ → ℕ) (c : ℕ) (h : Holding)
       says_at slot (locates.Early shape place) within knows =
           let on = knows.means.table in
           foresees_now slot shape place on (slot_of (M (Slot slot FutureWord)))
-          (behind-table slot on.shaped.passing.table)
+          (behind-table slot on.shaped.passing.at)
       says_at slot (locates.Entry shape early place) within knows =
           let m : LocateModel = record { geometry = env.geometry; table = slot; at = locates.Entry shape early place } in
           entry_says m shape early place within.nested_in.place_in.geometry_same knows (led_by place) refl

@@ -13,8 +13,8 @@ use Rattle.rht_nest.specs.Tables.{is_nested}
 use Rattle.rht_nest.specs.Place.{PlaceModel, nested_place, picked, entered}
 use Rattle.rht_nest.specs.declared.grow.GrowAt.{GrowAt}
 use Rattle.rht_nest.specs.declared.grow.GrowAt.TheVariants as grows
-use Rattle.rht_ghost.proofs.Theory.Ghosts.{Part, Middle, Top, has_entries, PageOf, Ghost, index_at, is_entry_of, entry_word, table_of_page, table_at}
-use Rattle.rht_ghost.proofs.Theory.Wholes.{hash_in, IsNested, PlacedRight, Whole, IsThere, slot-there}
+use Rattle.rht_ghost.proofs.Theory.Ghosts.{Part, Middle, Top, has_entries, PageOf, Ghost, is_entry_of, entry_word, table_of_page, table_at}
+use Rattle.rht_ghost.proofs.Theory.Wholes.{hash_in, IsNested, PlacedRight, Whole, IsThere, at-there}
 use Rattle.rht_ghost.proofs.Theory.Ways.{first_page, entries_in, IsInUse}
 use Rattle.rht_ghost.proofs.Theory.Entries.{few_entries, some_entries, page_within, entry_in, entry_nested}
 use Rattle.rht_ghost.proofs.Theory.PlacesRead.{begins_at_top, entries_in_words}
@@ -119,11 +119,10 @@ module _ (env : Env) (mix : ℕ → ℕ → ℕ → ℕ) (M : Memory) (G : Ghost
 
   module _ (port slot shape : ℕ) (place : PlaceModel) (on : IsOnWay env mix G port slot shape place None) where
     -- the entry at which the way stands is in use
-    pub open_in_table : IsOpenIn env G (index_at G slot) place.entry
+    pub open_in_table : IsOpenIn env G on.shaped.passing.at.table place.entry
     open_in_table =
-        let τ = index_at G slot in
-        let number = hash_in env mix G port τ in
-        way_open τ number (slot-there env mix whole.tables slot on.shaped.passing.table) on.to.nested place on.to.way
+        let at = on.shaped.passing.at in
+        way_open at.table (hash_in env mix G port at.table) (at-there env mix whole.tables slot at) on.to.nested place on.to.way
 
     pub open_on_way : IsOpenEntry env G place.entry
     open_on_way = open_in_table.open_is
@@ -137,12 +136,13 @@ module _ (env : Env) (mix : ℕ → ℕ → ℕ → ℕ) (M : Memory) (G : Ghost
       entered_so (starts.Running next) e =
           record {
             shaped = on.shaped;
-            to = on_way_next env mix M G whole port slot on.shaped.passing.table place on.to next page entry_is e;
+            to = on_way_next env mix M G whole port on.shaped.passing.at.table
+                (at-there env mix whole.tables slot on.shaped.passing.at) place on.to next page entry_is e;
             behind = tt;
           }
       entered_so (starts.Done there) e =
           at_home env mix M G whole port slot shape there on.shaped.passing on.shaped.shape_is
-          (way_home env mix M G whole port slot on.shaped.passing.table place same on.to page there entry_is e)
+          (way_home env mix M G whole port slot on.shaped.passing.at place same on.to page there entry_is e)
 
       -- and behind the page the way goes on
       pub entered_on_way : TableMeans env mix G (known_entered port slot shape (entered place page))

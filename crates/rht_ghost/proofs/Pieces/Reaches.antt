@@ -1,8 +1,8 @@
 -- The operations on the way to a port's bucket, for a look-up that takes no lock and knows nothing of the tables before. Each is a load.
 --
--- What they tell is true of the words and of any table that a slot has. It is no knowledge of a caller: it may be carried along in any
--- induction over runs, since it outlives whatever leaves tables what they are.
-use Rattle.std.proofs.Common.{◌≡◌, ℕ, ◌<◌, List, Option, Some, None, true, cond, refl, sym, ◌∙◌, ap, subst}
+-- What they tell is true of the words and of any table that is known by its slot. It is no knowledge of a caller: it may be carried along
+-- in any induction over runs, since it outlives whatever leaves tables what they are.
+use Rattle.std.proofs.Common.{◌≡◌, ℕ, ◌<◌, List, Option, Some, None, cond, refl, sym, ◌∙◌, ap, subst}
 use Rattle.rht_words.specs.declared.env.Env.{Env}
 use Rattle.rht_words.specs.declared.geometry.Geometry.{Geometry}
 use Rattle.rht_words.specs.declared.machine.Next.{Next}
@@ -22,8 +22,8 @@ use Rattle.rht_nest.specs.declared.place.Bucket.{Bucket}
 use Rattle.rht_nest.specs.declared.place.Bucket.TheVariants.{At, Absent}
 use Rattle.rht_nest.specs.declared.reach.ReachAt.{ReachAt}
 use Rattle.rht_nest.specs.declared.reach.ReachAt.TheVariants as reaches
-use Rattle.rht_ghost.proofs.Theory.Ghosts.{Ghost, has_table, index_at}
-use Rattle.rht_ghost.proofs.Theory.Wholes.{Whole, hash_in, home}
+use Rattle.rht_ghost.proofs.Theory.Ghosts.{Ghost}
+use Rattle.rht_ghost.proofs.Theory.Wholes.{IsAt, at-there, Whole, hash_in, home}
 use Rattle.rht_ghost.proofs.Theory.Passed.{TablesGrow}
 use Rattle.rht_ghost.proofs.Theory.Knowledge.{IsWayTo}
 use Rattle.rht_ghost.proofs.Theory.WaysRead.{IsPlaceOf, on_way_next, home_place}
@@ -34,30 +34,26 @@ use Rattle.rht_ghost.proofs.Pieces.TableLoads.{shape_word, way_begins, flat_home
 module _ (env : Env) (mix : ℕ → ℕ → ℕ → ℕ) where
   -- what is so on the way: the shape is the table's, and the entry is on the way to the port's bucket
   abbrev pub IsReachingHome : Ghost → ℕ → ℕ → ReachAt → Type 0
-  IsReachingHome G port slot reaches.Shape = Unit {0}
-  IsReachingHome G port slot (reaches.Seed shape) = (G.table (index_at G slot)).shape ≡ shape
-  IsReachingHome G port slot (reaches.Entry place) = IsWayTo env mix G port slot place
+  IsReachingHome G port τ reaches.Shape = Unit {0}
+  IsReachingHome G port τ (reaches.Seed shape) = (G.table τ).shape ≡ shape
+  IsReachingHome G port τ (reaches.Entry place) = IsWayTo env mix G port τ place
 
   -- and at its end: the place is that of the bucket's word, or the bucket is missing, so no port is seated there
   abbrev pub HasReached : Ghost → ℕ → ℕ → Bucket → Type 0
-  HasReached G port slot (At place) =
-      IsPlaceOf env mix G (index_at G slot) (hash_in env mix G port (index_at G slot)) place
-  HasReached G port slot (Absent entry) = home env mix G port (index_at G slot) ≡ None
+  HasReached G port τ (At place) = IsPlaceOf env mix G τ (hash_in env mix G port τ) place
+  HasReached G port τ (Absent entry) = home env mix G port τ ≡ None
 
   -- what an operation tells
-  abbrev pub ReachTells : Ghost → ℕ → ReachModel × Next Bucket → Type 0
-  ReachTells G port (m, Go) = IsReachingHome G port m.table m.at
-  ReachTells G port (m, Done bucket) = HasReached G port m.table bucket
+  abbrev pub ReachTells : Ghost → ℕ → ℕ → ReachModel × Next Bucket → Type 0
+  ReachTells G port τ (m, Go) = IsReachingHome G port τ m.at
+  ReachTells G port τ (m, Done bucket) = HasReached G port τ bucket
 
   -- it outlives whatever leaves tables what they are
-  pub IsReachingHome-stay : (G G' : Ghost) → TablesGrow env mix G G' → (port slot : ℕ) (state : ReachAt)
-      → has_table (G.slot slot) ≡ true → index_at G slot < G.attached
-      → IsReachingHome G port slot state → IsReachingHome G' port slot state
-  IsReachingHome-stay G G' grow port slot reaches.Shape has attached is = tt
-  IsReachingHome-stay G G' grow port slot (reaches.Seed shape) has attached is =
-      ap (λ τ. (G'.table τ).shape) (grow.indices slot has) ∙ (grow.tables (index_at G slot) attached).shape ∙ is
-  IsReachingHome-stay G G' grow port slot (reaches.Entry place) has attached is =
-      IsWayTo-stay env mix G G' grow port slot place has attached is
+  pub IsReachingHome-stay : (G G' : Ghost) → TablesGrow env mix G G' → (port τ : ℕ) (state : ReachAt) → τ < G.attached
+      → IsReachingHome G port τ state → IsReachingHome G' port τ state
+  IsReachingHome-stay G G' grow port τ reaches.Shape attached is = tt
+  IsReachingHome-stay G G' grow port τ (reaches.Seed shape) attached is = (grow.tables τ attached).shape ∙ is
+  IsReachingHome-stay G G' grow port τ (reaches.Entry place) attached is = IsWayTo-stay env mix G G' grow port τ place attached is
 
   module _ (words : List ℕ) (G : Ghost) (whole : Whole env mix (mem env mix words) G) where
     abbrev M : Memory
@@ -76,15 +72,18 @@ module _ (env : Env) (mix : ℕ → ℕ → ℕ → ℕ) where
         → SilentStep env mix c words G (reach_plan m) h h Knows
     reach_step c h Knows m knows = silent_at c h Knows m.geometry m.table m.at knows
 
-    module _ (port slot : ℕ) (has : has_table (G.slot slot) ≡ true) where
+    module _ (port slot : ℕ) (at : IsAt G slot) where
+      abbrev τ : ℕ
+      τ = at.table
+
       abbrev at_slot : ReachAt → ReachModel
       at_slot state = record { geometry = env.geometry; table = slot; at = state }
 
       abbrev Tells : ReachModel × Next Bucket → Type 0
-      Tells = ReachTells G port
+      Tells = ReachTells G port τ
 
       -- by the seed the way begins, or in a flat table the bucket is there
-      seed_tells : (shape : ℕ) → (G.table (index_at G slot)).shape ≡ shape
+      seed_tells : (shape : ℕ) → (G.table τ).shape ≡ shape
           → let number = bucket_of mix port shape (M (Slot slot SeedWord)) in
           Tells (begun (at_slot (reaches.Seed shape)) (place_new env.geometry shape number))
       seed_tells shape shape_is =
@@ -93,12 +92,12 @@ module _ (env : Env) (mix : ℕ → ℕ → ℕ → ℕ) where
           by_test (λ t. Tells (begun (at_slot (reaches.Seed shape)) (cond {A = Start PlaceModel Bucket} t
           (starts.Running (nested_place env.geometry shape number)) (starts.Done (At place)))))
           (is_nested shape)
-          (λ nested. way_begins env mix M G whole port slot has shape shape_is nested)
-          (λ flat. home_place env mix M G whole port slot has place
-          (flat_home env mix M G whole port slot has shape shape_is flat))
+          (λ nested. way_begins env mix M G whole port slot at shape shape_is nested)
+          (λ flat. home_place env mix M G whole port τ (at-there env mix whole.tables slot at) place
+          (flat_home env mix M G whole port slot at shape shape_is flat))
 
       module _ (state : ReachAt) (place : PlaceModel) (same : place.geometry ≡ env.geometry)
-          (to : IsWayTo env mix G port slot place) where
+          (to : IsWayTo env mix G port τ place) where
         abbrev led_by : Option ℕ
         led_by = page_of env.geometry.pages (M (PageWord place.entry))
 
@@ -106,20 +105,20 @@ module _ (env : Env) (mix : ℕ → ℕ → ℕ → ℕ) where
         entered_tells : (page : ℕ) → led_by ≡ Some page → (start : Start PlaceModel ℕ) → entered place page ≡ start
             → let next = went_behind place start in Tells (followed (at_slot state) next.0 next.1)
         entered_tells page leads (starts.Running next) e =
-            on_way_next env mix M G whole port slot has place to next page leads e
+            on_way_next env mix M G whole port τ (at-there env mix whole.tables slot at) place to next page leads e
         entered_tells page leads (starts.Done there) e =
-            home_place env mix M G whole port slot has there
-            (way_home env mix M G whole port slot has place same to page there leads e)
+            home_place env mix M G whole port τ (at-there env mix whole.tables slot at) there
+            (way_home env mix M G whole port slot at place same to page there leads e)
 
         -- and one that leads to none: the bucket is missing
         entry_tells : (entry : Option ℕ) → led_by ≡ entry
             → let next = entry_seen place entry in Tells (followed (at_slot state) next.0 next.1)
-        entry_tells None none = way_missing env mix M G whole port slot has place same to none
+        entry_tells None none = way_missing env mix M G whole port slot at place same to none
         entry_tells (Some page) leads = entered_tells page leads (entered place page) refl
 
-      tells_at : (state : ReachAt) → IsReachAtIn env.geometry state → IsReachingHome G port slot state
+      tells_at : (state : ReachAt) → IsReachAtIn env.geometry state → IsReachingHome G port τ state
           → Tells (reach_after mix port (at_slot state) (old_of words (reach_plan (at_slot state))))
-      tells_at reaches.Shape within is = sym (shape_word env mix M G whole slot has)
+      tells_at reaches.Shape within is = sym (shape_word env mix M G whole slot at)
       tells_at (reaches.Seed shape) within is = seed_tells shape is
       tells_at (reaches.Entry place) within is =
           let same = within.geometry_same in
@@ -128,10 +127,10 @@ module _ (env : Env) (mix : ℕ → ℕ → ℕ → ℕ) where
           (sym led)
 
     -- what each tells of the table in the slot
-    pub reach_tells : (port : ℕ) (m : ReachModel) → IsReachIn env.geometry m → has_table (G.slot m.table) ≡ true
-        → IsReachingHome G port m.table m.at
-        → ReachTells G port (reach_after mix port m (old_of words (reach_plan m)))
-    reach_tells port m within has is =
+    pub reach_tells : (port : ℕ) (m : ReachModel) → IsReachIn env.geometry m → (at : IsAt G m.table)
+        → IsReachingHome G port at.table m.at
+        → ReachTells G port at.table (reach_after mix port m (old_of words (reach_plan m)))
+    reach_tells port m within at is =
         subst (λ g. let here : ReachModel = record { geometry = g; table = m.table; at = m.at } in
-        ReachTells G port (reach_after mix port here (old_of words (reach_plan here))))
-        (sym within.geometry_same) (tells_at port m.table has m.at within.at_in is)
+        ReachTells G port at.table (reach_after mix port here (old_of words (reach_plan here))))
+        (sym within.geometry_same) (tells_at port m.table at m.at within.at_in is)

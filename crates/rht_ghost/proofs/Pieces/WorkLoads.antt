@@ -20,14 +20,14 @@ use Rattle.rht_words.proofs.ChainLemmas.{IsSegment-cut}
 use Rattle.rht_policy.specs.Mix.{bucket_of}
 use Rattle.rht_nest.specs.Place.{PlaceModel, flat_place, nested_place, entered, behind_entry, place_or_last}
 use Rattle.rht_nest.specs.Tables.{is_nested}
-use Rattle.rht_ghost.proofs.Theory.Ghosts.{Ghost, has_table, index_at, lock_bit, none-some}
-use Rattle.rht_ghost.proofs.Theory.Wholes.{chain_of, key_of, place_at, word_index, place_at-index, index-within, hash_in, future_in, stop, PlacedRight, Whole, current-there, slot-there, there-attached}
+use Rattle.rht_ghost.proofs.Theory.Ghosts.{Ghost, lock_bit, none-some}
+use Rattle.rht_ghost.proofs.Theory.Wholes.{chain_of, key_of, place_at, word_index, place_at-index, index-within, hash_in, stop, PlacedRight, Whole, IsAt, current-there, at-there, at-right}
 use Rattle.rht_ghost.proofs.Theory.Passed.{hash-below, held-no_entry}
 use Rattle.rht_ghost.proofs.Theory.Knowns.{KnownAim, NoAim, Onward, From, Beyond, KnownRehash, KnownPlace, KnownEntry, KnownWork, Works, Rooted, Follows, Empties, Nears, Faces, InBucket, Bare, AtEntry, AtTail, Aims}
-use Rattle.rht_ghost.proofs.Theory.Knowledge.{DoesWork, HasLock, IsEmptying, IsNearing, IsInBucket, WorkMeans}
+use Rattle.rht_ghost.proofs.Theory.Knowledge.{DoesWork, HasLock, IsRightBehind, next_at, IsFrom, IsEmptying, IsNearing, IsInBucket, WorkMeans}
 use Rattle.rht_ghost.proofs.Theory.WaysRead.{words_of_pages, read_by_entry, flat_read, near_read, near_next, place_of_bucket, missing_home}
 use Rattle.rht_ghost.proofs.Moves.Relinking.{last_of-more}
-use Rattle.rht_ghost.proofs.Pieces.TableLoads.{LeadsBehind, table_right, slot_word, shape_word, seed_word, future_leads}
+use Rattle.rht_ghost.proofs.Pieces.TableLoads.{LeadsBehind, shape_word, seed_word, future_word, future_leads}
 
 -- Behind a load of a table's future: the last table, which may be the current one, and the last one where there is one behind the
 -- current one
@@ -59,32 +59,11 @@ module _ (env : Env) (mix : ℕ → ℕ → ℕ → ℕ) (c : ℕ) (M : Memory) 
   -- ---- words of tables
 
   -- what the future of a table is read as: none for the last one, and else the slot of the next one
-  record IsNextTable (τ next : ℕ) : Type 0 where
-    attached : τ + 1 < G.attached
-    slot_is : (G.table (τ + 1)).slot ≡ next
-    table : has_table (G.slot next) ≡ true
-    index_is : index_at G next ≡ τ + 1
-
   abbrev LeadsTo : ℕ → Option ℕ → Type 0
-  LeadsTo τ None = τ + 1 ≡ G.attached
-  LeadsTo τ (Some next) = IsNextTable τ next
+  LeadsTo = LeadsBehind env mix M G whole
 
-  next_leads : (slot : ℕ) (future : Option ℕ) → LeadsBehind env mix M G whole slot future → LeadsTo (index_at G slot) future
-  next_leads slot None last = last
-  next_leads slot (Some next) behind =
-      let of = whole.tables.slots next behind.table in
-      let attached = of.attached in
-      let index = behind.index in
-      record {
-        attached = omega (arith, attached, index);
-        slot_is = ap (λ τ. (G.table τ).slot) (sym index) ∙ of.slot;
-        table = behind.table;
-        index_is = index;
-      }
-
-  future_read : (slot : ℕ) → has_table (G.slot slot) ≡ true
-      → LeadsTo (index_at G slot) (slot_of (M (Slot slot FutureWord)))
-  future_read slot has = next_leads slot (slot_of (M (Slot slot FutureWord))) (future_leads env mix M G whole slot has)
+  future_read : (slot : ℕ) (at : IsAt G slot) → LeadsTo at.table (slot_of (M (Slot slot FutureWord)))
+  future_read = future_leads env mix M G whole
 
   -- ---- tables
 
@@ -97,21 +76,17 @@ module _ (env : Env) (mix : ℕ → ℕ → ℕ → ℕ) (c : ℕ) (M : Memory) 
       (arith, right.slot_in, word)) in
       record { works = knows.works; more = record { root_is = sym is; aim_is = tt } }
 
-  -- it has a slot
-  root_has : (root : ℕ) → (G.table G.current).slot ≡ root
-      → (has_table (G.slot root) ≡ true) × (index_at G root ≡ G.current)
-  root_has root is =
-      let there = current-there env mix whole.tables in
-      (ap (λ s. has_table (G.slot s)) (sym is) ∙ there.has_slot, ap (index_at G) (sym is) ∙ there.index)
+  -- it is known by its slot
+  abbrev root_at : (root : ℕ) → (G.table G.current).slot ≡ root → IsAt G root
+  root_at root is = record { table = G.current; attached = whole.tables.current_in; slot_is = is }
 
   pub from_root : (root : ℕ) → Knows (Rooted root NoAim) → Knows (Rooted root (From root))
   from_root root knows =
-      let has = root_has root knows.more.root_is in
       record {
         works = knows.works;
         more = record {
           root_is = knows.more.root_is;
-          aim_is = record { table = has.0; from = omega (arith, has.1) };
+          aim_is = record { at = root_at root knows.more.root_is; from = omega arith };
         };
       }
 
@@ -123,15 +98,18 @@ module _ (env : Env) (mix : ℕ → ℕ → ℕ → ℕ) (c : ℕ) (M : Memory) 
   -- the last table
   pub last_seen : (root slot : ℕ) → Knows (Rooted root (From slot))
       → Knows (Rooted root (last_sought slot (slot_of (M (Slot slot FutureWord)))))
-  last_seen root slot knows = go (slot_of (M (Slot slot FutureWord))) (future_read slot knows.more.aim_is.table)
+  last_seen root slot knows = go (slot_of (M (Slot slot FutureWord))) (future_read slot aim.at)
     where
-      go : (next : Option ℕ) → LeadsTo (index_at G slot) next → Knows (Rooted root (last_sought slot next))
+      aim : IsFrom env mix G slot
+      aim = knows.more.aim_is
+
+      go : (next : Option ℕ) → LeadsTo aim.at.table next → Knows (Rooted root (last_sought slot next))
       go None leads = knows
       go (Some next) leads = record {
         works = knows.works;
         more = record {
           root_is = knows.more.root_is;
-          aim_is = record { table = leads.table; from = omega (arith, leads.index_is, knows.more.aim_is.from) };
+          aim_is = record { at = next_at env mix G aim.at.table next leads; from = omega (arith, aim.from) };
         };
       }
 
@@ -139,16 +117,15 @@ module _ (env : Env) (mix : ℕ → ℕ → ℕ → ℕ) (c : ℕ) (M : Memory) 
   pub other_behind : (root last : ℕ) → root ≢ last → Knows (Rooted root (From last)) → Knows (Rooted root Onward)
   other_behind root last other knows =
       let aim = knows.more.aim_is in
-      let is = whole.tables.slots last aim.table in
       record {
         works = knows.works;
         more = record {
           root_is = knows.more.root_is;
-          aim_is = elim (cases_lt G.current (index_at G last)) [
-            | inl later ↦ omega (arith, later, is.attached)
+          aim_is = elim (cases_lt G.current aim.at.table) [
+            | inl later ↦ omega (arith, later, aim.at.attached)
             | inr early ↦
-                let same : G.current ≡ index_at G last = omega (arith, aim.from, early) in
-                absurd (other (sym knows.more.root_is ∙ ap (λ τ. (G.table τ).slot) same ∙ is.slot))
+                let same : G.current ≡ aim.at.table = omega (arith, aim.from, early) in
+                absurd (other (sym knows.more.root_is ∙ ap (λ τ. (G.table τ).slot) same ∙ aim.at.slot_is))
           ];
         };
       }
@@ -158,9 +135,8 @@ module _ (env : Env) (mix : ℕ → ℕ → ℕ → ℕ) (c : ℕ) (M : Memory) 
       → Knows (Rooted root Onward)
   future_behind root last some knows =
       let aim = knows.more.aim_is in
-      let τ = index_at G last in
-      let future : M (Slot last FutureWord) ≡ future_in env mix G τ = slot_word env mix M G whole last FutureWord aim.table
-      ∙ (table_right env mix M G whole last aim.table).future_is in
+      let τ = aim.at.table in
+      let future = future_word env mix M G whole last aim.at in
       record {
         works = knows.works;
         more = record {
@@ -176,50 +152,44 @@ module _ (env : Env) (mix : ℕ → ℕ → ℕ → ℕ) (c : ℕ) (M : Memory) 
   -- then the current one's future is none no more
   pub has_future : (root : ℕ) → Knows (Rooted root Onward) → slot_of (M (Slot root FutureWord)) ≢ None
   has_future root knows none =
-      let has = root_has root knows.more.root_is in
-      let last : index_at G root + 1 ≡ G.attached = subst (LeadsTo (index_at G root)) none (future_read root has.0) in
+      let last : G.current + 1 ≡ G.attached =
+      subst (LeadsTo G.current) none (future_read root (root_at root knows.more.root_is)) in
       let more = knows.more.aim_is in
-      absurd (omega (arith, last, has.1, more))
+      absurd (omega (arith, last, more))
 
   -- a nested table has no more buckets than its shape may have
-  pub nested_size : (slot : ℕ) → has_table (G.slot slot) ≡ true → is_nested (M (Slot slot ShapeWord)) ≡ true
+  pub nested_size : (slot : ℕ) → IsAt G slot → is_nested (M (Slot slot ShapeWord)) ≡ true
       → size_of (unpacked (M (Slot slot ShapeWord))) ≤ 2 ^ 17
-  nested_size slot has nested =
-      subst (λ shape. size_of (unpacked shape) ≤ 2 ^ 17) (sym (shape_word env mix M G whole slot has))
-      (go (table_right env mix M G whole slot has).placed (sym (ap is_nested (shape_word env mix M G whole slot has)) ∙ nested))
+  nested_size slot at nested =
+      subst (λ shape. size_of (unpacked shape) ≤ 2 ^ 17) (sym (shape_word env mix M G whole slot at))
+      (go (at-right env mix whole.tables slot at).placed (sym (ap is_nested (shape_word env mix M G whole slot at)) ∙ nested))
     where
-      go : PlacedRight env mix (G.table (index_at G slot)) G.page (index_at G slot)
-          → is_nested (G.table (index_at G slot)).shape ≡ true → size_of (unpacked (G.table (index_at G slot)).shape) ≤ 2 ^ 17
+      go : PlacedRight env mix (G.table at.table) G.page at.table
+          → is_nested (G.table at.table).shape ≡ true → size_of (unpacked (G.table at.table).shape) ≤ 2 ^ 17
       go (inl flat) is = let none = sym is ∙ ap (nat_lt 0) flat.flat in absurd (cc)
       go (inr nested) is =
           let most = nested.shaped.most in
-          powers-rise (max 2 (min (unpacked (G.table (index_at G slot)).shape).exponent 18)) 17 (omega (arith, most))
+          powers-rise (max 2 (min (unpacked (G.table at.table).shape).exponent 18)) 17 (omega (arith, most))
 
   -- the table behind the current one, and the current one's shape
   pub future_seen : (root future : ℕ) (aim : KnownAim) → Knows (Rooted root aim)
       → slot_of (M (Slot root FutureWord)) ≡ Some future → Knows (Follows root future)
   future_seen root future aim knows is =
-      let has = root_has root knows.more.root_is in
-      let leads : IsNextTable (index_at G root) future = subst (LeadsTo (index_at G root)) is
-      (future_read root has.0) in
+      let leads : IsRightBehind env mix G G.current future =
+      subst (LeadsTo G.current) is (future_read root (root_at root knows.more.root_is)) in
       record {
         works = knows.works;
-        more = record {
-          root_is = knows.more.root_is;
-          future_is = ap (λ τ. (G.table (τ + 1)).slot) (sym has.1) ∙ leads.slot_is;
-          more = omega (arith, leads.attached, has.1);
-        };
+        more = record { root_is = knows.more.root_is; future_is = leads.slot_is; more = leads.attached };
       }
 
   pub shape_seen : (root future : ℕ) → Knows (Follows root future)
       → Knows (Empties (record { root = root; future = future; shape = M (Slot root ShapeWord) }) 0)
   shape_seen root future knows =
-      let has = root_has root knows.more.root_is in
       record {
         works = knows.works;
         more = record {
           followed = knows.more;
-          shape_is = sym (shape_word env mix M G whole root has.0 ∙ ap (λ τ. (G.table τ).shape) has.1);
+          shape_is = sym (shape_word env mix M G whole root (root_at root knows.more.root_is));
           within = omega arith;
           each = λ b j l at. absurd (omega (arith, l));
         };
@@ -333,30 +303,29 @@ module _ (env : Env) (mix : ℕ → ℕ → ℕ → ℕ) (c : ℕ) (M : Memory) 
   pub from_current : (root : KnownRehash) (at : KnownPlace) (aim : KnownAim) → Knows (InBucket root at aim)
       → Knows (InBucket root at (From root.root))
   from_current root at aim knows = in_bucket root at aim (From root.root) knows (λ is.
-      let has = root_has root.root is.next.empties.followed.root_is in
       record {
         next = is.next;
         out = is.out;
-        aim_is = record { table = has.0; from = omega (arith, has.1) };
+        aim_is = record { at = root_at root.root is.next.empties.followed.root_is; from = omega arith };
       })
 
   pub aim_seen : (root : KnownRehash) (at : KnownPlace) (slot : ℕ) → Knows (InBucket root at (From slot))
       → Knows (InBucket root at (aim_sought slot (slot_of (M (Slot slot FutureWord)))))
   aim_seen root at slot knows =
-      go (slot_of (M (Slot slot FutureWord))) (future_read slot knows.more.aim_is.table)
+      go (slot_of (M (Slot slot FutureWord))) (future_read slot aim.at)
     where
-      from : G.current ≤ index_at G slot
-      from = knows.more.aim_is.from
+      aim : IsFrom env mix G slot
+      aim = knows.more.aim_is
 
       more : G.current + 1 < G.attached
       more = knows.more.next.empties.followed.more
 
-      go : (next : Option ℕ) → LeadsTo (index_at G slot) next → Knows (InBucket root at (aim_sought slot next))
+      go : (next : Option ℕ) → LeadsTo aim.at.table next → Knows (InBucket root at (aim_sought slot next))
       go None leads = in_bucket root at (From slot) (Beyond slot None None) knows (λ is. record {
         next = is.next;
         out = is.out;
         aim_is = record {
-          table = is.aim_is.table;
+          at = aim.at;
           later = omega (arith, leads, more);
           shape_is = tt;
           flat = tt;
@@ -366,7 +335,7 @@ module _ (env : Env) (mix : ℕ → ℕ → ℕ → ℕ) (c : ℕ) (M : Memory) 
       go (Some next) leads = in_bucket root at (From slot) (From next) knows (λ is. record {
         next = is.next;
         out = is.out;
-        aim_is = record { table = leads.table; from = omega (arith, leads.index_is, from) };
+        aim_is = record { at = next_at env mix G aim.at.table next leads; from = omega (arith, aim.from) };
       })
 
   -- its shape, where that isn't nested
@@ -379,9 +348,9 @@ module _ (env : Env) (mix : ℕ → ℕ → ℕ → ℕ) (c : ℕ) (M : Memory) 
         next = is.next;
         out = is.out;
         aim_is = record {
-          table = is.aim_is.table;
+          at = is.aim_is.at;
           later = is.aim_is.later;
-          shape_is = sym (shape_word env mix M G whole slot is.aim_is.table);
+          shape_is = sym (shape_word env mix M G whole slot is.aim_is.at);
           flat = flat;
           seed_is = tt;
         };
@@ -396,11 +365,11 @@ module _ (env : Env) (mix : ℕ → ℕ → ℕ → ℕ) (c : ℕ) (M : Memory) 
         next = is.next;
         out = is.out;
         aim_is = record {
-          table = is.aim_is.table;
+          at = is.aim_is.at;
           later = is.aim_is.later;
           shape_is = is.aim_is.shape_is;
           flat = is.aim_is.flat;
-          seed_is = sym (seed_word env mix M G whole slot is.aim_is.table);
+          seed_is = sym (seed_word env mix M G whole slot is.aim_is.at);
         };
       })
 
@@ -539,9 +508,8 @@ module _ (env : Env) (mix : ℕ → ℕ → ℕ → ℕ) (c : ℕ) (M : Memory) 
       let small : key_of M entry.node < 2 ^ 32 = whole.owned.small (key_of M entry.node) entry.node first.behind
       first.bound_to in
       let aim = bucket.aim_is in
-      let τ = index_at G slot in
-      let is_there = slot-there env mix whole.tables slot aim.table in
-      let attached = there-attached env mix whole.tables τ is_there in
+      let τ = aim.at.table in
+      let is_there = at-there env mix whole.tables slot aim.at in
       let key = key_of M entry.node in
       let number = hash_in env mix G key τ in
       let below = hash-below env mix M G whole key τ in
@@ -569,7 +537,7 @@ module _ (env : Env) (mix : ℕ → ℕ → ℕ → ℕ) (c : ℕ) (M : Memory) 
               bucket = placed.bucket;
               table = τ;
               later = aim.later;
-              attached = attached;
+              attached = aim.at.attached;
               here = placed.here;
             };
           };

@@ -17,7 +17,7 @@ use Rattle.rht_words.proofs.Members.{in-middle}
 use Rattle.rht_chain.specs.Lock.{LockModel, lock_plan, lock_after, IsEven}
 use Rattle.rht_chain.specs.declared.lock.LockAt.{LockAt}
 use Rattle.rht_chain.specs.declared.lock.LockAt.TheVariants as locks
-use Rattle.rht_ghost.proofs.Theory.Ghosts.{put-all, Ghost, index_at, lock_bit, held_by, with_holder}
+use Rattle.rht_ghost.proofs.Theory.Ghosts.{has_table, put-all, Ghost, index_at, lock_bit, held_by, with_holder}
 use Rattle.rht_ghost.proofs.Theory.Wholes.{place_at, word_index, place_at-index, index-within, Whole, slot-there}
 use Rattle.rht_ghost.proofs.Theory.Knowns.{MakesNothing, KnownAim, NoAim, KnownRehash, KnownPlace, KnownEntry, KnownWork, NoWork, Works, Empties, LeavesBehind, InBucket, Aims, Brings, TakesOut, HasBrought}
 use Rattle.rht_ghost.proofs.Theory.Knowledge.{Only, WorkMeans, Knowing}
@@ -377,8 +377,10 @@ module _ (env : Env) (mix : ℕ → ℕ → ℕ → ℕ) (c : ℕ) (h : Holding)
           let op = Store (place_of env.geometry (Slot slot StateWord)) 2 in
           let works = knows.means.work.works in
           let is = knows.means.work.more in
-          let of = whole.tables.slots slot is.table in
-          let within : slot < 8 = subst (λ s. s < 8) of.slot (whole.tables.each (index_at G slot) (slot-there env mix whole.tables slot is.table)).slot_in in
+          let has = ap has_table is.live in
+          let of = whole.tables.slots slot has in
+          let within : slot < 8 =
+          subst (λ s. s < 8) of.slot (whole.tables.each (index_at G slot) (slot-there env mix whole.tables slot has)).slot_in in
           let worked = retire_work env mix c M G whole slot works (after op) is
           (is_write env.geometry words (Slot slot StateWord) op all (within, tt) refl) in
           silent env mix c words G op (holding None None) (holding None None) (working None None Works) (Retires slot) whole

@@ -110,8 +110,8 @@ module _ (env : Env) (mix : ℕ → ℕ → ℕ → ℕ) where
     pub root : KnownRehash
     pub emptied : IsEmptying env mix G root (size_of (unpacked (G.table G.current).shape))
 
-  -- What is known when a table is retired: the current one is behind it.
+  -- What is known when a table is retired: the current one is right behind it.
   pub record CanRetire (d s : ℕ) (G : Ghost) : Type 0 where
     pub works : G.worker ≡ Some d
     pub table : has_table (G.slot s) ≡ true
-    pub left_behind : index_at G s < G.current
+    pub left_behind : index_at G s + 1 ≡ G.current

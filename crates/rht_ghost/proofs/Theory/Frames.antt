@@ -5,8 +5,8 @@ use Rattle.rht_words.specs.Places.{Address, CurrentTable, WorkLock, Slot, SlotWo
 use Rattle.rht_words.specs.Links.{link_of}
 use Rattle.rht_words.specs.Members.{In}
 use Rattle.rht_words.proofs.Memory.{Memory, IsWrite}
-use Rattle.rht_ghost.proofs.Theory.Ghosts.{Bucket, Owner, Free, First, Leaving, Ghost, is_taken_by, is_used, IsUsed, SlotOwner, seat_of, seat_in, seat, seat-used, has_table, index_at, Taken, HasSeat, is_listed, put-other, with_owner, IsListedNode, seat-listed}
-use Rattle.rht_ghost.proofs.Theory.Wholes.{chain_of, key_of, Whole, seated_at, out-seated}
+use Rattle.rht_ghost.proofs.Theory.Ghosts.{Table, Bucket, has_table, table_of_slot, Owner, Free, First, Leaving, Ghost, is_taken_by, is_used, IsUsed, seat_of, seat_in, seat, seat-used, Taken, HasSeat, is_listed, put-other, with_owner, IsListedNode, seat-listed}
+use Rattle.rht_ghost.proofs.Theory.Wholes.{chain_of, key_of, Whole, IsThere, seated_at, out-seated}
 use Rattle.rht_ghost.proofs.Theory.Passed.{same-TableStays, TablesGrow, PassesStay, Passed-stays}
 use Rattle.rht_ghost.proofs.Theory.Knowledge.{HasNode, IsEmptied}
 use Rattle.rht_ghost.proofs.Theory.Reliance.{TablesStay, HoldingsStay, WorkStays, WordStays, ChainsStay, bound_used, Rely}
@@ -158,20 +158,25 @@ module _ (env : Env) (mix : ℕ → ℕ → ℕ → ℕ) where
     pub page : G'.page ≡ G.page
     pub worker : G'.worker ≡ G.worker
 
+  -- a table that is there is so still
+  pub there_same : (G G' : Ghost) → SameTables G G' → (τ : ℕ) → IsThere G τ → IsThere G' τ
+  there_same G G' same τ there = record {
+    has_slot = ap (λ slot. has_table (slot (G'.table τ).slot)) same.slot
+        ∙ ap (λ (t : ℕ → Table). has_table (G.slot (t τ).slot)) same.table ∙ there.has_slot;
+    index = ap (λ slot. table_of_slot (slot (G'.table τ).slot)) same.slot
+        ∙ ap (λ (t : ℕ → Table). table_of_slot (G.slot (t τ).slot)) same.table ∙ there.index;
+  }
+
   pub same_grow : (G G' : Ghost) → SameTables G G' → TablesGrow env mix G G'
   same_grow G G' same = record {
     tables = λ τ l. same-TableStays G.page τ (G.table τ) (G'.table τ) (ap (λ t. t τ) same.table);
     placed = λ τ b j l is. inl (ap (λ t. (t τ).place b) (sym same.table) ∙ is);
     attached = omega (arith, same.attached);
     current = omega (arith, same.current);
-    slots = λ s has. ap (λ slot. has_table (slot s)) same.slot ∙ has;
-    indices = λ s has. ap (λ slot. index_of slot s) same.slot;
     live = λ s τ is l. ap (λ slot. slot s) (sym same.slot) ∙ is;
+    there = λ τ l was. there_same G G' same τ (was (omega (arith, l, same.attached)));
     pages = λ p τ is. ap (λ page. page p) same.page ∙ is;
   }
-    where
-      index_of : (ℕ → SlotOwner) → ℕ → ℕ
-      index_of slot s = index_at (record G { slot = slot }) s
 
   pub tables_stay : (M : Memory) (G G' : Ghost) → Whole env mix M G → SameTables G G' → PassesStay env mix G G'
       → TablesStay env mix G G'
@@ -255,6 +260,7 @@ module _ (env : Env) (mix : ℕ → ℕ → ℕ → ℕ) where
   work_stays c M M' G G' same stay works = record {
     worker = same.worker ∙ works;
     current = same.current;
+    left = λ s τ is l. ap (λ slot. slot s) same.slot ∙ is;
     emptied = λ more j table is. stay.emptied j is;
     entries = stay.entries;
     chains = stay.chains;

@@ -1,6 +1,6 @@
 -- What a caller knows in each state: what that means of the words and the ghost, and that it has nothing more.
 -- It speaks of words and ghosts on which the caller holds the right, or which nobody changes.
-use Rattle.std.proofs.Common.{◌≡◌, ◌≢◌, ◌⊎◌, ℕ, ◌+◌, ◌%◌, ◌<◌, ◌≤◌, List, [], ◌∷◌, length, Option, Some, None, Bool, true, false}
+use Rattle.std.proofs.Common.{◌≡◌, ◌≢◌, ◌⊎◌, ℕ, ◌+◌, ◌/◌, ◌%◌, ◌<◌, ◌≤◌, List, [], ◌∷◌, length, Option, Some, None, Bool, true, false}
 use Rattle.std.specs.Prelude.{IfSome}
 use Rattle.rht_words.specs.declared.env.Env.{Env}
 use Rattle.rht_words.specs.Places.{Slot, ShapeWord, SeedWord, FutureWord, SerialWord, Node, ChainLink, KeyWord, OwnerWord, ListLink, IsBucketPlace}
@@ -13,8 +13,8 @@ use Rattle.rht_words.specs.Members.{In}
 use Rattle.rht_words.specs.declared.machine.Start.TheVariants as starts
 use Rattle.rht_nest.specs.Tables.{is_nested, table_pages, table_seed}
 use Rattle.rht_nest.specs.Place.{PlaceModel, nested_place, entered}
-use Rattle.rht_ghost.proofs.Theory.Ghosts.{Bucket, NodeHeld, Leaving, Middle, PageHeld, PageOf, SlotHeld, Ghost, is_taken_by, has_table, index_at}
-use Rattle.rht_ghost.proofs.Theory.Wholes.{AreRetired, chain_of, key_of, place_at, word_index, hash_in, home, pages_of, MovesNone, moves_none, IsFurther, Whole}
+use Rattle.rht_ghost.proofs.Theory.Ghosts.{Bucket, NodeHeld, Leaving, Middle, PageHeld, PageOf, SlotHeld, Live, Ghost, is_taken_by}
+use Rattle.rht_ghost.proofs.Theory.Wholes.{AreRetired, chain_of, key_of, place_at, word_index, hash_in, home, pages_of, MovesNone, moves_none, IsFurther, Whole, IsAt}
 use Rattle.rht_ghost.proofs.Theory.Passed.{NoKey, Passed}
 use Rattle.rht_ghost.proofs.Theory.Knowns.{knows_plain, Armed, KnownAim, NoAim, Onward, From, Beyond, KnownRehash, KnownPlace, Follows, Nears, Faces, InBucket, Bare, Aims, LeavesBehind, AtEntry, AtHome, AtNode, AtTail, Brings, Collected, CollectedTo, CutsOut, Differing, Differs, Empties, FirstLink, Found, HasBrought, HasMade, HasPages, HasTaken, InList, InSlot, IsAmong, IsCollected, IsCollectedTo, IsCutOut, IsLeading, IsLeadingTo, IsOtherOwner, IsOwnersNode, IsPromoting, Known, KnownBucket, KnownEntry, KnownList, KnownMaking, KnownNode, KnownSlot, KnownTable, KnownWork, Leads, LeadsTo, Listing, Locks, LocksTakenOut, MakesNothing, Matching, Member, Missed, NoWork, Nowhere, OnWay, Passes, Promotes, Replaces, Rooted, Shaped, Stands, StandsAt, StandsInList, Succeeds, TakenOut, TakesOut, Unlocked, Unlocks, WithShape, Works, last_of}
 use Rattle.rht_ghost.proofs.Theory.Ways.{first_page, entries_in, IsNestedShape}
@@ -43,12 +43,12 @@ module _ (env : Env) (mix : ℕ → ℕ → ℕ → ℕ) where
 
   -- a table has this slot, and none of those before it binds the port
   pub record IsPassing (G : Ghost) (port slot : ℕ) : Type 0 where
-    pub table : has_table (G.slot slot) ≡ true
-    pub passed : Passed env mix G port (index_at G slot)
+    pub at : IsAt G slot
+    pub passed : Passed env mix G port at.table
 
   pub record IsShaped (G : Ghost) (port slot shape : ℕ) : Type 0 where
     pub passing : IsPassing G port slot
-    pub shape_is : (G.table (index_at G slot)).shape ≡ shape
+    pub shape_is : (G.table passing.at.table).shape ≡ shape
 
   -- behind the entry with which the way to the bucket with this number begins is a page of entries, and the way stands at one of these
   pub record IsSecondEntry (G : Ghost) (number τ shape : ℕ) (place : PlaceModel) : Type 0 where
@@ -62,41 +62,43 @@ module _ (env : Env) (mix : ℕ → ℕ → ℕ → ℕ) where
   IsWay G number τ shape place =
       (place ≡ nested_place env.geometry shape number) ⊎ IsSecondEntry G number τ shape place
 
-  -- the table in one slot is right behind that in another
-  pub record IsRightBehind (G : Ghost) (slot next : ℕ) : Type 0 where
-    pub table : has_table (G.slot next) ≡ true
-    pub index : index_at G next ≡ index_at G slot + 1
+  -- the table right behind this one has this slot
+  pub record IsRightBehind (G : Ghost) (τ next : ℕ) : Type 0 where
+    pub attached : τ + 1 < G.attached
+    pub slot_is : (G.table (τ + 1)).slot ≡ next
+
+  abbrev pub next_at : (G : Ghost) (τ next : ℕ) → IsRightBehind G τ next → IsAt G next
+  next_at G τ next behind = record { table = τ + 1; attached = behind.attached; slot_is = behind.slot_is }
 
   -- the table is nested, so that the way to the bucket with this number leads over entries, at one of which it stands
   pub record IsWayIn (G : Ghost) (number τ : ℕ) (place : PlaceModel) : Type 0 where
     pub nested : is_nested (G.table τ).shape ≡ true
     pub way : IsWay G number τ (G.table τ).shape place
 
-  -- the same of the port's bucket in the table of a slot
+  -- the same of the port's bucket
   abbrev pub IsWayTo : Ghost → ℕ → ℕ → PlaceModel → Type 0
-  IsWayTo G port slot place = IsWayIn G (hash_in env mix G port (index_at G slot)) (index_at G slot) place
+  IsWayTo G port τ place = IsWayIn G (hash_in env mix G port τ) τ place
 
   -- none of the tables before binds the port, and the table behind may be known
   pub record IsOnWay (G : Ghost) (port slot shape : ℕ) (place : PlaceModel) (early : Option ℕ) : Type 0 where
     pub shaped : IsShaped G port slot shape
-    pub to : IsWayTo G port slot place
-    pub behind : IfSome early (IsRightBehind G slot)
+    pub to : IsWayTo G port shaped.passing.at.table place
+    pub behind : IfSome early (IsRightBehind G shaped.passing.at.table)
 
   pub record IsAtHome (G : Ghost) (port slot : ℕ) (shape : Option ℕ) (place : ℕ) : Type 0 where
     pub passing : IsPassing G port slot
-    pub shape_is : IfSome shape (λ s. (G.table (index_at G slot)).shape ≡ s)
+    pub shape_is : IfSome shape (λ s. (G.table passing.at.table).shape ≡ s)
     pub bucket : IsBucketPlace env.geometry place
-    pub here : home env mix G port (index_at G slot) ≡ Some (word_index env mix place)
+    pub here : home env mix G port passing.at.table ≡ Some (word_index env mix place)
 
   -- a table has this slot, and this shape
   pub record HasShape (G : Ghost) (slot shape : ℕ) : Type 0 where
-    pub table : has_table (G.slot slot) ≡ true
-    pub attached : index_at G slot < G.attached
-    pub shape_is : (G.table (index_at G slot)).shape ≡ shape
+    pub at : IsAt G slot
+    pub shape_is : (G.table at.table).shape ≡ shape
 
   abbrev pub TableMeans : Ghost → KnownTable → Type 0
   TableMeans G Nowhere = Unit {0}
-  TableMeans G (InSlot slot) = has_table (G.slot slot) ≡ true
+  TableMeans G (InSlot slot) = IsAt G slot
   TableMeans G (WithShape slot shape) = HasShape G slot shape
   TableMeans G (Passes port slot) = IsPassing G port slot
   TableMeans G (Shaped port slot shape) = IsShaped G port slot shape
@@ -124,6 +126,7 @@ module _ (env : Env) (mix : ℕ → ℕ → ℕ → ℕ) where
   pub record ArmedFor (G : Ghost) (c port τ j : ℕ) : Type 0 where
     pub passed : Passed env mix G port τ
     pub here : home env mix G port τ ≡ Some j
+    pub of : G.page (j / 64) ≡ PageOf τ
     pub armed : (G.bucket j).armed ≡ Some c
     pub unbound : G.bound port ≡ []
 
@@ -333,15 +336,15 @@ module _ (env : Env) (mix : ℕ → ℕ → ℕ → ℕ) where
 
   -- a table that isn't before the current one, or one behind it, which isn't nested where its shape is known
   pub record IsFrom (G : Ghost) (slot : ℕ) : Type 0 where
-    pub table : has_table (G.slot slot) ≡ true
-    pub from : G.current ≤ index_at G slot
+    pub at : IsAt G slot
+    pub from : G.current ≤ at.table
 
   pub record IsBeyond (G : Ghost) (slot : ℕ) (shape seed : Option ℕ) : Type 0 where
-    pub table : has_table (G.slot slot) ≡ true
-    pub later : G.current < index_at G slot
-    pub shape_is : IfSome shape (λ s. (G.table (index_at G slot)).shape ≡ s)
+    pub at : IsAt G slot
+    pub later : G.current < at.table
+    pub shape_is : IfSome shape (λ s. (G.table at.table).shape ≡ s)
     pub flat : IfSome shape (λ s. is_nested s ≡ false)
-    pub seed_is : IfSome seed (λ s. (G.table (index_at G slot)).seed ≡ s)
+    pub seed_is : IfSome seed (λ s. (G.table at.table).seed ≡ s)
 
   abbrev pub AimMeans : Ghost → KnownAim → Type 0
   AimMeans G NoAim = Unit {0}
@@ -353,10 +356,11 @@ module _ (env : Env) (mix : ℕ → ℕ → ℕ → ℕ) where
     pub root_is : IsRoot G root
     pub aim_is : AimMeans G aim
 
-  -- a table was left behind by the current one
+  -- a table was left behind by the current one, and isn't retired yet
   pub record IsLeftBehind (G : Ghost) (slot : ℕ) : Type 0 where
-    pub table : has_table (G.slot slot) ≡ true
-    pub earlier : index_at G slot < G.current
+    pub table : ℕ
+    pub live : G.slot slot ≡ Live table
+    pub before : table + 1 ≡ G.current
 
   -- the bucket of the current table that is to be emptied next, to which the way leads over entries, since that table is nested; and the
   -- entry at which it stands

@@ -1,5 +1,5 @@
 -- What is known outlives a step of anybody else, and so does that there is nothing more.
-use Rattle.std.proofs.Common.{◌≡◌, ℕ, ◌+◌, ◌<◌, ◌≤◌, List, Option, Some, None, Bool, true, sym, ◌∙◌, ap, subst, inl, inr, arith}
+use Rattle.std.proofs.Common.{◌≡◌, ℕ, ◌+◌, ◌<◌, ◌≤◌, List, Option, Some, None, Bool, sym, ◌∙◌, ap, subst, inl, inr, arith}
 use Rattle.std.specs.Prelude.{IfSome}
 use Rattle.rht_words.specs.declared.env.Env.{Env}
 use Rattle.rht_nest.specs.Tables.{table_seed}
@@ -10,9 +10,9 @@ use Rattle.rht_words.proofs.Memory.{Memory}
 use Rattle.rht_words.specs.Members.{In}
 use Rattle.rht_words.proofs.Members.{in-middle}
 use Rattle.rht_nest.specs.Place.{PlaceModel}
-use Rattle.rht_ghost.proofs.Theory.Ghosts.{Ghost, has_table, index_at, seat-used}
-use Rattle.rht_ghost.proofs.Theory.Wholes.{retired_stay, key_of, word_index, home, out-seated, Whole, current-there}
-use Rattle.rht_ghost.proofs.Theory.Passed.{place-table, TableStays, TablesGrow, table_at-grows, home-stays}
+use Rattle.rht_ghost.proofs.Theory.Ghosts.{Ghost, seat-used}
+use Rattle.rht_ghost.proofs.Theory.Wholes.{retired_stay, key_of, word_index, home, out-seated, Whole, IsAt, current-there}
+use Rattle.rht_ghost.proofs.Theory.Passed.{place-table, TableStays, TablesGrow, table_at-grows, home-stays, at-stays}
 use Rattle.rht_ghost.proofs.Theory.Knowns.{KnownAim, NoAim, Onward, From, Beyond, KnownRehash, KnownPlace, Follows, Nears, Faces, KnownEntry, InBucket, Bare, AtEntry, AtTail, Aims, Brings, Empties, LeavesBehind, HasBrought, HasMade, HasPages, HasTaken, Known, KnownMaking, KnownWork, MakesNothing, NoWork, Rooted, TakesOut, Works, last_of}
 use Rattle.rht_ghost.proofs.Theory.Knowledge.{AimMeans, IsWayIn, IsRooted, IsFollowed, IsNearing, IsFacing, IsLeftBehind, IsNext, IsInBucket, IsBare, IsAim, IsAiming, IsWorking, HasLock, HasOnly, HasSlot, IsBringing, IsBrought, IsEmptying, IsEntry, IsOutOf, IsRoot, IsTail, IsTakenOut, IsTarget, Knowing, MakingMeans, Means, WorkMeans, bucket_at}
 use Rattle.rht_ghost.proofs.Theory.Reliance.{HoldingsStay, Rely, WordStays, WorkStays, members_used}
@@ -125,39 +125,29 @@ module _ (env : Env) (mix : ℕ → ℕ → ℕ → ℕ) where
     bucket-stays : (place word : ℕ) → HasLock env mix c G place word → bucket_at env mix G' place ≡ bucket_at env mix G place
     bucket-stays place word lock = keeps.locks (word_index env mix place) lock.holder
 
-    index-stays : (slot : ℕ) → has_table (G.slot slot) ≡ true → index_at G' slot ≡ index_at G slot
-    index-stays slot has = keeps.grow.indices slot has
+    known-shape_stays : (slot : ℕ) (shape : Option ℕ) (at : IsAt G slot)
+        → IfSome shape (λ s. (G.table at.table).shape ≡ s) → IfSome shape (λ s. (G'.table at.table).shape ≡ s)
+    known-shape_stays slot None at is = tt
+    known-shape_stays slot (Some s) at is = (keeps.grow.tables at.table at.attached).shape ∙ is
 
-    table-stays : (slot : ℕ) → has_table (G.slot slot) ≡ true
-        → TableStays G.page (index_at G slot) (G.table (index_at G slot)) (G'.table (index_at G' slot))
-    table-stays slot has =
-        rw (index-stays slot has) (keeps.grow.tables (index_at G slot) (whole.tables.slots slot has).attached)
-
-    known-shape_stays : (slot : ℕ) (shape : Option ℕ) → has_table (G.slot slot) ≡ true
-        → IfSome shape (λ s. (G.table (index_at G slot)).shape ≡ s)
-        → IfSome shape (λ s. (G'.table (index_at G' slot)).shape ≡ s)
-    known-shape_stays slot None has is = tt
-    known-shape_stays slot (Some s) has is = (table-stays slot has).shape ∙ is
-
-    known-seed_stays : (slot : ℕ) (seed : Option ℕ) → has_table (G.slot slot) ≡ true
-        → IfSome seed (λ s. (G.table (index_at G slot)).seed ≡ s)
-        → IfSome seed (λ s. (G'.table (index_at G' slot)).seed ≡ s)
-    known-seed_stays slot None has is = tt
-    known-seed_stays slot (Some s) has is = (table-stays slot has).seed ∙ is
+    known-seed_stays : (slot : ℕ) (seed : Option ℕ) (at : IsAt G slot)
+        → IfSome seed (λ s. (G.table at.table).seed ≡ s) → IfSome seed (λ s. (G'.table at.table).seed ≡ s)
+    known-seed_stays slot None at is = tt
+    known-seed_stays slot (Some s) at is = (keeps.grow.tables at.table at.attached).seed ∙ is
 
     AimMeans-stay : (aim : KnownAim) → AimMeans env mix G aim → AimMeans env mix G' aim
     AimMeans-stay NoAim is = tt
     AimMeans-stay Onward is = omega (arith, is, stays.current, keeps.grow.attached)
     AimMeans-stay (From slot) is = record {
-      table = keeps.grow.slots slot is.table;
-      from = omega (arith, is.from, stays.current, index-stays slot is.table);
+      at = at-stays env mix G G' keeps.grow slot is.at;
+      from = omega (arith, is.from, stays.current);
     }
     AimMeans-stay (Beyond slot shape seed) is = record {
-      table = keeps.grow.slots slot is.table;
-      later = omega (arith, is.later, stays.current, index-stays slot is.table);
-      shape_is = known-shape_stays slot shape is.table is.shape_is;
+      at = at-stays env mix G G' keeps.grow slot is.at;
+      later = omega (arith, is.later, stays.current);
+      shape_is = known-shape_stays slot shape is.at is.shape_is;
       flat = is.flat;
-      seed_is = known-seed_stays slot seed is.table is.seed_is;
+      seed_is = known-seed_stays slot seed is.at is.seed_is;
     }
 
     IsRooted-stay : (root : ℕ) (aim : KnownAim) → IsRooted env mix G root aim → IsRooted env mix G' root aim
@@ -166,8 +156,9 @@ module _ (env : Env) (mix : ℕ → ℕ → ℕ → ℕ) where
 
     IsLeftBehind-stay : (slot : ℕ) → IsLeftBehind env mix G slot → IsLeftBehind env mix G' slot
     IsLeftBehind-stay slot is = record {
-      table = keeps.grow.slots slot is.table;
-      earlier = omega (arith, is.earlier, stays.current, index-stays slot is.table);
+      table = is.table;
+      live = stays.left slot is.table is.live (omega (arith, is.before));
+      before = omega (arith, is.before, stays.current);
     }
 
     IsNearing-stay : (root : KnownRehash) (number : ℕ) (place : PlaceModel) → IsNearing env mix G root number place

@@ -1,5 +1,5 @@
 -- What is known of nodes, tables and buckets outlives a step that leaves what it speaks of.
-use Rattle.std.proofs.Common.{◌≡◌, ℕ, ◌<◌, ◌≤◌, List, [], ◌∷◌, ◌++◌, Option, Some, None, true, refl, sym, ◌∙◌, ap, subst, inl, inr, arith}
+use Rattle.std.proofs.Common.{◌≡◌, ℕ, ◌/◌, ◌<◌, ◌≤◌, List, [], ◌∷◌, ◌++◌, Option, Some, None, refl, sym, ◌∙◌, ap, subst, inl, inr}
 use Rattle.std.specs.Prelude.{IfSome}
 use Rattle.rht_words.specs.declared.env.Env.{Env}
 use Rattle.rht_words.specs.Places.{Node, NodeWord, ChainLink, KeyWord, OwnerWord, ListLink}
@@ -7,9 +7,9 @@ use Rattle.rht_words.specs.Ports.{owner_of}
 use Rattle.rht_words.proofs.Memory.{Memory}
 use Rattle.rht_words.specs.Members.{In}
 use Rattle.rht_words.proofs.Members.{In-append_left, In-append_cases, in-middle}
-use Rattle.rht_ghost.proofs.Theory.Ghosts.{NodeHeld, Ghost, is_taken_by, has_table, index_at}
-use Rattle.rht_ghost.proofs.Theory.Wholes.{chain_of, key_of, word_index, home}
-use Rattle.rht_ghost.proofs.Theory.Passed.{NoKey, NoKey-same, home-stays}
+use Rattle.rht_ghost.proofs.Theory.Ghosts.{NodeHeld, Ghost, is_taken_by}
+use Rattle.rht_ghost.proofs.Theory.Wholes.{chain_of, key_of, word_index, IsAt}
+use Rattle.rht_ghost.proofs.Theory.Passed.{NoKey, NoKey-same, home-stays, at-stays}
 use Rattle.rht_ghost.proofs.Theory.Knowns.{Armed, AtHome, AtNode, Collected, CollectedTo, CutsOut, Differing, Differs, FirstLink, Found, InList, InSlot, IsAmong, IsLeading, IsOwnersNode, KnownBucket, KnownList, KnownNode, KnownTable, Leads, LeadsTo, Listing, Locks, LocksTakenOut, Matching, Member, Missed, NoOwner, Nowhere, OnWay, Passes, Promotes, Replaces, Shaped, Stands, StandsInList, Succeeds, TakenOut, Unlocked, Unlocks, WithShape, first_of_list, owners_of}
 use Rattle.rht_ghost.proofs.Theory.Knowledge.{ArmedFor, BucketMeans, HasLock, HasNode, HasTakenOut, HoldsLock, IsArmed, IsDiffering, IsFound, IsInList, IsMember, IsPassing, IsPlain, IsPlainList, IsReaching, IsShaped, IsStanding, ListMeans, NodeMeans, TableMeans, bucket_at}
 use Rattle.rht_ghost.proofs.Theory.WaysStay.{IsWayTo-stay, IsRightBehind-stay}
@@ -42,37 +42,29 @@ module _ (env : Env) (mix : ℕ → ℕ → ℕ → ℕ) where
 
     -- of tables: where these stay
     module _ (stay : TablesStay env mix G G') where
-      less : {a b d : ℕ} → a < b → b ≤ d → a < d
-      less l m = omega (arith, l, m)
-
-      IsPassing-stay : (port slot : ℕ) → IsPassing env mix G port slot → IsPassing env mix G' port slot
+      abbrev IsPassing-stay : (port slot : ℕ) → IsPassing env mix G port slot → IsPassing env mix G' port slot
       IsPassing-stay port slot means = record {
-        table = stay.grow.slots slot means.table;
-        passed = rw (stay.grow.indices slot means.table) (stay.passed port (index_at G slot) means.passed);
+        at = at-stays env mix G G' stay.grow slot means.at;
+        passed = stay.passed port means.at.table means.passed;
       }
 
-      shape-stays : (slot : ℕ) (shape : Option ℕ) → has_table (G.slot slot) ≡ true
-          → index_at G slot < G.attached
-          → IfSome shape (λ s. (G.table (index_at G slot)).shape ≡ s)
-          → IfSome shape (λ s. (G'.table (index_at G' slot)).shape ≡ s)
-      shape-stays slot None has attached is = tt
-      shape-stays slot (Some s) has attached is =
-          ap (λ τ. (G'.table τ).shape) (stay.grow.indices slot has)
-          ∙ (stay.grow.tables (index_at G slot) attached).shape ∙ is
+      shape-stays : (slot : ℕ) (shape : Option ℕ) (at : IsAt G slot)
+          → IfSome shape (λ s. (G.table at.table).shape ≡ s) → IfSome shape (λ s. (G'.table at.table).shape ≡ s)
+      shape-stays slot None at is = tt
+      shape-stays slot (Some s) at is = (stay.grow.tables at.table at.attached).shape ∙ is
 
-      IsShaped-stay : (port slot shape : ℕ) → IsShaped env mix G port slot shape → IsShaped env mix G' port slot shape
+      abbrev IsShaped-stay : (port slot shape : ℕ) → IsShaped env mix G port slot shape → IsShaped env mix G' port slot shape
       IsShaped-stay port slot shape means = record {
         passing = IsPassing-stay port slot means.passing;
-        shape_is = shape-stays slot (Some shape) means.passing.table means.passing.passed.attached means.shape_is;
+        shape_is = shape-stays slot (Some shape) means.passing.at means.shape_is;
       }
 
       pub TableMeans-stay : (known : KnownTable) → TableMeans env mix G known → TableMeans env mix G' known
       TableMeans-stay Nowhere means = tt
-      TableMeans-stay (InSlot slot) means = stay.grow.slots slot means
+      TableMeans-stay (InSlot slot) means = at-stays env mix G G' stay.grow slot means
       TableMeans-stay (WithShape slot shape) means = record {
-        table = stay.grow.slots slot means.table;
-        attached = rw (stay.grow.indices slot means.table) (less means.attached stay.grow.attached);
-        shape_is = shape-stays slot (Some shape) means.table means.attached means.shape_is;
+        at = at-stays env mix G G' stay.grow slot means.at;
+        shape_is = shape-stays slot (Some shape) means.at means.shape_is;
       }
       TableMeans-stay (Passes port slot) means = IsPassing-stay port slot means
       TableMeans-stay (Shaped port slot shape) means = IsShaped-stay port slot shape means
@@ -80,19 +72,16 @@ module _ (env : Env) (mix : ℕ → ℕ → ℕ → ℕ) where
           let passing = means.shaped.passing in
           record {
             shaped = IsShaped-stay port slot shape means.shaped;
-            to = IsWayTo-stay env mix G G' stay.grow port slot place passing.table passing.passed.attached means.to;
-            behind = IsRightBehind-stay env mix G G' stay.grow slot early passing.table means.behind;
+            to = IsWayTo-stay env mix G G' stay.grow port passing.at.table place passing.at.attached means.to;
+            behind = IsRightBehind-stay env mix G G' stay.grow passing.at.table early means.behind;
           }
       TableMeans-stay (AtHome port slot shape place) means =
           let passing = means.passing in
           record {
             passing = IsPassing-stay port slot passing;
-            shape_is = shape-stays slot shape passing.table passing.passed.attached means.shape_is;
+            shape_is = shape-stays slot shape passing.at means.shape_is;
             bucket = means.bucket;
-            here =
-                ap (home env mix G' port) (stay.grow.indices slot passing.table)
-                ∙ home-stays env mix G G' stay.grow port (index_at G slot) (word_index env mix place)
-                passing.passed.attached means.here;
+            here = home-stays env mix G G' stay.grow port passing.at.table (word_index env mix place) passing.at.attached means.here;
           }
 
     -- of buckets: where those that it has locked stay, and the keys of nodes in chains
@@ -137,6 +126,7 @@ module _ (env : Env) (mix : ℕ → ℕ → ℕ → ℕ) where
             armed = record {
               passed = stay.passed port is.table armed.passed;
               here = home-stays env mix G G' stay.grow port is.table j armed.passed.attached armed.here;
+              of = stay.grow.pages (j / 64) is.table armed.of;
               armed = ap (λ b. b.armed) (locks j is.lock.holder) ∙ armed.armed;
               unbound = unbound port is.table j armed;
             };

@@ -3,7 +3,7 @@
 --
 -- It holds at the current table. Under the lock of the port's bucket in a table, where no node of the bucket has the port's key,
 -- it holds of the next table where there is one; and where there is none, the port is bound nowhere.
-use Rattle.std.proofs.Common.{◌≡◌, ◌≢◌, ◌⊎◌, ℕ, ◌+◌, ◌*◌, ◌/◌, ◌%◌, ◌^◌, ◌<◌, ◌≤◌, List, [], ◌∷◌, Option, Some, None, true, false, refl, sym, ◌∙◌, ap, inl, inr, subst, arith}
+use Rattle.std.proofs.Common.{◌≡◌, ◌≢◌, ◌⊎◌, ℕ, ◌+◌, ◌*◌, ◌/◌, ◌%◌, ◌^◌, ◌<◌, ◌≤◌, List, [], ◌∷◌, Option, Some, None, false, refl, sym, ◌∙◌, ap, inl, inr, subst, arith}
 use Rattle.std.proofs.lemmas.Bool.{cases_eq, cases_lt}
 use Rattle.std.proofs.Math.Nat.{mod-lt}
 use Rattle.rht_words.specs.declared.env.Env.{Env}
@@ -12,8 +12,8 @@ use Rattle.rht_words.proofs.Memory.{Memory}
 use Rattle.rht_words.proofs.ShapeSizes.{IsSizeUpTo-size_of}
 use Rattle.rht_words.specs.Members.{In}
 use Rattle.rht_policy.specs.Mix.{bucket_of}
-use Rattle.rht_ghost.proofs.Theory.Ghosts.{Table, Bucket, blank_bucket, is_entry, Ghost, First, PageOwner, PageFree, PageHeld, PageOf, Live, seat_in, seat, seated, table_of_page, table_at, has_table, index_at, none-some, some-same}
-use Rattle.rht_ghost.proofs.Theory.Wholes.{key_of, home, hash_in, IsNoBucket, MovesNone, seated_at, Whole, IsThere, force-there}
+use Rattle.rht_ghost.proofs.Theory.Ghosts.{Table, Bucket, blank_bucket, is_entry, Ghost, First, PageOwner, PageFree, PageHeld, PageOf, Live, seat_in, seat, seated, table_of_page, table_at, none-some, some-same}
+use Rattle.rht_ghost.proofs.Theory.Wholes.{key_of, home, hash_in, IsNoBucket, MovesNone, seated_at, Whole, IsThere, AreThereFrom, IsAt, force-there}
 use Rattle.rht_ghost.proofs.Theory.Entries.{IsWordOf, word_of, bucket-no_entry}
 
 -- none of these nodes has the key
@@ -256,14 +256,14 @@ module _ (env : Env) (mix : ℕ → ℕ → ℕ → ℕ) where
 
     -- The first node of a port isn't on its way out of any bucket, where a caller that has locked the port's bucket in a table to which it
     -- has come found it there.
-    pub stays_in : (d port τ j n : ℕ) (behind : List ℕ) → Passed G port τ → home env mix G port τ ≡ Some j
+    pub stays_in : (d port τ j n : ℕ) (behind : List ℕ) → Passed G port τ → IsThere G τ → home env mix G port τ ≡ Some j
         → (G.bucket j).holder ≡ Some d → MovesNone env mix G d → G.bound port ≡ n ∷ behind
         → G.node n ≡ First j → (i : ℕ) → (G.bucket i).out ≢ Some n
-    stays_in d port τ j n behind passed at holds none b first i is =
+    stays_in d port τ j n behind passed is_there at holds none b first i is =
         let out = whole.moving.out i n is in
         let to = whole.owned.bound_to port n behind b in
         let there = (whole.owned.first_at n j first).at_home in
-        let table : table_at G j ≡ τ = home-table port τ j (whole.tables.there τ passed.attached) at in
+        let table : table_at G j ≡ τ = home-table port τ j is_there at in
         let here : home env mix G port G.current ≡ Some i = rw (sym to.key_is) out.here in
         elim (cases_eq G.current τ) [
           | inl e ↦
@@ -404,17 +404,20 @@ module _ (env : Env) (mix : ℕ → ℕ → ℕ → ℕ) where
   -- ---- where all tables stay
 
   -- Tables come behind those that there are, and the current one is left behind. Of those that there are all stays that is said of them,
-  -- but that a table in use may be retired, and that buckets get words whose pages were missing: each of these is blank then.
+  -- but that a table in use may be retired, and that buckets get words whose pages were missing: each of these is blank then. A table that
+  -- comes is there, and one that was there still is.
   pub record TablesGrow (G G' : Ghost) : Type 0 where
     pub tables : (τ : ℕ) → τ < G.attached → TableStays G.page τ (G.table τ) (G'.table τ)
     pub placed : (τ b j : ℕ) → τ < G.attached → (G'.table τ).place b ≡ Some j
         → ((G.table τ).place b ≡ Some j) ⊎ (G'.bucket j ≡ blank_bucket)
     pub attached : G.attached ≤ G'.attached
     pub current : G.current ≤ G'.current
-    pub slots : (s : ℕ) → has_table (G.slot s) ≡ true → has_table (G'.slot s) ≡ true
-    pub indices : (s : ℕ) → has_table (G.slot s) ≡ true → index_at G' s ≡ index_at G s
     pub live : (s τ : ℕ) → G'.slot s ≡ Live τ → τ < G.attached → G.slot s ≡ Live τ
+    pub there : (τ : ℕ) → τ < G'.attached → (τ < G.attached → IsThere G τ) → IsThere G' τ
     pub pages : (p τ : ℕ) → G.page p ≡ PageOf τ → G'.page p ≡ PageOf τ
+
+  pub less-grown : {a b d : ℕ} → a < b → b ≤ d → a < d
+  less-grown l m = omega (arith, l, m)
 
   -- so everything stays from the first table on
   grows_from : (G G' : Ghost) → TablesGrow G G' → GrowsFrom 0 G G'
@@ -428,6 +431,18 @@ module _ (env : Env) (mix : ℕ → ℕ → ℕ → ℕ) where
     current = grow.current;
     pages = λ p τ from. grow.pages p τ;
   }
+
+  -- the table that a slot had is known by its index
+  abbrev pub at-stays : (G G' : Ghost) → TablesGrow G G' → (slot : ℕ) → IsAt G slot → IsAt G' slot
+  at-stays G G' grow slot at = record {
+    table = at.table;
+    attached = less-grown at.attached grow.attached;
+    slot_is = (grow.tables at.table at.attached).slot ∙ at.slot_is;
+  }
+
+  -- so tables of which all behind them are there are so still
+  pub there_from-grows : (G G' : Ghost) → TablesGrow G G' → (τ : ℕ) → AreThereFrom G τ → AreThereFrom G' τ
+  there_from-grows G G' grow τ there σ from l = grow.there σ l (there σ from)
 
   pub table_at-grows : (G G' : Ghost) → TablesGrow G G' → (j : ℕ) → table_at G j ≤ table_at G' j
   table_at-grows G G' grow j = table_at-from 0 G G' (grows_from G G' grow) j (omega arith)

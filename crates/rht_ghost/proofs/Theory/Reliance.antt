@@ -4,7 +4,7 @@ use Rattle.rht_words.specs.declared.env.Env.{Env}
 use Rattle.rht_words.specs.Places.{Slot, SlotWord, IsSlotWord, Node, NodeWord, ChainLink, KeyWord, OwnerWord}
 use Rattle.rht_words.proofs.Memory.{Memory}
 use Rattle.rht_words.specs.Members.{In}
-use Rattle.rht_ghost.proofs.Theory.Ghosts.{NodeHeld, Leaving, PageHeld, SlotHeld, Ghost, is_used, is_taken_by, IsUsed, seat-used, table_at}
+use Rattle.rht_ghost.proofs.Theory.Ghosts.{NodeHeld, Leaving, PageHeld, SlotHeld, Live, Ghost, is_used, is_taken_by, IsUsed, seat-used, table_at}
 use Rattle.rht_ghost.proofs.Theory.Wholes.{chain_of, key_of, seated_at, Whole}
 use Rattle.rht_ghost.proofs.Theory.Passed.{Passed, TablesGrow}
 use Rattle.rht_ghost.proofs.Theory.Knowledge.{ArmedFor, HasNode, HasSlot, IsEmptied}
@@ -26,11 +26,12 @@ module _ (env : Env) (mix : ℕ → ℕ → ℕ → ℕ) where
     pub pages : (p : ℕ) → G.page p ≡ PageHeld c → G'.page p ≡ PageHeld c
     pub no_page : (p : ℕ) → G'.page p ≡ PageHeld c → G.page p ≡ PageHeld c
 
-  -- what a caller that does the work can count on: nobody else makes another table the current one, puts anything into a bucket that it
-  -- has emptied, or touches an entry that is on its way
+  -- what a caller that does the work can count on: nobody else makes another table the current one, retires one that was left behind, puts
+  -- anything into a bucket that it has emptied, or touches an entry that is on its way
   pub record WorkStays (c : ℕ) (M : Memory) (G : Ghost) (M' : Memory) (G' : Ghost) : Type 0 where
     pub worker : G'.worker ≡ Some c
     pub current : G'.current ≡ G.current
+    pub left : (s τ : ℕ) → G.slot s ≡ Live τ → τ < G.current → G'.slot s ≡ Live τ
     pub emptied : G.current + 1 < G.attached → (j : ℕ) → table_at G j ≡ G.current → IsEmptied env mix (G.bucket j)
         → IsEmptied env mix (G'.bucket j)
     pub entries : (j entry : ℕ) → (G.bucket j).out ≡ Some entry → G'.node entry ≡ G.node entry

@@ -1,7 +1,7 @@
 -- What a step leaves that changes tables, slots and pages alone, and writes a word that says something of them.
 -- Buckets, nodes, what is bound, and who does the work are what they were.
 use Rattle.std.proofs.Common.{◌≡◌, ◌≢◌, ℕ, ◌*◌, ◌/◌, ◌<◌, ◌≤◌, ◌⊎◌, List, Option, Some, true, false, refl, sym, ◌∙◌, ap, subst, inl, inr, arith}
-use Rattle.std.proofs.lemmas.Bool.{false_from_ne_true, both_ways}
+use Rattle.std.proofs.lemmas.Bool.{false_from_ne_true, both_ways, cases_lt}
 use Rattle.rht_words.specs.declared.env.Env.{Env}
 use Rattle.rht_words.specs.Held as held
 use Rattle.rht_words.specs.Places.{Address, CurrentTable, PortCount, Slot, SlotWord, IsSlotWord, ShapeWord, SeedWord, FutureWord, SerialWord, NodeMap, PageMap, Node, NodeWord, ChainLink, KeyWord, OwnerWord, ListLink, PageWord}
@@ -33,7 +33,8 @@ module _ (env : Env) (mix : ℕ → ℕ → ℕ → ℕ) where
   abbrev pub retabled : Ghost → (ℕ → Table) → ℕ → (ℕ → SlotOwner) → (ℕ → PageOwner) → Ghost
   retabled G table attached slot page = record G { table = table; attached = attached; slot = slot; page = page }
 
-  -- the tables that there are keep their slots and pages, and what is said of them; a bucket that gets a word is blank
+  -- the tables that there are keep their slots and pages, and what is said of them; a bucket that gets a word is blank; and tables that
+  -- come are there
   pub record TablesKept (G : Ghost) (table : ℕ → Table) (attached : ℕ) (slot : ℕ → SlotOwner)
       (page : ℕ → PageOwner) : Type 0 where
     pub tables : (τ : ℕ) → τ < G.attached → TableStays G.page τ (G.table τ) (table τ)
@@ -43,21 +44,29 @@ module _ (env : Env) (mix : ℕ → ℕ → ℕ → ℕ) where
     pub slots : (s : ℕ) → has_table (G.slot s) ≡ true → slot s ≡ G.slot s
     pub back : (s : ℕ) → has_table (slot s) ≡ true → table_of_slot (slot s) < G.attached → slot s ≡ G.slot s
     pub pages : (p τ : ℕ) → G.page p ≡ PageOf τ → page p ≡ PageOf τ
+    pub fresh : (τ : ℕ) → G.attached ≤ τ → τ < attached → IsThere (retabled G table attached slot page) τ
 
   -- so it is where they are what they were
   pub same_kept : (G : Ghost) (table : ℕ → Table) (attached : ℕ) (slot : ℕ → SlotOwner) (page : ℕ → PageOwner)
       → ((τ : ℕ) → τ < G.attached → table τ ≡ G.table τ) → G.attached ≤ attached
       → ((s : ℕ) → has_table (G.slot s) ≡ true → slot s ≡ G.slot s)
       → ((s : ℕ) → has_table (slot s) ≡ true → table_of_slot (slot s) < G.attached → slot s ≡ G.slot s)
-      → ((p τ : ℕ) → G.page p ≡ PageOf τ → page p ≡ PageOf τ) → TablesKept G table attached slot page
-  same_kept G table attached slot page same more slots back pages = record {
+      → ((p τ : ℕ) → G.page p ≡ PageOf τ → page p ≡ PageOf τ)
+      → ((τ : ℕ) → G.attached ≤ τ → τ < attached → IsThere (retabled G table attached slot page) τ)
+      → TablesKept G table attached slot page
+  same_kept G table attached slot page same more slots back pages fresh = record {
     tables = λ τ l. same-TableStays G.page τ (G.table τ) (table τ) (same τ l);
     placed = λ τ b j l is. inl (ap (λ (t : Table). t.place b) (sym (same τ l)) ∙ is);
     more = more;
     slots = slots;
     back = back;
     pages = pages;
+    fresh = fresh;
   }
+
+  -- none comes
+  pub none_fresh : (G G' : Ghost) (τ : ℕ) → G.attached ≤ τ → τ < G.attached → IsThere G' τ
+  none_fresh G G' τ from l = absurd (omega (arith, from, l))
 
   -- Then a slot that has one of these tables in use had it before. And a table that was there is there still; one of these that is
   -- there was so before.
@@ -105,9 +114,11 @@ module _ (env : Env) (mix : ℕ → ℕ → ℕ → ℕ) where
       placed = kept.placed;
       attached = kept.more;
       current = omega arith;
-      slots = λ s has. ap has_table (kept.slots s has) ∙ has;
-      indices = λ s has. ap table_of_slot (kept.slots s has);
       live = live_kept G table attached slot page kept;
+      there = λ τ l was. elim (cases_lt τ G.attached) [
+        | inl old ↦ there_kept G table attached slot page kept τ old (was old)
+        | inr from ↦ kept.fresh τ from l
+      ];
       pages = kept.pages;
     }
 
@@ -332,6 +343,7 @@ module _ (env : Env) (mix : ℕ → ℕ → ℕ → ℕ) where
     work_kept c works = record {
       worker = works;
       current = refl;
+      left = λ s τ is l. kept.slots s (ap has_table is) ∙ is;
       emptied = λ more j at is. is;
       entries = λ j entry out. refl;
       chains = λ n j leaving.

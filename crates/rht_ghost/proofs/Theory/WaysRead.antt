@@ -12,8 +12,8 @@ use Rattle.rht_words.specs.Shapes.{unpacked, size_of}
 use Rattle.rht_words.proofs.Memory.{Memory}
 use Rattle.rht_nest.specs.Tables.{is_nested}
 use Rattle.rht_nest.specs.Place.{PlaceModel, is_deep, flat_place, nested_place, picked, entered, behind_entry, place_at_once, place_or_last, read_last, read_place, place_in}
-use Rattle.rht_ghost.proofs.Theory.Ghosts.{Ghost, has_table, index_at, none-some, some-same}
-use Rattle.rht_ghost.proofs.Theory.Wholes.{place_at, word_index, index-place_at, home, hash_in, IsNested, Whole, IsThere, slot-there, current-there}
+use Rattle.rht_ghost.proofs.Theory.Ghosts.{Ghost, none-some, some-same}
+use Rattle.rht_ghost.proofs.Theory.Wholes.{place_at, word_index, index-place_at, home, hash_in, IsNested, Whole, IsThere, at-there, current-there}
 use Rattle.rht_ghost.proofs.Theory.PlacesRead.{leads_to_middle, middle_behind, entries_in_words, placed_in_words}
 use Rattle.rht_ghost.proofs.Theory.Passed.{hash-below, place-word}
 use Rattle.rht_ghost.proofs.Theory.Knowns.{KnownRehash}
@@ -192,15 +192,9 @@ module _ (env : Env) (mix : ℕ → ℕ → ℕ → ℕ) where
       to = way_next M G whole G.current number (current-there env mix whole.tables) near.below place near.to next page leads e;
     }
 
-  -- ---- on the way to the bucket of a port in the table of a slot
+  -- ---- on the way to the bucket of a port
 
-  module _ (M : Memory) (G : Ghost) (whole : Whole env mix M G) (port slot : ℕ) (has : has_table (G.slot slot) ≡ true) where
-    abbrev τ : ℕ
-    τ = index_at G slot
-
-    is_there : IsThere G τ
-    is_there = slot-there env mix whole.tables slot has
-
+  module _ (M : Memory) (G : Ghost) (whole : Whole env mix M G) (port τ : ℕ) (is_there : IsThere G τ) where
     abbrev number : ℕ
     number = hash_in env mix G port τ
 
@@ -217,25 +211,25 @@ module _ (env : Env) (mix : ℕ → ℕ → ℕ → ℕ) where
         → IsPlaceOf G τ number place
     home_place = place_of_bucket M G whole τ number is_there below
 
-    module _ (place : PlaceModel) (to : IsWayTo env mix G port slot place) where
+    module _ (place : PlaceModel) (to : IsWayTo env mix G port τ place) where
       -- the words lead to the port's bucket
       pub on_way_read : read_place (words_of_pages M) place ≡ option_map (place_at env mix) (home env mix G port τ)
       on_way_read = way_read M G whole τ number is_there below place to
 
       -- and where the entry leads to a page of entries, the way to it goes on there
       pub on_way_next : (next : PlaceModel) (page : ℕ) → page_of env.geometry.pages (M (PageWord place.entry)) ≡ Some page
-          → entered place page ≡ starts.Running next → IsWayTo env mix G port slot next
+          → entered place page ≡ starts.Running next → IsWayTo env mix G port τ next
       on_way_next = way_next M G whole τ number is_there below place to
 
   -- ---- where the way ends
 
   -- where the bucket's word has a place, the way has come there
   pub at_home : (M : Memory) (G : Ghost) → Whole env mix M G → (port slot shape place : ℕ)
-      → IsPassing env mix G port slot → (G.table (index_at G slot)).shape ≡ shape
-      → option_map (place_at env mix) (home env mix G port (index_at G slot)) ≡ Some place
+      → (passing : IsPassing env mix G port slot) → (G.table passing.at.table).shape ≡ shape
+      → option_map (place_at env mix) (home env mix G port passing.at.table) ≡ Some place
       → IsAtHome env mix G port slot (Some shape) place
   at_home M G whole port slot shape place passing shape_is is =
-      let at = home_place M G whole port slot passing.table place is in
+      let at = home_place M G whole port passing.at.table (at-there env mix whole.tables slot passing.at) place is in
       record { passing = passing; shape_is = shape_is; bucket = at.bucket; here = at.here }
 
   -- and where the words lead to none it is missing
@@ -246,18 +240,18 @@ module _ (env : Env) (mix : ℕ → ℕ → ℕ → ℕ) where
   -- ---- a bucket that is there stays so
 
   pub placed-stays : (M M' : Memory) (G G' : Ghost) → Whole env mix M G → Whole env mix M' G'
-      → (port slot : ℕ) (place : PlaceModel) → has_table (G.slot slot) ≡ true → has_table (G'.slot slot) ≡ true
-      → IsWayTo env mix G port slot place → IsWayTo env mix G' port slot place
-      → ((j : ℕ) → home env mix G port (index_at G slot) ≡ Some j → home env mix G' port (index_at G' slot) ≡ Some j)
+      → (port τ : ℕ) (place : PlaceModel) → IsThere G τ → IsThere G' τ
+      → IsWayTo env mix G port τ place → IsWayTo env mix G' port τ place
+      → ((j : ℕ) → home env mix G port τ ≡ Some j → home env mix G' port τ ≡ Some j)
       → IsPlaced M place → IsPlaced M' place
-  placed-stays M M' G G' whole whole' port slot place has has' to to' homes placed =
-      go (home env mix G port (index_at G slot)) refl
+  placed-stays M M' G G' whole whole' port τ place there there' to to' homes placed =
+      go (home env mix G port τ) refl
     where
-      read : read_place (words_of_pages M) place ≡ option_map (place_at env mix) (home env mix G port (index_at G slot))
-      read = on_way_read M G whole port slot has place to
+      read : read_place (words_of_pages M) place ≡ option_map (place_at env mix) (home env mix G port τ)
+      read = on_way_read M G whole port τ there place to
 
-      go : (word : Option ℕ) → home env mix G port (index_at G slot) ≡ word → IsPlaced M' place
+      go : (word : Option ℕ) → home env mix G port τ ≡ word → IsPlaced M' place
       go None here = absurd (placed (read ∙ ap (option_map (place_at env mix)) here))
       go (Some j) here = λ none.
-          none-some none (on_way_read M' G' whole' port slot has' place to'
+          none-some none (on_way_read M' G' whole' port τ there' place to'
           ∙ ap (option_map (place_at env mix)) (homes j here))

@@ -1,10 +1,10 @@
 -- What is known of the way to a bucket over entries, and of the table behind, outlives a step that leaves tables what they are.
-use Rattle.std.proofs.Common.{◌≡◌, ℕ, ◌+◌, ◌<◌, Option, Some, None, true, sym, ◌∙◌, ap, subst, inl, inr}
+use Rattle.std.proofs.Common.{◌≡◌, ℕ, ◌+◌, ◌<◌, Option, Some, None, sym, ◌∙◌, ap, subst, inl, inr, arith}
 use Rattle.std.specs.Prelude.{IfSome}
 use Rattle.rht_words.specs.declared.env.Env.{Env}
 use Rattle.rht_nest.specs.Tables.{is_nested}
 use Rattle.rht_nest.specs.Place.{PlaceModel}
-use Rattle.rht_ghost.proofs.Theory.Ghosts.{Ghost, has_table, index_at}
+use Rattle.rht_ghost.proofs.Theory.Ghosts.{Ghost}
 use Rattle.rht_ghost.proofs.Theory.Wholes.{hash_in}
 use Rattle.rht_ghost.proofs.Theory.Passed.{TablesGrow, hash-stays}
 use Rattle.rht_ghost.proofs.Theory.Knowledge.{IsWay, IsWayIn, IsWayTo, IsRightBehind}
@@ -33,18 +33,17 @@ module _ (env : Env) (mix : ℕ → ℕ → ℕ → ℕ) (G G' : Ghost) (grow : 
             (IsWay-stay number τ (G.table τ).shape place l to.way);
       }
 
-  -- and those to the bucket of a port in a slot's table
-  pub IsWayTo-stay : (port slot : ℕ) (place : PlaceModel) → has_table (G.slot slot) ≡ true → index_at G slot < G.attached
-      → IsWayTo env mix G port slot place → IsWayTo env mix G' port slot place
-  IsWayTo-stay port slot place has l to =
-      rw (grow.indices slot has) (rw (hash-stays env mix G G' grow port (index_at G slot) l)
-      (IsWayIn-stay (hash_in env mix G port (index_at G slot)) (index_at G slot) place l to))
+  -- and those to the bucket of a port
+  pub IsWayTo-stay : (port τ : ℕ) (place : PlaceModel) → τ < G.attached
+      → IsWayTo env mix G port τ place → IsWayTo env mix G' port τ place
+  IsWayTo-stay port τ place l to =
+      rw (hash-stays env mix G G' grow port τ l) (IsWayIn-stay (hash_in env mix G port τ) τ place l to)
 
   -- and a table right behind another one stays there
-  pub IsRightBehind-stay : (slot : ℕ) (early : Option ℕ) → has_table (G.slot slot) ≡ true
-      → IfSome early (IsRightBehind env mix G slot) → IfSome early (IsRightBehind env mix G' slot)
-  IsRightBehind-stay slot None has is = tt
-  IsRightBehind-stay slot (Some next) has is = record {
-    table = grow.slots next is.table;
-    index = grow.indices next is.table ∙ is.index ∙ ap (λ τ. τ + 1) (sym (grow.indices slot has));
+  pub IsRightBehind-stay : (τ : ℕ) (early : Option ℕ)
+      → IfSome early (IsRightBehind env mix G τ) → IfSome early (IsRightBehind env mix G' τ)
+  IsRightBehind-stay τ None is = tt
+  IsRightBehind-stay τ (Some next) is = record {
+    attached = omega (arith, is.attached, grow.attached);
+    slot_is = (grow.tables (τ + 1) is.attached).slot ∙ is.slot_is;
   }

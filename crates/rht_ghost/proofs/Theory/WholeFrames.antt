@@ -8,11 +8,11 @@ use Rattle.rht_words.proofs.Memory.{Memory, IsWrite}
 use Rattle.rht_words.specs.Members.{In}
 use Rattle.rht_words.proofs.ChainLemmas.{IsSegment-members}
 use Rattle.rht_words.specs.Links.{head_of}
-use Rattle.rht_ghost.proofs.Theory.Ghosts.{Table, Bucket, Owner, First, Leaving, Behind, Ghost, lock_bit, state_word, is_used, is_listed, IsListedNode, PageOwner, PageFree, PageHeld, PageOf, SlotOwner, seat_of, seat-listed, has_table, table_at, is_entry, entry_word, table_of_slot}
+use Rattle.rht_ghost.proofs.Theory.Ghosts.{Table, Bucket, Owner, First, Leaving, Behind, Ghost, lock_bit, state_word, is_used, is_listed, IsListedNode, PageOwner, PageFree, PageHeld, PageOf, SlotOwner, seat_of, seat-listed, has_table, table_at, is_entry, entry_word}
 use Rattle.rht_ghost.proofs.Theory.Ways.{IsSpareIn}
 use Rattle.rht_ghost.proofs.Theory.Wholes.{retired_stay, chain_of, list_of, key_of, place_at, home, stop, IsNoBucket, EntriesRight, TableRight, TablesRight, SlotsRight, PagesRight, LockedRight, BucketRight, ChainedRight, ArmedRight, OutRight, MovingRight, IsHomeOf, IsLeavingAt, Owned, ArenaRight, Whole, out-seated, firsts, raisers, IsThere}
 use Rattle.rht_ghost.proofs.Theory.Passed.{held-no_entry, PassesStay}
-use Rattle.rht_ghost.proofs.Theory.Frames.{IsNoTableWord, SameTables, UsedStay, first_stays, passes_same, same_tables, seat_stays}
+use Rattle.rht_ghost.proofs.Theory.Frames.{IsNoTableWord, SameTables, there_same, UsedStay, first_stays, passes_same, same_tables, seat_stays}
 
 module _ (env : Env) (mix : ℕ → ℕ → ℕ → ℕ) where
   -- ---- the parts of the whole
@@ -42,15 +42,6 @@ module _ (env : Env) (mix : ℕ → ℕ → ℕ → ℕ) where
             (apart.slots s FutureWord there.has_slot) ∙ right.future_is;
         placed = right.placed;
       }
-
-  -- a table that is there is so where tables and slots are the same
-  there_same : (G G' : Ghost) → SameTables env mix G G' → (τ : ℕ) → IsThere G τ → IsThere G' τ
-  there_same G G' same τ there = record {
-    has_slot = ap (λ slot. has_table (slot (G'.table τ).slot)) same.slot
-        ∙ ap (λ (t : ℕ → Table). has_table (G.slot (t τ).slot)) same.table ∙ there.has_slot;
-    index = ap (λ slot. table_of_slot (slot (G'.table τ).slot)) same.slot
-        ∙ ap (λ (t : ℕ → Table). table_of_slot (G.slot (t τ).slot)) same.table ∙ there.index;
-  }
 
   -- what the ghost says of tables, apart from the rest of it
   abbrev with_tables : Ghost → (ℕ → Table) → ℕ → ℕ → (ℕ → SlotOwner) → (ℕ → PageOwner) → Ghost
@@ -130,7 +121,7 @@ module _ (env : Env) (mix : ℕ → ℕ → ℕ → ℕ) where
   PagesRight-write M M' G G' a v write apart same blanks right = record {
     bits = λ p l. subst (λ page. (bit_at (M' (PageMap (p / 64))) (p % 64) ≡ 1) ↔ (page p ≡ PageFree))
         (sym same.page) (rw (write.others (PageMap (p / 64)) (omega arith) (apart (p / 64))) (right.bits p l));
-    there = λ p τ is. there_same G G' same τ (right.there p τ (ap (λ page. page p) (sym same.page) ∙ is));
+    there = λ p τ is. there_same env mix G G' same τ (right.there p τ (ap (λ page. page p) (sym same.page) ∙ is));
     page_of = λ p τ is. omega (arith, right.page_of p τ (ap (λ page. page p) (sym same.page) ∙ is), same.attached);
     blank = λ j is.
         let was : IsNoBucket env mix G (G.page (j / 64)) j =

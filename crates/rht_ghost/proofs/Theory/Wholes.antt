@@ -43,6 +43,16 @@ pub record IsThere (G : Ghost) (τ : ℕ) : Type 0 where
   pub has_slot : has_table (G.slot (G.table τ).slot) ≡ true
   pub index : index_at G (G.table τ).slot ≡ τ
 
+-- this table and all behind it have
+abbrev pub AreThereFrom : Ghost → ℕ → Type 0
+AreThereFrom G τ = (σ : ℕ) → τ ≤ σ → σ < G.attached → IsThere G σ
+
+-- which of the tables that were attached it is that a slot has, or had
+pub record IsAt (G : Ghost) (slot : ℕ) : Type 0 where
+  pub table : ℕ
+  pub attached : table < G.attached
+  pub slot_is : (G.table table).slot ≡ slot
+
 module _ (env : Env) (mix : ℕ → ℕ → ℕ → ℕ) where
   -- the place of the word of a bucket, and which of the words of all pages stands at a place
   abbrev pub place_at : ℕ → ℕ
@@ -157,6 +167,16 @@ module _ (env : Env) (mix : ℕ → ℕ → ℕ → ℕ) where
       let of = (tables.slots s has).slot in
       record { has_slot = ap (λ t. has_table (G.slot t)) of ∙ has; index = ap (index_at G) of }
 
+  -- one that a caller knows by its slot is there, and those behind it are
+  pub at-on : {M : Memory} {G : Ghost} → TablesRight M G → (slot : ℕ) (at : IsAt G slot) → AreThereFrom G at.table
+  at-on {M} {G} tables slot at σ from = tables.there σ
+
+  pub at-there : {M : Memory} {G : Ghost} → TablesRight M G → (slot : ℕ) (at : IsAt G slot) → IsThere G at.table
+  at-there {M} {G} tables slot at = at-on tables slot at at.table (omega arith) at.attached
+
+  pub at-right : {M : Memory} {G : Ghost} → TablesRight M G → (slot : ℕ) (at : IsAt G slot) → TableRight M G at.table
+  at-right {M} {G} tables slot at = tables.each at.table (at-there tables slot at)
+
   -- it was attached
   pub there-attached : {M : Memory} {G : Ghost} → TablesRight M G → (τ : ℕ) → IsThere G τ → τ < G.attached
   there-attached {M} {G} tables τ there =
@@ -165,6 +185,11 @@ module _ (env : Env) (mix : ℕ → ℕ → ℕ → ℕ) where
   -- and no other one has its slot
   pub one_slot : (G : Ghost) (τ σ : ℕ) → IsThere G τ → IsThere G σ → (G.table τ).slot ≡ (G.table σ).slot → τ ≡ σ
   one_slot G τ σ there other same = sym there.index ∙ ap (index_at G) same ∙ other.index
+
+  -- at each moment a slot has one table
+  pub one_table : {M : Memory} {G : Ghost} → TablesRight M G → (slot : ℕ) (at more : IsAt G slot) → more.table ≡ at.table
+  one_table {M} {G} tables slot at more =
+      one_slot G more.table at.table (at-there tables slot more) (at-there tables slot at) (more.slot_is ∙ sym at.slot_is)
 
   -- The state word of each slot says who has it, and the work lock is set exactly while a caller has it. While none has it each table
   -- before the current one that has a slot is retired.
