@@ -1,17 +1,9 @@
--- more of what is true of places
-pub mod PortPlaces
--- so it is behind an operation
-pub mod PortPlacesStay
--- and behind one that gives back a node
-pub mod PortPlacesGiven
 -- what a walk knows in each of its states
 pub mod WalkFacts
 -- the nodes that were shown
 pub mod ShownNodes
 -- before and behind a bucket
 pub mod KnownBuckets
--- the word of a bucket
-pub mod BucketHeads
 -- at the nodes of a bucket
 pub mod KnownChains
 -- with one pair more
@@ -28,3 +20,7 @@ pub mod EndedWalks
 pub mod WalkingRuns
 -- calls of a full walk
 pub mod FullWalks
+-- the events that draw serials
+pub mod MadeSerials
+-- the law
+pub mod ShownLaw

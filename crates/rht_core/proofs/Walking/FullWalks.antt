@@ -1,17 +1,17 @@
 -- The calls of a full walk walked one table, up to where each goes on; so what they show together is what it shows.
-use Rattle.std.proofs.Common.{◌≡◌, ◌≢◌, ◌⊎◌, ℕ, ◌+◌, ◌<◌, ◌≤◌, List, [], ◌∷◌, ◌++◌, length, map, Option, Some, None, refl, sym, ◌∙◌, ap, subst, inl, inr, arith}
+use Rattle.std.proofs.Common.{◌≡◌, ℕ, ◌+◌, ◌<◌, ◌≤◌, List, [], ◌∷◌, ◌++◌, length, Option, Some, None, refl, sym, ◌∙◌, ap, subst, inl, inr, arith}
 use Rattle.std.specs.List.{AllByRecursion, flat_map}
 use Rattle.std.proofs.lemmas.Bool.{cases_lt}
 use Rattle.std.proofs.lemmas.List.{append-nil, map-append}
 use Rattle.rht_words.specs.declared.env.Env.{Env}
-use Rattle.rht_words.specs.Members.{In, NotIn, IsDistinct}
+use Rattle.rht_words.specs.Members.{In, IsDistinct}
 use Rattle.rht_words.proofs.EachElement.{AllByRecursion-append, AllByRecursion-weaker}
 use Rattle.rht_words.proofs.Members.{not_in_from, in_and_not, In-append_left, In-append_right, In-append_cases}
 use Rattle.rht_model.specs.declared.history.Cursor.{Cursor}
 use Rattle.rht_walk.specs.WalkLaws.{first_bucket, Fits}
 use Rattle.rht_core.specs.declared.event.Event.{Event}
-use Rattle.rht_core.specs.Shown.{WalksFrom, AreWalks, AreAmong, pairs_of, ends_behind}
-use Rattle.rht_core.specs.Traces.{Past, IsRising, AreInOrder, behind_call}
+use Rattle.rht_core.specs.Shown.{AreWalks, AreAmong, ends_behind}
+use Rattle.rht_core.specs.Traces.{Past, AreInOrder, behind_call}
 use Rattle.rht_ghost.proofs.Theory.Ghosts.{Ghost}
 use Rattle.rht_ghost.proofs.Theory.Wholes.{hash_in}
 use Rattle.rht_core.proofs.Tracing.StepsInTraces.{from-behind}
@@ -88,7 +88,8 @@ module _ (L : Type 0) (mix : ℕ → ℕ → ℕ → ℕ) (env : Env) (events : 
   abbrev pub pairs_in : List Past → List (ℕ × ℕ)
   pairs_in pasts = flat_map (λ (past : Past). past.done.pairs) pasts
 
-  missed_wider : (begin behind begin' behind' port : ℕ) → begin' ≤ begin → behind ≤ behind' → Missed begin behind port → Missed begin' behind' port
+  missed_wider : (begin behind begin' behind' port : ℕ) → begin' ≤ begin → behind ≤ behind' → Missed begin behind port
+      → Missed begin' behind' port
   missed_wider begin behind begin' behind' port less more was = record {
     at = was.at;
     begun = let begun = was.begun in omega (arith, begun, less);
@@ -121,7 +122,8 @@ module _ (L : Type 0) (mix : ℕ → ℕ → ℕ → ℕ) (env : Env) (events : 
 
   -- one call, and the others, which go on where it ended
   module _ (from : Option Cursor) (past : Past) (cursor : Cursor) (begin behind : ℕ) (pairs : List (ℕ × ℕ))
-      (had : HasWalked L mix env events G count from past (Some cursor)) (begun : past.begin < behind_call past) (apart : behind_call past ≤ begin)
+      (had : HasWalked L mix env events G count from past (Some cursor)) (begun : past.begin < behind_call past)
+      (apart : behind_call past ≤ begin)
       (rest : AllShown (Some cursor) begin behind pairs) (late : behind_call past ≤ behind) (in_time : behind ≤ length events) where
     abbrev walked : HasWalkedTo env mix G (count (behind_call past)) from (Missed past.begin (behind_call past))
         (WasLast L mix env count past.begin (behind_call past)) (Bound past.begin (behind_call past)) past.done.pairs (Some cursor)
@@ -212,7 +214,8 @@ module _ (L : Type 0) (mix : ℕ → ℕ → ℕ → ℕ) (env : Env) (events : 
               omega (arith, below, high, upto, same)));
           bound = AllByRecursion-append (Bound past.begin behind) past.done.pairs pairs
               (AllByRecursion-weaker (Bound past.begin (behind_call past)) (Bound past.begin behind)
-              (λ pair is. bound_wider past.begin (behind_call past) past.begin behind pair (omega arith) late is) past.done.pairs known.bound)
+              (λ pair is. bound_wider past.begin (behind_call past) past.begin behind pair (omega arith) late is) past.done.pairs
+              known.bound)
               (AllByRecursion-weaker (Bound begin behind) (Bound past.begin behind)
               (λ pair is. bound_wider begin behind past.begin behind pair (omega (arith, begun, apart)) (omega arith) is) pairs rest.bound);
         }

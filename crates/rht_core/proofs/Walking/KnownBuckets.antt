@@ -1,5 +1,5 @@
 -- What a walk knows before and behind a bucket, by the words and the ghost of one moment.
-use Rattle.std.proofs.Common.{◌≡◌, ◌⊎◌, ℕ, ◌+◌, ◌<◌, ◌≤◌, nat_lt, nat_le, Bool, List, [], ◌∷◌, map, Option, Some, None, refl, sym, ◌∙◌, ap, subst, inl, inr, arith}
+use Rattle.std.proofs.Common.{◌≡◌, ℕ, ◌+◌, ◌<◌, ◌≤◌, nat_lt, nat_le, Bool, List, [], Option, Some, None, refl, sym, ap, subst, inl, inr, arith}
 use Rattle.std.specs.Prelude.{◌==◌}
 use Rattle.std.proofs.lemmas.Bool.{cond_both, cases_eq, and_parts, eqb-true, ltb-true, ltb-false}
 use Rattle.std.specs.List.{AllByRecursion}
@@ -9,7 +9,7 @@ use Rattle.rht_words.specs.Shapes.{unpacked, size_of}
 use Rattle.rht_words.proofs.Memory.{Memory}
 use Rattle.rht_model.specs.declared.history.Cursor.{Cursor}
 use Rattle.rht_nest.specs.Tables.{is_nested}
-use Rattle.rht_walk.specs.Walk.{visiting, fits, begun, next_bucket, bucket_ended}
+use Rattle.rht_walk.specs.Walk.{visiting, fits, begun, bucket_ended}
 use Rattle.rht_walk.specs.WalkLaws.{first_bucket, Fits}
 use Rattle.rht_walk.specs.declared.walk.Visit.{Visit}
 use Rattle.rht_walk.specs.declared.walk.WalkAt.{WalkAt}
@@ -19,7 +19,7 @@ use Rattle.rht_ghost.proofs.Theory.Wholes.{Whole, hash_in, key_of}
 use Rattle.rht_core.proofs.Finding.Places.{Places}
 use Rattle.rht_core.proofs.Returning.TiedWalks.{IsWalked}
 use Rattle.rht_core.proofs.Walking.ShownNodes.{map-In}
-use Rattle.rht_core.proofs.Walking.WalkFacts.{ports_of, SaidOf, EndKnown, HasWalkedTo, Said, number, IsLast, BucketsKnown, OfTable, IsNew, IsAt, IsBehind, IsAtEnd, WalkMeans}
+use Rattle.rht_core.proofs.Walking.WalkFacts.{ports_of, EndKnown, OfTable, IsNew, IsAt, IsBehind, WalkMeans}
 
 module _ (env : Env) (mix : ℕ → ℕ → ℕ → ℕ) (from : Option Cursor) (begin now : ℕ) (Missed WasLast : ℕ → Type 0) (Bound : ℕ × ℕ → Type 0)
     (seen : ℕ → Bool) (items : List (ℕ × ℕ)) (M : Memory) (G : Ghost) (P : Places) (whole : Whole env mix M G) where

@@ -1,8 +1,8 @@
 -- What a walk knows at the nodes of a bucket's chain, and how each load there leads on from it.
-use Rattle.std.proofs.Common.{◌≡◌, ◌≢◌, ◌⊎◌, ℕ, ◌+◌, ◌^◌, ◌<◌, ◌≤◌, Bool, true, List, [], ◌∷◌, ◌++◌, map, Option, Some, None, refl, sym, ◌∙◌, ap, subst, inl, inr, arith}
+use Rattle.std.proofs.Common.{◌≡◌, ◌≢◌, ℕ, ◌+◌, ◌^◌, ◌<◌, ◌≤◌, Bool, true, List, Option, Some, None, refl, sym, ◌∙◌, ap, subst, inl, inr, arith}
 use Rattle.std.proofs.lemmas.Bool.{cases_eq}
 use Rattle.rht_words.specs.declared.env.Env.{Env}
-use Rattle.rht_words.specs.Links.{link_of, marker_of, head_of}
+use Rattle.rht_words.specs.Links.{link_of, head_of}
 use Rattle.rht_words.specs.Members.{In}
 use Rattle.rht_words.specs.Operations.{old_of}
 use Rattle.rht_words.specs.Places.{IsBucketPlace}
@@ -11,23 +11,22 @@ use Rattle.rht_words.specs.Shapes.{unpacked, size_of}
 use Rattle.rht_words.proofs.Memory.{Memory}
 use Rattle.rht_model.specs.declared.history.Cursor.{Cursor}
 use Rattle.rht_walk.specs.Walk.{IsVisitIn, chain_of as chain_at, one_more}
-use Rattle.rht_walk.specs.WalkLaws.{first_bucket}
 use Rattle.rht_walk.specs.declared.walk.Visit.{Visit}
 use Rattle.rht_walk.specs.declared.walk.Chain.{Chain}
-use Rattle.rht_ghost.proofs.Theory.Ghosts.{Ghost, index_at, seat_of, table_at, none-some, some-same}
+use Rattle.rht_ghost.proofs.Theory.Ghosts.{Ghost, index_at, table_at, some-same}
 use Rattle.rht_ghost.proofs.Theory.Passed.{hash-below, place-word, place-table}
 use Rattle.rht_ghost.proofs.Theory.SeatedLinks.{head-seated, link_of-one}
 use Rattle.rht_ghost.proofs.Theory.Steps.{mem}
 use Rattle.rht_ghost.proofs.Theory.Wholes.{chain_of, key_of, hash_in, place_at, word_index, Whole, IsThere, slot-there}
-use Rattle.rht_core.proofs.Finding.Deaths.{DeathsRight, IsLate, late_next, late_used}
+use Rattle.rht_core.proofs.Finding.Deaths.{DeathsRight, IsLate, late_next}
 use Rattle.rht_core.proofs.Finding.Places.{Places, PlacesRight}
-use Rattle.rht_core.proofs.Finding.Stages.{Stage, Reaching, Heading, AtKey, AtLink, Ending}
+use Rattle.rht_core.proofs.Finding.Stages.{Ending}
 use Rattle.rht_core.proofs.Finding.StageSteps.{reached, missed, headed_to, headed_nowhere, key_differs, link_to, link_nowhere, all_visited, none_behind}
 use Rattle.rht_core.proofs.Returning.TiedWalks.{IsWalked, IsAtBucket, number_below}
-use Rattle.rht_core.proofs.Walking.BucketHeads.{bucket_right, loaded_head, head_placed}
-use Rattle.rht_core.proofs.Walking.PortPlaces.{PortPlacesRight, sits_first, ends_or_leads}
+use Rattle.rht_core.proofs.Finding.BucketHeads.{bucket_right, loaded_head, head_placed}
+use Rattle.rht_core.proofs.Finding.PortPlaces.{PortPlacesRight, sits_first, ends_or_leads}
 use Rattle.rht_core.proofs.Walking.ShownNodes.{map-In}
-use Rattle.rht_core.proofs.Walking.WalkFacts.{ports_of, Said, number, IsLast, StageIs, RoomKnown, IsBefore, IsAbove, IsPassed, BucketsKnown, OfTable, IsAt, IsBehind, ChainKnown, IsInChain, HereAtKey, HereAtLink, IsNewKey, IsAtOwner}
+use Rattle.rht_core.proofs.Walking.WalkFacts.{ports_of, Said, StageIs, RoomKnown, IsPassed, BucketsKnown, IsAt, IsBehind, IsInChain, HereAtKey, HereAtLink, IsAtOwner}
 
 module _ (env : Env) (mix : ℕ → ℕ → ℕ → ℕ) (from : Option Cursor) (begin now : ℕ) (Missed WasLast : ℕ → Type 0) (Bound : ℕ × ℕ → Type 0)
     (seen : ℕ → Bool) (items : List (ℕ × ℕ)) (words : List ℕ) (G : Ghost) (P : Places) (whole : Whole env mix (mem env mix words) G)
@@ -198,7 +197,8 @@ module _ (env : Env) (mix : ℕ → ℕ → ℕ → ℕ) (from : Option Cursor) 
         let here = (of_ports.homes bucket n p at).here in
         let home : (G.table τ).place (hash table (key_of M n)) ≡ Some bucket =
         subst (λ t. (G.table t).place (hash_in env mix G (key_of M n) t) ≡ Some bucket) (table_is is) here in
-        sym (place-word env mix M G whole τ (hash table (key_of M n)) bucket there_now (hash-below env mix M G whole (key_of M n) τ) home).number
+        sym (place-word env mix M G whole τ (hash table (key_of M n)) bucket there_now (hash-below env mix M G whole (key_of M n) τ)
+        home).number
         ∙ (place-word env mix M G whole τ chain.visit.bucket bucket there_now number_low is).number
 
     -- ---- its key

@@ -1,17 +1,17 @@
--- Each operation of a walk leads from what it knows to what it knows next, by the words and the ghost of one moment, since it loads a word or
+-- Each operation of a walk leads from what it knows to what it knows next, by the words and the ghost of one moment, since it loads a
+-- word or
 -- turns its section word.
-use Rattle.std.proofs.Common.{◌≡◌, ◌≢◌, ◌⊎◌, ℕ, ◌+◌, ◌%◌, ◌^◌, ◌<◌, ◌≤◌, nat_lt, Bool, true, List, [], ◌∷◌, length, Option, Some, None, refl, sym, ◌∙◌, ap, subst, inl, inr, arith}
+use Rattle.std.proofs.Common.{◌≡◌, ◌≢◌, ℕ, ◌+◌, ◌%◌, ◌^◌, ◌<◌, ◌≤◌, nat_lt, Bool, true, List, [], length, Option, Some, None, refl, sym, ◌∙◌, ap, subst, inl, arith}
 use Rattle.std.specs.Prelude.{◌==◌}
 use Rattle.std.specs.List.{AllByRecursion}
-use Rattle.std.proofs.lemmas.Bool.{cond_both, eqb-true, ltb-false}
+use Rattle.std.proofs.lemmas.Bool.{cond_both, ltb-false}
 use Rattle.rht_words.specs.declared.env.Env.{Env}
 use Rattle.rht_words.specs.declared.geometry.Geometry.{Geometry}
-use Rattle.rht_words.specs.declared.machine.Next.TheVariants.{Go, Done}
 use Rattle.rht_words.specs.declared.machine.Start.{Start}
 use Rattle.rht_words.specs.declared.machine.Start.TheVariants as starts
 use Rattle.rht_words.specs.Links.{link_of, marker_of, node_of, head_of, slot_of, table_of, page_of}
 use Rattle.rht_words.specs.Operations.{old_of}
-use Rattle.rht_words.specs.Places.{CurrentTable, Slot, FutureWord, SerialWord, PageWord, Node, KeyWord, OwnerWord, place_of}
+use Rattle.rht_words.specs.Places.{CurrentTable, Slot, FutureWord, SerialWord, PageWord, Node, OwnerWord, place_of}
 use Rattle.rht_words.specs.Ports.{owner_of}
 use Rattle.rht_words.specs.declared.op.Op.TheVariants.{Load}
 use Rattle.rht_words.proofs.LinksRead.{links_tell_apart}
@@ -33,12 +33,12 @@ use Rattle.rht_ghost.proofs.Theory.Wholes.{chain_of, key_of, hash_in, Whole, cur
 use Rattle.rht_core.proofs.Finding.Deaths.{DeathsRight, IsLate, late-earlier}
 use Rattle.rht_core.proofs.Finding.Places.{Places, PlacesRight}
 use Rattle.rht_core.proofs.Finding.StageSteps.{at_current}
-use Rattle.rht_core.proofs.Returning.TiedWalks.{IsWalked, IsOnWayTo, IsAtBucket, tied_of_walk, number_below}
+use Rattle.rht_core.proofs.Returning.TiedWalks.{IsWalked, IsOnWayTo, tied_of_walk, number_below}
 use Rattle.rht_core.proofs.Walking.KeptPairs.{kept_known}
 use Rattle.rht_core.proofs.Walking.KnownBuckets.{begun_known, end_known, ended_known}
 use Rattle.rht_core.proofs.Walking.KnownChains.{missing_known, head_known, headless_known, key_known, link_known, linkless_known, all_known}
-use Rattle.rht_core.proofs.Walking.PortPlaces.{PortPlacesRight}
-use Rattle.rht_core.proofs.Walking.WalkFacts.{Said, IsNew, IsAt, IsBehind, IsInChain, HereAtKey, HereAtLink, IsAtEnd, WalkMeans}
+use Rattle.rht_core.proofs.Finding.PortPlaces.{PortPlacesRight}
+use Rattle.rht_core.proofs.Walking.WalkFacts.{Said, IsNew, IsAt, IsBehind, IsInChain, HereAtKey, IsAtEnd, WalkMeans}
 
 module _ (env : Env) (mix : ℕ → ℕ → ℕ → ℕ) (from : Option Cursor) (begin now : ℕ) (Missed WasLast : ℕ → Type 0) (Bound : ℕ × ℕ → Type 0)
     (seen : ℕ → Bool) (words : List ℕ) (G : Ghost) (P : Places) (whole : Whole env mix (mem env mix words) G)
@@ -95,7 +95,8 @@ module _ (env : Env) (mix : ℕ → ℕ → ℕ → ℕ) (from : Option Cursor) 
 
     -- ---- an entry on the way
 
-    module _ (visit : Visit) (way : PlaceModel) (within : IsVisitIn visit) (same : way.geometry ≡ env.geometry) (on : IsOnWayTo env mix G visit way)
+    module _ (visit : Visit) (way : PlaceModel) (within : IsVisitIn visit) (same : way.geometry ≡ env.geometry)
+        (on : IsOnWayTo env mix G visit way)
         (known : At visit) where
       entered-known : (page : ℕ) (start : Start PlaceModel ℕ) → entered way page ≡ start
           → let next = went_behind way start in Means (reached env.geometry limit shown visit next.0 next.1)
@@ -106,10 +107,12 @@ module _ (env : Env) (mix : ℕ → ℕ → ℕ → ℕ) (from : Option Cursor) 
           → let next = entry_seen way entry in Means (reached env.geometry limit shown visit next.0 next.1)
       entry-known None none =
           let missing = missing_home env mix ((G.table (index_at G visit.table)).place visit.bucket)
-          (sym (way_read env mix M G whole (index_at G visit.table) visit.bucket (slot-there env mix whole.tables visit.table on.walked.of.table)
+          (sym (way_read env mix M G whole (index_at G visit.table) visit.bucket (slot-there env mix whole.tables visit.table
+          on.walked.of.table)
           (number_below env mix words G whole visit within on.walked) way on.to)
           ∙ read_by_entry (words_of_pages M) way env.geometry None same none) in
-          ended visit on.walked (missing_known env mix from begin now Missed WasLast Bound seen items words G P whole right deaths of_ports visit
+          ended visit on.walked (missing_known env mix from begin now Missed WasLast Bound seen items words G P whole right deaths
+          of_ports visit
           missing known)
       entry-known (Some page) leads = entered-known page (entered way page) refl
 
@@ -189,21 +192,25 @@ module _ (env : Env) (mix : ℕ → ℕ → ℕ → ℕ) (from : Option Cursor) 
     walk_leads (at.Shape table serial) within tied met known =
         begun_known env mix from begin now Missed WasLast Bound seen items M G P whole table serial _ known.0 known.1
     walk_leads (at.Entry visit way) within tied met known =
-        let same = ap (λ (g : Geometry). page_of g.pages (old_of words (Load (place_of g (PageWord way.entry))))) within.way_in.geometry_same in
+        let same = ap (λ (g : Geometry). page_of g.pages (old_of words (Load (place_of g (PageWord way.entry)))))
+        within.way_in.geometry_same in
         entry-known items limit (length items) visit way within.visit_in within.way_in.geometry_same tied known
         (page_of way.geometry.pages (old_of words (place_plan way))) (sym same)
     walk_leads (at.Heading visit place) within tied met known =
         let link = head_of place (old_of words (plan_at env.geometry c (at.Heading visit place))) in
-        let headless = headless_known env mix from begin now Missed WasLast Bound seen items words G P whole right deaths of_ports visit place
+        let headless = headless_known env mix from begin now Missed WasLast Bound seen items words G P whole right deaths of_ports visit
+        place
         within.visit_in within.place_in tied in
         led items limit (length items) (chain_at visit place) link tied.walked (record {
-          to_node = λ n leads. head_known env mix from begin now Missed WasLast Bound seen items words G P whole right deaths of_ports visit place
+          to_node = λ n leads. head_known env mix from begin now Missed WasLast Bound seen items words G P whole right deaths of_ports
+              visit place
               within.visit_in within.place_in tied n leads learns.began known;
           to_none = λ none. headless none known;
           visited_all = λ all. headless (λ n l leads. absurd (omega (arith, l, all))) known;
         }) (node_of env.geometry.nodes link) refl
     walk_leads (at.Key chain node) within tied met known =
-        key_known env mix from begin now Missed WasLast Bound seen items words G P whole right deaths of_ports chain node within.visit_in tied
+        key_known env mix from begin now Missed WasLast Bound seen items words G P whole right deaths of_ports chain node within.visit_in
+        tied
         (key_of M node % 2 ^ 32) (λ small. small_port (key_of M node) small) met.0 known
       where
         small_port : (word : ℕ) → word < 2 ^ 32 → word ≡ word % 2 ^ 32
@@ -217,11 +224,14 @@ module _ (env : Env) (mix : ℕ → ℕ → ℕ → ℕ) (from : Option Cursor) 
     walk_leads (at.Link chain node) within tied met known =
         let link = chain_of M node in
         led items limit (length items) (one_more chain) link (record { of = tied.of; shape_is = tied.shape_is }) (record {
-          to_node = λ n leads. link_known env mix from begin now Missed WasLast Bound seen items words G P whole right deaths of_ports chain node
+          to_node = λ n leads. link_known env mix from begin now Missed WasLast Bound seen items words G P whole right deaths of_ports
+              chain node
               within.visit_in tied n leads known;
-          to_none = λ none. linkless_known env mix from begin now Missed WasLast Bound seen items words G P whole right deaths of_ports chain node
+          to_none = λ none. linkless_known env mix from begin now Missed WasLast Bound seen items words G P whole right deaths of_ports
+              chain node
               within.visit_in tied none known;
-          visited_all = λ all. all_known env mix from begin now Missed WasLast Bound seen items words G P whole right deaths of_ports chain node
+          visited_all = λ all. all_known env mix from begin now Missed WasLast Bound seen items words G P whole right deaths of_ports
+              chain node
               within.visit_in tied all known;
         }) (node_of env.geometry.nodes link) refl
     walk_leads (at.StrangeEnd visit) within tied met known =

@@ -1,5 +1,5 @@
 -- What a walk knows outlives an operation of anybody.
-use Rattle.std.proofs.Common.{◌≡◌, ◌⊎◌, ℕ, ◌+◌, ◌<◌, ◌≤◌, Bool, true, List, [], ◌∷◌, map, Option, Some, None, refl, sym, ◌∙◌, ap, subst, inl, inr, arith}
+use Rattle.std.proofs.Common.{◌≡◌, ◌⊎◌, ℕ, ◌+◌, ◌<◌, ◌≤◌, Bool, true, List, [], Option, Some, None, refl, sym, ◌∙◌, ap, subst, inl, inr, arith}
 use Rattle.std.specs.List.{AllByRecursion}
 use Rattle.rht_words.specs.declared.env.Env.{Env}
 use Rattle.rht_words.specs.Members.{In}
@@ -24,15 +24,14 @@ use Rattle.rht_core.proofs.Finding.LooksSeen.{stage-seen}
 use Rattle.rht_core.proofs.Finding.Places.{Places}
 use Rattle.rht_core.proofs.Finding.PlacesThen.{StagesOutlive}
 use Rattle.rht_core.proofs.Finding.Stages.{Stage, Reaching, AtKey, AtLink, Owning, IsAttached, StageMeans}
-use Rattle.rht_core.proofs.Returning.TiedWalks.{IsWalked, IsAtBucket, tied_of_walk}
+use Rattle.rht_core.proofs.Returning.TiedWalks.{tied_of_walk}
 use Rattle.rht_core.proofs.Walking.ShownNodes.{map-agree}
-use Rattle.rht_core.proofs.Walking.WalkFacts.{ports_of, SaidOf, EndKnown, EndsAt, HasWalkedTo, RoomKnown, IsShown, IsPassed, BucketsKnown, OfTable, IsNew, IsAt, IsBehind, ChainKnown, IsInChain, HereAtKey, HereAtLink, IsAtOwner, IsAtEnd, WalkMeans}
+use Rattle.rht_core.proofs.Walking.WalkFacts.{SaidOf, EndKnown, EndsAt, HasWalkedTo, RoomKnown, IsPassed, BucketsKnown, OfTable, IsNew, IsAt, IsBehind, IsInChain, HereAtKey, HereAtLink, IsAtOwner, IsAtEnd, WalkMeans}
 
 module _ (env : Env) (mix : ℕ → ℕ → ℕ → ℕ) (from : Option Cursor) (begin now : ℕ) (Missed WasLast : ℕ → Type 0) (Bound : ℕ × ℕ → Type 0)
     (Missed' WasLast' : ℕ → Type 0) (Bound' : ℕ × ℕ → Type 0) (missed : (port : ℕ) → Missed port → Missed' port)
     (was_last : (τ : ℕ) → WasLast τ → WasLast' τ) (bound : (pair : ℕ × ℕ) → Bound pair → Bound' pair)
     (items : List (ℕ × ℕ)) (M : Memory) (G : Ghost) (P : Places) (M' : Memory) (G' : Ghost) (grow : TablesGrow env mix G G') where
-
   -- ---- tables
 
   number_same : (slot : ℕ) → IsAttached G slot → (port : ℕ)
@@ -105,7 +104,8 @@ module _ (env : Env) (mix : ℕ → ℕ → ℕ → ℕ) (from : Option Cursor) 
   -- ---- one that goes on
 
   module _ (met : ℕ → Bool) (P' : Places) (stages : StagesOutlive env mix now M G P M' G' P' met)
-      (kept : (i n p : ℕ) → met n ≡ true → P.place i n ≡ Some p → P'.place i n ≡ Some p) (now' : ℕ) (later : now ≤ now') (absent : (port : ℕ) → G'.bound port ≡ [] → Missed' port)
+      (kept : (i n p : ℕ) → met n ≡ true → P.place i n ≡ Some p → P'.place i n ≡ Some p) (now' : ℕ) (later : now ≤ now')
+      (absent : (port : ℕ) → G'.bound port ≡ [] → Missed' port)
       (seen seen' : ℕ → Bool) (seen_met : (n : ℕ) → seen n ≡ true → met n ≡ true) where
     abbrev Before : WalkAt → Type 0
     Before = WalkMeans env mix from begin now Missed WasLast Bound seen items M G P
@@ -235,7 +235,8 @@ module _ (env : Env) (mix : ℕ → ℕ → ℕ → ℕ) (from : Option Cursor) 
         of = table_then chain.visit attached at.of;
         low = at.low;
         place_is = ap (λ τ. (G'.table τ).place chain.visit.bucket) (grow.indices chain.visit.table attached.table)
-            ∙ (grow.tables (index_at G chain.visit.table) attached.attached).places chain.visit.bucket (word_index env mix chain.place) at.place_is;
+            ∙ (grow.tables (index_at G chain.visit.table) attached.attached).places chain.visit.bucket (word_index env mix chain.place)
+            at.place_is;
         since = at.since;
         began = at.began;
         so_far = let so_far = at.so_far in omega (arith, so_far, later);
@@ -247,7 +248,8 @@ module _ (env : Env) (mix : ℕ → ℕ → ℕ → ℕ) (from : Option Cursor) 
               is = kept (word_index env mix chain.place) m known.at (seen_met m stood) known.is;
               early = known.early;
               buckets = buckets_then chain.visit.table chain.visit.bucket attached _ _ _ _ (λ port. here at.since port at.so_far)
-                  (passed_then chain.visit.table chain.visit.bucket (word_index env mix chain.place) (least known.at) at.since attached) known.buckets;
+                  (passed_then chain.visit.table chain.visit.bucket (word_index env mix chain.place) (least known.at) at.since attached)
+                  known.buckets;
             };
       }
 
