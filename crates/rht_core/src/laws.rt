@@ -18,6 +18,7 @@ ghost use Rattle.rht_core.specs.Refused.{Refused};
 ghost use Rattle.rht_core.specs.Tables.{Tables, NeverAgain};
 ghost use Rattle.rht_core.specs.RunHistories.{HasFittingHistory};
 ghost use Rattle.rht_core.specs.Sections.{Sections, OwnSections};
+ghost use Rattle.rht_core.specs.Shown.{Shown};
 ghost use Rattle.rht_core.specs.ToldHistories.{HasToldHistory};
 ghost use Rattle.rht_core.specs.Worked.{Worked};
 ghost use Rattle.rht_core.specs.Laws.{Extends, InRange, Enrolled, NotEnrolled, Replies, Remembers, AtEvents, AllStepsTraced, TakenAlone, WordsFit};
@@ -362,6 +363,19 @@ pub fn bounded<M: Mix>()
 pub fn found<M: Mix>()
     ensures moment { TakesEffect M M.mix_of }
     ensures throughout { FindsWhatStays M M.mix_of }
+{}
+
+/// In every run in which callers took fewer than 2^63 serials each full walk shows rightly. A full walk is some of a
+/// caller's finished walks, in order: the first without a cursor, each later one from the cursor with which the one
+/// before ended, the last ended without a cursor, and none answered `Again`. The caller may make other calls between
+/// them, and others what they like at any time. Take the events from the first walk's beginning to the last one's last
+/// operation. Each port that the words stand for behind all of them is shown; each pair is a port and its first owner
+/// behind one of them; and no port is shown twice. So where no binding changed meanwhile, the pairs are exactly the
+/// ports that were bound, each with its first owner. It doesn't say in which order they come, that a port is shown
+/// which was unbound meanwhile, nor anything of walks of which one answered `Again`; and it doesn't say that a walk
+/// ever ends without that.
+pub fn shown<M: Mix>()
+    ensures { Shown M M.mix_of }
 {}
 
 /// In every run each operation of a look-up, of a reading of the count, of a tidying or of a walk, ended or in
