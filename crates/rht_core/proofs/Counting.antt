@@ -62,6 +62,8 @@ pub mod BoundedTables
 -- which operation draws a serial, and which draw a job has
 pub mod SerialDraws
 pub mod DrawnJobs
+-- what one operation makes of the draws of serials
+pub mod StepDraws
 -- in every run each table has a draw of its own
 pub mod TableDraws
 pub mod DrawnRuns

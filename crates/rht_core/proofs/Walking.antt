@@ -1,9 +1,3 @@
--- more of what is true of places
-pub mod PortPlaces
--- so it is behind an operation
-pub mod PortPlacesStay
--- and behind one that gives back a node
-pub mod PortPlacesGiven
 -- the table of a slot
 pub mod SlotsOfTables
 -- what a walk knows in each of its states
@@ -12,8 +6,6 @@ pub mod WalkFacts
 pub mod ShownNodes
 -- before and behind a bucket
 pub mod KnownBuckets
--- the word of a bucket
-pub mod BucketHeads
 -- at the nodes of a bucket
 pub mod KnownChains
 -- with one pair more
@@ -30,3 +22,7 @@ pub mod EndedWalks
 pub mod WalkingRuns
 -- calls of a full walk
 pub mod FullWalks
+-- the events that draw serials
+pub mod MadeSerials
+-- the law
+pub mod ShownLaw

@@ -1,4 +1,4 @@
--- What a full walk shows, in every run, and why a walk ended with its reply.
+-- What a full walk shows, in every run.
 use Rattle.std.specs.Prelude.{◌≡◌, ◌≢◌, ℕ, ◌^◌, ◌<◌, ◌≤◌, ◌⊎◌, Some, None, Option, List, [], ◌∷◌, ◌++◌, length, map}
 use Rattle.std.specs.List.{AllByRecursion, Any, flat_map}
 use Rattle.rht_words.specs.declared.env.Env.{Env}
@@ -74,56 +74,13 @@ module _ (M : Type 0) (mix : ℕ → ℕ → ℕ → ℕ) where
       }) indexes
       → length indexes < 2 ^ 63
 
-  -- in every run in which few serials were taken, each full walk shows rightly the bindings from the beginning
-  -- of its first call to behind its last one
+  -- In every run each full walk shows rightly the bindings from the beginning of its first call to behind its last one. Where it has more
+  -- than one call, this is so where few serials were taken: by its serial a cursor says in which table the walk goes on.
   abbrev pub Shown : Type 0
   Shown =
       (env : Env) (events : List Event) (c : ℕ) (first : Past) (pasts : List Past)
       → IsAdmitted env.config.kind events
-      → AreFewMade env events
+      → (pasts ≡ []) ⊎ AreFewMade env events
       → AreWalks None (first ∷ pasts)
       → AreAmong (first ∷ pasts) ((traced_of {M = M} mix env events).traces c).past
       → ShowsRightly env events first.begin (ends_behind (behind_call first) pasts) (pairs_of (first ∷ pasts))
-
--- ---- why a walk ended so
-
--- the operation is on no word of a node and on none of a page
-abbrev pub IsBeforeNodes : Geometry → Did → Type 0
-IsBeforeNodes g did = op_place did.op < nodes_at g
-
--- It loaded this table as the current one, then the table's serial and its shape.
-pub record BeginsIn (g : Geometry) (table serial shape : ℕ) (steps : List Did) : Type 0 where
-  pub enter : Did
-  pub current : Did
-  pub serial_at : Did
-  pub shape_at : Did
-  pub behind : List Did
-  pub split : steps ≡ enter ∷ current ∷ serial_at ∷ shape_at ∷ behind
-  pub table_in : table < 8
-  pub current_read : LoadsCurrent g table current
-  pub serial_read : Loaded g (Slot table SerialWord) serial serial_at
-  pub shape_read : Loaded g (Slot table ShapeWord) shape shape_at
-
--- `Walked`: with a cursor it is the walked table's, at a later bucket, and enough pairs were kept; without
--- one the table's future was found to be none, and behind that no bucket was looked at
-pub record SawWalked (g : Geometry) (from : Option Cursor) (limit len : ℕ) (next : Option Cursor)
-    (steps : List Did) : Type 0 where
-  pub table : ℕ
-  pub serial : ℕ
-  pub shape : ℕ
-  pub begins : BeginsIn g table serial shape steps
-  pub fits : Fits serial shape from
-  pub ended : (next ≡ None
-      × (before : List Did) × (at : Did) × (behind : List Did) × (begins.behind ≡ before ++ at ∷ behind)
-      × Loaded g (Slot table FutureWord) 0 at × AllByRecursion (IsBeforeNodes g) behind)
-      ⊎ ((cursor : Cursor) × (next ≡ Some cursor) × (cursor.serial ≡ serial)
-      × (first_bucket from < cursor.bucket)
-      × (cursor.bucket < size_of (unpacked shape)) × (limit ≤ len))
-
--- `Again`: the walked table has this future, or this is the current table and the cursor doesn't fit it
-pub record SawAgain (g : Geometry) (from : Option Cursor) (slot : ℕ) (steps : List Did) : Type 0 where
-  pub table : ℕ
-  pub serial : ℕ
-  pub shape : ℕ
-  pub begins : BeginsIn g table serial shape steps
-  pub ended : Any (FindsFuture g table slot) begins.behind ⊎ ((slot ≡ table) × (Fits serial shape from → ⊥))

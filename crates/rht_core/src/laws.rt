@@ -18,6 +18,7 @@ ghost use Rattle.rht_core.specs.Refused.{Refused};
 ghost use Rattle.rht_core.specs.Tables.{Tables, NeverAgain};
 ghost use Rattle.rht_core.specs.RunHistories.{HasFittingHistory};
 ghost use Rattle.rht_core.specs.Sections.{Sections, OwnSections};
+ghost use Rattle.rht_core.specs.Shown.{Shown};
 ghost use Rattle.rht_core.specs.ToldHistories.{HasToldHistory};
 ghost use Rattle.rht_core.specs.Worked.{Worked};
 ghost use Rattle.rht_core.specs.Laws.{Extends, InRange, Enrolled, NotEnrolled, Replies, Remembers, AtEvents, AllStepsTraced, TakenAlone, WordsFit};
@@ -159,9 +160,9 @@ pub fn taken_alone<M: Mix>()
 ///
 /// A `Walk` that was answered has done what `laws::walks_rightly` of `rht_walk` says, with the pairs that came
 /// with its reply. It opened its section, loaded the current table, its serial and its shape, and then looked at
-/// bucket after bucket. For `Walked` the pairs are the keys and owners that it loaded. It found no table behind;
-/// with a cursor it kept enough pairs. For `Again` it found one behind, or the cursor doesn't fit. It doesn't
-/// say that the pairs were bound.
+/// bucket after bucket. For `Walked` the pairs are the keys and owners that it loaded. With a cursor it kept enough
+/// pairs; without one it found no table behind. For `Again` it found one behind, or the cursor doesn't fit. It
+/// doesn't say that the pairs were bound; that is `shown`.
 ///
 /// `Found` and `Missing` of a look-up, `Listed` of a listing, `Absent` of a release, `Rebound` and
 /// `Absent` of a rebind have nothing to show here. No other reply of these calls comes. It doesn't say that
@@ -277,8 +278,9 @@ pub fn tidied<M: Mix>()
 {}
 
 /// In every run a call that was refused has undone what it did; so has a bind that was answered `Exists`,
-/// and a rebind or a release that was answered `Absent`. And so has a look-up, a listing, a reading of the
-/// count, a `Work` that was answered `Idle`, and a `Tidy` that was answered `Pending`. None of its operations changed what the words stand for.
+/// and a rebind or a release that was answered `Absent`. And so has a look-up, a listing, a walk, a reading of
+/// the count, a `Work` that was answered `Idle`, and a `Tidy` that was answered `Pending`. None of its
+/// operations changed what the words stand for.
 /// And each bit of each word was turned by its operations an even number of times, whatever others did to
 /// it meanwhile: so at its end the call holds no lock, and the node that it took was given back by it. And
 /// its caller is in no read section then.
@@ -362,6 +364,19 @@ pub fn bounded<M: Mix>()
 pub fn found<M: Mix>()
     ensures moment { TakesEffect M M.mix_of }
     ensures throughout { FindsWhatStays M M.mix_of }
+{}
+
+/// In every run each full walk shows rightly, where it is one call, or callers took fewer than 2^63 serials. A full walk is some of a
+/// caller's finished walks, in order: the first without a cursor, each later one from the cursor with which the one
+/// before ended, the last ended without a cursor, and none answered `Again`. The caller may make other calls between
+/// them, and others what they like at any time. Take the events from the first walk's beginning to the last one's last
+/// operation. Each port that the words stand for behind all of them is shown; each pair is a port and its first owner
+/// behind one of them; and no port is shown twice. So where no binding changed meanwhile, the pairs are exactly the
+/// ports that were bound, each with its first owner. It doesn't say in which order they come, that a port is shown
+/// which was unbound meanwhile, nor anything of walks of which one answered `Again`; and it doesn't say that a walk
+/// ever ends without that.
+pub fn shown<M: Mix>()
+    ensures { Shown M M.mix_of }
 {}
 
 /// In every run each operation of a look-up, of a reading of the count, of a tidying or of a walk, ended or in

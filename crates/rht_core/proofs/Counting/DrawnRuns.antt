@@ -2,258 +2,47 @@
 --
 -- By induction over the events, with the ghost: an operation draws a serial for its caller, or attaches the caller's table, which has the
 -- caller's draw from then on, or leaves all draws.
-use Rattle.std.proofs.Common.{◌≡◌, ◌≢◌, ℕ, suc, ◌+◌, ◌%◌, ◌^◌, ◌<◌, ◌⊎◌, cond, List, [], ◌∷◌, refl, sym, ap, ◌∙◌, subst, inl, inr, arith}
+use Rattle.std.proofs.Common.{◌≡◌, ℕ, ◌+◌, ◌⊎◌, cond, List, [], ◌∷◌, refl, sym, ap, ◌∙◌, subst, inl, inr, arith}
 use Rattle.std.specs.Prelude.{Option, Some, None, ◌==◌}
-use Rattle.std.proofs.lemmas.Bool.{cases_eq, eq-eqb, ne_eqb}
+use Rattle.std.proofs.lemmas.Bool.{cases_eq, eq-eqb}
 use Rattle.rht_words.specs.declared.op.Op.{Op}
 use Rattle.rht_words.specs.declared.op.Op.TheVariants.{Add}
 use Rattle.rht_words.specs.declared.env.Env.{Env}
-use Rattle.rht_words.specs.Operations.{op_place, old_of, word_after, applied}
-use Rattle.rht_words.specs.Places.{NextSerial, Slot, SerialWord, EnrolledCallers, word_at}
+use Rattle.rht_words.specs.Operations.{old_of}
+use Rattle.rht_words.specs.Places.{NextSerial, EnrolledCallers, word_at}
 use Rattle.rht_words.proofs.Memory.{Memory, is_write}
 use Rattle.rht_words.proofs.OpeningLaws.{stand_in_place}
 use Rattle.rht_model.specs.declared.history.Call.{Call}
 use Rattle.rht_callers.specs.declared.local.Doing.{Doing}
 use Rattle.rht_core.specs.declared.event.Event.{Event}
 use Rattle.rht_core.specs.declared.event.Event.TheVariants.{Enroll, Begin, Step}
-use Rattle.rht_core.specs.Jobs.{Job, job_of, job_plan, job_after, told, held_of, held_next}
+use Rattle.rht_core.specs.Jobs.{job_of}
 use Rattle.rht_core.specs.Runs.{World, View, enrolling, opening, local_of, planned_in, beginning_in, view_of, world_step, run_from, run_of, IsAdmitted, IsAdmittedEvent}
 use Rattle.rht_core.specs.Tables.{next_serial, drawn_from}
-use Rattle.rht_ghost.proofs.Theory.Ghosts.{Ghost, put, put-all, put-same, put-other, table_at, Table, made_table}
-use Rattle.rht_ghost.proofs.Theory.Reliance.{HoldingsStay}
-use Rattle.rht_ghost.proofs.Theory.Ways.{entered_table}
-use Rattle.rht_ghost.proofs.Theory.Steps.{Move, Attaches, Enters, ReadyFor, Does, ghost_after, mem}
-use Rattle.rht_core.proofs.Events.Invariants.{Knows, Inv, StepOf, kept, enrolled}
+use Rattle.rht_ghost.proofs.Theory.Ghosts.{Ghost}
+use Rattle.rht_ghost.proofs.Theory.Steps.{mem}
+use Rattle.rht_core.proofs.Events.Invariants.{Inv, StepOf, kept, enrolled}
 use Rattle.rht_core.proofs.Events.InvariantRuns.{opening_ghost, opening_inv, idle_at_opening}
 use Rattle.rht_core.proofs.Events.JobsOfCallers.{first_job-machine, left-job}
-use Rattle.rht_core.proofs.Events.RangesInRuns.{AllIn, opens-all, event-all}
+use Rattle.rht_core.proofs.Events.RangesInRuns.{opens-all, event-all}
 use Rattle.rht_core.proofs.Events.SoundRuns.{has_place, made_in}
 use Rattle.rht_core.proofs.Events.Worlds.{beginning-some, planned-some, begin_none, begin_self, begin_other, step_none, step_self, step_other, step_words}
-use Rattle.rht_core.proofs.Counting.AttachingJobs.{IsAttachingJob, job-attaches}
-use Rattle.rht_core.proofs.Counting.SerialDraws.{SparesSerial, spared_serial, DrawsJob, job-draws, job-adds, adds-not_spared}
-use Rattle.rht_core.proofs.Counting.TableDraws.{AreDrawn, SameSerials, AreGrown, still-drawn, more-drawn, attached-drawn, none-grown, grown-on}
-use Rattle.rht_core.proofs.Counting.DrawnJobs.{IsOfDraw, DrawnLeft, IsMakingJob, begins-drawn, attaching-makes, attaching-draws, attaching-has, job-on, job-still}
-
--- ---- moves of the ghost
-
-pub record IsAttach (move : Move) : Type 0 where
-  pub slot : ℕ
-  pub shape : ℕ
-  pub seed : ℕ
-  pub serial : ℕ
-  pub is : move ≡ Attaches slot shape seed serial
+use Rattle.rht_core.proofs.Counting.TableDraws.{AreDrawn, AreGrown, still-drawn, none-grown, grown-on}
+use Rattle.rht_core.proofs.Counting.DrawnJobs.{DrawnLeft, begins-drawn}
+use Rattle.rht_core.proofs.Counting.StepDraws.{left-still, memory_of, HasDrawn, recount, DrawsAt, IsLater, after, step-draws, step-grown, others-left}
 
 module _ (env : Env) (mix : ℕ → ℕ → ℕ → ℕ) where
-  -- a table is attached, or all have the serials that they had
-  moved-serials : (c : ℕ) (move : Move) (G : Ghost) → SameSerials G (ghost_after env mix c move G) ⊎ IsAttach move
-  moved-serials c (Attaches slot shape seed serial) G =
-      inr (record { slot = slot; shape = shape; seed = seed; serial = serial; is = refl })
-  moved-serials c (Enters j p) G = inl (record {
-    attached = refl;
-    serials = put-all (λ i t. t.serial ≡ (G.table i).serial) G.table (table_at G j) (entered_table (G.table (table_at G j)) j p) refl
-        (λ i other. refl);
-  })
-  moved-serials c _ G = inl (record { attached = refl; serials = λ τ. refl })
-
-  -- what another caller's job has still holds
-  left-still : (k : ℕ) (M M' : Memory) (G G' : Ghost) → HoldingsStay env mix k M G M' G' → (held : Option ℕ) (job : Option Job)
-      → Knows env mix k job M G → DrawnLeft M held job → DrawnLeft M' held job
-  left-still k M M' G G' stay held None knows left = tt
-  left-still k M M' G G' stay held (Some job) knows left = job-still env mix k M M' G G' stay held job knows left
-
-  -- ---- runs
-
   module _ (L : Type 0) where
-    abbrev memory_of : World L → Memory
-    memory_of w = mem env mix w.core.words
-
-    -- the invariant, with a draw for each table and for each caller that has one
-    pub record HasDrawn (w : World L) (drawn : ℕ) : Type 0 where
-      pub ghost : Ghost
-      pub inv : Inv env mix L w.core ghost
-      pub all : AllIn L mix env w.core
-      pub of_table : ℕ → ℕ
-      pub of_caller : ℕ → Option ℕ
-      pub drawn_are : AreDrawn drawn (memory_of w NextSerial) ghost of_table of_caller
-      pub jobs : (c : ℕ) → DrawnLeft (memory_of w) (of_caller c) (job_of (view_of w c).local.doing)
-
-    -- the same with another number that is the same
-    abbrev pub recount : (w : World L) (n m : ℕ) → n ≡ m → HasDrawn w n → HasDrawn w m
-    recount w n m same has = record {
-      ghost = has.ghost;
-      inv = has.inv;
-      all = has.all;
-      of_table = has.of_table;
-      of_caller = has.of_caller;
-      drawn_are = subst (λ i. AreDrawn i (memory_of w NextSerial) has.ghost has.of_table has.of_caller) same has.drawn_are;
-      jobs = has.jobs;
-    }
-
-    -- it is so of a later world, whose tables have grown
-    pub record IsLater (w : World L) (drawn : ℕ) (has : HasDrawn w drawn) (v : World L) (count : ℕ) : Type 0 where
-      pub now : HasDrawn v count
-      pub grown : AreGrown has.ghost has.of_table now.ghost now.of_table
-
-    module _ (w : World L) (drawn : ℕ) (has : HasDrawn w drawn) where
+    module _ (w : World L) (drawn : ℕ) (has : HasDrawn env mix L w drawn) where
       abbrev M : Memory
-      M = memory_of w
-
-      -- what one operation leaves: the ghost, and the draws
-      module _ (c : ℕ) (op : Op) (is : planned_in w.core c ≡ Some op) (of : StepOf env mix L w.core has.ghost c op) where
-        abbrev after : Memory
-        after = mem env mix (applied w.core.words op)
-
-        abbrev G' : Ghost
-        G' = ghost_after env mix c of.step.move has.ghost
-
-        -- one of the three
-        pub record StepDraws : Type 0 where
-          pub count : ℕ
-          pub counts : count ≡ drawn + cond (M NextSerial == after NextSerial) 0 1
-          pub of_table : ℕ → ℕ
-          pub of_caller : ℕ → Option ℕ
-          pub drawn_are : AreDrawn count (after NextSerial) G' of_table of_caller
-          pub others : (k : ℕ) → k ≢ c → of_caller k ≡ has.of_caller k
-          pub same : (τ : ℕ) → τ < has.ghost.attached → of_table τ ≡ has.of_table τ
-          pub left : DrawnLeft after (of_caller c) (told (job_after mix env of.job (old_of w.core.words op))).0
-
-        -- it has left the next serial, or has added one to it
-        none-counted : after NextSerial ≡ M NextSerial → drawn ≡ drawn + cond (M NextSerial == after NextSerial) 0 1
-        none-counted same =
-            let none : cond {A = ℕ} (M NextSerial == after NextSerial) 0 1 ≡ 0 =
-            ap (λ t. cond {A = ℕ} t 0 1) (eq-eqb (M NextSerial) (after NextSerial) (sym same)) in
-            omega (arith, none)
-
-        one-counted : after NextSerial ≡ (M NextSerial + 1) % 2 ^ 64
-            → drawn + 1 ≡ drawn + cond (M NextSerial == after NextSerial) 0 1
-        one-counted adds =
-            let next = has.drawn_are.next in
-            let one : cond {A = ℕ} (M NextSerial == after NextSerial) 0 1 ≡ 1 =
-            ap (λ t. cond {A = ℕ} t 0 1) (ne_eqb (M NextSerial) (after NextSerial) (λ same. omega (arith, same, adds, next))) in
-            omega (arith, one)
-
-        added : op ≡ Add 3 1 → after NextSerial ≡ (M NextSerial + 1) % 2 ^ 64
-        added adds =
-            (is_write env.geometry w.core.words NextSerial op of.all tt (ap op_place adds)).same
-            ∙ ap (word_after (M NextSerial)) adds
-
-        -- what is left of the job
-        on : (now : Option ℕ) → (DrawsJob of.job → IsOfDraw now (M NextSerial))
-            → (IsMakingJob of.job → (DrawsJob of.job → ⊥) → now ≡ has.of_caller c)
-            → DrawnLeft after now (told (job_after mix env of.job (old_of w.core.words op))).0
-        on now draws_so same =
-            subst (λ o. DrawnLeft (mem env mix (applied w.core.words o)) now (told (job_after mix env of.job (old_of w.core.words o))).0)
-            (sym of.plan)
-            (job-on env mix c w.core.words of.all (has.of_caller c) now of.job of.within
-            (λ d. subst (IsOfDraw now) (sym (ap (old_of w.core.words) (job-adds env c of.job d))) (draws_so d)) same
-            (subst (DrawnLeft M (has.of_caller c)) of.is (has.jobs c)))
-
-        -- the caller's table is attached
-        attach-draws : IsAttach of.step.move → StepDraws
-        attach-draws at =
-            let does = subst (λ m. Does env mix m op (old_of w.core.words op) (held_of of.job)
-            (held_next (job_after mix env of.job (old_of w.core.words op)))) at.is of.step.does in
-            let ready = subst (ReadyFor env mix c M has.ghost) at.is of.step.ready in
-            let there = job-attaches env c does.last at.slot does.within of.job does.has (sym of.plan ∙ does.attaching) in
-            let same : after NextSerial ≡ M NextSerial = elim (job-draws env c mix of.few of.job of.within) [
-              | inl spares ↦ spared_serial w.core.words op (subst SparesSerial (sym of.plan) spares)
-              | inr draws_it ↦ absurd (attaching-draws at.slot of.job there draws_it)
-            ] in
-            go at ready.serial_is there same (has.of_caller c) refl
-            (attaching-has M (has.of_caller c) at.slot of.job there (subst (DrawnLeft M (has.of_caller c)) of.is (has.jobs c)))
-          where
-            go : (at : IsAttach of.step.move) → M (Slot at.slot SerialWord) ≡ at.serial → IsAttachingJob of.job at.slot
-                → after NextSerial ≡ M NextSerial → (held : Option ℕ) → has.of_caller c ≡ held
-                → IsOfDraw held (M (Slot at.slot SerialWord)) → StepDraws
-            go at serial there same None is of_draw = absurd of_draw
-            go at serial there same (Some draw) is of_draw =
-                let G = has.ghost in
-                let new = made_table at.slot at.shape at.seed at.serial in
-                let moved : G' ≡ ghost_after env mix c (Attaches at.slot at.shape at.seed at.serial) G =
-                ap (λ m. ghost_after env mix c m G) at.is in
-                record {
-                  count = drawn;
-                  counts = none-counted same;
-                  of_table = put has.of_table G.attached draw;
-                  of_caller = put has.of_caller c None;
-                  drawn_are = attached-drawn drawn (M NextSerial) (after NextSerial) G G' has.of_table has.of_caller c draw at.serial same
-                      (ap (λ (H : Ghost). H.attached) moved)
-                      (λ τ l. ap (λ (H : Ghost). (H.table τ).serial) moved
-                      ∙ ap (λ (t : Table). t.serial) (put-other G.table G.attached new τ (omega (arith, l))))
-                      (ap (λ (H : Ghost). (H.table G.attached).serial) moved ∙ ap (λ (t : Table). t.serial) (put-same G.table G.attached new))
-                      is (sym serial ∙ of_draw) has.drawn_are;
-                  others = λ k ne. put-other has.of_caller c None k ne;
-                  same = λ τ l. put-other has.of_table G.attached draw τ (omega (arith, l));
-                  left = on (put has.of_caller c None c)
-                      (λ draws_it. absurd (attaching-draws at.slot of.job there draws_it))
-                      (λ making none. absurd (attaching-makes at.slot of.job there making));
-                }
-
-        -- or it draws a serial, or none
-        quiet-draws : SameSerials has.ghost G' → StepDraws
-        quiet-draws tables = elim (job-draws env c mix of.few of.job of.within) [
-          | inl spares ↦
-              let same = spared_serial w.core.words op (subst SparesSerial (sym of.plan) spares) in
-              record {
-                count = drawn;
-                counts = none-counted same;
-                of_table = has.of_table;
-                of_caller = has.of_caller;
-                drawn_are = still-drawn drawn (M NextSerial) (after NextSerial) has.ghost G' has.of_table has.of_caller same tables
-                    has.drawn_are;
-                others = λ k ne. refl;
-                same = λ τ l. refl;
-                left = on (has.of_caller c) (λ d. absurd (adds-not_spared (job_plan env c of.job) (job-adds env c of.job d) spares))
-                    (λ making none. refl);
-              }
-          | inr draws_it ↦
-              let adds = added (of.plan ∙ job-adds env c of.job draws_it) in
-              record {
-                count = drawn + 1;
-                counts = one-counted adds;
-                of_table = has.of_table;
-                of_caller = put has.of_caller c (Some drawn);
-                drawn_are =
-                    still-drawn (drawn + 1) (after NextSerial) (after NextSerial) has.ghost G' has.of_table
-                    (put has.of_caller c (Some drawn)) refl tables
-                    (more-drawn drawn (M NextSerial) (after NextSerial) has.ghost has.of_table has.of_caller c adds has.drawn_are);
-                others = λ k ne. put-other has.of_caller c (Some drawn) k ne;
-                same = λ τ l. refl;
-                left = subst (λ now. DrawnLeft after now (told (job_after mix env of.job (old_of w.core.words op))).0)
-                    (sym (put-same has.of_caller c (Some drawn)))
-                    (on (Some drawn) (λ d. has.drawn_are.next) (λ making none. absurd (none draws_it)));
-              }
-        ]
-
-        step-draws : StepDraws
-        step-draws = elim (moved-serials c of.step.move has.ghost) [
-          | inl tables ↦ quiet-draws tables
-          | inr at ↦ attach-draws at
-        ]
-
-        step-grown : AreGrown has.ghost has.of_table G' step-draws.of_table
-        step-grown =
-            let grow = (of.step.made.others (suc c) (λ e. absurd (omega (arith, e)))).tables.grow in
-            record {
-              attached = grow.attached;
-              current = grow.current;
-              slots = λ τ l. (grow.tables τ l).slot;
-              draws = step-draws.same;
-            }
-
-        -- what the others have still holds
-        others-left : (k : ℕ) → k ≢ c → DrawnLeft after (step-draws.of_caller k) (job_of (view_of w k).local.doing)
-        others-left k ne =
-            subst (λ held. DrawnLeft after held (job_of (view_of w k).local.doing)) (sym (step-draws.others k ne))
-            (left-still k M after has.ghost G' (of.step.made.others k ne).holdings (has.of_caller k) (job_of (view_of w k).local.doing)
-            (has.inv.each k) (has.jobs k))
+      M = memory_of env mix L w
 
       -- ---- one event
 
       abbrev Counted : World L → Type 0
-      Counted v = IsLater w drawn has v (drawn + cond (next_serial w == next_serial v) 0 1)
+      Counted v = IsLater env mix L w drawn has v (drawn + cond (next_serial w == next_serial v) 0 1)
 
-      serial-of : (v : World L) → v.core.env ≡ env → next_serial v ≡ memory_of v NextSerial
+      serial-of : (v : World L) → v.core.env ≡ env → next_serial v ≡ memory_of env mix L v NextSerial
       serial-of v same = ap (λ (e : Env). word_at e.geometry v.core.words NextSerial) same
 
       -- an event that leaves the next serial counts for nothing
@@ -265,7 +54,7 @@ module _ (env : Env) (mix : ℕ → ℕ → ℕ → ℕ) where
 
       nothing-drawn : (v : World L) → v ≡ w → Counted v
       nothing-drawn v same = subst Counted (sym same) (record {
-        now = recount w drawn (drawn + cond (next_serial w == next_serial w) 0 1) (same-counted w refl) has;
+        now = recount env mix L w drawn (drawn + cond (next_serial w == next_serial w) 0 1) (same-counted w refl) has;
         grown = none-grown has.ghost has.of_table;
       })
 
@@ -275,7 +64,7 @@ module _ (env : Env) (mix : ℕ → ℕ → ℕ → ℕ) where
           let k = kept env mix L w.core has.ghost Enroll has.all has.inv in
           let rely = (enrolled env mix L w.core has.ghost has.all has.inv).1 in
           let op = enrolling w.core.env in
-          let same : memory_of v NextSerial ≡ M NextSerial =
+          let same : memory_of env mix L v NextSerial ≡ M NextSerial =
           (is_write env.geometry w.core.words EnrolledCallers op has.all.stays.all_words tt refl).others NextSerial tt (λ e. cc) in
           let serials = serial-of v k.inv.same_env ∙ same ∙ sym (serial-of w has.inv.same_env) in
           record {
@@ -286,10 +75,10 @@ module _ (env : Env) (mix : ℕ → ℕ → ℕ → ℕ) where
                   all = event-all L mix env w Enroll may has.all;
                   of_table = has.of_table;
                   of_caller = has.of_caller;
-                  drawn_are = subst (λ n. AreDrawn n (memory_of v NextSerial) has.ghost has.of_table has.of_caller) (same-counted v serials)
-                      (still-drawn drawn (M NextSerial) (memory_of v NextSerial) has.ghost has.ghost has.of_table has.of_caller same
+                  drawn_are = subst (λ n. AreDrawn n (memory_of env mix L v NextSerial) has.ghost has.of_table has.of_caller) (same-counted v serials)
+                      (still-drawn drawn (M NextSerial) (memory_of env mix L v NextSerial) has.ghost has.ghost has.of_table has.of_caller same
                       (record { attached = refl; serials = λ τ. refl }) has.drawn_are);
-                  jobs = λ c. left-still c M (memory_of v) has.ghost has.ghost (rely c).holdings (has.of_caller c)
+                  jobs = λ c. left-still env mix c M (memory_of env mix L v) has.ghost has.ghost (rely c).holdings (has.of_caller c)
                       (job_of (view_of w c).local.doing) (has.inv.each c) (has.jobs c);
                 };
             grown = none-grown has.ghost has.of_table;
@@ -329,6 +118,17 @@ module _ (env : Env) (mix : ℕ → ℕ → ℕ → ℕ) where
               (subst (DrawnLeft M (has.of_caller c)) (sym first.does)
               (begins-drawn M (has.of_caller c) env call first.job first.first))
 
+      step-count : (c : ℕ) (op : Op) → IsAdmittedEvent env.config.kind (Step c) → (is : planned_in w.core c ≡ Some op)
+          → (of : StepOf env mix L w.core has.ghost c op)
+          → (step-draws env mix L w drawn has c op is of).count ≡ drawn + cond (next_serial w == next_serial (world_step mix w (Step c))) 0 1
+      step-count c op may is of =
+          let v = world_step mix w (Step c) in
+          let k = kept env mix L w.core has.ghost (Step c) has.all has.inv in
+          let same : memory_of env mix L v NextSerial ≡ after env mix L w drawn has c op is of NextSerial = ap (λ ws. mem env mix ws NextSerial) (step_words L mix w c op is) in
+          (step-draws env mix L w drawn has c op is of).counts
+          ∙ ap (λ s. drawn + cond (s == after env mix L w drawn has c op is of NextSerial) 0 1) (sym (serial-of w has.inv.same_env))
+          ∙ ap (λ s. drawn + cond (next_serial w == s) 0 1) (sym (serial-of v k.inv.same_env ∙ same))
+
       step-drawn : (c : ℕ) (plan : Option Op) → IsAdmittedEvent env.config.kind (Step c) → planned_in w.core c ≡ plan
           → Counted (world_step mix w (Step c))
       step-drawn c None may is = nothing-drawn (world_step mix w (Step c)) (step_none L mix w c is)
@@ -336,13 +136,10 @@ module _ (env : Env) (mix : ℕ → ℕ → ℕ → ℕ) where
           let v = world_step mix w (Step c) in
           let k = kept env mix L w.core has.ghost (Step c) has.all has.inv in
           let moves = k.ghost_kept.some op is in
-          let draws = step-draws c op is moves.0 in
+          let draws = step-draws env mix L w drawn has c op is moves.0 in
           let words = step_words L mix w c op is in
-          let same : memory_of v NextSerial ≡ after c op is moves.0 NextSerial = ap (λ ws. mem env mix ws NextSerial) words in
-          let count : draws.count ≡ drawn + cond (next_serial w == next_serial v) 0 1 =
-          draws.counts
-          ∙ ap (λ s. drawn + cond (s == after c op is moves.0 NextSerial) 0 1) (sym (serial-of w has.inv.same_env))
-          ∙ ap (λ s. drawn + cond (next_serial w == s) 0 1) (sym (serial-of v k.inv.same_env ∙ same)) in
+          let same : memory_of env mix L v NextSerial ≡ after env mix L w drawn has c op is moves.0 NextSerial = ap (λ ws. mem env mix ws NextSerial) words in
+          let count = step-count c op may is moves.0 in
           record {
             now =
                 record {
@@ -352,42 +149,127 @@ module _ (env : Env) (mix : ℕ → ℕ → ℕ → ℕ) where
                   of_table = draws.of_table;
                   of_caller = draws.of_caller;
                   drawn_are =
-                      subst (λ n. AreDrawn n (memory_of v NextSerial) k.ghost draws.of_table draws.of_caller) count
+                      subst (λ n. AreDrawn n (memory_of env mix L v NextSerial) k.ghost draws.of_table draws.of_caller) count
                       (subst (λ s. AreDrawn draws.count s k.ghost draws.of_table draws.of_caller) (sym same)
-                      (subst (λ H. AreDrawn draws.count (after c op is moves.0 NextSerial) H draws.of_table draws.of_caller) (sym moves.1)
+                      (subst (λ H. AreDrawn draws.count (after env mix L w drawn has c op is moves.0 NextSerial) H draws.of_table draws.of_caller) (sym moves.1)
                       draws.drawn_are));
                   jobs = λ i.
                       subst (λ ws. DrawnLeft (mem env mix ws) (draws.of_caller i) (job_of (view_of v i).local.doing)) (sym words)
                       (elim (cases_eq i c) [
-                        | inl e ↦ subst (λ d. DrawnLeft (after c op is moves.0) (draws.of_caller d) (job_of (view_of v d).local.doing)) (sym e)
+                        | inl e ↦ subst (λ d. DrawnLeft (after env mix L w drawn has c op is moves.0) (draws.of_caller d) (job_of (view_of v d).local.doing)) (sym e)
                             (self moves.0)
-                        | inr ne ↦ subst (λ (view : View L). DrawnLeft (after c op is moves.0) (draws.of_caller i) (job_of view.local.doing))
-                            (sym (step_other L mix w c i ne)) (others-left c op is moves.0 i ne)
+                        | inr ne ↦ subst (λ (view : View L). DrawnLeft (after env mix L w drawn has c op is moves.0) (draws.of_caller i) (job_of view.local.doing))
+                            (sym (step_other L mix w c i ne)) (others-left env mix L w drawn has c op is moves.0 i ne)
                       ]);
                 };
-            grown = subst (λ H. AreGrown has.ghost has.of_table H draws.of_table) (sym moves.1) (step-grown c op is moves.0);
+            grown = subst (λ H. AreGrown has.ghost has.of_table H draws.of_table) (sym moves.1) (step-grown env mix L w drawn has c op is moves.0);
           }
         where
           self : (of : StepOf env mix L w.core has.ghost c op)
-              → DrawnLeft (after c op is of) ((step-draws c op is of).of_caller c) (job_of (view_of (world_step mix w (Step c)) c).local.doing)
+              → DrawnLeft (after env mix L w drawn has c op is of) ((step-draws env mix L w drawn has c op is of).of_caller c) (job_of (view_of (world_step mix w (Step c)) c).local.doing)
           self of =
               let can = planned-some w.core.env w.core.enrolled w.core.locals c op is in
               let place = has_place L mix env w.core c has.all.stays can.below in
-              let draws = step-draws c op is of in
+              let draws = step-draws env mix L w drawn has c op is of in
               let local = local_of w.core c in
               let left = left-job mix env local.doing of.job (old_of w.core.words op) (has.all.stays.locals_of c).doing of.is in
-              subst (λ (view : View L). DrawnLeft (after c op is of) (draws.of_caller c) (job_of view.local.doing))
+              subst (λ (view : View L). DrawnLeft (after env mix L w drawn has c op is of) (draws.of_caller c) (job_of view.local.doing))
               (sym (step_self L mix w c op is place))
-              (subst (DrawnLeft (after c op is of) (draws.of_caller c)) (sym left) draws.left)
+              (subst (DrawnLeft (after env mix L w drawn has c op is of) (draws.of_caller c)) (sym left) draws.left)
 
       event-drawn : (event : Event) → IsAdmittedEvent env.config.kind event → Counted (world_step mix w event)
       event-drawn Enroll may = enroll-drawn may
       event-drawn (Begin c call) may = begin-drawn c call (beginning_in w.core c call) may refl
       event-drawn (Step c) may = step-drawn c (planned_in w.core c) may refl
 
+      -- ---- the same by the ghost that the event leaves
+
+      -- this event adds one to the next serial
+      abbrev pub DrawsOne : Event → Type 0
+      DrawsOne event = (c : ℕ) × (event ≡ Step c) × (planned_in w.core c ≡ Some (Add 3 1))
+
+      pub record EventDraws (event : Event) (H : Ghost) : Type 0 where
+        pub count : ℕ
+        pub at : DrawsAt env mix L (world_step mix w event).core H count
+        pub by : (count ≡ drawn) ⊎ ((count ≡ drawn + 1) × DrawsOne event)
+
+      same-draws : (v : World L) → v ≡ w → DrawsAt env mix L v.core has.ghost drawn
+      same-draws v same = subst (λ (u : World L). DrawsAt env mix L u.core has.ghost drawn) (sym same) (record {
+        of_table = has.of_table;
+        of_caller = has.of_caller;
+        drawn_are = has.drawn_are;
+        jobs = has.jobs;
+      })
+
+      enroll-draws : IsAdmittedEvent env.config.kind Enroll → EventDraws Enroll has.ghost
+      unfolding enroll-drawn
+      enroll-draws may =
+          let now = (enroll-drawn may).now in
+          let v = world_step mix w Enroll in
+          let k = kept env mix L w.core has.ghost Enroll has.all has.inv in
+          let same : memory_of env mix L v NextSerial ≡ M NextSerial =
+          (is_write env.geometry w.core.words EnrolledCallers (enrolling w.core.env) has.all.stays.all_words tt refl).others NextSerial tt
+          (λ e. cc) in
+          record {
+            count = drawn + cond (next_serial w == next_serial v) 0 1;
+            at = record { of_table = now.of_table; of_caller = now.of_caller; drawn_are = now.drawn_are; jobs = now.jobs };
+            by = inl (sym (same-counted v (serial-of v k.inv.same_env ∙ same ∙ sym (serial-of w has.inv.same_env))));
+          }
+
+      begin-draws : (c : ℕ) (call : Call) (machine : Option (Doing L)) → IsAdmittedEvent env.config.kind (Begin c call)
+          → beginning_in w.core c call ≡ machine → EventDraws (Begin c call) has.ghost
+      unfolding begin-drawn
+      begin-draws c call None may is = record {
+        count = drawn;
+        at = same-draws (world_step mix w (Begin c call)) (begin_none L mix w c call is);
+        by = inl refl;
+      }
+      begin-draws c call (Some machine) may is =
+          let now = (begin-drawn c call (Some machine) may is).now in
+          let v = world_step mix w (Begin c call) in
+          record {
+            count = drawn + cond (next_serial w == next_serial v) 0 1;
+            at = record { of_table = now.of_table; of_caller = now.of_caller; drawn_are = now.drawn_are; jobs = now.jobs };
+            by = inl (sym (same-counted v refl));
+          }
+
+      step-draws-at : (c : ℕ) (plan : Option Op) → IsAdmittedEvent env.config.kind (Step c) → planned_in w.core c ≡ plan
+          → EventDraws (Step c) (kept env mix L w.core has.ghost (Step c) has.all has.inv).ghost
+      unfolding step-drawn
+      step-draws-at c None may is =
+          let k = kept env mix L w.core has.ghost (Step c) has.all has.inv in
+          record {
+            count = drawn;
+            at = subst (λ H. DrawsAt env mix L (world_step mix w (Step c)).core H drawn) (sym (k.ghost_kept.none is))
+                (same-draws (world_step mix w (Step c)) (step_none L mix w c is));
+            by = inl refl;
+          }
+      step-draws-at c (Some op) may is =
+          let k = kept env mix L w.core has.ghost (Step c) has.all has.inv in
+          let of = (k.ghost_kept.some op is).0 in
+          let now = (step-drawn c (Some op) may is).now in
+          let count = step-count c op may is of in
+          record {
+            count = drawn + cond (next_serial w == next_serial (world_step mix w (Step c))) 0 1;
+            at = record { of_table = now.of_table; of_caller = now.of_caller; drawn_are = now.drawn_are; jobs = now.jobs };
+            by = elim (step-draws env mix L w drawn has c op is of).by [
+              | inl none ↦ inl (sym count ∙ none)
+              | inr one ↦ inr (sym count ∙ one.0, (c, refl, is ∙ ap Some one.1))
+            ];
+          }
+
+      pub event-draws : (event : Event) → IsAdmittedEvent env.config.kind event
+          → EventDraws event (kept env mix L w.core has.ghost event has.all has.inv).ghost
+      event-draws Enroll may =
+          subst (EventDraws Enroll) (sym (kept env mix L w.core has.ghost Enroll has.all has.inv).ghost_kept) (enroll-draws may)
+      event-draws (Begin c call) may =
+          subst (EventDraws (Begin c call)) (sym (kept env mix L w.core has.ghost (Begin c call) has.all has.inv).ghost_kept)
+          (begin-draws c call (beginning_in w.core c call) may refl)
+      event-draws (Step c) may = step-draws-at c (planned_in w.core c) may refl
+
     -- ---- all events
 
-    opening-drawn : HasDrawn (opening env) 1
+    opening-drawn : HasDrawn env mix L (opening env) 1
     opening-drawn = record {
       ghost = opening_ghost env;
       inv = opening_inv env mix L;
@@ -406,10 +288,19 @@ module _ (env : Env) (mix : ℕ → ℕ → ℕ → ℕ) where
       jobs = λ c. rw (idle_at_opening env mix L c) tt;
     }
 
-    pub from-drawn : (w : World L) (drawn : ℕ) (events : List Event) → IsAdmitted env.config.kind events → (has : HasDrawn w drawn)
-        → IsLater w drawn has (run_from mix w events) (drawn + drawn_from L mix w events)
+    pub opening-draws : DrawsAt env mix L (opening env).core (opening_ghost env) 1
+    unfolding opening-drawn
+    opening-draws = record {
+      of_table = opening-drawn.of_table;
+      of_caller = opening-drawn.of_caller;
+      drawn_are = opening-drawn.drawn_are;
+      jobs = opening-drawn.jobs;
+    }
+
+    pub from-drawn : (w : World L) (drawn : ℕ) (events : List Event) → IsAdmitted env.config.kind events → (has : HasDrawn env mix L w drawn)
+        → IsLater env mix L w drawn has (run_from mix w events) (drawn + drawn_from L mix w events)
     from-drawn w drawn [] admitted has = record {
-      now = recount w drawn (drawn + 0) (let same : drawn ≡ drawn + 0 = omega arith in same) has;
+      now = recount env mix L w drawn (drawn + 0) (let same : drawn ≡ drawn + 0 = omega arith in same) has;
       grown = none-grown has.ghost has.of_table;
     }
     from-drawn w drawn (event ∷ events) admitted has =
@@ -418,12 +309,12 @@ module _ (env : Env) (mix : ℕ → ℕ → ℕ → ℕ) where
         let first = event-drawn w drawn has event admitted.0 in
         let rest = from-drawn next (drawn + one) events admitted.1 first.now in
         record {
-          now = recount (run_from mix next events) (drawn + one + drawn_from L mix next events) (drawn + (one + drawn_from L mix next events))
+          now = recount env mix L (run_from mix next events) (drawn + one + drawn_from L mix next events) (drawn + (one + drawn_from L mix next events))
               (let same : drawn + one + drawn_from L mix next events ≡ drawn + (one + drawn_from L mix next events) = omega arith in same)
               rest.now;
           grown = grown-on has.ghost first.now.ghost rest.now.ghost has.of_table first.now.of_table rest.now.of_table first.grown rest.grown;
         }
 
     pub runs-drawn : (events : List Event) → IsAdmitted env.config.kind events
-        → HasDrawn (run_of mix env events) (1 + drawn_from L mix (opening env) events)
+        → HasDrawn env mix L (run_of mix env events) (1 + drawn_from L mix (opening env) events)
     runs-drawn events admitted = (from-drawn (opening env) 1 events admitted opening-drawn).now

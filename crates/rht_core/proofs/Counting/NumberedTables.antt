@@ -15,7 +15,8 @@ use Rattle.rht_ghost.proofs.Theory.Steps.{mem}
 use Rattle.rht_stands.specs.StandsFor.{in_force}
 use Rattle.rht_core.proofs.Meaning.TablesInForce.{in_force_is, table_in_force}
 use Rattle.rht_core.proofs.Counting.TableDraws.{AreDrawn}
-use Rattle.rht_core.proofs.Counting.DrawnRuns.{HasDrawn, IsLater, runs-drawn, from-drawn}
+use Rattle.rht_core.proofs.Counting.DrawnRuns.{runs-drawn, from-drawn}
+use Rattle.rht_core.proofs.Counting.StepDraws.{HasDrawn, IsLater}
 
 module _ (env : Env) (mix : ℕ → ℕ → ℕ → ℕ) (words : List ℕ) (G : Ghost) (whole : Whole env mix (mem env mix words) G)
     (drawn : ℕ) (T : ℕ → ℕ) where

@@ -1,14 +1,14 @@
 -- What a look-up without locks knows in each of its states, and that each of its loads leads from what it knows to what it knows next.
 -- A load leaves words and ghost, so all of this is said of one moment; what others do meanwhile is said by stages (`stage_stays`).
-use Rattle.std.proofs.Common.{◌≡◌, ◌≢◌, ◌⊎◌, ℕ, ◌+◌, ◌<◌, ◌≤◌, nat_lt, Bool, true, List, [], Option, Some, None, refl, sym, ◌∙◌, ap, subst, inl, inr, arith}
-use Rattle.std.specs.Prelude.{◌==◌, ◌%◌, if◌then◌else◌}
+use Rattle.std.proofs.Common.{◌≡◌, ◌≢◌, ◌⊎◌, ℕ, ◌<◌, ◌≤◌, nat_lt, Bool, true, List, [], Option, Some, None, refl, sym, ◌∙◌, ap, inl, inr, arith}
+use Rattle.std.specs.Prelude.{◌==◌}
 use Rattle.std.specs.List.{AllByRecursion}
 use Rattle.std.proofs.lemmas.Bool.{cond_both, eqb-true, eqb-false, ltb-false}
 use Rattle.rht_words.specs.declared.env.Env.{Env}
 use Rattle.rht_words.specs.declared.machine.Next.{Next}
 use Rattle.rht_words.specs.declared.machine.Next.TheVariants.{Go, Done}
 use Rattle.rht_words.specs.declared.op.Op.TheVariants.{Load}
-use Rattle.rht_words.specs.Links.{link_of, marker_of, node_of, head_of, unlocked, table_of, slot_of}
+use Rattle.rht_words.specs.Links.{link_of, marker_of, node_of, head_of, table_of, slot_of}
 use Rattle.rht_words.specs.Operations.{old_of}
 use Rattle.rht_words.specs.Places.{CurrentTable, Slot, FutureWord, Node, OwnerWord, IsBucketPlace}
 use Rattle.rht_words.specs.Ports.{owner_of}
@@ -24,12 +24,13 @@ use Rattle.rht_find.specs.FindStanding.{standing_of_find}
 use Rattle.rht_find.specs.declared.find.Head.{Head}
 use Rattle.rht_find.specs.declared.find.FindAt.{FindAt}
 use Rattle.rht_find.specs.declared.find.FindAt.TheVariants as at
-use Rattle.rht_ghost.proofs.Theory.Ghosts.{Ghost, lock_bit, none-some}
-use Rattle.rht_ghost.proofs.Theory.Wholes.{chain_of, key_of, place_at, word_index, place_at-index, Whole, current-there, at-there}
-use Rattle.rht_ghost.proofs.Theory.Passed.{at-stays, TablesGrow, home-within, home-no_entry}
+use Rattle.rht_ghost.proofs.Theory.Ghosts.{Ghost, none-some}
+use Rattle.rht_ghost.proofs.Theory.Wholes.{chain_of, hash_in, key_of, place_at, word_index, Whole, current-there, at-there}
+use Rattle.rht_ghost.proofs.Theory.Passed.{at-stays, TablesGrow, hash-below}
 use Rattle.rht_ghost.proofs.Theory.Steps.{mem}
 use Rattle.rht_ghost.proofs.Pieces.TableLoads.{LeadsBehind, future_leads}
 use Rattle.rht_ghost.proofs.Pieces.Reaches.{IsReachingHome}
+use Rattle.rht_core.proofs.Finding.BucketHeads.{loaded_head}
 use Rattle.rht_core.proofs.Finding.Places.{Places, PlacesRight}
 use Rattle.rht_core.proofs.Finding.PlacesSteps.{PlacesNext}
 use Rattle.rht_core.proofs.Finding.Deaths.{DeathsRight, IsLate}
@@ -122,31 +123,14 @@ module _ (env : Env) (mix : ℕ → ℕ → ℕ → ℕ) (port : ℕ) (seen : �
         (λ t. leads.to_node n named.0)
         (λ f. ended_known head link leads.home_is (leads.visited_all (ltb-false visited env.geometry.nodes f)))
 
-    -- the bucket's word says where its chain begins, locked or not
-    head_is : (place plain bit : ℕ) → plain % 2 ≡ 0 → bit ≤ 1 → head_of place (plain + bit) ≡ head_of place plain
-    head_is place plain bit even low =
-        let same : unlocked (plain + bit) ≡ unlocked plain = omega (arith, even, low) in
-        ap (λ w. if w == 0 then marker_of place else w) same
-
-    bit_low : (holder : Option ℕ) → lock_bit holder ≤ 1
-    bit_low None = omega arith
-    bit_low (Some c) = omega arith
-
     -- the first link of a bucket, by its word
     head_word : (head : Head) → IsBucketPlace env.geometry head.place → IsHome env mix port G head.table (bucket_of_head head)
         → head_of head.place (old_of words (Load head.place))
         ≡ head_of (place_at env mix (bucket_of_head head)) (G.bucket (bucket_of_head head)).plain
     head_word head there home_is =
-        let j = bucket_of_head head in
         let τ = home_is.of.table in
-        let is_there = at-there env mix whole.tables head.table home_is.of in
-        let locked = (whole.buckets j (home-within env mix M G whole port τ j is_there home_is.here)
-        (home-no_entry env mix M G whole port τ j is_there home_is.here)).locked in
-        let place : place_at env mix j ≡ head.place = place_at-index env mix head.place there in
-        subst (λ p. head_of p (old_of words (Load p)) ≡ head_of (place_at env mix j) (G.bucket j).plain) place
-        (ap (head_of (place_at env mix j)) locked.word_is
-        ∙ head_is (place_at env mix j) (G.bucket j).plain (lock_bit (G.bucket j).holder) locked.even
-        (bit_low (G.bucket j).holder))
+        loaded_head env mix words G whole τ (hash_in env mix G port τ) (bucket_of_head head)
+        (at-there env mix whole.tables head.table home_is.of) (hash-below env mix M G whole port τ) home_is.here head.place there refl
 
     -- ---- the future of a table
 

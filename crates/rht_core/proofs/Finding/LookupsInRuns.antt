@@ -40,7 +40,7 @@ use Rattle.rht_ghost.proofs.Theory.Steps.{ReturnsNode, mem, ghost_after}
 use Rattle.rht_core.proofs.Events.Worlds.{induct_by_last, run_of-push, beginning-some, planned-some, begin_none, begin_self, begin_other, step_none, step_self, step_other}
 use Rattle.rht_core.proofs.Events.SoundRuns.{has_place, made_in}
 use Rattle.rht_core.proofs.Events.JobsOfCallers.{is_no_job, first_job-machine, nothing-job, local_after-job, first-of}
-use Rattle.rht_core.proofs.Events.Invariants.{StepOf, step_of}
+use Rattle.rht_core.proofs.Events.Invariants.{StepOf, step_of, kept}
 use Rattle.rht_core.proofs.Events.SectionsInRuns.{AreRight, section_parity}
 use Rattle.rht_core.proofs.Events.InvariantRuns.{idle_at_opening}
 use Rattle.rht_core.proofs.Machines.JobSteps.{JobIn}
@@ -53,7 +53,7 @@ use Rattle.rht_core.proofs.Tracing.RepliesInRuns.{Holds, Answered, runs-right}
 use Rattle.rht_core.proofs.Finding.Places.{Places}
 use Rattle.rht_core.proofs.Finding.GivenBack.{IsUnmet}
 use Rattle.rht_core.proofs.Finding.LookupsAtEvents.{SaysOf, Looks, JobLooks, AreLooking, SeesOn, Turns, EachLooks, LooksThen, met_now, ApartNow, placed', as_before, found_with, pasts-later, first-looks, own, known_next}
-use Rattle.rht_core.proofs.Finding.PlacesInRuns.{Placed, EventMakes, event_makes, next, placed_opening}
+use Rattle.rht_core.proofs.Finding.PlacesInRuns.{Placed, EventMakes, event_makes, event-ghost, next, placed_opening}
 use Rattle.rht_core.proofs.Finding.Lookups.{LookMeans}
 use Rattle.rht_core.proofs.Returning.ComingJobs.{KnowsLook, job_comes}
 use Rattle.rht_core.proofs.Returning.GoneBack.{gives_back}
@@ -288,6 +288,12 @@ module _ (L : Type 0) (mix : ℕ → ℕ → ℕ → ℕ) (env : Env) where
       pub turn_at : Turns L mix env events event looking
       turn_at = record { makes = makes; then = λ c. (readers' c).chains; sees = sees_on }
 
+      -- the ghost behind it is the invariant's
+      pub turn-ghost : turn_at.makes.ghost ≡ (kept env mix L core G event placed.all placed.inv).ghost
+      unfolding turn_at makes
+      turn-ghost = event-ghost env mix L events r.world (end-is L mix env events) placed (met_now L mix env looking) (ApartNow L mix env looking)
+          unmet event may
+
   -- ---- runs
 
   unfoldable pub event-looks : (events : List Event) (event : Event) → IsAdmitted kind events → IsAdmittedEvent kind event
@@ -306,7 +312,7 @@ module _ (L : Type 0) (mix : ℕ → ℕ → ℕ → ℕ) (env : Env) where
       each (Begin c call) turn = begin-looks events c call (beginning_in (R events).world.core c call) looking turn refl
       each (Step c) turn = step-looks events c (planned_in (R events).world.core c) admitted looking turn refl
 
-  pub opening-looks : AreLooking L mix env [] (R [])
+  unfoldable pub opening-looks : AreLooking L mix env [] (R [])
   opening-looks = record {
     placed = placed_opening env mix L;
     readers = λ c. reads_nothing;

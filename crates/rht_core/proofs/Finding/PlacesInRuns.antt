@@ -166,7 +166,7 @@ module _ (env : Env) (mix : ℕ → ℕ → ℕ → ℕ) (L : Type 0) where
   -- ---- runs
 
   -- at the opening there are no places
-  pub placed_opening : Placed [] (opening_core env)
+  unfoldable pub placed_opening : Placed [] (opening_core env)
   placed_opening = record {
     ghost = opening_ghost env;
     inv = opening_inv env mix L;
@@ -286,3 +286,17 @@ module _ (env : Env) (mix : ℕ → ℕ → ℕ → ℕ) (L : Type 0) where
           apart = λ n is. absurd (cc);
         }
     event_makes (Step c) may = step_makes c (planned_in w.core c) refl may
+
+    -- the ghost behind it is the invariant's
+    step-ghost : (c : ℕ) (plan : Option Op) (is : planned_in w.core c ≡ plan) (may : IsAdmittedEvent env.config.kind (Step c))
+        → (step_makes c plan is may).ghost ≡ (kept env mix L w.core placed.ghost (Step c) placed.all placed.inv).ghost
+    unfolding step_makes
+    step-ghost c None is may = refl
+    step-ghost c (Some op) is may = refl
+
+    pub event-ghost : (event : Event) (may : IsAdmittedEvent env.config.kind event)
+        → (event_makes event may).ghost ≡ (kept env mix L w.core placed.ghost event placed.all placed.inv).ghost
+    unfolding event_makes
+    event-ghost Enroll may = refl
+    event-ghost (Begin c call) may = refl
+    event-ghost (Step c) may = step-ghost c (planned_in w.core c) refl may

@@ -21,9 +21,9 @@ use Rattle.rht_core.proofs.Finding.LooksGiven.{node_at, stage_then, look_given}
 use Rattle.rht_core.proofs.Finding.Stages.{Stage, StageMeans, stage_stays}
 use Rattle.rht_core.proofs.Finding.PlacesSteps.{places_step}
 use Rattle.rht_core.proofs.Returning.GoneBack.{returned, owners_stay}
-use Rattle.rht_core.proofs.Walking.PortPlaces.{PortPlacesRight}
-use Rattle.rht_core.proofs.Walking.PortPlacesStay.{port_places_then}
-use Rattle.rht_core.proofs.Walking.PortPlacesGiven.{port_places_given}
+use Rattle.rht_core.proofs.Finding.PortPlaces.{PortPlacesRight}
+use Rattle.rht_core.proofs.Finding.PortPlacesStay.{port_places_then}
+use Rattle.rht_core.proofs.Finding.PortPlacesGiven.{port_places_given}
 
 -- a node that is given back: no open section has met it, and no node's word changes
 pub record IsGiven (env : Env) (M M' : Memory) (met : ℕ → Bool) (n : ℕ) : Type 0 where

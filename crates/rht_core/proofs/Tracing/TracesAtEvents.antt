@@ -74,7 +74,7 @@ module _ (M : Type 0) (mix : ℕ → ℕ → ℕ → ℕ) (env : Env) where
     longer = length_push events event
 
     -- what is recorded stays
-    recorded-more : (c : ℕ) (did : Did) → IsRecorded M mix env events c did → IsRecorded M mix env more c did
+    pub recorded-more : (c : ℕ) (did : Did) → IsRecorded M mix env events c did → IsRecorded M mix env more c did
     recorded-more c did is =
         let within = slice_get_within events did.index (Step c) is.event in
         let same = sym (take-push events event did.index (omega arith)) in

@@ -1,6 +1,6 @@
 -- A walk that ends has walked as it answers; and what a walk that has ended did it still did behind an event.
-use Rattle.std.proofs.Common.{◌≡◌, ℕ, ◌+◌, ◌<◌, ◌≤◌, nat_lt, Bool, true, false, List, [], ◌∷◌, ◌++◌, length, Option, Some, None, refl, sym, ◌∙◌, ap, subst, arith}
-use Rattle.std.specs.Prelude.{IfSome, if◌then◌else◌}
+use Rattle.std.proofs.Common.{◌≡◌, ℕ, ◌+◌, ◌<◌, ◌≤◌, nat_lt, true, false, List, [], ◌∷◌, ◌++◌, length, Option, Some, refl, sym, ◌∙◌, ap, subst, arith}
+use Rattle.std.specs.Prelude.{IfSome}
 use Rattle.std.specs.List.{AllByRecursion}
 use Rattle.std.proofs.lemmas.Bool.{cond_both}
 use Rattle.rht_words.specs.declared.env.Env.{Env}
@@ -15,7 +15,7 @@ use Rattle.rht_model.specs.declared.history.Reply.{Reply}
 use Rattle.rht_model.specs.declared.history.Reply.TheVariants.{Walked, Again, Found, Missing}
 use Rattle.rht_model.specs.Endings.{Ending, ended_with}
 use Rattle.rht_grace.specs.Batch.{BatchModel}
-use Rattle.rht_walk.specs.Walk.{Pairs, plan_at, goes, says, room_after, reply_of, IsWalkAtIn}
+use Rattle.rht_walk.specs.Walk.{Pairs, plan_at, says, room_after}
 use Rattle.rht_walk.specs.declared.walk.WalkEnd.TheVariants as ends
 use Rattle.rht_walk.specs.declared.walk.WalkAt.{WalkAt}
 use Rattle.rht_walk.specs.declared.walk.WalkAt.TheVariants as at
@@ -23,8 +23,7 @@ use Rattle.rht_core.specs.declared.event.Event.{Event}
 use Rattle.rht_core.specs.Jobs.{Job, walks, walk_ending, walk_gone, first_job, job_of, job_plan, job_next, job_after, told, call_of}
 use Rattle.rht_core.specs.RunHistories.{bindings_behind}
 use Rattle.rht_core.specs.Runs.{local_of, world_step}
-use Rattle.rht_core.specs.Traces.{Did, Past, Trace, trace_did, traces_after, behind_call}
-use Rattle.rht_callers.specs.Locals.{room_for_nodes}
+use Rattle.rht_core.specs.Traces.{Did, Past, Trace, trace_did, behind_call}
 use Rattle.rht_ghost.proofs.Theory.Steps.{mem}
 use Rattle.rht_core.proofs.Events.JobsOfCallers.{first_rebind-so, first_tidy-so, same_call}
 use Rattle.rht_core.proofs.Histories.Behind.{behind-more}
@@ -33,11 +32,10 @@ use Rattle.rht_core.proofs.Tracing.TracesAtEvents.{behind_steps-push}
 use Rattle.rht_core.proofs.Finding.LookupsAtEvents.{AreLooking, Turns, placed'}
 use Rattle.rht_core.proofs.Finding.PlacesInRuns.{Placed, next}
 use Rattle.rht_core.proofs.Returning.TiedJobs.{tied_with}
-use Rattle.rht_core.proofs.Returning.TiedWalks.{tied_of_walk}
-use Rattle.rht_core.proofs.Walking.PortPlaces.{PortPlacesRight}
-use Rattle.rht_core.proofs.Walking.WalkFacts.{HasWalkedTo, WalkMeans}
+use Rattle.rht_core.proofs.Finding.PortPlaces.{PortPlacesRight}
+use Rattle.rht_core.proofs.Walking.WalkFacts.{HasWalkedTo}
 use Rattle.rht_core.proofs.Walking.WalkOutlives.{walked_still}
-use Rattle.rht_core.proofs.Walking.WalksAtEvents.{R, MissedOf, BoundOf, WasLast, AreCounted, Walks, IsMissedIn, IsBoundIn, HasWalked, PastWalks, JobWalks, CallerWalks, same_next, is_walk, owners_said, none_found, one_found, core, core', more, now, placed, M, G, M', G', longer, grow, count', count_old, count_new, last_later, missed_later, bound_later, seen, then_places, outlives, goes_on}
+use Rattle.rht_core.proofs.Walking.WalksAtEvents.{R, MissedOf, BoundOf, WasLast, AreCounted, Walks, IsMissedIn, IsBoundIn, HasWalked, PastWalks, JobWalks, CallerWalks, same_next, is_walk, owners_said, none_found, one_found, M, M', G', longer, grow, count', count_old, count_new, last_later, missed_later, bound_later, then_places, outlives, goes_on}
 
 -- a walk's room has room for as many as before
 pub room_limit : (state : WalkAt) (room : Pairs) (word : ℕ) → (room_after state room word).limit ≡ room.limit
@@ -47,9 +45,11 @@ room_limit (at.Closing (ends.Walked to)) room word = refl
 room_limit (at.Closing (ends.Again table)) room word = refl
 room_limit _ room word = refl
 
-module _ (L : Type 0) (mix : ℕ → ℕ → ℕ → ℕ) (env : Env) (events : List Event) (event : Event) (looking : AreLooking L mix env events (R L mix env events))
+module _ (L : Type 0) (mix : ℕ → ℕ → ℕ → ℕ) (env : Env) (events : List Event) (event : Event)
+    (looking : AreLooking L mix env events (R L mix env events))
     (turn : Turns L mix env events event looking)
-    (of_ports : PortPlacesRight env mix (mem env mix (R L mix env events).world.core.words) looking.placed.ghost looking.placed.places (length events))
+    (of_ports : PortPlacesRight env mix (mem env mix (R L mix env events).world.core.words) looking.placed.ghost looking.placed.places
+    (length events))
     (count : ℕ → ℕ) (counted : AreCounted L mix env (length events) looking.placed.ghost count) where
   abbrev all_events : List Event
   all_events = events ++ event ∷ []
@@ -71,7 +71,8 @@ module _ (L : Type 0) (mix : ℕ → ℕ → ℕ → ℕ) (env : Env) (events : 
       placed_then.places (length all_events)
   unfolding next
   ports_then =
-      subst (PortPlacesRight env mix (M' L mix env events event looking turn of_ports count counted) placed_then.ghost placed_then.places) (sym long)
+      subst (PortPlacesRight env mix (M' L mix env events event looking turn of_ports count counted) placed_then.ghost placed_then.places)
+      (sym long)
       ((then_places L mix env events event looking turn of_ports count counted).of_ports of_ports)
 
   -- ---- one that had ended
@@ -134,7 +135,8 @@ module _ (L : Type 0) (mix : ℕ → ℕ → ℕ → ℕ) (env : Env) (events : 
       begun = let begun = said.begun in omega (arith, begun);
       before = let so_far = said.so_far in omega (arith, so_far, ends_here);
       none = ap (λ b. b port) (behind-more L mix env events event (said.at + 1) (let so_far = said.so_far in omega (arith, so_far)))
-          ∙ none_found L mix env (bindings_behind L mix env events (said.at + 1) port) (owners_said L mix env events c port begin Missing said);
+          ∙ none_found L mix env (bindings_behind L mix env events (said.at + 1) port)
+          (owners_said L mix env events c port begin Missing said);
     }
 
     bound_by : (pair : ℕ × ℕ) → BoundOf L mix env events c begin pair → IsBoundIn L mix env all_events begin behind pair
@@ -146,7 +148,8 @@ module _ (L : Type 0) (mix : ℕ → ℕ → ℕ → ℕ) (env : Env) (events : 
           begun = let begun = said.begun in omega (arith, begun);
           before = let so_far = said.so_far in omega (arith, so_far, ends_here);
           rest = had.0;
-          is = ap (λ b. b pair.0) (behind-more L mix env events event (said.at + 1) (let so_far = said.so_far in omega (arith, so_far))) ∙ had.1;
+          is = ap (λ b. b pair.0) (behind-more L mix env events event (said.at + 1) (let so_far = said.so_far in omega (arith, so_far))) ∙
+              had.1;
         }
 
     ended_walk : (items : List (ℕ × ℕ)) (to : Option Cursor)
@@ -161,7 +164,8 @@ module _ (L : Type 0) (mix : ℕ → ℕ → ℕ → ℕ) (env : Env) (events : 
         walked_still env mix from begin here (MissedOf L mix env events c begin) (WasLast L mix env count begin here)
         (BoundOf L mix env events c begin) (IsMissedIn L mix env all_events begin behind) (WasLast L mix env counts begin behind)
         (IsBoundIn L mix env all_events begin behind) missed_by
-        (λ τ. last_later L mix env events event looking turn of_ports count counted begin here τ (omega arith) behind (omega (arith, ends_here)))
+        (λ τ. last_later L mix env events event looking turn of_ports count counted begin here τ (omega arith) behind
+        (omega (arith, ends_here)))
         bound_by items (M L mix env events event looking turn of_ports count counted) looking.placed.ghost looking.placed.places
         looking.placed.inv.whole
         (M' L mix env events event looking turn of_ports count counted) (G' L mix env events event looking turn of_ports count counted)
@@ -180,7 +184,8 @@ module _ (L : Type 0) (mix : ℕ → ℕ → ℕ → ℕ) (env : Env) (events : 
 
     -- a call that is no walk goes on as none
     other_goes : (after : Job × Next Ending) → is_walk L mix env (call_of after.0) ≡ false
-        → JobWalks L mix env all_events (world_step mix (R L mix env events).world event).core placed_then counts (turn.then c) c trace.begin
+        → JobWalks L mix env all_events (world_step mix (R L mix env events).world event).core placed_then counts (turn.then c) c
+        trace.begin
         (told after).0
     other_goes (walks from limit room state, Go) other = absurd (cc)
     other_goes (_, Go) other = tt
@@ -207,12 +212,14 @@ module _ (L : Type 0) (mix : ℕ → ℕ → ℕ → ℕ) (env : Env) (events : 
       steps = trace.steps ++ did ∷ [];
     }
 
-    ends_here_is : (from : Option Cursor) (limit : ℕ) (after : Pairs) (reply : Reply) → behind_call (ended_now from limit after reply) ≡ here + 1
+    ends_here_is : (from : Option Cursor) (limit : ℕ) (after : Pairs) (reply : Reply)
+        → behind_call (ended_now from limit after reply) ≡ here + 1
     ends_here_is from limit after reply = behind_steps-push (trace.begin + 1) trace.steps did ∙ ap (λ n. n + 1) index
 
     ends_so : (from : Option Cursor) (limit : ℕ) (room : Pairs) (state : WalkAt) (word : ℕ) (reply : Reply)
         → says (room_after state room word) state ≡ Done reply
-        → Walks L mix env events (R L mix env events).world.core looking.placed count (looking.readers c).chains c from trace.begin room state
+        → Walks L mix env events (R L mix env events).world.core looking.placed count (looking.readers c).chains c from trace.begin room
+        state
         → PastWalks L mix env all_events placed_then.ghost counts (ended_now from limit (room_after state room word) reply)
     ends_so from limit room (at.Closing (ends.Walked next_is)) word reply is walking = λ start most len to call answer.
         let from_is : from ≡ start = cc in
@@ -223,7 +230,8 @@ module _ (L : Type 0) (mix : ℕ → ℕ → ℕ → ℕ) (env : Env) (events : 
         (record {
           done_by = omega (arith, behind_is, long);
           walked = ended_walk c from trace.begin (behind_call (ended_now from limit room reply)) behind_is room.items to
-              (subst (λ t. HasWalkedTo env mix looking.placed.ghost looking.placed.ghost.attached from (MissedOf L mix env events c trace.begin)
+              (subst (λ t. HasWalkedTo env mix looking.placed.ghost looking.placed.ghost.attached from
+              (MissedOf L mix env events c trace.begin)
               (WasLast L mix env count trace.begin here) (BoundOf L mix env events c trace.begin) room.items t) to_is walking.known);
         })
     ends_so from limit room (at.Closing (ends.Again table)) word reply is walking = λ start most len to call answer.
@@ -232,8 +240,10 @@ module _ (L : Type 0) (mix : ℕ → ℕ → ℕ → ℕ) (env : Env) (events : 
 
     -- a walk
     walk_then : (from : Option Cursor) (limit : ℕ) (room : Pairs) (state : WalkAt) (word : ℕ) (after : WalkAt × Next Reply)
-        → Walks L mix env events (R L mix env events).world.core looking.placed count (looking.readers c).chains c from trace.begin room state
-        → (after.1 ≡ Go → Walks L mix env all_events (world_step mix (R L mix env events).world event).core placed_then counts (turn.then c) c from
+        → Walks L mix env events (R L mix env events).world.core looking.placed count (looking.readers c).chains c from trace.begin room
+        state
+        → (after.1 ≡ Go → Walks L mix env all_events (world_step mix (R L mix env events).world event).core placed_then counts
+        (turn.then c) c from
         trace.begin (room_after state room word) after.0)
         → says (room_after state room word) state ≡ after.1
         → AllByRecursion (PastWalks L mix env events looking.placed.ghost count) trace.past
@@ -260,7 +270,8 @@ module _ (L : Type 0) (mix : ℕ → ℕ → ℕ → ℕ) (env : Env) (events : 
         let after = room_after state room word in
         let came = walk_gone env from limit room after state word in
         walk_then from limit room state word came walking
-        (λ still. goes_on L mix env events event looking turn of_ports count counted c walking.low from trace.begin walking.begun limit room state
+        (λ still. goes_on L mix env events event looking turn of_ports count counted c walking.low from trace.begin walking.begun limit
+        room state
         walking within tied is (room_limit state room word ∙ walking.roomy)
         (does ∙ ap (λ ended. (told (job_next (walks from limit after) (walk_ending after) (came.0, ended))).0) still)) refl had
     own_walks job is within had walking does =
@@ -275,7 +286,8 @@ module _ (L : Type 0) (mix : ℕ → ℕ → ℕ → ℕ) (env : Env) (events : 
       → JobWalks L mix env all_events (world_step mix (R L mix env events).world event).core placed_then counts (turn.then c) c begin job
   walks_stay c begin (Some (walks from limit room state)) does was walking =
       let tied = subst (tied_with env mix looking.placed.ghost) was (looking.meets c walking.low).tied in
-      outlives L mix env events event looking turn of_ports count counted c walking.low from begin walking.begun room walking.roomy limit state does
+      outlives L mix env events event looking turn of_ports count counted c walking.low from begin walking.begun room walking.roomy limit
+      state does
       tied (MissedOf L mix env events c begin) (WasLast L mix env count begin here) (BoundOf L mix env events c begin)
       (missed_later L mix env events event looking turn of_ports count counted c begin)
       (λ τ. last_later L mix env events event looking turn of_ports count counted begin here τ (omega arith) (length all_events)
@@ -287,12 +299,15 @@ module _ (L : Type 0) (mix : ℕ → ℕ → ℕ → ℕ) (env : Env) (events : 
 
   pub first_walks : (c : ℕ) → c < env.geometry.callers → (call : Call) (batch : Option BatchModel)
       → IfSome (first_job env batch call) (λ job.
-      JobWalks L mix env all_events (world_step mix (R L mix env events).world event).core placed_then counts (turn.then c) c here (Some job))
+      JobWalks L mix env all_events (world_step mix (R L mix env events).world event).core placed_then counts (turn.then c) c here
+      (Some job))
   first_walks c low (calls.Walk from limit) batch = record { low = low; begun = omega (arith, long); roomy = refl; known = refl }
   first_walks c low (calls.Rebind port owner new) batch =
-      first_rebind-so (λ job. JobWalks L mix env all_events (world_step mix (R L mix env events).world event).core placed_then counts (turn.then c) c
+      first_rebind-so (λ job. JobWalks L mix env all_events (world_step mix (R L mix env events).world event).core placed_then counts
+      (turn.then c) c
       here (Some job)) env port owner new tt
   first_walks c low calls.Tidy batch =
-      first_tidy-so (λ job. JobWalks L mix env all_events (world_step mix (R L mix env events).world event).core placed_then counts (turn.then c) c
+      first_tidy-so (λ job. JobWalks L mix env all_events (world_step mix (R L mix env events).world event).core placed_then counts
+      (turn.then c) c
       here (Some job)) batch (λ own. tt)
   first_walks c low _ batch = tt

@@ -1,17 +1,17 @@
 -- The calls of a full walk walked one table, up to where each goes on; so what they show together is what it shows.
-use Rattle.std.proofs.Common.{◌≡◌, ◌≢◌, ◌⊎◌, ℕ, ◌+◌, ◌<◌, ◌≤◌, List, [], ◌∷◌, ◌++◌, length, map, Option, Some, None, refl, sym, ◌∙◌, ap, subst, inl, inr, arith}
+use Rattle.std.proofs.Common.{◌≡◌, ℕ, ◌+◌, ◌<◌, ◌≤◌, List, [], ◌∷◌, ◌++◌, length, Option, Some, None, refl, sym, ◌∙◌, ap, subst, inl, inr, arith}
 use Rattle.std.specs.List.{AllByRecursion, flat_map}
 use Rattle.std.proofs.lemmas.Bool.{cases_lt}
 use Rattle.std.proofs.lemmas.List.{append-nil, map-append}
 use Rattle.rht_words.specs.declared.env.Env.{Env}
-use Rattle.rht_words.specs.Members.{In, NotIn, IsDistinct}
+use Rattle.rht_words.specs.Members.{In, IsDistinct}
 use Rattle.rht_words.proofs.EachElement.{AllByRecursion-append, AllByRecursion-weaker}
 use Rattle.rht_words.proofs.Members.{not_in_from, in_and_not, In-append_left, In-append_right, In-append_cases}
 use Rattle.rht_model.specs.declared.history.Cursor.{Cursor}
 use Rattle.rht_walk.specs.WalkLaws.{first_bucket, Fits}
 use Rattle.rht_core.specs.declared.event.Event.{Event}
-use Rattle.rht_core.specs.Shown.{WalksFrom, AreWalks, AreAmong, pairs_of, ends_behind}
-use Rattle.rht_core.specs.Traces.{Past, IsRising, AreInOrder, behind_call}
+use Rattle.rht_core.specs.Shown.{AreWalks, AreAmong, ends_behind}
+use Rattle.rht_core.specs.Traces.{Past, AreInOrder, behind_call}
 use Rattle.rht_ghost.proofs.Theory.Ghosts.{Ghost}
 use Rattle.rht_ghost.proofs.Theory.Wholes.{hash_in}
 use Rattle.rht_core.proofs.Tracing.StepsInTraces.{from-behind}
@@ -63,8 +63,7 @@ distinct-append (x ∷ xs) ys one other apart = (
 )
 
 module _ (L : Type 0) (mix : ℕ → ℕ → ℕ → ℕ) (env : Env) (events : List Event) (G : Ghost) (count : ℕ → ℕ)
-    (counted : AreCounted L mix env (length events) G count)
-    (alone : (τ σ : ℕ) → τ < G.attached → σ < G.attached → (G.table τ).serial ≡ (G.table σ).serial → τ ≡ σ) where
+    (counted : AreCounted L mix env (length events) G count) where
   abbrev Missed : ℕ → ℕ → ℕ → Type 0
   Missed = IsMissedIn L mix env events
 
@@ -88,7 +87,8 @@ module _ (L : Type 0) (mix : ℕ → ℕ → ℕ → ℕ) (env : Env) (events : 
   abbrev pub pairs_in : List Past → List (ℕ × ℕ)
   pairs_in pasts = flat_map (λ (past : Past). past.done.pairs) pasts
 
-  missed_wider : (begin behind begin' behind' port : ℕ) → begin' ≤ begin → behind ≤ behind' → Missed begin behind port → Missed begin' behind' port
+  missed_wider : (begin behind begin' behind' port : ℕ) → begin' ≤ begin → behind ≤ behind' → Missed begin behind port
+      → Missed begin' behind' port
   missed_wider begin behind begin' behind' port less more was = record {
     at = was.at;
     begun = let begun = was.begun in omega (arith, begun, less);
@@ -119,9 +119,14 @@ module _ (L : Type 0) (mix : ℕ → ℕ → ℕ → ℕ) (env : Env) (events : 
   cursor_serial : (serial shape : ℕ) (cursor : Cursor) → Fits serial shape (Some cursor) → cursor.serial ≡ serial
   cursor_serial serial shape cursor fits = fits.0
 
+  -- no two tables have one serial
+  abbrev pub SerialsApart : Type 0
+  SerialsApart = (τ σ : ℕ) → τ < G.attached → σ < G.attached → (G.table τ).serial ≡ (G.table σ).serial → τ ≡ σ
+
   -- one call, and the others, which go on where it ended
-  module _ (from : Option Cursor) (past : Past) (cursor : Cursor) (begin behind : ℕ) (pairs : List (ℕ × ℕ))
-      (had : HasWalked L mix env events G count from past (Some cursor)) (begun : past.begin < behind_call past) (apart : behind_call past ≤ begin)
+  module _ (alone : SerialsApart) (from : Option Cursor) (past : Past) (cursor : Cursor) (begin behind : ℕ) (pairs : List (ℕ × ℕ))
+      (had : HasWalked L mix env events G count from past (Some cursor)) (begun : past.begin < behind_call past)
+      (apart : behind_call past ≤ begin)
       (rest : AllShown (Some cursor) begin behind pairs) (late : behind_call past ≤ behind) (in_time : behind ≤ length events) where
     abbrev walked : HasWalkedTo env mix G (count (behind_call past)) from (Missed past.begin (behind_call past))
         (WasLast L mix env count past.begin (behind_call past)) (Bound past.begin (behind_call past)) past.done.pairs (Some cursor)
@@ -212,13 +217,14 @@ module _ (L : Type 0) (mix : ℕ → ℕ → ℕ → ℕ) (env : Env) (events : 
               omega (arith, below, high, upto, same)));
           bound = AllByRecursion-append (Bound past.begin behind) past.done.pairs pairs
               (AllByRecursion-weaker (Bound past.begin (behind_call past)) (Bound past.begin behind)
-              (λ pair is. bound_wider past.begin (behind_call past) past.begin behind pair (omega arith) late is) past.done.pairs known.bound)
+              (λ pair is. bound_wider past.begin (behind_call past) past.begin behind pair (omega arith) late is) past.done.pairs
+              known.bound)
               (AllByRecursion-weaker (Bound begin behind) (Bound past.begin behind)
               (λ pair is. bound_wider begin behind past.begin behind pair (omega (arith, begun, apart)) (omega arith) is) pairs rest.bound);
         }
 
   -- the last call
-  last_shown : (from : Option Cursor) (past : Past) → HasWalked L mix env events G count from past None
+  pub last_shown : (from : Option Cursor) (past : Past) → HasWalked L mix env events G count from past None
       → AllShown from past.begin (behind_call past) (past.done.pairs ++ [])
   last_shown from past had =
       let walked = had.walked in
@@ -241,19 +247,19 @@ module _ (L : Type 0) (mix : ℕ → ℕ → ℕ → ℕ) (env : Env) (events : 
       })
 
   -- all calls
-  pub calls_shown : (from : Option Cursor) (past : Past) (pasts : List Past) → AreWalks from (past ∷ pasts)
+  pub calls_shown : SerialsApart → (from : Option Cursor) (past : Past) (pasts : List Past) → AreWalks from (past ∷ pasts)
       → AllByRecursion (PastWalks L mix env events G count) (past ∷ pasts) → AreApart past.begin (past ∷ pasts)
       → ends_behind (behind_call past) pasts ≤ length events
       → AllShown from past.begin (ends_behind (behind_call past) pasts) (pairs_in (past ∷ pasts))
-  calls_shown from past [] walks each apart in_time =
+  calls_shown alone from past [] walks each apart in_time =
       last_shown from past (each.0 from walks.limit walks.len None walks.call walks.reply)
-  calls_shown from past (next ∷ pasts) (cursor, walk, walks) each apart in_time =
+  calls_shown alone from past (next ∷ pasts) (cursor, walk, walks) each apart in_time =
       let behind = ends_behind (behind_call next) pasts in
       let later = apart.2 in
-      let rest = calls_shown (Some cursor) next pasts walks each.1 (omega arith, later.1, later.2) in_time in
+      let rest = calls_shown alone (Some cursor) next pasts walks each.1 (omega arith, later.1, later.2) in_time in
       let ends_late = ends-late (behind_call next) pasts later.2 in
       let first = later.0 in
       let begun = later.1 in
-      all_shown from past cursor next.begin behind (pairs_in (next ∷ pasts))
+      all_shown alone from past cursor next.begin behind (pairs_in (next ∷ pasts))
       (each.0 from walk.limit walk.len (Some cursor) walk.call walk.reply) apart.1 later.0 rest
       (omega (arith, ends_late, first, begun)) in_time

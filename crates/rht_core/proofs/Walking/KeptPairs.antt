@@ -23,7 +23,7 @@ use Rattle.rht_core.proofs.Finding.Places.{Places, PlacesRight}
 use Rattle.rht_core.proofs.Finding.Stages.{Stage, Reaching, Heading, AtKey, AtLink, Ending, Owning, StageMeans}
 use Rattle.rht_core.proofs.Returning.TiedWalks.{IsWalked}
 use Rattle.rht_core.proofs.Walking.KnownChains.{hash_is}
-use Rattle.rht_core.proofs.Walking.PortPlaces.{PortPlacesRight}
+use Rattle.rht_core.proofs.Finding.PortPlaces.{PortPlacesRight}
 use Rattle.rht_core.proofs.Walking.ShownNodes.{few-nodes}
 use Rattle.rht_core.proofs.Walking.WalkFacts.{ports_of, SaidOf, IsShown, RoomKnown, IsPassed, IsInChain, HereAtLink, IsAtOwner}
 
@@ -54,7 +54,8 @@ with_room room pair less =
 module _ (env : Env) (mix : ℕ → ℕ → ℕ → ℕ) (from : Option Cursor) (begin now : ℕ) (Missed WasLast : ℕ → Type 0) (Bound : ℕ × ℕ → Type 0)
     (seen : ℕ → Bool) (room : Pairs) (words : List ℕ) (G : Ghost) (P : Places) (whole : Whole env mix (mem env mix words) G)
     (right : PlacesRight env mix G P (mem env mix words) now) (deaths : DeathsRight env (mem env mix words) G P now)
-    (of_ports : PortPlacesRight env mix (mem env mix words) G P now) (roomy : room.limit ≡ env.geometry.nodes) (chain : Chain) (m key owner : ℕ)
+    (of_ports : PortPlacesRight env mix (mem env mix words) G P now) (roomy : room.limit ≡ env.geometry.nodes) (chain : Chain)
+    (m key owner : ℕ)
     (within : IsVisitIn chain.visit) (walked : IsWalked env mix G chain.visit) (among : m < env.geometry.nodes) (stood : seen m ≡ true)
     (at : IsAtOwner env mix from begin now Missed WasLast Bound seen room.items (mem env mix words) G P chain m key) where
   abbrev M : Memory
@@ -98,7 +99,8 @@ module _ (env : Env) (mix : ℕ → ℕ → ℕ → ℕ) (from : Option Cursor) 
 
   said_more : τ + 1 ≡ G.attached → (port : ℕ) → SaidOf Missed room.items port → SaidOf Missed more port
   said_more last port (inl missed) = inl missed
-  said_more last port (inr shown) = inr (subst (In port) (sym (ports_more last)) (In-append_left port (ports_of room.items) (key ∷ []) shown))
+  said_more last port (inr shown) = inr (subst (In port) (sym (ports_more last)) (In-append_left port (ports_of room.items) (key ∷ [])
+      shown))
 
   stage_more : τ + 1 ≡ G.attached → (port since : ℕ) (stage : Stage)
       → StageMeans env mix port seen since (SaidOf Missed room.items port) M G P stage
@@ -119,7 +121,8 @@ module _ (env : Env) (mix : ℕ → ℕ → ℕ → ℕ) (from : Option Cursor) 
       let known = chained.known last in
       let old = known.buckets.room in
       let new = at.new last in
-      let here = hash_is env mix from begin now Missed WasLast Bound seen room.items words G P whole right deaths of_ports chain m within walked
+      let here = hash_is env mix from begin now Missed WasLast Bound seen room.items words G P whole right deaths of_ports chain m within
+      walked
       chained.place_is m known.at known.is in
       record {
         nodes = old.nodes ++ m ∷ [];

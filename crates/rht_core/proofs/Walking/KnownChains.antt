@@ -23,8 +23,8 @@ use Rattle.rht_core.proofs.Finding.Places.{Places, PlacesRight}
 use Rattle.rht_core.proofs.Finding.Stages.{Ending}
 use Rattle.rht_core.proofs.Finding.StageSteps.{headed_to, headed_nowhere, key_differs, link_to, link_nowhere, all_visited}
 use Rattle.rht_core.proofs.Returning.TiedWalks.{IsWalked, IsAtBucket, number_below}
-use Rattle.rht_core.proofs.Walking.BucketHeads.{bucket_right, loaded_head, head_placed}
-use Rattle.rht_core.proofs.Walking.PortPlaces.{PortPlacesRight, sits_first, ends_or_leads}
+use Rattle.rht_core.proofs.Finding.BucketHeads.{bucket_right, loaded_head, head_placed}
+use Rattle.rht_core.proofs.Finding.PortPlaces.{PortPlacesRight, sits_first, ends_or_leads}
 use Rattle.rht_core.proofs.Walking.ShownNodes.{map-In}
 use Rattle.rht_core.proofs.Walking.SlotsOfTables.{reached, missed, none_behind, index_is}
 use Rattle.rht_core.proofs.Walking.WalkFacts.{ports_of, Said, StageIs, RoomKnown, IsPassed, BucketsKnown, IsAt, IsBehind, IsInChain, HereAtKey, HereAtLink, IsAtOwner}
@@ -209,7 +209,8 @@ module _ (env : Env) (mix : ℕ → ℕ → ℕ → ℕ) (from : Option Cursor) 
         let here = (of_ports.homes bucket n p at).here in
         let home : (G.table τ).place (hash table (key_of M n)) ≡ Some bucket =
         subst (λ t. (G.table t).place (hash_in env mix G (key_of M n) t) ≡ Some bucket) (table_is is) here in
-        sym (place-word env mix M G whole τ (hash table (key_of M n)) bucket there_now (hash-below env mix M G whole (key_of M n) τ) home).number
+        sym (place-word env mix M G whole τ (hash table (key_of M n)) bucket there_now (hash-below env mix M G whole (key_of M n) τ)
+        home).number
         ∙ (place-word env mix M G whole τ chain.visit.bucket bucket there_now number_low is).number
 
     -- ---- its key

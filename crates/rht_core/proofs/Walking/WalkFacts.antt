@@ -1,6 +1,6 @@
 -- What a walk knows in each of its states, by the words and the ghost of one moment: which ports were bound nowhere meanwhile, which are
 -- shown, and which it may come to still. All of it but that nodes were first ones late is said where no table is behind the walked one.
-use Rattle.std.proofs.Common.{◌≡◌, ◌⊎◌, ℕ, ◌+◌, ◌<◌, ◌≤◌, Bool, true, List, [], ◌∷◌, map, Option, Some, None}
+use Rattle.std.proofs.Common.{◌≡◌, ◌⊎◌, ℕ, ◌+◌, ◌<◌, ◌≤◌, Bool, true, List, [], map, Option, Some, None}
 use Rattle.std.specs.List.{AllByRecursion}
 use Rattle.rht_words.specs.declared.env.Env.{Env}
 use Rattle.rht_words.specs.Members.{In, IsDistinct}
@@ -38,14 +38,16 @@ module _ (env : Env) (mix : ℕ → ℕ → ℕ → ℕ) where
     pub distinct : IsDistinct (ports_of items)
     pub bound : AllByRecursion Bound items
 
-  -- It has a cursor to the bucket up to which it came, of the table's serial, and what it shows is known where that was the last one, when so
+  -- It has a cursor to the bucket up to which it came, of the table's serial, and what it shows is known where that was the last one,
+  -- when so
   -- many had been attached. Or it has come to the end, behind which no table was.
   abbrev pub EndsAt : Ghost → ℕ → (ℕ → Type 0) → Type 0 → ℕ → ℕ → ℕ → Option Cursor → Type 0
   EndsAt G all WasLast Known τ serial upto None = WasLast τ × ((port : ℕ) → hash_in env mix G port τ < upto) × Known
   EndsAt G all WasLast Known τ serial upto (Some cursor) = (cursor.serial ≡ serial) × (cursor.bucket ≡ upto) × (τ + 1 ≡ all → Known)
 
   -- the table that was walked, where the walk doesn't have to begin anew
-  pub record HasWalkedTo (G : Ghost) (all : ℕ) (from : Option Cursor) (Missed WasLast : ℕ → Type 0) (Bound : ℕ × ℕ → Type 0) (items : List (ℕ × ℕ))
+  pub record HasWalkedTo (G : Ghost) (all : ℕ) (from : Option Cursor) (Missed WasLast : ℕ → Type 0) (Bound : ℕ × ℕ → Type 0)
+      (items : List (ℕ × ℕ))
       (next : Option Cursor) : Type 0 where
     pub table : ℕ
     pub serial : ℕ

@@ -1,4 +1,5 @@
--- Each operation of a walk leads from what it knows to what it knows next, by the words and the ghost of one moment, since it loads a word or
+-- Each operation of a walk leads from what it knows to what it knows next, by the words and the ghost of one moment, since it loads a
+-- word or
 -- turns its section word.
 use Rattle.std.proofs.Common.{◌≡◌, ◌≢◌, ◌⊎◌, ℕ, ◌+◌, ◌%◌, ◌^◌, ◌<◌, ◌≤◌, nat_lt, Bool, true, List, [], ◌∷◌, length, Option, Some, None, refl, sym, ◌∙◌, ap, subst, inl, arith}
 use Rattle.std.specs.Prelude.{◌==◌}
@@ -37,7 +38,7 @@ use Rattle.rht_core.proofs.Returning.TiedWalks.{IsWalked, IsOnWayTo, tied_of_wal
 use Rattle.rht_core.proofs.Walking.KeptPairs.{kept_known}
 use Rattle.rht_core.proofs.Walking.KnownBuckets.{begun_known, end_known, ended_known}
 use Rattle.rht_core.proofs.Walking.KnownChains.{missing_known, head_known, headless_known, key_known, link_known, linkless_known, all_known}
-use Rattle.rht_core.proofs.Walking.PortPlaces.{PortPlacesRight}
+use Rattle.rht_core.proofs.Finding.PortPlaces.{PortPlacesRight}
 use Rattle.rht_core.proofs.Walking.SlotsOfTables.{IsAttached, at_attached, index_is}
 use Rattle.rht_core.proofs.Walking.WalkFacts.{Said, IsNew, IsAt, IsBehind, IsInChain, HereAtKey, IsAtEnd, WalkMeans}
 
@@ -96,7 +97,8 @@ module _ (env : Env) (mix : ℕ → ℕ → ℕ → ℕ) (from : Option Cursor) 
 
     -- ---- an entry on the way
 
-    module _ (visit : Visit) (way : PlaceModel) (within : IsVisitIn visit) (same : way.geometry ≡ env.geometry) (on : IsOnWayTo env mix G visit way)
+    module _ (visit : Visit) (way : PlaceModel) (within : IsVisitIn visit) (same : way.geometry ≡ env.geometry)
+        (on : IsOnWayTo env mix G visit way)
         (known : At visit) where
       entered-known : (page : ℕ) (start : Start PlaceModel ℕ) → entered way page ≡ start
           → let next = went_behind way start in Means (reached env.geometry limit shown visit next.0 next.1)
@@ -194,21 +196,25 @@ module _ (env : Env) (mix : ℕ → ℕ → ℕ → ℕ) (from : Option Cursor) 
     walk_leads (at.Shape table serial) within tied met known =
         begun_known env mix from begin now Missed WasLast Bound seen items M G P whole table serial _ known.0 known.1
     walk_leads (at.Entry visit way) within tied met known =
-        let same = ap (λ (g : Geometry). page_of g.pages (old_of words (Load (place_of g (PageWord way.entry))))) within.way_in.geometry_same in
+        let same = ap (λ (g : Geometry). page_of g.pages (old_of words (Load (place_of g (PageWord way.entry)))))
+        within.way_in.geometry_same in
         entry-known items limit (length items) visit way within.visit_in within.way_in.geometry_same tied known
         (page_of way.geometry.pages (old_of words (place_plan way))) (sym same)
     walk_leads (at.Heading visit place) within tied met known =
         let link = head_of place (old_of words (plan_at env.geometry c (at.Heading visit place))) in
-        let headless = headless_known env mix from begin now Missed WasLast Bound seen items words G P whole right deaths of_ports visit place
+        let headless = headless_known env mix from begin now Missed WasLast Bound seen items words G P whole right deaths of_ports visit
+        place
         within.visit_in within.place_in tied in
         led items limit (length items) (chain_at visit place) link tied.walked (record {
-          to_node = λ n leads. head_known env mix from begin now Missed WasLast Bound seen items words G P whole right deaths of_ports visit place
+          to_node = λ n leads. head_known env mix from begin now Missed WasLast Bound seen items words G P whole right deaths of_ports
+              visit place
               within.visit_in within.place_in tied n leads learns.began known;
           to_none = λ none. headless none known;
           visited_all = λ all. headless (λ n l leads. absurd (omega (arith, l, all))) known;
         }) (node_of env.geometry.nodes link) refl
     walk_leads (at.Key chain node) within tied met known =
-        key_known env mix from begin now Missed WasLast Bound seen items words G P whole right deaths of_ports chain node within.visit_in tied
+        key_known env mix from begin now Missed WasLast Bound seen items words G P whole right deaths of_ports chain node within.visit_in
+        tied
         (key_of M node % 2 ^ 32) (λ small. small_port (key_of M node) small) met.0 known
       where
         small_port : (word : ℕ) → word < 2 ^ 32 → word ≡ word % 2 ^ 32
@@ -222,11 +228,14 @@ module _ (env : Env) (mix : ℕ → ℕ → ℕ → ℕ) (from : Option Cursor) 
     walk_leads (at.Link chain node) within tied met known =
         let link = chain_of M node in
         led items limit (length items) (one_more chain) link (record { of = tied.of; shape_is = tied.shape_is }) (record {
-          to_node = λ n leads. link_known env mix from begin now Missed WasLast Bound seen items words G P whole right deaths of_ports chain node
+          to_node = λ n leads. link_known env mix from begin now Missed WasLast Bound seen items words G P whole right deaths of_ports
+              chain node
               within.visit_in tied n leads known;
-          to_none = λ none. linkless_known env mix from begin now Missed WasLast Bound seen items words G P whole right deaths of_ports chain node
+          to_none = λ none. linkless_known env mix from begin now Missed WasLast Bound seen items words G P whole right deaths of_ports
+              chain node
               within.visit_in tied none known;
-          visited_all = λ all. all_known env mix from begin now Missed WasLast Bound seen items words G P whole right deaths of_ports chain node
+          visited_all = λ all. all_known env mix from begin now Missed WasLast Bound seen items words G P whole right deaths of_ports
+              chain node
               within.visit_in tied all known;
         }) (node_of env.geometry.nodes link) refl
     walk_leads (at.StrangeEnd visit) within tied met known =

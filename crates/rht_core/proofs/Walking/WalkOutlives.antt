@@ -110,7 +110,8 @@ module _ (env : Env) (mix : ℕ → ℕ → ℕ → ℕ) (from : Option Cursor) 
   -- ---- one that goes on
 
   module _ (met : ℕ → Bool) (P' : Places) (stages : StagesOutlive env mix now M G P M' G' P' met)
-      (kept : (i n p : ℕ) → met n ≡ true → P.place i n ≡ Some p → P'.place i n ≡ Some p) (now' : ℕ) (later : now ≤ now') (absent : (port : ℕ) → G'.bound port ≡ [] → Missed' port)
+      (kept : (i n p : ℕ) → met n ≡ true → P.place i n ≡ Some p → P'.place i n ≡ Some p) (now' : ℕ) (later : now ≤ now')
+      (absent : (port : ℕ) → G'.bound port ≡ [] → Missed' port)
       (seen seen' : ℕ → Bool) (seen_met : (n : ℕ) → seen n ≡ true → met n ≡ true) where
     abbrev Before : WalkAt → Type 0
     Before = WalkMeans env mix from begin now Missed WasLast Bound seen items M G P
@@ -252,7 +253,8 @@ module _ (env : Env) (mix : ℕ → ℕ → ℕ → ℕ) (from : Option Cursor) 
               is = kept (word_index env mix chain.place) m known.at (seen_met m stood) known.is;
               early = known.early;
               buckets = buckets_then chain.visit.table chain.visit.bucket attached _ _ _ _ (λ port. here at.since port at.so_far)
-                  (passed_then chain.visit.table chain.visit.bucket (word_index env mix chain.place) (least known.at) at.since attached) known.buckets;
+                  (passed_then chain.visit.table chain.visit.bucket (word_index env mix chain.place) (least known.at) at.since attached)
+                  known.buckets;
             };
       }
 

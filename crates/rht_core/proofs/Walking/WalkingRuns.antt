@@ -1,6 +1,7 @@
--- In every run each walk knows, in each of its states, what it needs for what it answers. It is an induction over the events, beside that of
+-- In every run each walk knows, in each of its states, what it needs for what it answers. It is an induction over the events, beside that
+-- of
 -- look-ups, on the same ghost and the same places.
-use Rattle.std.proofs.Common.{◌≡◌, ℕ, ◌+◌, ◌<◌, Bool, false, List, [], ◌∷◌, ◌++◌, length, Option, Some, None, refl, sym, ◌∙◌, ap, subst, inl, inr, arith}
+use Rattle.std.proofs.Common.{◌≡◌, ℕ, ◌<◌, List, [], ◌∷◌, ◌++◌, length, Option, Some, None, refl, sym, ◌∙◌, ap, subst, inl, inr, arith}
 use Rattle.std.proofs.lemmas.Bool.{cases_eq}
 use Rattle.rht_words.specs.declared.op.Op.{Op}
 use Rattle.rht_words.specs.declared.env.Env.{Env}
@@ -14,24 +15,22 @@ use Rattle.rht_callers.specs.declared.local.Doing.{Doing}
 use Rattle.rht_callers.specs.Locals.{local_after, ending_of}
 use Rattle.rht_core.specs.declared.event.Event.{Event}
 use Rattle.rht_core.specs.declared.event.Event.TheVariants.{Enroll, Begin, Step}
-use Rattle.rht_core.specs.Jobs.{Job, job_of, job_plan, job_after, told, call_of}
-use Rattle.rht_core.specs.Runs.{Core, World, View, IsAdmitted, IsAdmittedEvent, local_of, beginning_in, planned_in, world_step}
+use Rattle.rht_core.specs.Jobs.{Job, job_of, job_after, told, call_of}
+use Rattle.rht_core.specs.Runs.{World, View, IsAdmitted, IsAdmittedEvent, local_of, beginning_in, planned_in, world_step}
 use Rattle.rht_core.specs.Traces.{Did, Trace, Traced, trace_begun, trace_did, traces_after, traced_step, traced_of}
-use Rattle.rht_ghost.proofs.Theory.Steps.{mem}
 use Rattle.rht_core.proofs.Events.Worlds.{induct_by_last, beginning-some, planned-some, begin_none, begin_self, begin_other, step_none, step_self, step_other}
 use Rattle.rht_core.proofs.Events.SoundRuns.{has_place, made_in}
 use Rattle.rht_core.proofs.Events.JobsOfCallers.{is_no_job, first_job-machine, nothing-job, local_after-job, first-of}
-use Rattle.rht_core.proofs.Events.Invariants.{StepOf, step_of}
+use Rattle.rht_core.proofs.Events.Invariants.{step_of}
 use Rattle.rht_core.proofs.Events.InvariantRuns.{idle_at_opening}
 use Rattle.rht_core.proofs.Tracing.TracedRuns.{count-traced_of, traced_of-push, trace_begin_none, trace_begin_self, trace_begin_other, trace_step_none, trace_step_self, trace_step_other}
 use Rattle.rht_core.proofs.Tracing.TracedJobs.{busy-none, IsAtJob}
 use Rattle.rht_core.proofs.Tracing.RepliesInRuns.{Holds, Answered, runs-right}
-use Rattle.rht_core.proofs.Finding.LookupsAtEvents.{AreLooking, Turns, placed'}
+use Rattle.rht_core.proofs.Finding.LookupsAtEvents.{Turns, placed'}
 use Rattle.rht_core.proofs.Finding.LookupsInRuns.{event-looks, turn_at, opening-looks}
-use Rattle.rht_core.proofs.Finding.PlacesInRuns.{Placed, next, next_places}
-use Rattle.rht_core.proofs.Returning.TiedJobs.{tied_with}
-use Rattle.rht_core.proofs.Walking.PortPlaces.{PortPlacesRight}
-use Rattle.rht_core.proofs.Walking.WalksAtEvents.{R, PastWalks, JobWalks, CallerWalks, AreWalking, AreCounted, count', counted'}
+use Rattle.rht_core.proofs.Finding.PlacesInRuns.{next}
+use Rattle.rht_core.proofs.Walking.MadeSerials.{made_then, made_opening}
+use Rattle.rht_core.proofs.Walking.WalksAtEvents.{JobWalks, AreWalking, count', counted'}
 use Rattle.rht_core.proofs.Walking.EndedWalks.{ports_then, pasts_later, WalksThen, own_walks, walks_stay, first_walks}
 
 module _ (L : Type 0) (mix : ℕ → ℕ → ℕ → ℕ) (env : Env) where
@@ -49,9 +48,11 @@ module _ (L : Type 0) (mix : ℕ → ℕ → ℕ → ℕ) (env : Env) where
     Then = WalksThen L mix env events event walking.looking turn walking.of_ports walking.count walking.counted
 
     abbrev EachWalks : Type 0
-    EachWalks = (c : ℕ) → Then c (traces_after mix (Rs events) event c) (job_of (local_of (world_step mix (Rs events).world event).core c).doing)
+    EachWalks = (c : ℕ) → Then c (traces_after mix (Rs events) event c) (job_of (local_of (world_step mix (Rs events).world event).core
+        c).doing)
 
-    found_with : (c : ℕ) (trace trace' : Trace) (job job' : Option Job) → trace' ≡ trace → job' ≡ job → Then c trace job → Then c trace' job'
+    found_with : (c : ℕ) (trace trace' : Trace) (job job' : Option Job) → trace' ≡ trace → job' ≡ job → Then c trace job
+        → Then c trace' job'
     found_with c trace trace' job job' same does walks =
         subst (λ t. Then c t job') (sym same) (subst (Then c trace) (sym does) walks)
 
@@ -62,7 +63,8 @@ module _ (L : Type 0) (mix : ℕ → ℕ → ℕ → ℕ) (env : Env) where
         → Then c (traces_after mix (Rs events) event c) (job_of (local_of (world_step mix (Rs events).world event).core c).doing)
     as_before c does same =
         let had = walking.walks c in
-        found_with c ((Rs events).traces c) (traces_after mix (Rs events) event c) (job_of (local_of (Rs events).world.core c).doing) _ same does
+        found_with c ((Rs events).traces c) (traces_after mix (Rs events) event c) (job_of (local_of (Rs events).world.core c).doing) _
+        same does
         (record {
           past = pasts_later L mix env events event walking.looking turn walking.of_ports walking.count walking.counted _ had.past;
           now = walks_stay L mix env events event walking.looking turn walking.of_ports walking.count walking.counted c
@@ -85,7 +87,8 @@ module _ (L : Type 0) (mix : ℕ → ℕ → ℕ → ℕ) (env : Env) where
       let can = beginning-some r.world.core.env r.world.core.enrolled r.world.core.locals c call machine is in
       let place = has_place L mix env r.world.core c sound.stays can.below in
       let low : c < env.geometry.callers = omega (arith, can.below, sound.stays.few_enrolled) in
-      let first = first_job-machine env c (local_of r.world.core c).batch call machine (made_in L mix env r.world.core c call machine sound.stays can) in
+      let first = first_job-machine env c (local_of r.world.core c).batch call machine
+      (made_in L mix env r.world.core c call machine sound.stays can) in
       elim (cases_eq d c) [
         | inl same ↦
             subst (λ k. Then events event walking turn k (traces_after mix r event k)
@@ -101,7 +104,8 @@ module _ (L : Type 0) (mix : ℕ → ℕ → ℕ → ℕ) (env : Env) where
                   (placed' L mix env events event walking.looking turn)
                   (count' L mix env events event walking.looking turn walking.of_ports walking.count walking.counted) (turn.then c) c
                   (length events) (Some job)) env call first.job
-                  (first_walks L mix env events event walking.looking turn walking.of_ports walking.count walking.counted c low call) first.first;
+                  (first_walks L mix env events event walking.looking turn walking.of_ports walking.count walking.counted c low call)
+                  first.first;
             }))
         | inr other ↦
             as_before events event walking turn d
@@ -109,7 +113,8 @@ module _ (L : Type 0) (mix : ℕ → ℕ → ℕ → ℕ) (env : Env) where
             (trace_begin_other L mix r c call d other)
       ]
 
-  step-walks : (events : List Event) (c : ℕ) (plan : Option Op) → IsAdmitted kind events → (walking : AreWalking L mix env events (Rs events))
+  step-walks : (events : List Event) (c : ℕ) (plan : Option Op) → IsAdmitted kind events
+      → (walking : AreWalking L mix env events (Rs events))
       → (turn : Turns L mix env events (Step c) walking.looking)
       → planned_in (Rs events).world.core c ≡ plan → EachWalks events (Step c) walking turn
   step-walks events c None admitted walking turn is = λ d.
@@ -177,6 +182,7 @@ module _ (L : Type 0) (mix : ℕ → ℕ → ℕ → ℕ) (env : Env) where
         of_ports = ports_then L mix env events event walking.looking turn walking.of_ports walking.count walking.counted;
         count = count' L mix env events event walking.looking turn walking.of_ports walking.count walking.counted;
         counted = counted' L mix env events event walking.looking turn walking.of_ports walking.count walking.counted;
+        made = made_then L mix env events event admitted may walking.looking walking.made;
         walks = each event turn;
       }
     where
@@ -201,6 +207,7 @@ module _ (L : Type 0) (mix : ℕ → ℕ → ℕ → ℕ) (env : Env) where
         };
         count = λ i. looking.placed.ghost.attached;
         counted = record { at_end = refl; rises = λ i k less most. omega arith };
+        made = made_opening L mix env;
         walks = λ c. record {
           past = tt;
           now = subst (λ (local : Local L). JobWalks L mix env [] (Rs []).world.core looking.placed (λ i. looking.placed.ghost.attached)

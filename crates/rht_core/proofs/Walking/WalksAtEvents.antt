@@ -1,18 +1,13 @@
--- What walks know behind an event: a walk's own operation leads on from what it knows; and what it knows then, as what it knows at an event of
+-- What walks know behind an event: a walk's own operation leads on from what it knows; and what it knows then, as what it knows at an
+-- event of
 -- another caller or of none, outlives that event.
-use Rattle.std.proofs.Common.{◌≡◌, ◌⊎◌, ℕ, suc, ◌+◌, ◌<◌, ◌≤◌, nat_lt, Bool, true, false, cond, List, [], ◌∷◌, ◌++◌, length, Option, Some, None, refl, sym, ◌∙◌, ap, subst, inl, inr, arith}
-use Rattle.std.specs.Prelude.{IfSome}
+use Rattle.std.proofs.Common.{◌≡◌, ◌⊎◌, ℕ, suc, ◌+◌, ◌<◌, ◌≤◌, nat_lt, Bool, true, false, cond, List, [], ◌∷◌, ◌++◌, length, Option, Some, refl, sym, ◌∙◌, ap, subst, inl, inr, arith}
 use Rattle.std.specs.List.{AllByRecursion}
 use Rattle.std.proofs.lemmas.Bool.{cases_lt, lt-ltb, le-ltb}
 use Rattle.std.proofs.lemmas.List.{length_push}
 use Rattle.rht_words.specs.declared.env.Env.{Env}
-use Rattle.rht_words.specs.declared.machine.Next.{Next}
-use Rattle.rht_words.specs.declared.machine.Next.TheVariants.{Go, Done}
 use Rattle.rht_words.specs.Operations.{old_of}
-use Rattle.rht_words.specs.Ports.{owner_of}
-use Rattle.rht_words.specs.Places.{Node, OwnerWord}
 use Rattle.rht_words.specs.Standing.{stands_nowhere}
-use Rattle.rht_words.proofs.EachElement.{AllByRecursion-push, AllByRecursion-weaker}
 use Rattle.rht_words.proofs.Memory.{Memory}
 use Rattle.rht_model.specs.declared.history.Call.{Call}
 use Rattle.rht_model.specs.declared.history.Call.TheVariants as calls
@@ -20,49 +15,35 @@ use Rattle.rht_model.specs.declared.history.Cursor.{Cursor}
 use Rattle.rht_model.specs.declared.history.Reply.{Reply}
 use Rattle.rht_model.specs.declared.history.Reply.TheVariants.{Walked, Found, Missing}
 use Rattle.rht_model.specs.Answers.{plain, find_reply}
-use Rattle.rht_model.specs.Endings.{Ending, ended_with}
-use Rattle.rht_model.specs.Multimap.{Multimap}
-use Rattle.rht_grace.specs.Batch.{BatchModel}
 use Rattle.rht_stands.specs.StandsFor.{stands_for}
-use Rattle.rht_walk.specs.Walk.{Pairs, plan_at, goes, says, room_after, reply_of, IsWalkAtIn}
+use Rattle.rht_walk.specs.Walk.{Pairs, plan_at, goes, room_after, IsWalkAtIn}
 use Rattle.rht_walk.specs.WalkStanding.{standing_of_walk}
-use Rattle.rht_walk.specs.declared.walk.WalkEnd.{WalkEnd}
-use Rattle.rht_walk.specs.declared.walk.WalkEnd.TheVariants as ends
 use Rattle.rht_walk.specs.declared.walk.WalkAt.{WalkAt}
-use Rattle.rht_walk.specs.declared.walk.WalkAt.TheVariants as at
 use Rattle.rht_core.specs.declared.event.Event.{Event}
 use Rattle.rht_core.specs.Alone.{bindings_at}
-use Rattle.rht_core.specs.Jobs.{Job, walks, walk_ending, walk_gone, first_job, job_of, job_plan, job_next, job_after, told, call_of}
+use Rattle.rht_core.specs.Jobs.{Job, walks, job_of}
 use Rattle.rht_core.specs.RunHistories.{bindings_behind}
 use Rattle.rht_core.specs.Runs.{Core, local_of, world_step}
 use Rattle.rht_core.specs.Standings.{standing, standing_with}
-use Rattle.rht_core.specs.Traces.{Did, Past, Trace, Traced, trace_did, traces_after, traced_of, behind_call}
+use Rattle.rht_core.specs.Traces.{Past, Trace, Traced, traced_of, behind_call}
 use Rattle.rht_ghost.proofs.Theory.Frames.{still}
 use Rattle.rht_ghost.proofs.Theory.Ghosts.{Ghost}
 use Rattle.rht_ghost.proofs.Theory.Passed.{TablesGrow}
 use Rattle.rht_ghost.proofs.Theory.Steps.{mem, ghost_after}
-use Rattle.rht_ghost.proofs.Theory.Wholes.{key_of}
-use Rattle.rht_core.proofs.Events.JobsOfCallers.{first_rebind-so, first_tidy-so, same_call}
-use Rattle.rht_core.proofs.Histories.Behind.{behind-more}
-use Rattle.rht_core.proofs.Histories.CallerEntries.{IsSaid, said-more}
+use Rattle.rht_core.proofs.Histories.CallerEntries.{said-more}
 use Rattle.rht_core.proofs.Histories.FittingCallers.{end-is, end-next}
-use Rattle.rht_core.proofs.Machines.JobSteps.{JobIn}
-use Rattle.rht_core.proofs.Tracing.TracesAtEvents.{behind_steps-push}
-use Rattle.rht_core.proofs.Finding.Deaths.{IsLate}
 use Rattle.rht_core.proofs.Finding.FoundSaid.{missing_said, missing_after, found_said}
 use Rattle.rht_core.proofs.Finding.LookupLaws.{plain_reply, reply_in}
 use Rattle.rht_core.proofs.Finding.LookupsAtEvents.{SaysOf, AreLooking, Turns, placed', met_now, ApartNow}
-use Rattle.rht_core.proofs.Finding.Places.{Places}
-use Rattle.rht_core.proofs.Finding.PlacesInRuns.{Placed, EventMakes, next, next_places}
+use Rattle.rht_core.proofs.Finding.PlacesInRuns.{Placed, next, next_places}
 use Rattle.rht_core.proofs.Finding.PlacesThen.{PlacesThen}
-use Rattle.rht_core.proofs.Returning.Readers.{Reader}
-use Rattle.rht_core.proofs.Returning.TiedJobs.{tied_with}
 use Rattle.rht_core.proofs.Returning.TiedWalks.{tied_of_walk, walk_ties}
 use Rattle.rht_core.proofs.Walking.KeptPairs.{stage_said}
-use Rattle.rht_core.proofs.Walking.PortPlaces.{PortPlacesRight}
+use Rattle.rht_core.proofs.Walking.MadeSerials.{AreMade}
+use Rattle.rht_core.proofs.Finding.PortPlaces.{PortPlacesRight}
 use Rattle.rht_core.proofs.Walking.WalkFacts.{HasWalkedTo, WalkMeans}
 use Rattle.rht_core.proofs.Walking.WalkLeads.{Learns, walk_leads}
-use Rattle.rht_core.proofs.Walking.WalkOutlives.{walked_still, walk_outlives}
+use Rattle.rht_core.proofs.Walking.WalkOutlives.{walk_outlives}
 
 -- the cursor of a reply that says the number of pairs
 pub same_next : (len other : ℕ) (next to : Option Cursor) → Walked len next ≡ Walked other to → next ≡ to
@@ -117,7 +98,8 @@ module _ (L : Type 0) (mix : ℕ → ℕ → ℕ → ℕ) (env : Env) where
     pub rest : List ℕ
     pub is : bindings_behind L mix env events at pair.0 ≡ pair.1 ∷ rest
 
-  pub record HasWalked (events : List Event) (G : Ghost) (count : ℕ → ℕ) (from : Option Cursor) (past : Past) (next : Option Cursor) : Type 0 where
+  pub record HasWalked (events : List Event) (G : Ghost) (count : ℕ → ℕ) (from : Option Cursor) (past : Past) (next : Option Cursor) :
+      Type 0 where
     pub done_by : behind_call past ≤ length events
     pub walked : HasWalkedTo env mix G (count (behind_call past)) from (IsMissedIn events past.begin (behind_call past))
         (WasLast count past.begin (behind_call past)) (IsBoundIn events past.begin (behind_call past)) past.done.pairs next
@@ -168,13 +150,16 @@ module _ (L : Type 0) (mix : ℕ → ℕ → ℕ → ℕ) (env : Env) where
     pub of_ports : PortPlacesRight env mix (mem env mix r.world.core.words) looking.placed.ghost looking.placed.places (length events)
     pub count : ℕ → ℕ
     pub counted : AreCounted (length events) looking.placed.ghost count
+    pub made : AreMade L mix env events r.world.core looking.placed.ghost
     pub walks : (c : ℕ) → CallerWalks events r.world.core looking.placed count (looking.readers c).chains c (r.traces c)
         (job_of (local_of r.world.core c).doing)
 
   -- ---- one event more
 
-  module _ (events : List Event) (event : Event) (looking : AreLooking L mix env events (R events)) (turn : Turns L mix env events event looking)
-      (of_ports : PortPlacesRight env mix (mem env mix (R events).world.core.words) looking.placed.ghost looking.placed.places (length events))
+  module _ (events : List Event) (event : Event) (looking : AreLooking L mix env events (R events))
+      (turn : Turns L mix env events event looking)
+      (of_ports : PortPlacesRight env mix (mem env mix (R events).world.core.words) looking.placed.ghost looking.placed.places
+      (length events))
       (count : ℕ → ℕ) (counted : AreCounted (length events) looking.placed.ghost count) where
     abbrev r : Traced L
     r = R events
@@ -210,7 +195,8 @@ module _ (L : Type 0) (mix : ℕ → ℕ → ℕ → ℕ) (env : Env) where
     stands = end-is L mix env events
 
     abbrev pub then_places : PlacesThen env mix now M G placed.places M' G' (met_now L mix env looking)
-    then_places = next_places env mix L events event core core' stands placed (met_now L mix env looking) (ApartNow L mix env looking) turn.makes
+    then_places = next_places env mix L events event core core' stands placed (met_now L mix env looking) (ApartNow L mix env looking)
+        turn.makes
 
     pub longer : length more ≡ now + 1
     longer = length_push events event
@@ -326,7 +312,8 @@ module _ (L : Type 0) (mix : ℕ → ℕ → ℕ → ℕ) (env : Env) where
           (λ i n p is at. at) now (omega arith) missed_now seen seen (λ n is. is) state tied stood (inr (λ n is. is)) known
 
       -- what it learns by its own operation
-      learns : Learns env mix from begin now (MissedOf more c begin) (WasLast count' begin (length more)) (BoundOf more c begin) seen core.words G
+      learns : Learns env mix from begin now (MissedOf more c begin) (WasLast count' begin (length more)) (BoundOf more c begin) seen
+          core.words G
           placed.places placed.inv.whole placed.right placed.deaths of_ports
       learns = record {
         began = omega (arith, begun);
@@ -359,7 +346,8 @@ module _ (L : Type 0) (mix : ℕ → ℕ → ℕ → ℕ) (env : Env) where
 
         known_next : Knows after.items (MissedOf more c begin) (WasLast count' begin (length more)) (BoundOf more c begin) state'
         known_next =
-            walk_leads env mix from begin now (MissedOf more c begin) (WasLast count' begin (length more)) (BoundOf more c begin) seen core.words G
+            walk_leads env mix from begin now (MissedOf more c begin) (WasLast count' begin (length more)) (BoundOf more c begin) seen
+            core.words G
             placed.places placed.inv.whole placed.right placed.deaths of_ports learns limit room walking.roomy c state within tied stood
             (by_more room.items state tied stood walking.known)
 

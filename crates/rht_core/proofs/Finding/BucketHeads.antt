@@ -13,7 +13,7 @@ use Rattle.rht_ghost.proofs.Theory.Ghosts.{Ghost, lock_bit, table_at}
 use Rattle.rht_ghost.proofs.Theory.Passed.{place-word, place-table, place-bucket}
 use Rattle.rht_ghost.proofs.Theory.SeatedLinks.{link_of-one}
 use Rattle.rht_ghost.proofs.Theory.Steps.{mem}
-use Rattle.rht_ghost.proofs.Theory.Wholes.{chain_of, place_at, word_index, place_at-index, stop, BucketRight, ChainedRight, Whole, IsThere}
+use Rattle.rht_ghost.proofs.Theory.Wholes.{chain_of, place_at, word_index, place_at-index, stop, BucketRight, Whole, IsThere}
 use Rattle.rht_core.proofs.Finding.Falling.{HasPlace, AreFalling}
 use Rattle.rht_core.proofs.Finding.Places.{Places, PlacesRight}
 

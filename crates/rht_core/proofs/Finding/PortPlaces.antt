@@ -1,20 +1,17 @@
--- More of what is true of places: each is in a bucket where its node's port belongs; of two places that nodes of one port have in a bucket the
--- lower one's node died before the higher one arose; and where no table is behind, links of nodes with places lead down, or to the bucket's end.
-use Rattle.std.proofs.Common.{◌≡◌, ◌⊎◌, ℕ, ◌+◌, ◌/◌, ◌^◌, ◌<◌, ◌≤◌, List, [], ◌∷◌, Option, Some, None, refl, sym, ◌∙◌, ap, subst, inl, inr, arith}
+-- More of what is true of places: each is in a bucket where its node's port belongs; of two places that nodes of one port have in a
+-- bucket the
+-- lower one's node died before the higher one arose; and where no table is behind, links of nodes with places lead down, or to the
+-- bucket's end.
+use Rattle.std.proofs.Common.{◌≡◌, ◌⊎◌, ℕ, ◌+◌, ◌^◌, ◌<◌, ◌≤◌, Option, Some, None, refl, sym, ◌∙◌, ap, subst, inl, inr, arith}
 use Rattle.rht_words.specs.declared.env.Env.{Env}
 use Rattle.rht_words.specs.Links.{link_of, marker_of, head_of}
 use Rattle.rht_words.specs.Members.{In}
 use Rattle.rht_words.proofs.Memory.{Memory}
-use Rattle.rht_ghost.proofs.Theory.Ghosts.{Ghost, HasSeat, seat_of, table_at, none-some, some-same}
+use Rattle.rht_ghost.proofs.Theory.Ghosts.{Ghost, HasSeat, seat_of, table_at, some-same}
 use Rattle.rht_ghost.proofs.Theory.Wholes.{chain_of, key_of, home, place_at, stop, Whole, seated_at}
-use Rattle.rht_ghost.proofs.Theory.Passed.{TablesGrow, home-stays}
-use Rattle.rht_ghost.proofs.Theory.Frames.{IsLed}
 use Rattle.rht_ghost.proofs.Theory.SeatedLinks.{member_chained}
-use Rattle.rht_core.proofs.Finding.Falling.{one_place, falling-leads}
+use Rattle.rht_core.proofs.Finding.Falling.{falling-leads}
 use Rattle.rht_core.proofs.Finding.Places.{Places, IsElsewhere, PlacesRight, in_bucket}
-use Rattle.rht_core.proofs.Finding.PlacesStay.{PlacesFrame, PlacesMove, PortMoves, PortsMove, table_stays}
-use Rattle.rht_core.proofs.Finding.PlacesSteps.{PlacesNext}
-use Rattle.rht_core.proofs.Finding.Deaths.{DeathsMove}
 
 -- the node is a port's first one no more, since an event before this one
 pub record HasDied (G : Ghost) (P : Places) (now n : ℕ) : Type 0 where

@@ -1,16 +1,15 @@
 -- What is true of the places of each port is so behind an operation that gives back a node which no open section has met.
-use Rattle.std.proofs.Common.{◌≡◌, ◌⊎◌, ℕ, ◌+◌, ◌^◌, ◌<◌, Bool, true, cond, Some, None, refl, sym, ◌∙◌, ap, subst, inl, inr, arith}
+use Rattle.std.proofs.Common.{◌≡◌, ℕ, ◌+◌, ◌^◌, ◌<◌, Bool, true, cond, Some, None, sym, ◌∙◌, ap, subst, inl, inr, arith}
 use Rattle.rht_words.specs.declared.env.Env.{Env}
-use Rattle.rht_words.specs.Members.{In}
 use Rattle.rht_words.specs.Places.{Node, NodeWord, ChainLink, KeyWord}
 use Rattle.rht_words.proofs.LinksRead.{links_tell_apart}
 use Rattle.rht_words.proofs.Memory.{Memory}
-use Rattle.rht_ghost.proofs.Theory.Ghosts.{Free, Taken, Ghost, HasSeat, seat_of, with_owner}
+use Rattle.rht_ghost.proofs.Theory.Ghosts.{Free, Taken, Ghost, seat_of, with_owner}
 use Rattle.rht_ghost.proofs.Theory.Wholes.{chain_of, key_of, Whole}
 use Rattle.rht_ghost.proofs.Theory.SeatedLinks.{next_of}
 use Rattle.rht_core.proofs.Finding.Places.{Places, PlacesRight}
 use Rattle.rht_core.proofs.Finding.GivenBack.{IsUnmet, kept_places, is_kept, same_seat, seatless_met, met_kept, place_was, place_stays}
-use Rattle.rht_core.proofs.Walking.PortPlaces.{HasDied, IsReplaced, IsPlaceOf, EndsOrLeads, PortPlacesRight}
+use Rattle.rht_core.proofs.Finding.PortPlaces.{HasDied, IsReplaced, IsPlaceOf, EndsOrLeads, PortPlacesRight}
 
 module _ (env : Env) (mix : ℕ → ℕ → ℕ → ℕ) (now c n : ℕ) (M M' : Memory) (G : Ghost) (P : Places) (whole : Whole env mix M G)
     (right : PlacesRight env mix G P M now) (mine : G.node n ≡ Taken c)

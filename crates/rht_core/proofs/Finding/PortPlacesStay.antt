@@ -1,6 +1,5 @@
 -- What is true of the places of each port is so behind an operation that gives back no node.
 use Rattle.std.proofs.Common.{◌≡◌, ◌⊎◌, ℕ, ◌+◌, ◌^◌, ◌<◌, ◌≤◌, List, [], ◌∷◌, Option, Some, None, refl, sym, ◌∙◌, ap, subst, inl, inr, arith}
-use Rattle.std.proofs.lemmas.Bool.{cases_lt}
 use Rattle.rht_words.specs.declared.env.Env.{Env}
 use Rattle.rht_words.specs.Members.{In}
 use Rattle.rht_words.proofs.Memory.{Memory}
@@ -9,9 +8,9 @@ use Rattle.rht_ghost.proofs.Theory.Wholes.{chain_of, key_of, home, Whole, seated
 use Rattle.rht_ghost.proofs.Theory.Passed.{TablesGrow, home-stays}
 use Rattle.rht_core.proofs.Finding.Falling.{one_place}
 use Rattle.rht_core.proofs.Finding.Places.{Places, PlacesRight}
-use Rattle.rht_core.proofs.Finding.PlacesStay.{WasSeatedAt, PortMoves, IsStill, IsBoundNow, HasMoved, table_stays}
+use Rattle.rht_core.proofs.Finding.PlacesStay.{WasSeatedAt, PortMoves, table_stays}
 use Rattle.rht_core.proofs.Finding.PlacesSteps.{PlacesNext}
-use Rattle.rht_core.proofs.Walking.PortPlaces.{HasDied, IsReplaced, IsPlaceOf, LeadsLower, EndsOrLeads, PortPlacesRight, sits_first, ends_or_leads, elsewhere_behind}
+use Rattle.rht_core.proofs.Finding.PortPlaces.{HasDied, IsReplaced, IsPlaceOf, EndsOrLeads, PortPlacesRight, sits_first, ends_or_leads, elsewhere_behind}
 
 module _ (env : Env) (mix : ℕ → ℕ → ℕ → ℕ) (now : ℕ) (M : Memory) (G : Ghost) (P : Places) (M' : Memory) (G' : Ghost)
     (whole : Whole env mix M G) (whole' : Whole env mix M' G') (right : PlacesRight env mix G P M now)
@@ -149,7 +148,8 @@ module _ (env : Env) (mix : ℕ → ℕ → ℕ → ℕ) (now : ℕ) (M : Memory
       go j behind sits bound (inr (inr gone)) = elim (gone.mates n i p (inl refl) is) [
         | inl was ↦ inl was
         | inr here ↦
-            let further : table_at G gone.from < table_at G' i = subst (λ t. table_at G gone.from < t) (ap (table_at G') (sym here.0)) gone.further in
+            let further : table_at G gone.from < table_at G' i = subst (λ t. table_at G gone.from < t) (ap (table_at G') (sym here.0))
+            gone.further in
             let late : now ≤ p = elim (step.move.from n i p (sits ∙ ap Some (sym here.0)) is) [
               | inl late ↦ late
               | inr was ↦
