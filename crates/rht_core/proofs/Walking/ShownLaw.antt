@@ -1,5 +1,5 @@
--- In every run in which few serials were taken each full walk shows rightly.
-use Rattle.std.proofs.Common.{ℕ, ◌≤◌, List, [], ◌∷◌, length, Option, Some, None, inl, inr, arith}
+-- In every run each full walk of one call shows rightly, and one of several where few serials were taken.
+use Rattle.std.proofs.Common.{◌≢◌, ℕ, ◌≤◌, List, [], ◌∷◌, length, Option, Some, None, inl, inr, arith}
 use Rattle.std.specs.List.{AllByRecursion}
 use Rattle.rht_words.specs.declared.env.Env.{Env}
 use Rattle.rht_words.proofs.EachElement.{AllByRecursion-weaker}
@@ -15,7 +15,7 @@ use Rattle.rht_core.proofs.Walking.WalkingRuns.{has_walks}
 use Rattle.rht_core.proofs.Walking.WalksAtEvents.{PastWalks, AreWalking}
 
 module _ (L : Type 0) (mix : ℕ → ℕ → ℕ → ℕ) (env : Env) (events : List Event) (c : ℕ) (first : Past) (pasts : List Past)
-    (admitted : IsAdmitted env.config.kind events) (few : AreFewMade L mix env events) (full : AreWalks None (first ∷ pasts))
+    (admitted : IsAdmitted env.config.kind events) (few : pasts ≢ [] → AreFewMade L mix env events) (full : AreWalks None (first ∷ pasts))
     (among : AreAmong (first ∷ pasts) ((traced_of {M = L} mix env events).traces c).past) where
   abbrev walking : AreWalking L mix env events (traced_of mix env events)
   walking = has_walks L mix env events admitted
@@ -39,9 +39,9 @@ module _ (L : Type 0) (mix : ℕ → ℕ → ℕ → ℕ) (env : Env) (events : 
   behind = ends_behind (behind_call first) pasts
 
   all_shown : AllShown L mix env events walking.looking.placed.ghost walking.count walking.counted
-      (apart L mix env events _ walking.looking.placed.ghost walking.made few) None first.begin behind (pairs_of (first ∷ pasts))
+      None first.begin behind (pairs_of (first ∷ pasts))
   all_shown = calls_shown L mix env events walking.looking.placed.ghost walking.count walking.counted
-      (apart L mix env events _ walking.looking.placed.ghost walking.made few) None first pasts full each in_order
+      None first pasts (λ some. apart L mix env events _ walking.looking.placed.ghost walking.made (few some)) full each in_order
       (ended_by None first pasts full each)
 
   pub shows : ShowsRightly L mix env events first.begin behind (pairs_of (first ∷ pasts))
