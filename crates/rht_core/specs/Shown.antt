@@ -74,13 +74,13 @@ module _ (M : Type 0) (mix : ℕ → ℕ → ℕ → ℕ) where
       }) indexes
       → length indexes < 2 ^ 63
 
-  -- In every run each full walk shows rightly the bindings from the beginning of its first call to behind its last one. Where it has more
-  -- than one call, this is so where few serials were taken: by its serial a cursor says in which table the walk goes on.
+  -- in every run each full walk shows rightly the bindings from the beginning of its first call to behind its
+  -- last one; of one that has several calls that is said where few serials were taken
   abbrev pub Shown : Type 0
   Shown =
       (env : Env) (events : List Event) (c : ℕ) (first : Past) (pasts : List Past)
       → IsAdmitted env.config.kind events
-      → (pasts ≡ []) ⊎ AreFewMade env events
+      → (pasts ≢ [] → AreFewMade env events)
       → AreWalks None (first ∷ pasts)
       → AreAmong (first ∷ pasts) ((traced_of {M = M} mix env events).traces c).past
       → ShowsRightly env events first.begin (ends_behind (behind_call first) pasts) (pairs_of (first ∷ pasts))

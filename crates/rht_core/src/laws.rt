@@ -366,15 +366,13 @@ pub fn found<M: Mix>()
     ensures throughout { FindsWhatStays M M.mix_of }
 {}
 
-/// In every run each full walk shows rightly, where it is one call, or callers took fewer than 2^63 serials. A full walk is some of a
-/// caller's finished walks, in order: the first without a cursor, each later one from the cursor with which the one
-/// before ended, the last ended without a cursor, and none answered `Again`. The caller may make other calls between
-/// them, and others what they like at any time. Take the events from the first walk's beginning to the last one's last
-/// operation. Each port that the words stand for behind all of them is shown; each pair is a port and its first owner
-/// behind one of them; and no port is shown twice. So where no binding changed meanwhile, the pairs are exactly the
-/// ports that were bound, each with its first owner. It doesn't say in which order they come, that a port is shown
-/// which was unbound meanwhile, nor anything of walks of which one answered `Again`; and it doesn't say that a walk
-/// ever ends without that.
+/// In every run each full walk shows rightly; one of several calls does where callers took fewer than 2^63 serials. A
+/// full walk is some of a caller's finished walks, in order: the first without a cursor, each later one from the cursor
+/// with which the one before ended, the last ended without a cursor, and none answered `Again`. Others may do what they
+/// like meanwhile. Behind the events from the first one's beginning to the last one's last operation: each port that the
+/// words stand for behind all of them is shown, each pair is a port and its first owner behind one of them, and no port
+/// is shown twice. So where no binding changed the pairs are the ports that were bound, each with its first owner. It
+/// doesn't say in which order they come, nor that a walk ever ends without `Again`.
 pub fn shown<M: Mix>()
     ensures { Shown M M.mix_of }
 {}

@@ -1,5 +1,5 @@
--- What one operation makes of the draws of serials: it draws one for its caller, or attaches the caller's table, which has the caller's draw from
--- then on, or leaves all draws.
+-- What one operation makes of the draws of serials: it draws one for its caller, or attaches the caller's table, which has the caller's
+-- draw from then on, or leaves all draws.
 use Rattle.std.proofs.Common.{◌≡◌, ◌≢◌, ℕ, suc, ◌+◌, ◌%◌, ◌^◌, ◌<◌, ◌⊎◌, cond, refl, sym, ap, ◌∙◌, subst, inl, inr, arith}
 use Rattle.std.specs.Prelude.{Option, Some, None, ◌==◌}
 use Rattle.std.proofs.lemmas.Bool.{eq-eqb, ne_eqb}

@@ -1,7 +1,6 @@
 -- More of what is true of places: each is in a bucket where its node's port belongs; of two places that nodes of one port have in a
--- bucket the
--- lower one's node died before the higher one arose; and where no table is behind, links of nodes with places lead down, or to the
--- bucket's end.
+-- bucket the lower one's node died before the higher one arose; and where no table is behind, links of nodes with places lead down, or to
+-- the bucket's end.
 use Rattle.std.proofs.Common.{◌≡◌, ◌⊎◌, ℕ, ◌+◌, ◌^◌, ◌<◌, ◌≤◌, Option, Some, None, refl, sym, ◌∙◌, ap, subst, inl, inr, arith}
 use Rattle.rht_words.specs.declared.env.Env.{Env}
 use Rattle.rht_words.specs.Links.{link_of, marker_of, head_of}

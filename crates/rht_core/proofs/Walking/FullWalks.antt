@@ -1,5 +1,5 @@
 -- The calls of a full walk walked one table, up to where each goes on; so what they show together is what it shows.
-use Rattle.std.proofs.Common.{◌≡◌, ℕ, ◌+◌, ◌<◌, ◌≤◌, List, [], ◌∷◌, ◌++◌, length, Option, Some, None, refl, sym, ◌∙◌, ap, subst, inl, inr, arith}
+use Rattle.std.proofs.Common.{◌≢◌, ◌≡◌, ℕ, ◌+◌, ◌<◌, ◌≤◌, List, [], ◌∷◌, ◌++◌, length, Option, Some, None, refl, sym, ◌∙◌, ap, subst, inl, inr, arith}
 use Rattle.std.specs.List.{AllByRecursion, flat_map}
 use Rattle.std.proofs.lemmas.Bool.{cases_lt}
 use Rattle.std.proofs.lemmas.List.{append-nil, map-append}
@@ -64,6 +64,10 @@ distinct-append (x ∷ xs) ys one other apart = (
 
 module _ (L : Type 0) (mix : ℕ → ℕ → ℕ → ℕ) (env : Env) (events : List Event) (G : Ghost) (count : ℕ → ℕ)
     (counted : AreCounted L mix env (length events) G count) where
+  -- no two tables have one serial
+  abbrev pub HaveOwnSerials : Type 0
+  HaveOwnSerials = (τ σ : ℕ) → τ < G.attached → σ < G.attached → (G.table τ).serial ≡ (G.table σ).serial → τ ≡ σ
+
   abbrev Missed : ℕ → ℕ → ℕ → Type 0
   Missed = IsMissedIn L mix env events
 
@@ -119,12 +123,8 @@ module _ (L : Type 0) (mix : ℕ → ℕ → ℕ → ℕ) (env : Env) (events : 
   cursor_serial : (serial shape : ℕ) (cursor : Cursor) → Fits serial shape (Some cursor) → cursor.serial ≡ serial
   cursor_serial serial shape cursor fits = fits.0
 
-  -- no two tables have one serial
-  abbrev pub SerialsApart : Type 0
-  SerialsApart = (τ σ : ℕ) → τ < G.attached → σ < G.attached → (G.table τ).serial ≡ (G.table σ).serial → τ ≡ σ
-
   -- one call, and the others, which go on where it ended
-  module _ (alone : SerialsApart) (from : Option Cursor) (past : Past) (cursor : Cursor) (begin behind : ℕ) (pairs : List (ℕ × ℕ))
+  module _ (alone : HaveOwnSerials) (from : Option Cursor) (past : Past) (cursor : Cursor) (begin behind : ℕ) (pairs : List (ℕ × ℕ))
       (had : HasWalked L mix env events G count from past (Some cursor)) (begun : past.begin < behind_call past)
       (apart : behind_call past ≤ begin)
       (rest : AllShown (Some cursor) begin behind pairs) (late : behind_call past ≤ behind) (in_time : behind ≤ length events) where
@@ -224,7 +224,7 @@ module _ (L : Type 0) (mix : ℕ → ℕ → ℕ → ℕ) (env : Env) (events : 
         }
 
   -- the last call
-  pub last_shown : (from : Option Cursor) (past : Past) → HasWalked L mix env events G count from past None
+  last_shown : (from : Option Cursor) (past : Past) → HasWalked L mix env events G count from past None
       → AllShown from past.begin (behind_call past) (past.done.pairs ++ [])
   last_shown from past had =
       let walked = had.walked in
@@ -246,17 +246,18 @@ module _ (L : Type 0) (mix : ℕ → ℕ → ℕ → ℕ) (env : Env) (events : 
         bound = known.bound;
       })
 
-  -- all calls
-  pub calls_shown : SerialsApart → (from : Option Cursor) (past : Past) (pasts : List Past) → AreWalks from (past ∷ pasts)
+  -- all calls; of several no two tables may have one serial
+  pub calls_shown : (from : Option Cursor) (past : Past) (pasts : List Past) → (pasts ≢ [] → HaveOwnSerials) → AreWalks from (past ∷ pasts)
       → AllByRecursion (PastWalks L mix env events G count) (past ∷ pasts) → AreApart past.begin (past ∷ pasts)
       → ends_behind (behind_call past) pasts ≤ length events
       → AllShown from past.begin (ends_behind (behind_call past) pasts) (pairs_in (past ∷ pasts))
-  calls_shown alone from past [] walks each apart in_time =
+  calls_shown from past [] own walks each apart in_time =
       last_shown from past (each.0 from walks.limit walks.len None walks.call walks.reply)
-  calls_shown alone from past (next ∷ pasts) (cursor, walk, walks) each apart in_time =
+  calls_shown from past (next ∷ pasts) own (cursor, walk, walks) each apart in_time =
+      let alone = own (λ (none : next ∷ pasts ≡ []). absurd (cc)) in
       let behind = ends_behind (behind_call next) pasts in
       let later = apart.2 in
-      let rest = calls_shown alone (Some cursor) next pasts walks each.1 (omega arith, later.1, later.2) in_time in
+      let rest = calls_shown (Some cursor) next pasts (λ some. alone) walks each.1 (omega arith, later.1, later.2) in_time in
       let ends_late = ends-late (behind_call next) pasts later.2 in
       let first = later.0 in
       let begun = later.1 in

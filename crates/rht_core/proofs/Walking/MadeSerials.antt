@@ -1,6 +1,5 @@
 -- In every run each serial that was drawn has an event of its own, at which a caller added one to the next serial. So where few were made
--- no two
--- tables have one serial.
+-- no two tables have one serial.
 use Rattle.std.proofs.Common.{◌≡◌, ℕ, suc, ◌+◌, ◌%◌, ◌^◌, ◌<◌, List, [], ◌∷◌, ◌++◌, length, Some, refl, sym, ◌∙◌, ap, subst, inl, inr, arith}
 use Rattle.std.specs.List.{AllByRecursion}
 use Rattle.std.proofs.lemmas.Option.{slice_get_within}

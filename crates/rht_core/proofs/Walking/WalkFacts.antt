@@ -29,8 +29,8 @@ abbrev pub SaidOf : (ℕ → Type 0) → List (ℕ × ℕ) → ℕ → Type 0
 SaidOf Missed items port = Missed port ⊎ In port (ports_of items)
 
 module _ (env : Env) (mix : ℕ → ℕ → ℕ → ℕ) where
-  -- where the table of this number is the last one: each port of its buckets from the first one on was bound nowhere meanwhile or is shown;
-  -- the ports that are shown are of these buckets; and each is shown once
+  -- where the table of this number is the last one: each port of its buckets from the first one on was bound nowhere meanwhile or is
+  -- shown; the ports that are shown are of these buckets; and each is shown once
   pub record EndKnown (G : Ghost) (τ first upto : ℕ) (Missed : ℕ → Type 0) (Bound : ℕ × ℕ → Type 0) (items : List (ℕ × ℕ)) :
       Type 0 where
     pub shown : (port : ℕ) → first ≤ hash_in env mix G port τ → hash_in env mix G port τ < upto → SaidOf Missed items port
@@ -38,9 +38,8 @@ module _ (env : Env) (mix : ℕ → ℕ → ℕ → ℕ) where
     pub distinct : IsDistinct (ports_of items)
     pub bound : AllByRecursion Bound items
 
-  -- It has a cursor to the bucket up to which it came, of the table's serial, and what it shows is known where that was the last one,
-  -- when so
-  -- many had been attached. Or it has come to the end, behind which no table was.
+  -- It has a cursor of the table's serial to the bucket up to which it came; what it shows is known where no table was behind, of so many
+  -- that were attached. Or it has come to the end, behind which no table was.
   abbrev pub EndsAt : Ghost → ℕ → (ℕ → Type 0) → Type 0 → ℕ → ℕ → ℕ → Option Cursor → Type 0
   EndsAt G all WasLast Known τ serial upto None = WasLast τ × ((port : ℕ) → hash_in env mix G port τ < upto) × Known
   EndsAt G all WasLast Known τ serial upto (Some cursor) = (cursor.serial ≡ serial) × (cursor.bucket ≡ upto) × (τ + 1 ≡ all → Known)

@@ -1,6 +1,5 @@
 -- In every run each walk knows, in each of its states, what it needs for what it answers. It is an induction over the events, beside that
--- of
--- look-ups, on the same ghost and the same places.
+-- of look-ups, on the same ghost and the same places.
 use Rattle.std.proofs.Common.{◌≡◌, ℕ, ◌<◌, List, [], ◌∷◌, ◌++◌, length, Option, Some, None, refl, sym, ◌∙◌, ap, subst, inl, inr, arith}
 use Rattle.std.proofs.lemmas.Bool.{cases_eq}
 use Rattle.rht_words.specs.declared.op.Op.{Op}

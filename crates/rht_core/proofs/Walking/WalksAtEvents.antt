@@ -1,6 +1,5 @@
 -- What walks know behind an event: a walk's own operation leads on from what it knows; and what it knows then, as what it knows at an
--- event of
--- another caller or of none, outlives that event.
+-- event of another caller or of none, outlives that event.
 use Rattle.std.proofs.Common.{◌≡◌, ◌⊎◌, ℕ, suc, ◌+◌, ◌<◌, ◌≤◌, nat_lt, Bool, true, false, cond, List, [], ◌∷◌, ◌++◌, length, Option, Some, refl, sym, ◌∙◌, ap, subst, inl, inr, arith}
 use Rattle.std.specs.List.{AllByRecursion}
 use Rattle.std.proofs.lemmas.Bool.{cases_lt, lt-ltb, le-ltb}
