@@ -26,5 +26,7 @@ pub mod ServingRuns
 pub mod OpenedTables
 -- how a table is closed
 pub mod ClosedTables
+-- so does a walk, which has its caller's room
+pub mod WalkRides
 -- a call that is driven from outside its pass goes as its caller does in the run
 pub mod Rides

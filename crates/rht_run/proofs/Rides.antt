@@ -123,7 +123,7 @@ module _ {M : Type 0} where
   pairs-stay (Walking m) room old pairs = absurd (walks-not M m pairs)
 
 module _ {M : Type 0} (mix : ℕ → ℕ → ℕ → ℕ) (t : Table M) (r : Riding) where
-  riding_range : (doing : Doing M) (seat : Seat (Unit {0}) (SeatView M)) → IsPassOf mix t (riding_pass r doing seat)
+  pub riding_range : (doing : Doing M) (seat : Seat (Unit {0}) (SeatView M)) → IsPassOf mix t (riding_pass r doing seat)
       → IsDoingIn t.env r.number doing
   riding_range doing seat is = (local_in mix t (riding_pass r doing seat) is).doing
 
@@ -153,7 +153,7 @@ module _ {M : Type 0} (mix : ℕ → ℕ → ℕ → ℕ) (t : Table M) (r : Rid
   }
 
   -- the book behind an operation of a pass, with the call that begins before it, if one does
-  book_now : (p : Pass M) (begins : Option Call) (seat : Seat (Unit {0}) (SeatView M)) (old : ℕ) → IsPassOf mix t p
+  pub book_now : (p : Pass M) (begins : Option Call) (seat : Seat (Unit {0}) (SeatView M)) (old : ℕ) → IsPassOf mix t p
       → Went mix begins p.seat.me.0 old seat.me.0
       → let next = local_after mix (local_then t.env p.number begins p.local) old in
       book_in seat.me.0.held ≡ book_after (ending_of next.0 next.1) (book_then begins (book_of p))

@@ -22,5 +22,7 @@ pub mod Pieces
 pub mod Looking
 -- the way to a port as a piece, and the machines that go it
 pub mod Seeks
+-- a walk that is driven
+pub mod Walking
 -- a resizing: its states that hold a piece
 pub mod WorkPieces

@@ -8,7 +8,6 @@ ghost use Rattle.rht_model.specs.declared.history.Call.TheVariants.{Find, Bind, 
 ghost use Rattle.rht_core.specs.Locals.{is_idle};
 ghost use Rattle.rht_core.specs.Replies.{IsFindReply, IsBindReply, IsReleaseReply, IsRebindReply, IsAllReply, IsWalkReply, IsWorkReply, IsTidyReply, IsCountReply, AreOwnersWith, ArePairsWith};
 ghost use Rattle.rht_grace.specs.TidyLaws.{tidy_bound};
-ghost use Rattle.rht_walk.specs.WalkLaws.{walk_bound};
 ghost use Rattle.rht_run.specs.declared.pass.Pass.{Pass as PassOf};
 ghost use Rattle.rht_run.specs.Rule.{MayBegin};
 ghost use Rattle.rht_run.specs.Passes.{IsPassOf, IsCalling, HasCalled, Turned, HasGone, EndsWithin};
@@ -27,7 +26,7 @@ use std::sync::Wait;
 
 impl<M: Mix> Table<M> {
     /// The first operation of a call.
-    fn start(&self, pass: &mut Pass<M>, call: Call) -> Option<Reply>
+    pub(crate) fn start(&self, pass: &mut Pass<M>, call: Call) -> Option<Reply>
         requires pass { IsPassOf M.mix_of self.now pass.old }
         requires may { MayBegin self.now.env pass.old.number call pass.old.local }
         ensures turned { Turned M.mix_of self.now call 1 pass.old result pass.new }
@@ -238,16 +237,6 @@ impl<M: Mix> Table<M> {
         self.walked(pass, from, limit)
     }
 
-    /// Walks, operation by operation.
-    fn walked(&self, pass: &mut Pass<M>, from: Option<Cursor>, limit: u32) -> Reply
-        requires pass { IsPassOf M.mix_of self.now pass.old }
-        requires idle { is_idle pass.old.local ≡ true }
-        ensures { HasCalled M.mix_of self.now (Walk from limit) result pass.old pass.new }
-    {
-        let most = most_of_walk(self.env.geometry);
-        self.finish(pass, Call::Walk { from, limit }, most)
-    }
-
     /// Attaches a table where one is due, and moves the current table's entries into its future one,
     /// where it has one. It waits for the locks of buckets. The kernel's counterpart is
     /// `rht_deferred_worker`.
@@ -319,14 +308,6 @@ impl<M: Mix> Table<M> {
         };
         reply
     }
-}
-
-/// How many operations a walk makes at most. A table has up to 2^18 buckets. Each takes two entries on
-/// the way there, its word, three words for each node, and a look for a table behind.
-fn most_of_walk(geometry: Geometry) -> u64
-    ensures { result ≡ walk_bound geometry 262144 }
-{
-    6 + 262_144 * (4 + 3 * u64::from(geometry.nodes))
 }
 
 /// How many operations a tidying makes at most: two for each caller, one for each node, and one.

@@ -31,6 +31,7 @@ mod serving;
 mod starts;
 mod steps;
 mod table;
+mod walking;
 mod work_pieces;
 mod working;
 
