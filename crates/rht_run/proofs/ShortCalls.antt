@@ -1,7 +1,7 @@
 -- Why a tidying and a walk that a pass makes end, whatever other callers do.
 -- In the run that the pass is in the traces remember the operations of its call, and by the laws no tidying and no walk of a run has more
 -- of them than its bound.
-use Rattle.std.proofs.Common.{◌≡◌, ℕ, ◌+◌, ◌*◌, ◌≤◌, List, length, refl, ap, ◌∙◌, subst, arith}
+use Rattle.std.proofs.Common.{◌≡◌, ℕ, ◌≤◌, List, length, refl, ap, ◌∙◌, subst, arith}
 use Rattle.std.proofs.lemmas.Nat.{mul-le}
 use Rattle.std.specs.Prelude.{Option, Some}
 use Rattle.rht_words.specs.declared.env.Env.{Env}

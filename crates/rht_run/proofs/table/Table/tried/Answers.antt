@@ -1,6 +1,6 @@
 use Rattle.std.proofs.Common.{rules}
 use Rattle.rht_run.proofs.Performed.{own_batch}
-use Rattle.rht_run.proofs.ServedCommands.{MayBegin-made, tries_once, tries_again}
+use Rattle.rht_run.proofs.ServedCommands.{MayBegin-made}
 use Rattle.rht_run.proofs.table.Table.tried.Goals as goal
 
 pub answer-requires-clause-may : goal.answer-requires-clause-may

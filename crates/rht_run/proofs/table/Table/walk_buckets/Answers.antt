@@ -1,4 +1,4 @@
-use Rattle.std.proofs.Common.{◌+◌, ap, arith}
+use Rattle.std.proofs.Common.{ap, arith}
 use Rattle.rht_words.specs.declared.env.Env.{Env}
 use Rattle.rht_run.specs.Walking.{WalksTo, walk_now}
 use Rattle.rht_run.proofs.WalkRides.{comes_to, walk_within}

@@ -2,7 +2,6 @@ use Rattle.std.proofs.Common.{rules}
 use Rattle.rht_model.specs.declared.history.Call.TheVariants.{Walk}
 use Rattle.rht_run.proofs.Performed.{own_batch}
 use Rattle.rht_run.proofs.ServedCommands.{MayBegin-made}
-use Rattle.rht_run.proofs.WalkRides.{walk_begins, walk_rides, walk_begun, walk_called}
 use Rattle.rht_run.proofs.table.Table.walked.Goals as goal
 
 pub start-requires-clause-may : goal.start-requires-clause-may
