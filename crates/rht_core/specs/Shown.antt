@@ -1,24 +1,18 @@
 -- What a full walk shows, in every run.
-use Rattle.std.specs.Prelude.{◌≡◌, ◌≢◌, ℕ, ◌^◌, ◌<◌, ◌≤◌, ◌⊎◌, Some, None, Option, List, [], ◌∷◌, ◌++◌, length, map}
-use Rattle.std.specs.List.{AllByRecursion, Any, flat_map}
+use Rattle.std.specs.Prelude.{◌≡◌, ◌≢◌, ℕ, ◌^◌, ◌<◌, ◌≤◌, ◌⊎◌, Some, None, Option, List, [], ◌∷◌, length, map}
+use Rattle.std.specs.List.{AllByRecursion, flat_map}
 use Rattle.rht_words.specs.declared.env.Env.{Env}
-use Rattle.rht_words.specs.declared.geometry.Geometry.{Geometry}
 use Rattle.rht_words.specs.declared.op.Op.TheVariants.{Add}
 use Rattle.rht_words.specs.Members.{In, IsDistinct}
-use Rattle.rht_words.specs.Operations.{op_place}
-use Rattle.rht_words.specs.Places.{NextSerial, Slot, ShapeWord, FutureWord, SerialWord, nodes_at, place_of}
-use Rattle.rht_words.specs.Shapes.{unpacked, size_of}
+use Rattle.rht_words.specs.Places.{NextSerial, place_of}
 use Rattle.rht_model.specs.declared.history.Call.TheVariants.{Walk}
 use Rattle.rht_model.specs.declared.history.Cursor.{Cursor}
 use Rattle.rht_model.specs.declared.history.Reply.TheVariants.{Walked}
-use Rattle.rht_walk.specs.WalkLaws.{first_bucket, Fits}
 use Rattle.rht_core.specs.declared.event.Event.{Event}
 use Rattle.rht_core.specs.Laws.{IsRecorded}
-use Rattle.rht_core.specs.ResizeCauses.{Loaded, FindsFuture}
 use Rattle.rht_core.specs.RunHistories.{bindings_behind}
 use Rattle.rht_core.specs.Runs.{IsAdmitted}
-use Rattle.rht_core.specs.Seen.{LoadsCurrent}
-use Rattle.rht_core.specs.Traces.{Did, Past, traced_of, behind_call}
+use Rattle.rht_core.specs.Traces.{Past, traced_of, behind_call}
 
 -- the call is a walk from this cursor, and ended with that one
 pub record WalksFrom (from next : Option Cursor) (past : Past) : Type 0 where

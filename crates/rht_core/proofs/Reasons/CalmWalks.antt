@@ -1,5 +1,5 @@
 -- A walk without a cursor hasn't to begin anew where no table is behind: it goes on behind each load of a future, and its beginning fits.
-use Rattle.std.proofs.Common.{◌≡◌, ◌≢◌, ℕ, ◌+◌, nat_lt, nat_le, Option, Some, None, refl, subst, sym}
+use Rattle.std.proofs.Common.{◌≡◌, ℕ, ◌+◌, nat_lt, nat_le, Option, Some, None, refl, subst, sym}
 use Rattle.std.specs.Prelude.{◌==◌}
 use Rattle.std.proofs.lemmas.Bool.{cond_both}
 use Rattle.rht_words.specs.declared.geometry.Geometry.{Geometry}

@@ -1,5 +1,5 @@
 -- What a word of a future says where it was loaded: it is 0, or names the slot of the table behind.
-use Rattle.std.proofs.Common.{◌≡◌, ℕ, ◌≤◌, ◌+◌, false, cond, ◌≢◌, ◌<◌, ◌-◌, nat_le, List, refl, ap, ◌∙◌, inl, inr, arith}
+use Rattle.std.proofs.Common.{◌≡◌, ℕ, ◌≤◌, ◌+◌, false, cond, ◌≢◌, ◌<◌, ◌-◌, nat_le, List, refl, ap, inl, inr, arith}
 use Rattle.std.specs.Prelude.{Some, None, ◌&&◌}
 use Rattle.std.proofs.lemmas.Bool.{cases_lt, lt-ltb, le-ltb, leb-true, and_parts, leb-false}
 use Rattle.rht_words.specs.declared.env.Env.{Env}
