@@ -49,7 +49,7 @@ typedef _Atomic u64 word;
 /* ---- the words */
 
 enum { CURRENT_TABLE = 0, PORT_COUNT = 2, NEXT_SERIAL = 3, ENROLLED = 4, SECTIONS = 8, SLOTS = 24, NODE_MAP = 280 };
-enum { SHAPE = 0, SEED = 1, FUTURE = 2, STATE = 4 };
+enum { SHAPE = 0, SEED = 1, FUTURE = 2, SERIAL = 3, STATE = 4 };
 enum { CHAIN_LINK = 0, KEY = 1, OWNER_WORD = 2, LIST_LINK = 3 };
 
 /* How many physical words are in no use. The first 24 words have a cache line each. */
@@ -259,6 +259,10 @@ ALWAYS void relink(const struct table *t, const struct probed *p, u32 before, u6
 
 /* ---- the calls */
 
+struct pair {
+  u32 port, owner;
+};
+
 /* Where the port's bucket is in the table of this slot; 0 where the bucket is missing. */
 ALWAYS size_t reach(const struct table *t, bool low, u32 slot, u32 port) {
   u64 shape = load(slot_word(t, slot, SHAPE));
@@ -306,6 +310,38 @@ ALWAYS reply find_by(const struct table *t, bool low, u32 caller, u32 port) {
   reply r = looked_up(t, low, port);
   leave(t, caller);
   return r;
+}
+
+/* Walks all buckets of the current table, and keeps the port and the owner of each node. It answers how
+ * many, or NONE where a table is behind that one. Where a chain ends otherwise than in its bucket's marker
+ * the table's future is looked at. */
+CALL u32 walk_all(const struct table *t, u32 caller, struct pair *pairs) {
+  u32 len = 0;
+  enter(t, caller);
+  u32 slot = table_of(load(single(t, CURRENT_TABLE)));
+  (void)load(slot_word(t, slot, SERIAL));
+  u64 shape = load(slot_word(t, slot, SHAPE));
+  size_t first = t->first_page + 64 * (size_t)(shape / 1024 % ((u64)1 << 32));
+  bool again = false;
+  for (u32 bucket = 0; bucket < size_of(shape) && !again; bucket++) {
+    size_t place = first + bucket;
+#if CLAMPS
+    if (place >= t->first_page + (size_t)64 * t->pages) break;
+#endif
+    u64 link = head_of(place, load(at(t, place)));
+    for (u32 visited = 0;; visited++) {
+      u32 node = node_of(t, link);
+      if (node == NONE || (CLAMPS && visited >= t->nodes)) break;
+      u32 port = (u32)load(node_word(t, node, KEY));
+      u32 owner = (u32)load(node_word(t, node, OWNER_WORD));
+      if (!CLAMPS || len < t->nodes) pairs[len++] = (struct pair){port, owner};
+      link = load(node_word(t, node, CHAIN_LINK));
+    }
+    if (link != marker_of(place)) again = slot_of(load(slot_word(t, slot, FUTURE))) != NONE;
+  }
+  if (!again) again = slot_of(load(slot_word(t, slot, FUTURE))) != NONE;
+  leave(t, caller);
+  return again ? NONE : len;
 }
 
 /* Looks through the node map from its first word on, and clears the lowest bit that it finds. */
@@ -501,6 +537,7 @@ static void open_table(struct table *t, u32 nodes, u32 pages, u32 callers, u32 h
 /* The ports of a loop, and the caller who asks for them. */
 struct ports {
   u32 first, count, caller;
+  struct pair *pairs;
 };
 
 ALWAYS bool is_done(reply r) { return IS_FOUND(r, OWNER) || IS(r, BOUND) || IS(r, RELEASED); }
@@ -548,9 +585,9 @@ LOOP mixed(const struct table *t, struct ports ports) {
   for (u32 i = 0; i < blocks; i++) {
     right += is_done(bind(t, ports.caller, other, OWNER));
     right += is_done(release(t, ports.caller, other, OWNER));
-    right += hits_in(t, false, (struct ports){ports.first + 20 * i + 2, 18, ports.caller});
+    right += hits_in(t, false, (struct ports){ports.first + 20 * i + 2, 18, ports.caller, NULL});
   }
-  return right + hits_in(t, false, (struct ports){ports.first + 20 * blocks, ports.count % 20, ports.caller});
+  return right + hits_in(t, false, (struct ports){ports.first + 20 * blocks, ports.count % 20, ports.caller, NULL});
 }
 
 LOOP churn(const struct table *t, struct ports ports) {
@@ -565,11 +602,21 @@ LOOP churn(const struct table *t, struct ports ports) {
   return right;
 }
 
+LOOP walks(const struct table *t, struct ports ports) { return walk_all(t, ports.caller, ports.pairs) != NONE; }
+
+/* A walk, and then other ports bound and released, one for each twenty. */
+LOOP between(const struct table *t, struct ports ports) {
+  u32 right = walks(t, ports);
+  struct ports some = ports;
+  some.count = ports.count / 20;
+  return right + churn(t, some);
+}
+
 /* ---- the rows, as in `src/rows.rt` and `src/measure.rt` of `rht_bench` */
 
-enum workload { HITS, APART, COMMON, MISSES, MIXED, CHURN, BINDS, WORKLOADS };
+enum workload { HITS, APART, COMMON, MISSES, MIXED, CHURN, BINDS, WALKS, BETWEEN, WORKLOADS };
 
-static const char *const names[] = {"hits", "apart", "common", "misses", "mixed", "churn", "binds"};
+static const char *const names[] = {"hits", "apart", "common", "misses", "mixed", "churn", "binds", "walks", "between"};
 
 struct row {
   enum workload workload;
@@ -615,6 +662,8 @@ static u64 rounds(const struct job *job) {
     case MISSES: right += misses(job->table, job->ports); break;
     case MIXED: right += mixed(job->table, job->ports); break;
     case CHURN: right += churn(job->table, job->ports); break;
+    case WALKS: right += walks(job->table, job->ports); break;
+    case BETWEEN: right += between(job->table, job->ports); break;
     default: right += binds(job->table, job->ports); break;
     }
   }
@@ -662,9 +711,9 @@ static struct measured all_of(const struct job *jobs, u32 threads) {
 
 /* The ports of a thread: its share of them. In `common` each thread has all of them. */
 static struct ports ports_of(struct row row, u32 thread) {
-  if (row.workload == COMMON) return (struct ports){0, row.ports, thread};
+  if (row.workload == COMMON) return (struct ports){0, row.ports, thread, NULL};
   u32 count = row.ports / row.threads;
-  return (struct ports){thread * count, count, thread};
+  return (struct ports){thread * count, count, thread, NULL};
 }
 
 /* Measures a row in one table. In `common` the binds of the first thread bind all ports, and those of the
@@ -676,11 +725,13 @@ static struct measured measure(struct row row) {
   open_table(&t, row.nodes, row.pages, row.threads, row.ports);
   for (u32 i = 0; i < row.threads; i++) {
     struct ports own = ports_of(row, i);
+    own.pairs = taken(malloc(row.nodes * sizeof(struct pair)));
     jobs[i] = (struct job){&t, &gate, row.workload, own, row.rounds, 0, 0, 0};
     if (row.workload == APART) low_binds(&t, own);
     else if (row.workload != BINDS) binds(&t, own);
   }
   work_all(jobs, row.threads);
+  for (u32 i = 0; i < row.threads; i++) free(jobs[i].ports.pairs);
   free(t.block);
   return all_of(jobs, row.threads);
 }
@@ -696,6 +747,8 @@ static struct row row_of(struct scale s, enum workload workload, u32 ports, u32 
   struct row row = {workload, ports, threads, 1, 1, s.nodes, s.pages};
   switch (workload) {
   case APART: row.rounds = one_or(512 * share * s.times); break;
+  case WALKS: row.rounds = one_or(64 * share * s.times); break;
+  case BETWEEN: row.rounds = share, row.tables = one_or(32 * s.times); break;
   case MIXED: row.rounds = 4 * share, row.tables = one_or(16 * s.times); break;
   case CHURN: row.rounds = share, row.tables = one_or(8 * s.times); break;
   case BINDS:

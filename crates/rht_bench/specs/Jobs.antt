@@ -4,7 +4,7 @@ use Rattle.rht_run.specs.declared.table.Table.{Table}
 use Rattle.rht_bench.specs.declared.rows.Workload.{Workload}
 use Rattle.rht_bench.specs.declared.measure.Job.{Job}
 use Rattle.rht_bench.specs.declared.measure.Worked.{Worked}
-use Rattle.rht_bench.specs.Right.{right_in}
+use Rattle.rht_bench.specs.Right.{right_in, least_in}
 use Rattle.rht_bench.specs.Made.{IsReady, HasMadeSome}
 
 -- its pass is one of the table's, and in no call
@@ -14,7 +14,7 @@ IsReadyJob mix t job = IsReady mix t job.pass
 -- it has gone so many times through its ports, and the replies that it has counted are those that were right
 abbrev pub HasWorked : {M : Type 0} → (ℕ → ℕ → ℕ → ℕ) → Table M → Workload → ℕ → Job M → Worked M → Type 0
 HasWorked mix t workload times job worked =
-    HasMadeSome mix t (right_in workload) (times * job.ports.count) worked.right job.pass worked.pass
+    HasMadeSome mix t (right_in workload) (times * least_in workload job.ports.count) worked.right job.pass worked.pass
 
 -- each thread has
 abbrev pub AllHaveWorked : {M : Type 0} → (ℕ → ℕ → ℕ → ℕ) → Table M → Workload → ℕ → List (Job M) → List (Worked M) → Type 0

@@ -1,12 +1,12 @@
 -- Which replies are right: the ones that the calls of a row must have.
-use Rattle.std.specs.Prelude.{◌≡◌, ℕ, Bool, true, false, nat_eq}
+use Rattle.std.specs.Prelude.{◌≡◌, ℕ, Bool, true, false, None, nat_eq}
 use Rattle.rht_model.specs.declared.history.Reply.{Reply}
-use Rattle.rht_model.specs.declared.history.Reply.TheVariants.{Found, Missing, Bound, Released}
+use Rattle.rht_model.specs.declared.history.Reply.TheVariants.{Found, Missing, Bound, Released, Walked}
 use Rattle.rht_model.specs.Replies.{IsFindReply}
 use Rattle.rht_bench.specs.declared.rows.Asked.{Asked}
 use Rattle.rht_bench.specs.declared.rows.Asked.TheVariants.{Own, Others}
 use Rattle.rht_bench.specs.declared.rows.Workload.{Workload}
-use Rattle.rht_bench.specs.declared.rows.Workload.TheVariants.{Hits, Apart, Common, Misses, Mixed, Churn, Binds, Growth}
+use Rattle.rht_bench.specs.declared.rows.Workload.TheVariants.{Hits, Apart, Common, Misses, Mixed, Churn, Binds, Growth, Walks, Between}
 
 -- the owner to which each port is bound
 abbrev pub owner_of_all : ℕ
@@ -24,11 +24,12 @@ abbrev pub is_bound : Reply → Bool
 is_bound (Bound kick) = true
 is_bound _ = false
 
--- found, bound or released, as the call asked for
+-- found, bound or released, or walked to the table's end, as the call asked for
 abbrev pub is_done : Reply → Bool
 is_done (Found owner) = nat_eq owner owner_of_all
 is_done (Bound kick) = true
 is_done (Released kick) = true
+is_done (Walked len None) = true
 is_done _ = false
 
 -- the right replies to look-ups of these ports
@@ -50,3 +51,18 @@ right_in Mixed = is_done
 right_in Churn = is_done
 right_in Binds = is_bound
 right_in Growth = is_bound
+right_in Walks = is_done
+right_in Between = is_done
+
+-- how many calls a thread with so many ports makes in a round at least
+abbrev pub least_in : Workload → ℕ → ℕ
+least_in Hits count = count
+least_in Apart count = count
+least_in Common count = count
+least_in Misses count = count
+least_in Mixed count = count
+least_in Churn count = count
+least_in Binds count = count
+least_in Growth count = count
+least_in Walks count = 1
+least_in Between count = 1

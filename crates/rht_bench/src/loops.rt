@@ -5,7 +5,7 @@ ghost use Rattle.std.specs.Prelude.{◌≡◌, ◌+◌, ◌*◌, ◌^◌, ◌<�
 ghost use Rattle.rht_model.specs.declared.history.Reply.{Reply as ReplyOf};
 ghost use Rattle.rht_core.specs.Locals.{is_idle};
 ghost use Rattle.rht_run.specs.Passes.{IsPassOf};
-ghost use Rattle.rht_bench.specs.Right.{is_found, is_missing, is_bound, is_done, right_in, is_answer, IsOfLookups};
+ghost use Rattle.rht_bench.specs.Right.{is_found, is_missing, is_bound, is_done, right_in, least_in, is_answer, IsOfLookups};
 ghost use Rattle.rht_bench.specs.Made.{HasMade, HasMadeSome};
 
 use crate::rows::{Asked, Workload};
@@ -66,7 +66,7 @@ pub fn rounds<M: Mix, R: Wait>(
 ) -> u64
     requires pass { IsPassOf M.mix_of table.now pass.old }
     requires idle { is_idle pass.old.local ≡ true }
-    ensures made { HasMadeSome M.mix_of table.now (right_in workload) (times * ports.count) result pass.old pass.new }
+    ensures made { HasMadeSome M.mix_of table.now (right_in workload) (times * least_in workload ports.count) result pass.old pass.new }
 {
     let mut right = 0u64;
     for _round in 0..times {
@@ -85,8 +85,8 @@ fn round<M: Mix, R: Wait>(
 ) -> u64
     requires pass { IsPassOf M.mix_of table.now pass.old }
     requires idle { is_idle pass.old.local ≡ true }
-    ensures made { HasMadeSome M.mix_of table.now (right_in workload) ports.count result pass.old pass.new }
-    ensures few { result ≤ 2 * ports.count }
+    ensures made { HasMadeSome M.mix_of table.now (right_in workload) (least_in workload ports.count) result pass.old pass.new }
+    ensures few { result ≤ 2 * ports.count + 1 }
 {
     match workload {
         Workload::Hits | Workload::Apart | Workload::Common => {
@@ -97,6 +97,8 @@ fn round<M: Mix, R: Wait>(
         Workload::Churn => churn(rt, table, pass, ports),
         Workload::Binds => binds(rt, table, pass, ports),
         Workload::Growth => growth(rt, table, pass, ports),
+        Workload::Walks => walked(table, pass),
+        Workload::Between => between(rt, table, pass, ports),
     }
 }
 
@@ -201,6 +203,26 @@ fn growth<M: Mix, R: Wait>(rt: &R, table: &Table<M>, pass: &mut Pass<M>, ports: 
     u64::from(ports.count)
 }
 
+/// Walks the whole table.
+fn walked<M: Mix>(table: &Table<M>, pass: &mut Pass<M>) -> u64
+    requires pass { IsPassOf M.mix_of table.now pass.old }
+    requires idle { is_idle pass.old.local ≡ true }
+    ensures made { HasMade M.mix_of table.now is_done 1 result pass.old pass.new }
+{
+    let reply = table.walk(pass, None, MOST);
+    u64::from(is_done(reply))
+}
+
+/// Walks the whole table. Then it binds other ports and releases them, one for each twenty of its own.
+fn between<M: Mix, R: Wait>(rt: &R, table: &Table<M>, pass: &mut Pass<M>, ports: Ports) -> u64
+    requires pass { IsPassOf M.mix_of table.now pass.old }
+    requires idle { is_idle pass.old.local ≡ true }
+    ensures made { HasMade M.mix_of table.now is_done (1 + 2 * (ports.count / 20)) result pass.old pass.new }
+{
+    let shown = walked(table, pass);
+    shown + churn(rt, table, pass, ports.part(0, ports.count / 20))
+}
+
 /// Binds a port, where it is refused again and again, and works on the table where the reply asks for
 /// that.
 fn bind_and_grow<M: Mix, R: Wait>(rt: &R, table: &Table<M>, pass: &mut Pass<M>, port: Port)
@@ -283,14 +305,14 @@ fn is_bound(reply: Reply) -> bool
     matches!(reply, Reply::Bound { .. })
 }
 
-/// Whether the call has found, bound or released what it was asked to.
+/// Whether the call has found, bound or released what it was asked to, or has walked to the table's end.
 #[inline(always)]
 fn is_done(reply: Reply) -> bool
     ensures { result ≡ is_done reply }
 {
     match reply {
         Reply::Found { owner } => owner == OWNER,
-        Reply::Bound { .. } | Reply::Released { .. } => true,
+        Reply::Bound { .. } | Reply::Released { .. } | Reply::Walked { next: None, .. } => true,
         _ => false,
     }
 }

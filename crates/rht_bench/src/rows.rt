@@ -22,6 +22,10 @@ pub enum Workload {
     Binds,
     /// As `Binds`, in a table that begins small. Whoever is told so resizes it.
     Growth,
+    /// Each walks the whole table, in which all ports of the row are bound. A walk counts as one call.
+    Walks,
+    /// As `Walks`, and behind each walk a port is bound and released for each twenty of the thread's own.
+    Between,
 }
 
 /// Which ports a thread looks up.
@@ -34,7 +38,7 @@ pub enum Asked {
 }
 
 /// All workloads, in the order of the record.
-pub const WORKLOADS: [Workload; 8] = [
+pub const WORKLOADS: [Workload; 10] = [
     Workload::Hits,
     Workload::Apart,
     Workload::Common,
@@ -43,6 +47,8 @@ pub const WORKLOADS: [Workload; 8] = [
     Workload::Churn,
     Workload::Binds,
     Workload::Growth,
+    Workload::Walks,
+    Workload::Between,
 ];
 
 /// A table that grows begins with room for one of so many ports. From there on its size is doubled
@@ -61,6 +67,8 @@ impl Workload {
             Workload::Churn => "churn",
             Workload::Binds => "binds",
             Workload::Growth => "growth",
+            Workload::Walks => "walks",
+            Workload::Between => "between",
         }
     }
 
@@ -142,6 +150,8 @@ impl Scale {
                 1,
             ),
             Workload::Apart => (self.often(share.saturating_mul(512)), 1),
+            Workload::Walks => (self.often(share.saturating_mul(64)), 1),
+            Workload::Between => (share, self.often(32)),
             Workload::Mixed => (share.saturating_mul(4), self.often(16)),
             Workload::Churn => (share, self.often(8)),
             Workload::Binds => (1, self.often(share.saturating_mul(16))),

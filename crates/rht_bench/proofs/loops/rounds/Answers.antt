@@ -1,6 +1,6 @@
 use Rattle.std.proofs.Common.{◌≡◌, ℕ, ◌+◌, ◌*◌, arith, suc, ap, sym, subst, ◌∙◌}
 use Rattle.std.proofs.Math.Nat.{suc-mul}
-use Rattle.rht_bench.specs.Right.{right_in}
+use Rattle.rht_bench.specs.Right.{right_in, least_in}
 use Rattle.rht_bench.specs.Made.{HasMadeSome}
 use Rattle.rht_bench.proofs.MadeCalls.{HasMadeSome-HasMadeSome}
 use Rattle.rht_bench.proofs.loops.rounds.Goals as goal
@@ -13,7 +13,7 @@ loop-round-preserved g c =
     let few_before = before.few in
     let few_now = c.round-right.ensures.few in
     let few_ports = c.args.ports.few in
-    let count : ℕ = c.args.ports.count in
+    let count : ℕ = least_in c.args.workload c.args.ports.count in
     let done : ℕ = c.loop-round._round in
     let next : done + 1 ≡ suc done = omega arith in
     let more : (done + 1) * count ≡ done * count + count = ap (λ (n : ℕ). n * count) next ∙ suc-mul done count in
