@@ -53,7 +53,10 @@ module _ {M : Type 0} (mix : ℕ → ℕ → ℕ → ℕ) (t : Table M) (r : Rid
   by_next (m', Done reply) seat seat' m is pass book = record {
     pass = pass;
     finished = ap (λ (b : Book). b.finished) book
-        ∙ (λ i. is.finished i ++ finished_with (is.call i) record { answer = record { reply = reply; owners = r.owners.items }; pairs = m'.room.items });
+        ∙ (λ i. is.finished i ++ finished_with (is.call i) record {
+          answer = record { reply = reply; owners = r.owners.items };
+          pairs = m'.room.items;
+        });
   }
 
   -- an operation of the walk
