@@ -47,7 +47,8 @@ WalkStepped mix t r (walk, Done reply) before after = HasEnded mix t (with_pairs
 
 -- the walk in this state, with these pairs kept
 abbrev pub walk_now : Walker → Pairs → WalkAt → WalkModel
-walk_now walker room at = record { env = walker.env; caller = walker.number; from = walker.from; limit = walker.limit; room = room; at = at }
+walk_now walker room at =
+    record { env = walker.env; caller = walker.number; from = walker.from; limit = walker.limit; room = room; at = at }
 
 -- a round begins here: at an entry on the way to a bucket, at the bucket's word or at a node, behind the strange end of a chain or the
 -- last bucket; or the section is closed

@@ -224,8 +224,8 @@ impl<M: Mix> Table<M> {
     /// names the table with which a walk has to begin anew: the current one, where the cursor isn't of
     /// that or it has no such bucket; or one to which entries may have been moved meanwhile.
     ///
-    /// Where ports are bound, released or moved meanwhile a port may be seen twice or not at all. The
-    /// kernel's counterparts are `rhashtable_walk_start`, `rhashtable_walk_next` and `rhashtable_walk_stop`.
+    /// The pairs are what its own loads found (`cause`), and not the table of one moment. The kernel's
+    /// counterparts are `rhashtable_walk_start`, `rhashtable_walk_next` and `rhashtable_walk_stop`.
     pub fn walk(&self, pass: &mut Pass<M>, from: Option<Cursor>, limit: u32) -> Reply
         requires pass { IsPassOf M.mix_of self.now pass.old }
         requires idle { is_idle pass.old.local ≡ true }
