@@ -224,8 +224,10 @@ impl<M: Mix> Table<M> {
     /// names the table with which a walk has to begin anew: the current one, where the cursor isn't of
     /// that or it has no such bucket; or one to which entries may have been moved meanwhile.
     ///
-    /// The pairs are what its own loads found (`cause`), and not the table of one moment. The kernel's
-    /// counterparts are `rhashtable_walk_start`, `rhashtable_walk_next` and `rhashtable_walk_stop`.
+    /// The pairs are what its own loads found (`cause`), and not the table of one moment. What the calls show
+    /// together that go from the first bucket to the table's end is told by `shown` of `rht_core`'s laws: each
+    /// port that stays bound meanwhile, each once, and none that wasn't bound so at a moment of it. The
+    /// kernel's counterparts are `rhashtable_walk_start`, `rhashtable_walk_next` and `rhashtable_walk_stop`.
     pub fn walk(&self, pass: &mut Pass<M>, from: Option<Cursor>, limit: u32) -> Reply
         requires pass { IsPassOf M.mix_of self.now pass.old }
         requires idle { is_idle pass.old.local ≡ true }
