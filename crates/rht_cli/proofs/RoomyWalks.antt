@@ -1,6 +1,6 @@
 -- Where a table is roomy for the commands that a run serves, no command is answered `Again`. The run has few ports, so no walk from the
 -- first bucket is answered so, and no bind is refused but for want of a node. No script has another walk, and other calls never answer so.
-use Rattle.std.proofs.Common.{◌≡◌, ◌≢◌, ℕ, ◌<◌, Bool, true, List, length, sym, ap, subst, inl, inr, ◌∙◌}
+use Rattle.std.proofs.Common.{◌≡◌, ◌≢◌, ℕ, ◌+◌, ◌<◌, Bool, true, List, length, refl, sym, ap, subst, inl, inr, ◌∙◌}
 use Rattle.std.specs.Prelude.{Some, None}
 use Rattle.std.specs.List.{AllByRecursion}
 use Rattle.rht_words.specs.declared.config.Config.{Config}
