@@ -1,7 +1,7 @@
 //! What is timed: the loops of one thread. Each goes once through the thread's ports, and answers
 //! how many calls had the reply that they must have.
 
-ghost use Rattle.std.specs.Prelude.{◌≡◌, ◌+◌, ◌*◌, ◌^◌, ◌<◌, ◌≤◌, Bool, true};
+ghost use Rattle.std.specs.Prelude.{◌≡◌, ◌+◌, ◌*◌, ◌/◌, ◌^◌, ◌<◌, ◌≤◌, Bool, true};
 ghost use Rattle.rht_model.specs.declared.history.Reply.{Reply as ReplyOf};
 ghost use Rattle.rht_core.specs.Locals.{is_idle};
 ghost use Rattle.rht_run.specs.Passes.{IsPassOf};
