@@ -523,18 +523,20 @@ function end_tidy(reply,    part) {
   if (!is_odd(part[3])) fault("no section is open with " part[3])
 }
 
-# A walk shows each port that stayed bound, and each that it shows had this first owner at a moment of it.
+# A walk to the end shows each port that stayed bound, and each that it shows had this first owner at a moment of it. One that is cut has
+# shown as many as there are nodes.
 function end_walk(w, reply,    part, many, i, pair, key, mine) {
   if (reply !~ /^walk again [0-7]$/) {
     many = split(reply, part, " ")
-    if (part[1] != "walk" || part[many] != "end") fault("no reply of walk: " reply)
+    if (part[1] != "walk" || part[many] !~ /^(end|more)$/) fault("no reply of walk: " reply)
+    if (part[many] == "more" && many - 2 != nodes) fault("it is cut behind " many - 2 " ports")
     for (i = 2; i < many; i++) {
       split(part[i], pair, "=")
       if (pair[1] in mine) fault("it shows port " pair[1] " twice")
       mine[pair[1]] = 1
       if (!((w, pair[1], pair[2]) in shown)) fault("it shows " part[i] ", which was so at no moment")
     }
-    for (key in stays) {
+    if (part[many] == "end") for (key in stays) {
       split(key, pair, SUBSEP)
       if (pair[1] == w && !(pair[2] in mine)) fault("it doesn't show port " pair[2] ", which stayed bound")
     }
