@@ -24,7 +24,7 @@ use Rattle.rht_core.proofs.Finding.Stages.{Ending}
 use Rattle.rht_core.proofs.Finding.StageSteps.{headed_to, headed_nowhere, key_differs, link_to, link_nowhere, all_visited}
 use Rattle.rht_core.proofs.Returning.TiedWalks.{IsWalked, IsAtBucket, number_below}
 use Rattle.rht_core.proofs.Finding.BucketHeads.{bucket_right, loaded_head, head_placed}
-use Rattle.rht_core.proofs.Finding.PortPlaces.{PortPlacesRight, sits_first, ends_or_leads}
+use Rattle.rht_core.proofs.Finding.PortPlaces.{PortPlacesRight, sits_first, number_is, ends_or_leads}
 use Rattle.rht_core.proofs.Walking.ShownNodes.{map-In}
 use Rattle.rht_core.proofs.Walking.SlotsOfTables.{reached, missed, none_behind, index_is}
 use Rattle.rht_core.proofs.Walking.WalkFacts.{ports_of, Said, StageIs, RoomKnown, IsPassed, BucketsKnown, IsAt, IsBehind, IsInChain, HereAtKey, HereAtLink, IsAtOwner}
@@ -205,13 +205,7 @@ module _ (env : Env) (mix : ℕ → ℕ → ℕ → ℕ) (from : Option Cursor) 
     -- the port of a node with a place in the bucket is one of the bucket
     pub hash_is : (G.table τ).place chain.visit.bucket ≡ Some bucket → (n p : ℕ) → P.place bucket n ≡ Some p
         → hash table (key_of M n) ≡ chain.visit.bucket
-    hash_is is n p at =
-        let here = (of_ports.homes bucket n p at).here in
-        let home : (G.table τ).place (hash table (key_of M n)) ≡ Some bucket =
-        subst (λ t. (G.table t).place (hash_in env mix G (key_of M n) t) ≡ Some bucket) (table_is is) here in
-        sym (place-word env mix M G whole τ (hash table (key_of M n)) bucket there_now (hash-below env mix M G whole (key_of M n) τ)
-        home).number
-        ∙ (place-word env mix M G whole τ chain.visit.bucket bucket there_now number_low is).number
+    hash_is is n p at = number_is env mix M G P now whole right of_ports τ chain.visit.bucket bucket n p there_now number_low is at
 
     -- ---- its key
 
@@ -309,7 +303,7 @@ module _ (env : Env) (mix : ℕ → ℕ → ℕ → ℕ) (from : Option Cursor) 
           } in
           let of_table = table_is at.place_is in
           elim (ends_or_leads env mix M G P now whole right of_ports bucket m known.at known.is) [
-            | inl later ↦ absurd (omega (arith, last, of_table, later))
+            | inl out ↦ let later = out.later in let low = out.attached in absurd (omega (arith, last, of_table, later, low))
             | inr (inl end) ↦ absurd (let both = sym end ∙ leads in omega (arith, both))
             | inr (inr on) ↦
                 let lower = on.below in
