@@ -1,7 +1,7 @@
 -- More of what is true of places: each is in a bucket where its node's port belongs; of two places that nodes of one port have in a
 -- bucket the lower one's node died before the higher one arose; and links of nodes with places lead down, or to the bucket's end, or out
 -- to a table behind.
-use Rattle.std.proofs.Common.{◌≡◌, ◌⊎◌, ℕ, ◌+◌, ◌*◌, ◌/◌, ◌^◌, ◌<◌, ◌≤◌, List, [], ◌∷◌, Option, Some, None, refl, sym, ◌∙◌, ap, subst, inl, inr, arith}
+use Rattle.std.proofs.Common.{◌≡◌, ◌⊎◌, ℕ, ◌+◌, ◌*◌, ◌/◌, ◌^◌, ◌<◌, List, [], ◌∷◌, Option, Some, None, refl, sym, ◌∙◌, ap, subst, inl, inr, arith}
 use Rattle.rht_words.specs.declared.env.Env.{Env}
 use Rattle.rht_words.specs.Chains.{IsSegment}
 use Rattle.rht_words.specs.Links.{link_of, marker_of, head_of}
@@ -157,9 +157,9 @@ module _ (env : Env) (mix : ℕ → ℕ → ℕ → ℕ) where
         → (p : ℕ) × EndsOrLeads G P j (head_of (place_at env mix j) (G.bucket j).plain) p
     head_leads j chained = go (G.bucket j).nodes refl chained.segment
       where
-        -- above all places in the bucket
         go : (nodes : List ℕ) → (G.bucket j).nodes ≡ nodes
-            → IsSegment (chain_of M) (head_of (place_at env mix j) (G.bucket j).plain) nodes (stop env mix (place_at env mix j) (G.bucket j).out)
+            → IsSegment (chain_of M) (head_of (place_at env mix j) (G.bucket j).plain) nodes
+            (stop env mix (place_at env mix j) (G.bucket j).out)
             → (p : ℕ) × EndsOrLeads G P j (head_of (place_at env mix j) (G.bucket j).plain) p
         go [] none segment = (
           now,

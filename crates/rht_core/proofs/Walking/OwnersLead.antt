@@ -1,5 +1,5 @@
 -- Each operation of a walk that has shown each owner that it loaded leads on so, or it has to begin anew.
-use Rattle.std.proofs.Common.{◌≡◌, ◌≢◌, ◌⊎◌, ℕ, ◌+◌, ◌*◌, ◌/◌, ◌<◌, ◌≤◌, nat_lt, nat_le, Bool, true, List, [], ◌∷◌, ◌++◌, length, map, Option, Some, None, refl, sym, ◌∙◌, ap, subst, inl, inr, arith}
+use Rattle.std.proofs.Common.{◌≡◌, ◌⊎◌, ℕ, ◌+◌, ◌<◌, ◌≤◌, nat_lt, nat_le, Bool, true, List, [], ◌∷◌, ◌++◌, length, Option, Some, None, refl, sym, ◌∙◌, ap, subst, inl, inr, arith}
 use Rattle.std.specs.Prelude.{◌==◌}
 use Rattle.std.specs.List.{AllByRecursion}
 use Rattle.std.proofs.lemmas.Bool.{cond_both, eqb-true}
@@ -8,9 +8,9 @@ use Rattle.rht_words.specs.declared.env.Env.{Env}
 use Rattle.rht_words.specs.declared.machine.Next.{Next}
 use Rattle.rht_words.specs.declared.machine.Next.TheVariants.{Go, Done}
 use Rattle.rht_words.specs.Links.{link_of, marker_of, node_of, head_of, slot_of}
-use Rattle.rht_words.specs.Members.{In, IsDistinct}
+use Rattle.rht_words.specs.Members.{IsDistinct}
 use Rattle.rht_words.specs.Operations.{old_of}
-use Rattle.rht_words.specs.Places.{Slot, FutureWord, Node, OwnerWord, IsBucketPlace, place_of, words_in}
+use Rattle.rht_words.specs.Places.{Slot, FutureWord, Node, OwnerWord, IsBucketPlace}
 use Rattle.rht_words.specs.Ports.{owner_of}
 use Rattle.rht_words.proofs.LinksRead.{links_tell_apart}
 use Rattle.rht_words.proofs.Members.{not_in_from, In-append_cases, IsDistinct-with}
@@ -18,7 +18,7 @@ use Rattle.rht_words.proofs.Memory.{Memory}
 use Rattle.rht_words.proofs.PlacesApart.{words_in-few}
 use Rattle.rht_model.specs.declared.history.Cursor.{Cursor}
 use Rattle.rht_model.specs.Rooms.{with_kept}
-use Rattle.rht_nest.specs.Place.{PlaceModel, place_after}
+use Rattle.rht_nest.specs.Place.{PlaceModel}
 use Rattle.rht_nest.specs.Tables.{is_nested}
 use Rattle.rht_nest.specs.declared.place.Bucket.{Bucket}
 use Rattle.rht_nest.specs.declared.place.Bucket.TheVariants as buckets
@@ -30,20 +30,20 @@ use Rattle.rht_walk.specs.declared.walk.WalkEnd.TheVariants as ends
 use Rattle.rht_walk.specs.declared.walk.WalkAt.{WalkAt}
 use Rattle.rht_walk.specs.declared.walk.WalkAt.TheVariants as at
 use Rattle.rht_ghost.proofs.Pieces.TableLoads.{LeadsBehind, future_leads}
-use Rattle.rht_ghost.proofs.Theory.Ghosts.{Ghost, index_at, table_of_page, table_at, none-some, some-same}
+use Rattle.rht_ghost.proofs.Theory.Ghosts.{Ghost, index_at, table_of_page, table_at, some-same}
 use Rattle.rht_ghost.proofs.Theory.SeatedLinks.{link_of-one}
 use Rattle.rht_ghost.proofs.Theory.Steps.{mem}
-use Rattle.rht_ghost.proofs.Theory.Wholes.{chain_of, key_of, hash_in, place_at, word_index, place_at-index, index-place_at, Whole}
+use Rattle.rht_ghost.proofs.Theory.Wholes.{chain_of, key_of, hash_in, place_at, word_index, index-place_at, Whole}
 use Rattle.rht_core.proofs.Finding.BucketHeads.{bucket_right}
 use Rattle.rht_core.proofs.Finding.Falling.{one_place}
 use Rattle.rht_core.proofs.Finding.Places.{Places, PlacesRight}
 use Rattle.rht_core.proofs.Finding.PortPlaces.{LeadsOut, EndsOrLeads, PortPlacesRight, number_is, leads_out, head_leads, ends_or_leads}
 use Rattle.rht_core.proofs.Returning.TiedWalks.{IsWalked, tied_of_walk}
 use Rattle.rht_core.proofs.Walking.KeptPairs.{with_room}
-use Rattle.rht_core.proofs.Walking.OwnersKept.{owners_of, IsEarlier, IsHigher, AreShown, IsEmpty, HasStood, AreShownOnce, HasBehind, IsOut, IsIn, AtNode, BeforeBucket, BehindBucket, KeepsOwners}
+use Rattle.rht_core.proofs.Walking.OwnersKept.{owners_of, IsHigher, AreShown, IsEmpty, HasStood, AreShownOnce, HasBehind, IsOut, IsIn, AtNode, BeforeBucket, BehindBucket, KeepsOwners}
 use Rattle.rht_core.proofs.Walking.ShownNodes.{fewer}
 use Rattle.rht_core.proofs.Walking.SlotsOfTables.{index_is}
-use Rattle.rht_core.proofs.Walking.TablesOfWalks.{table_there, number_low, table_is, here_is, link_is}
+use Rattle.rht_core.proofs.Walking.TablesOfWalks.{walked_there, walked_number, walked_table, heading_here, heading_leads}
 
 -- the owners that were loaded, with that of an operation
 abbrev pub loaded_after : WalkAt → List ℕ → ℕ → List ℕ
@@ -174,7 +174,7 @@ module _ (env : Env) (mix : ℕ → ℕ → ℕ → ℕ) (seen : ℕ → Bool) (
       j = word_index env mix chain.place
 
       table_here : table_at G j ≡ τ
-      table_here = table_is env mix words G whole chain.visit within walked j here
+      table_here = walked_table env mix words G whole chain.visit within walked j here
 
       -- out of the table
       out_so : (link : ℕ) → LeadsOut env mix G P τ link → LeadsSo chain link
@@ -265,8 +265,8 @@ module _ (env : Env) (mix : ℕ → ℕ → ℕ → ℕ) (seen : ℕ → Bool) (
     head_so visit place link within place_in walked here same before =
         let j = word_index env mix place in
         let head = head_leads env mix M G P now whole right of_ports j
-        (bucket_right env mix words G whole (index_at G visit.table) visit.bucket j (table_there env mix words G whole visit within walked)
-        (number_low env mix words G whole visit within walked) here).chained in
+        (bucket_right env mix words G whole (index_at G visit.table) visit.bucket j (walked_there env mix words G whole visit within walked)
+        (walked_number env mix words G whole visit within walked) here).chained in
         way_so (chain_at visit place) within place_in walked here link head.0
         (subst (λ l. EndsOrLeads env mix G P j l head.0) (sym same) head.1) (missing visit before)
         (λ at less. weaker visit.table _ _ (λ number high had. inl had) before)
@@ -304,9 +304,9 @@ module _ (env : Env) (mix : ℕ → ℕ → ℕ → ℕ) (seen : ℕ → Bool) (
     number_of : (number j n p : ℕ) → number ≤ bucket → (G.table (index_at G slot_here)).place number ≡ Some j → P.place j n ≡ Some p
         → hash_in env mix G (key_of M n) (index_at G slot_here) ≡ number
     number_of number j n p low is placed =
-        let below = number_low env mix words G whole chain.visit within walked in
+        let below = walked_number env mix words G whole chain.visit within walked in
         number_is env mix M G P now whole right of_ports (index_at G slot_here) number j n p
-        (table_there env mix words G whole chain.visit within walked) (omega (arith, low, below)) is placed
+        (walked_there env mix words G whole chain.visit within walked) (omega (arith, low, below)) is placed
 
     -- the node wasn't shown: such nodes have a place in another bucket, or a higher one in this
     module _ (is : IsIn env mix seen room.items loaded G P chain m (λ at. at + 1)) where
@@ -410,8 +410,8 @@ module _ (env : Env) (mix : ℕ → ℕ → ℕ → ℕ) (seen : ℕ → Bool) (
         let link = head_of place (old_of words (plan_at env.geometry c (at.Heading visit place))) in
         led from limit (length items) items loaded (chain_at visit place) link
         (head_so from limit (length items) items loaded visit place link within.visit_in within.place_in tied.walked
-        (here_is env mix words G whole visit within.visit_in place within.place_in tied)
-        (link_is env mix words G whole visit within.visit_in place within.place_in tied) kept)
+        (heading_here env mix words G whole visit within.visit_in place within.place_in tied)
+        (heading_leads env mix words G whole visit within.visit_in place within.place_in tied) kept)
         (node_of env.geometry.nodes link) refl
     owners_lead (at.Key chain node) within tied met kept = kept
     owners_lead (at.Owner chain node port) within tied met kept =

@@ -1,5 +1,5 @@
 -- That a walk has shown each owner that it loaded outlives an operation of anybody.
-use Rattle.std.proofs.Common.{◌≡◌, ◌⊎◌, ℕ, ◌+◌, ◌/◌, ◌<◌, Bool, true, List, Some, ◌∙◌, ap, subst, sym, inl, inr, arith}
+use Rattle.std.proofs.Common.{◌≡◌, ◌⊎◌, ℕ, ◌/◌, Bool, true, List, Some, ◌∙◌, ap, inl, inr, arith}
 use Rattle.rht_words.specs.declared.env.Env.{Env}
 use Rattle.rht_words.specs.Standing.{Standing, stands_nowhere}
 use Rattle.rht_words.proofs.Memory.{Memory}
@@ -15,7 +15,7 @@ use Rattle.rht_ghost.proofs.Theory.Wholes.{Whole, IsAt, word_index}
 use Rattle.rht_core.proofs.Finding.Places.{Places}
 use Rattle.rht_core.proofs.Returning.TiedWalks.{tied_of_walk}
 use Rattle.rht_core.proofs.Walking.SlotsOfTables.{IsAttached, index_stays, attached_at}
-use Rattle.rht_core.proofs.Walking.OwnersKept.{HasStood, AreShownOnce, HasBehind, IsOut, AtNode, KeepsOwners}
+use Rattle.rht_core.proofs.Walking.OwnersKept.{HasStood, AreShownOnce, HasBehind, AtNode, KeepsOwners}
 
 module _ (env : Env) (mix : ℕ → ℕ → ℕ → ℕ) (items : List (ℕ × ℕ)) (loaded : List ℕ) (M : Memory) (G : Ghost) (P : Places)
     (whole : Whole env mix M G) (G' : Ghost) (grow : TablesGrow env mix G G') (met : ℕ → Bool) (P' : Places)

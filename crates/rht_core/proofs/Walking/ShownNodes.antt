@@ -1,7 +1,7 @@
 -- The nodes that a walk has shown: their keys are the ports, and so there are fewer of them than nodes where one more is another.
 use Rattle.std.proofs.Common.{◌≡◌, ℕ, ◌<◌, Bool, true, List, [], ◌∷◌, length, map, refl, sym, ap, subst, inl, inr, arith}
 use Rattle.std.proofs.lemmas.List.{length-map}
-use Rattle.rht_words.specs.Members.{In, NotIn, IsDistinct}
+use Rattle.rht_words.specs.Members.{In, IsDistinct}
 use Rattle.rht_words.proofs.Members.{not_in_from, in_and_not, In-AllByRecursion, count_below-most, length-count_below}
 
 -- a value of a function on a list is that of one of its elements

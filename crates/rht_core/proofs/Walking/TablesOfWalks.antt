@@ -1,5 +1,5 @@
 -- The table that a walk is in, named by its slot: it is there, it has the bucket at which the walk is, and where that bucket's word leads.
-use Rattle.std.proofs.Common.{◌≡◌, ℕ, ◌<◌, List, Some, refl, sym, ◌∙◌, ap, subst}
+use Rattle.std.proofs.Common.{◌≡◌, ℕ, ◌<◌, List, Some, refl, sym, subst}
 use Rattle.rht_words.specs.declared.env.Env.{Env}
 use Rattle.rht_words.specs.declared.op.Op.TheVariants.{Load}
 use Rattle.rht_words.specs.Links.{head_of}
@@ -25,24 +25,25 @@ module _ (env : Env) (mix : ℕ → ℕ → ℕ → ℕ) (words : List ℕ) (G :
     same_table : τ ≡ walked.of.table
     same_table = index_is env mix (mem env mix words) G whole visit.table walked.of
 
-    pub table_there : IsThere G τ
-    table_there = subst (IsThere G) (sym same_table) (at-there env mix whole.tables visit.table walked.of)
+    pub walked_there : IsThere G τ
+    walked_there = subst (IsThere G) (sym same_table) (at-there env mix whole.tables visit.table walked.of)
 
-    pub number_low : visit.bucket < size_of (unpacked (G.table τ).shape)
-    number_low =
-        subst (λ σ. visit.bucket < size_of (unpacked (G.table σ).shape)) (sym same_table) (number_below env mix words G whole visit within walked)
+    pub walked_number : visit.bucket < size_of (unpacked (G.table τ).shape)
+    walked_number =
+        subst (λ σ. visit.bucket < size_of (unpacked (G.table σ).shape)) (sym same_table)
+        (number_below env mix words G whole visit within walked)
 
     -- the table of a bucket that has its number there
-    pub table_is : (j : ℕ) → (G.table τ).place visit.bucket ≡ Some j → table_at G j ≡ τ
-    table_is j is = place-table env mix (mem env mix words) G whole τ visit.bucket j table_there number_low is
+    pub walked_table : (j : ℕ) → (G.table τ).place visit.bucket ≡ Some j → table_at G j ≡ τ
+    walked_table j is = place-table env mix (mem env mix words) G whole τ visit.bucket j walked_there walked_number is
 
   module _ (place : ℕ) (there : IsBucketPlace env.geometry place) (tied : IsAtBucket env mix G visit place) where
-    pub here_is : (G.table τ).place visit.bucket ≡ Some (word_index env mix place)
-    here_is =
+    pub heading_here : (G.table τ).place visit.bucket ≡ Some (word_index env mix place)
+    heading_here =
         subst (λ σ. (G.table σ).place visit.bucket ≡ Some (word_index env mix place)) (sym (same_table tied.walked)) tied.here
 
-    pub link_is : head_of place (old_of words (Load place))
+    pub heading_leads : head_of place (old_of words (Load place))
         ≡ head_of (place_at env mix (word_index env mix place)) (G.bucket (word_index env mix place)).plain
-    link_is =
-        loaded_head env mix words G whole τ visit.bucket (word_index env mix place) (table_there tied.walked) (number_low tied.walked)
-        here_is place there refl
+    heading_leads =
+        loaded_head env mix words G whole τ visit.bucket (word_index env mix place) (walked_there tied.walked) (walked_number tied.walked)
+        heading_here place there refl
