@@ -22,6 +22,8 @@ pub mod WalkLeads
 pub mod OwnersLead
 -- what it knows outlives any operation
 pub mod WalkOutlives
+-- the owners that were loaded
+pub mod LoadedOwners
 -- what walks know behind an event
 pub mod WalksAtEvents
 -- and when they end
