@@ -1,5 +1,11 @@
 -- the table of a slot
 pub mod SlotsOfTables
+-- the table that a walk is in
+pub mod TablesOfWalks
+-- that it shows the owners that it loads
+pub mod OwnersKept
+-- that outlives any operation
+pub mod OwnersOutlive
 -- what a walk knows in each of its states
 pub mod WalkFacts
 -- the nodes that were shown
@@ -12,8 +18,12 @@ pub mod KnownChains
 pub mod KeptPairs
 -- how each operation leads on
 pub mod WalkLeads
+-- and that each owner is shown that was loaded
+pub mod OwnersLead
 -- what it knows outlives any operation
 pub mod WalkOutlives
+-- the owners that were loaded
+pub mod LoadedOwners
 -- what walks know behind an event
 pub mod WalksAtEvents
 -- and when they end

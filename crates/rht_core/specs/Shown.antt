@@ -10,6 +10,7 @@ use Rattle.rht_model.specs.declared.history.Cursor.{Cursor}
 use Rattle.rht_model.specs.declared.history.Reply.TheVariants.{Walked}
 use Rattle.rht_core.specs.declared.event.Event.{Event}
 use Rattle.rht_core.specs.Laws.{IsRecorded}
+use Rattle.rht_core.specs.ListedOwners.{owners_loaded}
 use Rattle.rht_core.specs.RunHistories.{bindings_behind}
 use Rattle.rht_core.specs.Runs.{IsAdmitted}
 use Rattle.rht_core.specs.Traces.{Past, traced_of, behind_call}
@@ -42,6 +43,12 @@ pairs_of pasts = flat_map (λ past. past.done.pairs) pasts
 abbrev pub ends_behind : ℕ → List Past → ℕ
 ends_behind from [] = from
 ends_behind from (past ∷ pasts) = ends_behind (behind_call past) pasts
+
+-- a walk that has ended and hasn't to begin anew shows the owner of each node that it loaded, in the order of its loads
+abbrev pub ShowsLoaded : Env → Past → Type 0
+ShowsLoaded env past =
+    (from : Option Cursor) (limit len : ℕ) (next : Option Cursor) → past.done.call ≡ Walk from limit → past.done.reply ≡ Walked len next
+    → map (λ pair. pair.1) past.done.pairs ≡ owners_loaded env.geometry past.steps
 
 module _ (M : Type 0) (mix : ℕ → ℕ → ℕ → ℕ) where
   -- Of the bindings behind the events from the one on with this number, up to that: each port that is bound
@@ -78,3 +85,9 @@ module _ (M : Type 0) (mix : ℕ → ℕ → ℕ → ℕ) where
       → AreWalks None (first ∷ pasts)
       → AreAmong (first ∷ pasts) ((traced_of {M = M} mix env events).traces c).past
       → ShowsRightly env events first.begin (ends_behind (behind_call first) pasts) (pairs_of (first ∷ pasts))
+
+  -- in every run it is so of each call that has ended
+  abbrev pub ShownWhole : Type 0
+  ShownWhole =
+      (env : Env) (events : List Event) (c : ℕ) → IsAdmitted env.config.kind events
+      → AllByRecursion (ShowsLoaded env) ((traced_of {M = M} mix env events).traces c).past

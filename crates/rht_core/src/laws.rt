@@ -18,7 +18,7 @@ ghost use Rattle.rht_core.specs.Refused.{Refused};
 ghost use Rattle.rht_core.specs.Tables.{Tables, NeverAgain};
 ghost use Rattle.rht_core.specs.RunHistories.{HasFittingHistory};
 ghost use Rattle.rht_core.specs.Sections.{Sections, OwnSections};
-ghost use Rattle.rht_core.specs.Shown.{Shown};
+ghost use Rattle.rht_core.specs.Shown.{Shown, ShownWhole};
 ghost use Rattle.rht_core.specs.ToldHistories.{HasToldHistory};
 ghost use Rattle.rht_core.specs.Worked.{Worked};
 ghost use Rattle.rht_core.specs.Laws.{Extends, InRange, Enrolled, NotEnrolled, Replies, Remembers, AtEvents, AllStepsTraced, TakenAlone, WordsFit};
@@ -358,8 +358,13 @@ pub fn found<M: Mix>()
 /// port that the words stand for behind all of them is shown, each pair is a port and its first owner behind one of
 /// them, and no port is shown twice. So where no binding changed the pairs are the ports that were bound, each with
 /// its first owner. It doesn't say in which order they come, nor that a walk ever ends without `Again`.
+///
+/// Each walk that was answered `Walked` shows the owner of each node that it loaded, in the order of its loads. So it
+/// has kept each pair, also where a table came behind the one that it walked; only one that was answered `Again` may
+/// have met its room full.
 pub fn shown<M: Mix>()
-    ensures { Shown M M.mix_of }
+    ensures rightly { Shown M M.mix_of }
+    ensures whole { ShownWhole M M.mix_of }
 {}
 
 /// In every run each operation of a look-up, of a reading of the count, of a tidying or of a walk, ended or in

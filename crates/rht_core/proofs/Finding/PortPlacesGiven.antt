@@ -9,7 +9,7 @@ use Rattle.rht_ghost.proofs.Theory.Wholes.{chain_of, key_of, Whole}
 use Rattle.rht_ghost.proofs.Theory.SeatedLinks.{next_of}
 use Rattle.rht_core.proofs.Finding.Places.{Places, PlacesRight}
 use Rattle.rht_core.proofs.Finding.GivenBack.{IsUnmet, kept_places, is_kept, same_seat, seatless_met, met_kept, place_was, place_stays}
-use Rattle.rht_core.proofs.Finding.PortPlaces.{HasDied, IsReplaced, IsPlaceOf, EndsOrLeads, PortPlacesRight}
+use Rattle.rht_core.proofs.Finding.PortPlaces.{HasDied, IsReplaced, IsPlaceOf, LeadsLower, EndsOrLeads, PortPlacesRight}
 
 module _ (env : Env) (mix : ℕ → ℕ → ℕ → ℕ) (now c n : ℕ) (M M' : Memory) (G : Ghost) (P : Places) (whole : Whole env mix M G)
     (right : PlacesRight env mix G P M now) (mine : G.node n ≡ Taken c)
@@ -41,20 +41,31 @@ module _ (env : Env) (mix : ℕ → ℕ → ℕ → ℕ) (now c n : ℕ) (M M' :
     none = seats m ∙ died.none;
   }
 
-  ends_given : (i m p : ℕ) → met m ≡ true → EndsOrLeads env mix G P i (chain_of M m) p → EndsOrLeads env mix G' P' i (chain_of M m) p
-  ends_given i m p is (inl later) = inl later
-  ends_given i m p is (inr (inl end)) = inr (inl end)
-  ends_given i m p is (inr (inr on)) =
+  lower_given : (i m p : ℕ) → met m ≡ true → LeadsLower env mix P i (chain_of M m) p → LeadsLower env mix P' i (chain_of M m) p
+  lower_given i m p is on =
       let among = (right.placed i on.next on.at on.placed).among in
       let kept = met_kept env mix now c n M M' G P whole right mine same met unmet on.next (unmet.leads m on.next is
       (ap (next_of env) on.leads ∙ links_tell_apart.link_names env.geometry.nodes on.next among)) in
-      inr (inr (record {
+      record {
         next = on.next;
         at = on.at;
         leads = on.leads;
         placed = place_stays env mix now c n M M' G P whole right mine same met unmet i on.next kept ∙ on.placed;
         below = on.below;
-      }))
+      }
+
+  ends_given : (i m p : ℕ) → met m ≡ true → EndsOrLeads env mix G P i (chain_of M m) p → EndsOrLeads env mix G' P' i (chain_of M m) p
+  ends_given i m p is (inl out) = inl (record {
+    bucket = out.bucket;
+    within = out.within;
+    table = out.table;
+    of = out.of;
+    later = out.later;
+    attached = out.attached;
+    to = elim out.to [ inl end ↦ inl end | inr on ↦ inr (on.0, lower_given out.bucket m on.0 is on.1) ];
+  })
+  ends_given i m p is (inr (inl end)) = inr (inl end)
+  ends_given i m p is (inr (inr on)) = inr (inr (lower_given i m p is on))
 
   pub port_places_given : PortPlacesRight env mix M' G' P' (now + 1)
   port_places_given = record {

@@ -1,5 +1,5 @@
 -- What is true of the places of each port is so behind an operation that gives back no node.
-use Rattle.std.proofs.Common.{◌≡◌, ◌⊎◌, ℕ, ◌+◌, ◌^◌, ◌<◌, ◌≤◌, List, [], ◌∷◌, Option, Some, None, refl, sym, ◌∙◌, ap, subst, inl, inr, arith}
+use Rattle.std.proofs.Common.{◌≡◌, ◌⊎◌, ℕ, ◌+◌, ◌/◌, ◌^◌, ◌<◌, ◌≤◌, List, [], ◌∷◌, Option, Some, None, refl, sym, ◌∙◌, ap, subst, inl, inr, arith}
 use Rattle.rht_words.specs.declared.env.Env.{Env}
 use Rattle.rht_words.specs.Members.{In}
 use Rattle.rht_words.proofs.Memory.{Memory}
@@ -10,7 +10,7 @@ use Rattle.rht_core.proofs.Finding.Falling.{one_place}
 use Rattle.rht_core.proofs.Finding.Places.{Places, PlacesRight}
 use Rattle.rht_core.proofs.Finding.PlacesStay.{WasSeatedAt, PortMoves, table_stays}
 use Rattle.rht_core.proofs.Finding.PlacesSteps.{PlacesNext}
-use Rattle.rht_core.proofs.Finding.PortPlaces.{HasDied, IsReplaced, IsPlaceOf, EndsOrLeads, PortPlacesRight, sits_first, ends_or_leads, elsewhere_behind}
+use Rattle.rht_core.proofs.Finding.PortPlaces.{HasDied, IsReplaced, IsPlaceOf, LeadsLower, EndsOrLeads, PortPlacesRight, sits_first, ends_or_leads, sitting_out}
 
 module _ (env : Env) (mix : ℕ → ℕ → ℕ → ℕ) (now : ℕ) (M : Memory) (G : Ghost) (P : Places) (M' : Memory) (G' : Ghost)
     (whole : Whole env mix M G) (whole' : Whole env mix M' G') (right : PlacesRight env mix G P M now)
@@ -309,17 +309,35 @@ module _ (env : Env) (mix : ℕ → ℕ → ℕ → ℕ) (now : ℕ) (M : Memory
           absurd (omega (arith, level, less))
 
   -- where links led they lead
-  ends_still : (i n link p : ℕ) → P.place i n ≡ Some p → EndsOrLeads env mix G P i link p → EndsOrLeads env mix G' P' i link p
-  ends_still i n link p is (inl later) =
-      let table = level i n p is in let more = grow.attached in inl (omega (arith, later, table, more))
-  ends_still i n link p is (inr (inl end)) = inr (inl end)
-  ends_still i n link p is (inr (inr on)) = inr (inr (record {
+  lower_still : (i link p : ℕ) → LeadsLower env mix P i link p → LeadsLower env mix P' i link p
+  lower_still i link p on = record {
     next = on.next;
     at = on.at;
     leads = on.leads;
     placed = step.move.kept i on.next on.at on.placed;
     below = on.below;
-  }))
+  }
+
+  ends_still : (i n link p : ℕ) → P.place i n ≡ Some p → EndsOrLeads env mix G P i link p → EndsOrLeads env mix G' P' i link p
+  ends_still i n link p is (inl out) =
+      let table = level i n p is in
+      let later = out.later in
+      let low = out.attached in
+      let more = grow.attached in
+      inl (record {
+        bucket = out.bucket;
+        within = out.within;
+        table = out.table;
+        of = step.frame.pages (out.bucket / 64) out.table out.of;
+        later = omega (arith, table, later);
+        attached = omega (arith, low, more);
+        to = elim out.to [
+          | inl end ↦ inl end
+          | inr on ↦ inr (on.0, lower_still out.bucket link on.0 on.1)
+        ];
+      })
+  ends_still i n link p is (inr (inl end)) = inr (inl end)
+  ends_still i n link p is (inr (inr on)) = inr (inr (lower_still i link p on))
 
   -- the nodes to which a port is bound have its key
   key_in : (port first : ℕ) (behind : List ℕ) (n : ℕ) → G.bound port ≡ first ∷ behind → In n (first ∷ behind) → key_of M n ≡ port
@@ -338,7 +356,7 @@ module _ (env : Env) (mix : ℕ → ℕ → ℕ → ℕ) (now : ℕ) (M : Memory
               (elim (right.of_port led.port led.first led.behind n led.bucket i p led.bound led.there led.seat was) [
                 | inl here ↦ ends_or_leads env mix M G P now whole right of_ports i led.first p
                     (ap (λ b. P.place b led.first) here.0 ∙ here.1)
-                | inr elsewhere ↦ inl (elsewhere_behind env mix M G P now whole right of_ports i led.bucket n led.first p
+                | inr elsewhere ↦ inl (sitting_out env mix M G P now whole right of_ports i led.bucket n led.first p
                     (key_in led.port led.first led.behind n led.bound led.there
                     ∙ sym (key_in led.port led.first led.behind led.first led.bound (inl refl))) led.seat was elsewhere)
               ])

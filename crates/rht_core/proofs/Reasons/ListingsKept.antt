@@ -61,7 +61,7 @@ module _ (g : Geometry) where
       ∙ sym (append_assoc (owner_loaded g first) (owners_loaded g steps) (owner_loaded g did))
 
   -- one that loads no owner
-  still_loaded : (steps : List Did) (did : Did) (owners : List ℕ) → loads_owner g did.op ≡ false
+  pub still_loaded : (steps : List Did) (did : Did) (owners : List ℕ) → loads_owner g did.op ≡ false
       → owners ≡ owners_loaded g steps → owners ≡ owners_loaded g (steps ++ did ∷ [])
   still_loaded steps did owners none are =
       let nothing : owner_loaded g did ≡ [] = ap (λ t. cond t (owner_of did.old ∷ []) []) none in
@@ -70,7 +70,7 @@ module _ (g : Geometry) where
       ∙ sym (owners_loaded-push steps did)
 
   -- and one that loads one
-  one_loaded : (steps : List Did) (did : Did) (owners : List ℕ) → loads_owner g did.op ≡ true
+  pub one_loaded : (steps : List Did) (did : Did) (owners : List ℕ) → loads_owner g did.op ≡ true
       → owners ≡ owners_loaded g steps
       → owners ++ owner_of did.old ∷ [] ≡ owners_loaded g (steps ++ did ∷ [])
   one_loaded steps did owners loads are =
@@ -82,12 +82,12 @@ module _ (g : Geometry) where
   -- ---- which operations load no owner
 
   -- a load of another word of the table
-  at_other : (address : Address) → IsAddress g address → is_owner_word address ≡ false
+  pub at_other : (address : Address) → IsAddress g address → is_owner_word address ≡ false
       → loads_owner g (Load (place_of g address)) ≡ false
   at_other address there other = ap is_owner_word (address_at-place_of g address there) ∙ other
 
   -- and of the word of a bucket
-  at_bucket : (place : ℕ) → IsBucketPlace g place → loads_owner g (Load place) ≡ false
+  pub at_bucket : (place : ℕ) → IsBucketPlace g place → loads_owner g (Load place) ≡ false
   at_bucket place there =
       let index = place - pages_at g in
       let is : pages_at g + index ≡ place = omega (arith, there.0) in
@@ -111,7 +111,7 @@ module _ (g : Geometry) where
       subst (λ (h : Geometry). loads_owner g (walk_plan_at h walk.at) ≡ false) (sym within.geometry_same)
       (walk_loads_none walk.at walk within.at_in)
 
-  place_loads_none : (place : PlaceModel) → IsPlaceIn g place → loads_owner g (place_plan place) ≡ false
+  pub place_loads_none : (place : PlaceModel) → IsPlaceIn g place → loads_owner g (place_plan place) ≡ false
   place_loads_none place within =
       subst (λ (h : Geometry). loads_owner g (place_plan (record place { geometry = h })) ≡ false) (sym within.geometry_same)
       (at_other (PageWord place.entry) within.entry_in refl)

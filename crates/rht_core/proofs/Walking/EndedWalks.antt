@@ -20,6 +20,7 @@ use Rattle.rht_walk.specs.declared.walk.WalkEnd.TheVariants as ends
 use Rattle.rht_walk.specs.declared.walk.WalkAt.{WalkAt}
 use Rattle.rht_walk.specs.declared.walk.WalkAt.TheVariants as at
 use Rattle.rht_core.specs.declared.event.Event.{Event}
+use Rattle.rht_core.specs.ListedOwners.{owners_loaded}
 use Rattle.rht_core.specs.Jobs.{Job, walks, walk_ending, walk_gone, first_job, job_of, job_plan, job_next, job_after, told, call_of}
 use Rattle.rht_core.specs.RunHistories.{bindings_behind}
 use Rattle.rht_core.specs.Runs.{local_of, world_step}
@@ -33,6 +34,8 @@ use Rattle.rht_core.proofs.Finding.LookupsAtEvents.{AreLooking, Turns, placed'}
 use Rattle.rht_core.proofs.Finding.PlacesInRuns.{Placed, next}
 use Rattle.rht_core.proofs.Returning.TiedJobs.{tied_with}
 use Rattle.rht_core.proofs.Finding.PortPlaces.{PortPlacesRight}
+use Rattle.rht_core.proofs.Walking.LoadedOwners.{loaded_next}
+use Rattle.rht_core.proofs.Walking.OwnersLead.{loaded_after}
 use Rattle.rht_core.proofs.Walking.WalkFacts.{HasWalkedTo}
 use Rattle.rht_core.proofs.Walking.WalkOutlives.{walked_still}
 use Rattle.rht_core.proofs.Walking.WalksAtEvents.{R, MissedOf, BoundOf, WasLast, AreCounted, Walks, IsMissedIn, IsBoundIn, HasWalked, PastWalks, JobWalks, CallerWalks, same_next, is_walk, owners_said, none_found, one_found, M, M', G', longer, grow, count', count_old, count_new, last_later, missed_later, bound_later, then_places, outlives, goes_on}
@@ -120,6 +123,7 @@ module _ (L : Type 0) (mix : ℕ → ℕ → ℕ → ℕ) (env : Env) (events : 
             (M' L mix env events event looking turn of_ports count counted) (G' L mix env events event looking turn of_ports count counted)
             (grow L mix env events event looking turn of_ports count counted)
             (count behind) (counts behind) (omega (arith, rises, end)) (omega (arith, same)) to was.walked;
+        whole = was.whole;
       }
 
   pub pasts_later : (pasts : List Past) → AllByRecursion (PastWalks L mix env events looking.placed.ghost count) pasts
@@ -182,11 +186,17 @@ module _ (L : Type 0) (mix : ℕ → ℕ → ℕ → ℕ) (env : Env) (events : 
     abbrev trace_then : Job → Job × Next Ending → Trace
     trace_then job after = trace_did (Some (call_of job)) did (told after).1 trace
 
+    -- the owners that its call has loaded, and those with what this operation loads
+    abbrev loaded : List ℕ
+    loaded = owners_loaded env.geometry trace.steps
+
+    abbrev loaded_then : List ℕ
+    loaded_then = owners_loaded env.geometry (trace.steps ++ did ∷ [])
+
     -- a call that is no walk goes on as none
     other_goes : (after : Job × Next Ending) → is_walk L mix env (call_of after.0) ≡ false
         → JobWalks L mix env all_events (world_step mix (R L mix env events).world event).core placed_then counts (turn.then c) c
-        trace.begin
-        (told after).0
+        trace.begin loaded_then (told after).0
     other_goes (walks from limit room state, Go) other = absurd (cc)
     other_goes (_, Go) other = tt
     other_goes (job, Done ending) other = tt
@@ -217,11 +227,11 @@ module _ (L : Type 0) (mix : ℕ → ℕ → ℕ → ℕ) (env : Env) (events : 
     ends_here_is from limit after reply = behind_steps-push (trace.begin + 1) trace.steps did ∙ ap (λ n. n + 1) index
 
     ends_so : (from : Option Cursor) (limit : ℕ) (room : Pairs) (state : WalkAt) (word : ℕ) (reply : Reply)
-        → says (room_after state room word) state ≡ Done reply
-        → Walks L mix env events (R L mix env events).world.core looking.placed count (looking.readers c).chains c from trace.begin room
-        state
+        → says (room_after state room word) state ≡ Done reply → loaded_after state loaded word ≡ loaded_then
+        → Walks L mix env events (R L mix env events).world.core looking.placed count (looking.readers c).chains c from trace.begin loaded
+        room state
         → PastWalks L mix env all_events placed_then.ghost counts (ended_now from limit (room_after state room word) reply)
-    ends_so from limit room (at.Closing (ends.Walked next_is)) word reply is walking = λ start most len to call answer.
+    ends_so from limit room (at.Closing (ends.Walked next_is)) word reply is same walking = λ start most len to call answer.
         let from_is : from ≡ start = cc in
         let said : Walked (length room.items) next_is ≡ reply = cc in
         let to_is : next_is ≡ to = same_next (length room.items) len next_is to (said ∙ answer) in
@@ -233,58 +243,66 @@ module _ (L : Type 0) (mix : ℕ → ℕ → ℕ → ℕ) (env : Env) (events : 
               (subst (λ t. HasWalkedTo env mix looking.placed.ghost looking.placed.ghost.attached from
               (MissedOf L mix env events c trace.begin)
               (WasLast L mix env count trace.begin here) (BoundOf L mix env events c trace.begin) room.items t) to_is walking.known);
+          whole = walking.keeps ∙ same;
         })
-    ends_so from limit room (at.Closing (ends.Again table)) word reply is walking = λ start most len to call answer.
+    ends_so from limit room (at.Closing (ends.Again table)) word reply is same walking = λ start most len to call answer.
         absurd (let said : Again table ≡ reply = cc in let both = said ∙ answer in cc)
-    ends_so from limit room _ word reply is walking = absurd (cc)
+    ends_so from limit room _ word reply is same walking = absurd (cc)
 
     -- a walk
     walk_then : (from : Option Cursor) (limit : ℕ) (room : Pairs) (state : WalkAt) (word : ℕ) (after : WalkAt × Next Reply)
-        → Walks L mix env events (R L mix env events).world.core looking.placed count (looking.readers c).chains c from trace.begin room
-        state
+        → Walks L mix env events (R L mix env events).world.core looking.placed count (looking.readers c).chains c from trace.begin loaded
+        room state → loaded_after state loaded word ≡ loaded_then
         → (after.1 ≡ Go → Walks L mix env all_events (world_step mix (R L mix env events).world event).core placed_then counts
         (turn.then c) c from
-        trace.begin (room_after state room word) after.0)
+        trace.begin loaded_then (room_after state room word) after.0)
         → says (room_after state room word) state ≡ after.1
         → AllByRecursion (PastWalks L mix env events looking.placed.ghost count) trace.past
         → let ended = job_next (walks from limit (room_after state room word)) (walk_ending (room_after state room word)) after in
         WalksThen c (trace_then (walks from limit room state) ended) (told ended).0
-    walk_then from limit room state word (next_state, Go) walking goes_so is had = record {
+    walk_then from limit room state word (next_state, Go) walking same goes_so is had = record {
       past = pasts_later trace.past had;
       now = goes_so refl;
     }
-    walk_then from limit room state word (next_state, Done reply) walking goes_so is had = record {
-      past = AllByRecursion-push _ trace.past _ (pasts_later trace.past had) (ends_so from limit room state word reply is walking);
+    walk_then from limit room state word (next_state, Done reply) walking same goes_so is had = record {
+      past = AllByRecursion-push _ trace.past _ (pasts_later trace.past had) (ends_so from limit room state word reply is same walking);
       now = tt;
     }
 
-    pub own_walks : (job : Job) → job_of (local_of (R L mix env events).world.core c).doing ≡ Some job → JobIn env mix c job
+    pub own_walks : (job : Job) → did.op ≡ job_plan env c job → did.old ≡ old_of (R L mix env events).world.core.words (job_plan env c job)
+        → job_of (local_of (R L mix env events).world.core c).doing ≡ Some job → JobIn env mix c job
         → AllByRecursion (PastWalks L mix env events looking.placed.ghost count) trace.past
-        → JobWalks L mix env events (R L mix env events).world.core looking.placed count (looking.readers c).chains c trace.begin (Some job)
+        → JobWalks L mix env events (R L mix env events).world.core looking.placed count (looking.readers c).chains c trace.begin loaded
+        (Some job)
         → let after = job_after mix env job (old_of (R L mix env events).world.core.words (job_plan env c job)) in
         job_of (local_of (world_step mix (R L mix env events).world event).core c).doing ≡ (told after).0
         → WalksThen c (trace_then job after) (told after).0
-    own_walks (walks from limit room state) is within had walking does =
+    own_walks (walks from limit room state) planned found is within had walking does =
         let tied = subst (tied_with env mix looking.placed.ghost) is (looking.meets c walking.low).tied in
         let word = old_of (R L mix env events).world.core.words (plan_at env.geometry c state) in
         let after = room_after state room word in
         let came = walk_gone env from limit room after state word in
-        walk_then from limit room state word came walking
-        (λ still. goes_on L mix env events event looking turn of_ports count counted c walking.low from trace.begin walking.begun limit
-        room state
-        walking within tied is (room_limit state room word ∙ walking.roomy)
-        (does ∙ ap (λ ended. (told (job_next (walks from limit after) (walk_ending after) (came.0, ended))).0) still)) refl had
-    own_walks job is within had walking does =
+        let Goes = λ (more : List ℕ). Walks L mix env all_events (world_step mix (R L mix env events).world event).core placed_then counts
+        (turn.then c) c from trace.begin more after came.0 in
+        let same = ap (loaded_after state loaded) (sym found) ∙ loaded_next env.geometry c trace.steps did state within planned in
+        walk_then from limit room state word came walking same
+        (λ still. subst Goes same
+        (goes_on L mix env events event looking turn of_ports count counted c walking.low from trace.begin walking.begun limit loaded room
+        state walking within tied is (room_limit state room word ∙ walking.roomy)
+        (does ∙ ap (λ ended. (told (job_next (walks from limit after) (walk_ending after) (came.0, ended))).0) still))) refl had
+    own_walks job planned found is within had walking does =
         let old = old_of (R L mix env events).world.core.words (job_plan env c job) in
         other_then job (job_after mix env job old) refl (same_call mix env job old) had
 
   -- ---- an event of another caller, or of none
 
-  pub walks_stay : (c begin : ℕ) (job : Option Job) → job_of (local_of (world_step mix (R L mix env events).world event).core c).doing ≡ job
+  pub walks_stay : (c begin : ℕ) (loaded : List ℕ) (job : Option Job)
+      → job_of (local_of (world_step mix (R L mix env events).world event).core c).doing ≡ job
       → job_of (local_of (R L mix env events).world.core c).doing ≡ job
-      → JobWalks L mix env events (R L mix env events).world.core looking.placed count (looking.readers c).chains c begin job
-      → JobWalks L mix env all_events (world_step mix (R L mix env events).world event).core placed_then counts (turn.then c) c begin job
-  walks_stay c begin (Some (walks from limit room state)) does was walking =
+      → JobWalks L mix env events (R L mix env events).world.core looking.placed count (looking.readers c).chains c begin loaded job
+      → JobWalks L mix env all_events (world_step mix (R L mix env events).world event).core placed_then counts (turn.then c) c begin loaded
+      job
+  walks_stay c begin loaded (Some (walks from limit room state)) does was walking =
       let tied = subst (tied_with env mix looking.placed.ghost) was (looking.meets c walking.low).tied in
       outlives L mix env events event looking turn of_ports count counted c walking.low from begin walking.begun room walking.roomy limit
       state does
@@ -292,22 +310,28 @@ module _ (L : Type 0) (mix : ℕ → ℕ → ℕ → ℕ) (env : Env) (events : 
       (missed_later L mix env events event looking turn of_ports count counted c begin)
       (λ τ. last_later L mix env events event looking turn of_ports count counted begin here τ (omega arith) (length all_events)
       (omega (arith, long)))
-      (bound_later L mix env events event looking turn of_ports count counted c begin) walking.known
-  walks_stay c begin _ does was walking = tt
+      (bound_later L mix env events event looking turn of_ports count counted c begin) walking.known loaded walking.keeps
+  walks_stay c begin loaded _ does was walking = tt
 
   -- ---- a call begins
 
   pub first_walks : (c : ℕ) → c < env.geometry.callers → (call : Call) (batch : Option BatchModel)
       → IfSome (first_job env batch call) (λ job.
-      JobWalks L mix env all_events (world_step mix (R L mix env events).world event).core placed_then counts (turn.then c) c here
+      JobWalks L mix env all_events (world_step mix (R L mix env events).world event).core placed_then counts (turn.then c) c here []
       (Some job))
-  first_walks c low (calls.Walk from limit) batch = record { low = low; begun = omega (arith, long); roomy = refl; known = refl }
+  first_walks c low (calls.Walk from limit) batch = record {
+    low = low;
+    begun = omega (arith, long);
+    roomy = refl;
+    known = refl;
+    keeps = record { none = refl; nothing = refl };
+  }
   first_walks c low (calls.Rebind port owner new) batch =
       first_rebind-so (λ job. JobWalks L mix env all_events (world_step mix (R L mix env events).world event).core placed_then counts
       (turn.then c) c
-      here (Some job)) env port owner new tt
+      here [] (Some job)) env port owner new tt
   first_walks c low calls.Tidy batch =
       first_tidy-so (λ job. JobWalks L mix env all_events (world_step mix (R L mix env events).world event).core placed_then counts
       (turn.then c) c
-      here (Some job)) batch (λ own. tt)
+      here [] (Some job)) batch (λ own. tt)
   first_walks c low _ batch = tt

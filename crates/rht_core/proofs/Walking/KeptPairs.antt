@@ -46,7 +46,7 @@ stage_said env mix port seen since Said Said' said M G P = go
     go (Owning m) known = known
 
 -- a pair that there is room for comes last
-with_room : (room : Pairs) (pair : ℕ × ℕ) → length room.items < room.limit → (with_kept room pair).items ≡ room.items ++ pair ∷ []
+pub with_room : (room : Pairs) (pair : ℕ × ℕ) → length room.items < room.limit → (with_kept room pair).items ≡ room.items ++ pair ∷ []
 with_room room pair less =
     ap (λ b. (if b then record { items = room.items ++ pair ∷ []; limit = room.limit } else room).items)
     (lt-ltb (length room.items) room.limit less)

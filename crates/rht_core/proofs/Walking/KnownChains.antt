@@ -1,5 +1,5 @@
 -- What a walk knows at the nodes of a bucket's chain, and how each load there leads on from it.
-use Rattle.std.proofs.Common.{◌≡◌, ◌≢◌, ℕ, ◌+◌, ◌^◌, ◌<◌, ◌≤◌, Bool, true, List, Option, Some, None, refl, sym, ◌∙◌, ap, subst, inl, inr, arith}
+use Rattle.std.proofs.Common.{◌≡◌, ◌≢◌, ℕ, ◌+◌, ◌^◌, ◌<◌, ◌≤◌, Bool, true, List, Option, Some, None, sym, ◌∙◌, ap, subst, inl, inr, arith}
 use Rattle.std.proofs.lemmas.Bool.{cases_eq}
 use Rattle.rht_words.specs.declared.env.Env.{Env}
 use Rattle.rht_words.specs.Links.{link_of, head_of}
@@ -14,19 +14,19 @@ use Rattle.rht_walk.specs.Walk.{IsVisitIn, chain_of as chain_at, one_more}
 use Rattle.rht_walk.specs.declared.walk.Visit.{Visit}
 use Rattle.rht_walk.specs.declared.walk.Chain.{Chain}
 use Rattle.rht_ghost.proofs.Theory.Ghosts.{Ghost, index_at, table_at, some-same}
-use Rattle.rht_ghost.proofs.Theory.Passed.{hash-below, place-word, place-table}
 use Rattle.rht_ghost.proofs.Theory.SeatedLinks.{head-seated, link_of-one}
 use Rattle.rht_ghost.proofs.Theory.Steps.{mem}
-use Rattle.rht_ghost.proofs.Theory.Wholes.{chain_of, key_of, hash_in, place_at, word_index, Whole, IsThere, at-there}
+use Rattle.rht_ghost.proofs.Theory.Wholes.{chain_of, key_of, hash_in, place_at, word_index, Whole, IsThere}
 use Rattle.rht_core.proofs.Finding.Deaths.{DeathsRight, IsLate, late_next}
 use Rattle.rht_core.proofs.Finding.Places.{Places, PlacesRight}
 use Rattle.rht_core.proofs.Finding.Stages.{Ending}
 use Rattle.rht_core.proofs.Finding.StageSteps.{headed_to, headed_nowhere, key_differs, link_to, link_nowhere, all_visited}
-use Rattle.rht_core.proofs.Returning.TiedWalks.{IsWalked, IsAtBucket, number_below}
-use Rattle.rht_core.proofs.Finding.BucketHeads.{bucket_right, loaded_head, head_placed}
-use Rattle.rht_core.proofs.Finding.PortPlaces.{PortPlacesRight, sits_first, ends_or_leads}
+use Rattle.rht_core.proofs.Returning.TiedWalks.{IsWalked, IsAtBucket}
+use Rattle.rht_core.proofs.Finding.BucketHeads.{bucket_right, head_placed}
+use Rattle.rht_core.proofs.Finding.PortPlaces.{PortPlacesRight, sits_first, number_is, ends_or_leads}
 use Rattle.rht_core.proofs.Walking.ShownNodes.{map-In}
-use Rattle.rht_core.proofs.Walking.SlotsOfTables.{reached, missed, none_behind, index_is}
+use Rattle.rht_core.proofs.Walking.SlotsOfTables.{reached, missed, none_behind}
+use Rattle.rht_core.proofs.Walking.TablesOfWalks.{walked_there, walked_number, walked_table, heading_here, heading_leads}
 use Rattle.rht_core.proofs.Walking.WalkFacts.{ports_of, Said, StageIs, RoomKnown, IsPassed, BucketsKnown, IsAt, IsBehind, IsInChain, HereAtKey, HereAtLink, IsAtOwner}
 
 module _ (env : Env) (mix : ℕ → ℕ → ℕ → ℕ) (from : Option Cursor) (begin now : ℕ) (Missed WasLast : ℕ → Type 0) (Bound : ℕ × ℕ → Type 0)
@@ -102,20 +102,14 @@ module _ (env : Env) (mix : ℕ → ℕ → ℕ → ℕ) (from : Option Cursor) 
     abbrev slot : ℕ
     slot = visit.table
 
-    -- its table is that of the slot
-    same_table : index_at G slot ≡ tied.walked.of.table
-    same_table = index_is env mix M G whole slot tied.walked.of
-
     is_there : IsThere G (index_at G slot)
-    is_there = subst (IsThere G) (sym same_table) (at-there env mix whole.tables slot tied.walked.of)
+    is_there = walked_there env mix words G whole visit within tied.walked
 
     below : visit.bucket < size_of (unpacked (G.table (index_at G slot)).shape)
-    below =
-        subst (λ τ. visit.bucket < size_of (unpacked (G.table τ).shape)) (sym same_table)
-        (number_below env mix words G whole visit within tied.walked)
+    below = walked_number env mix words G whole visit within tied.walked
 
     here_is : (G.table (index_at G slot)).place visit.bucket ≡ Some j
-    here_is = subst (λ τ. (G.table τ).place visit.bucket ≡ Some j) (sym same_table) tied.here
+    here_is = heading_here env mix words G whole visit within place there tied
 
     abbrev link : ℕ
     link = head_of place (old_of words (Load place))
@@ -124,7 +118,7 @@ module _ (env : Env) (mix : ℕ → ℕ → ℕ → ℕ) (from : Option Cursor) 
     head = head_of (place_at env mix j) (G.bucket j).plain
 
     link_is : link ≡ head
-    link_is = loaded_head env mix words G whole (index_at G slot) visit.bucket j is_there below here_is place there refl
+    link_is = heading_leads env mix words G whole visit within place there tied
 
     -- it leads to a node
     pub head_known : (x : ℕ) → link ≡ link_of x → begin + 1 ≤ now → At visit
@@ -191,27 +185,15 @@ module _ (env : Env) (mix : ℕ → ℕ → ℕ → ℕ) (from : Option Cursor) 
     abbrev bucket : ℕ
     bucket = word_index env mix chain.place
 
-    there_now : IsThere G τ
-    there_now = subst (IsThere G) (sym (index_is env mix M G whole table walked.of)) (at-there env mix whole.tables table walked.of)
-
-    number_low : chain.visit.bucket < size_of (unpacked (G.table τ).shape)
-    number_low =
-        subst (λ σ. chain.visit.bucket < size_of (unpacked (G.table σ).shape)) (sym (index_is env mix M G whole table walked.of))
-        (number_below env mix words G whole chain.visit within walked)
-
     table_is : (G.table τ).place chain.visit.bucket ≡ Some bucket → table_at G bucket ≡ τ
-    table_is is = place-table env mix M G whole τ chain.visit.bucket bucket there_now number_low is
+    table_is = walked_table env mix words G whole chain.visit within walked bucket
 
     -- the port of a node with a place in the bucket is one of the bucket
     pub hash_is : (G.table τ).place chain.visit.bucket ≡ Some bucket → (n p : ℕ) → P.place bucket n ≡ Some p
         → hash table (key_of M n) ≡ chain.visit.bucket
     hash_is is n p at =
-        let here = (of_ports.homes bucket n p at).here in
-        let home : (G.table τ).place (hash table (key_of M n)) ≡ Some bucket =
-        subst (λ t. (G.table t).place (hash_in env mix G (key_of M n) t) ≡ Some bucket) (table_is is) here in
-        sym (place-word env mix M G whole τ (hash table (key_of M n)) bucket there_now (hash-below env mix M G whole (key_of M n) τ)
-        home).number
-        ∙ (place-word env mix M G whole τ chain.visit.bucket bucket there_now number_low is).number
+        number_is env mix M G P now whole right of_ports τ chain.visit.bucket bucket n p
+        (walked_there env mix words G whole chain.visit within walked) (walked_number env mix words G whole chain.visit within walked) is at
 
     -- ---- its key
 
@@ -309,7 +291,7 @@ module _ (env : Env) (mix : ℕ → ℕ → ℕ → ℕ) (from : Option Cursor) 
           } in
           let of_table = table_is at.place_is in
           elim (ends_or_leads env mix M G P now whole right of_ports bucket m known.at known.is) [
-            | inl later ↦ absurd (omega (arith, last, of_table, later))
+            | inl out ↦ let later = out.later in let low = out.attached in absurd (omega (arith, last, of_table, later, low))
             | inr (inl end) ↦ absurd (let both = sym end ∙ leads in omega (arith, both))
             | inr (inr on) ↦
                 let lower = on.below in

@@ -1,7 +1,7 @@
 -- The nodes that a walk has shown: their keys are the ports, and so there are fewer of them than nodes where one more is another.
 use Rattle.std.proofs.Common.{◌≡◌, ℕ, ◌<◌, Bool, true, List, [], ◌∷◌, length, map, refl, sym, ap, subst, inl, inr, arith}
 use Rattle.std.proofs.lemmas.List.{length-map}
-use Rattle.rht_words.specs.Members.{In, NotIn, IsDistinct}
+use Rattle.rht_words.specs.Members.{In, IsDistinct}
 use Rattle.rht_words.proofs.Members.{not_in_from, in_and_not, In-AllByRecursion, count_below-most, length-count_below}
 
 -- a value of a function on a list is that of one of its elements
@@ -37,18 +37,24 @@ distinct-elements key (n ∷ nodes) distinct = (
   distinct-elements key nodes distinct.1,
 )
 
--- Distinct nodes are no more than there are; and fewer, where one more has a key that none of them has.
-pub few-nodes : (all : ℕ) (key : ℕ → ℕ) (nodes : List ℕ) (n : ℕ) → n < all → ((m : ℕ) → In m nodes → m < all)
-    → IsDistinct (map key nodes) → (In (key n) (map key nodes) → ⊥) → length (map key nodes) < all
-few-nodes all key nodes n low among distinct apart =
+-- Distinct nodes are fewer than there are, where one more is another.
+pub fewer : (all : ℕ) (nodes : List ℕ) (n : ℕ) → n < all → ((m : ℕ) → In m nodes → m < all) → IsDistinct nodes → (In n nodes → ⊥)
+    → length nodes < all
+fewer all nodes n low among distinct apart =
     let each : ℕ → Bool = λ m. true in
-    let other : NotIn n nodes = not_in_from n nodes (λ i. apart (In-map key nodes n i)) in
     let within : (x : ℕ) → In x (n ∷ nodes) → x < all = λ x i. elim i [
       | inl e ↦ subst (λ m. m < all) (sym e) low
       | inr k ↦ among x k
     ] in
-    let short = length-count_below each all (n ∷ nodes) (other, distinct-elements key nodes distinct)
+    let short = length-count_below each all (n ∷ nodes) (not_in_from n nodes apart, distinct)
     (In-AllByRecursion (λ x. x < all) (n ∷ nodes) within) (λ x i. refl) in
     let most = count_below-most each all in
+    omega (arith, short, most)
+
+-- So they are, where it has a key that none of them has.
+pub few-nodes : (all : ℕ) (key : ℕ → ℕ) (nodes : List ℕ) (n : ℕ) → n < all → ((m : ℕ) → In m nodes → m < all)
+    → IsDistinct (map key nodes) → (In (key n) (map key nodes) → ⊥) → length (map key nodes) < all
+few-nodes all key nodes n low among distinct apart =
+    let less = fewer all nodes n low among (distinct-elements key nodes distinct) (λ i. apart (In-map key nodes n i)) in
     let count = length-map nodes key in
-    omega (arith, short, most, count)
+    omega (arith, less, count)

@@ -14,6 +14,7 @@ use Rattle.rht_callers.specs.declared.local.Doing.{Doing}
 use Rattle.rht_callers.specs.Locals.{local_after, ending_of}
 use Rattle.rht_core.specs.declared.event.Event.{Event}
 use Rattle.rht_core.specs.declared.event.Event.TheVariants.{Enroll, Begin, Step}
+use Rattle.rht_core.specs.ListedOwners.{owners_loaded}
 use Rattle.rht_core.specs.Jobs.{Job, job_of, job_after, told, call_of}
 use Rattle.rht_core.specs.Runs.{World, View, IsAdmitted, IsAdmittedEvent, local_of, beginning_in, planned_in, world_step}
 use Rattle.rht_core.specs.Traces.{Did, Trace, Traced, trace_begun, trace_did, traces_after, traced_step, traced_of}
@@ -67,7 +68,8 @@ module _ (L : Type 0) (mix : ℕ → ℕ → ℕ → ℕ) (env : Env) where
         (record {
           past = pasts_later L mix env events event walking.looking turn walking.of_ports walking.count walking.counted _ had.past;
           now = walks_stay L mix env events event walking.looking turn walking.of_ports walking.count walking.counted c
-              ((Rs events).traces c).begin (job_of (local_of (Rs events).world.core c).doing) does
+              ((Rs events).traces c).begin (owners_loaded env.geometry ((Rs events).traces c).steps)
+              (job_of (local_of (Rs events).world.core c).doing) does
               refl had.now;
         })
 
@@ -102,7 +104,7 @@ module _ (L : Type 0) (mix : ℕ → ℕ → ℕ → ℕ) (env : Env) where
               now = first-of (λ job. JobWalks L mix env (events ++ event ∷ []) (world_step mix r.world event).core
                   (placed' L mix env events event walking.looking turn)
                   (count' L mix env events event walking.looking turn walking.of_ports walking.count walking.counted) (turn.then c) c
-                  (length events) (Some job)) env call first.job
+                  (length events) [] (Some job)) env call first.job
                   (first_walks L mix env events event walking.looking turn walking.of_ports walking.count walking.counted c low call)
                   first.first;
             }))
@@ -159,8 +161,9 @@ module _ (L : Type 0) (mix : ℕ → ℕ → ℕ → ℕ) (env : Env) where
             (trace_did (Some (call_of of.job)) did (told (job_after mix env of.job (old_of core.words o))).1 (r.traces c))
             (told (job_after mix env of.job (old_of core.words o))).0) (sym of.plan)
             (own_walks L mix env events (Step c) walking.looking turn walking.of_ports walking.count walking.counted c (r.traces c) did
-            (count-traced_of L mix env events) of.job of.is of.within (walking.walks c).past
-            (subst (JobWalks L mix env events core placed walking.count (walking.looking.readers c).chains c (r.traces c).begin)
+            (count-traced_of L mix env events) of.job of.plan (ap (old_of core.words) of.plan) of.is of.within (walking.walks c).past
+            (subst (JobWalks L mix env events core placed walking.count (walking.looking.readers c).chains c (r.traces c).begin
+            (owners_loaded env.geometry (r.traces c).steps))
             of.is (walking.walks c).now)
             (does ∙ ap (λ o. (told (job_after mix env of.job (old_of core.words o))).0) of.plan))))
         | inr other ↦
@@ -210,7 +213,7 @@ module _ (L : Type 0) (mix : ℕ → ℕ → ℕ → ℕ) (env : Env) where
         walks = λ c. record {
           past = tt;
           now = subst (λ (local : Local L). JobWalks L mix env [] (Rs []).world.core looking.placed (λ i. looking.placed.ghost.attached)
-              (looking.readers c).chains c 0 (job_of local.doing)) (sym (idle_at_opening env mix L c)) tt;
+              (looking.readers c).chains c 0 [] (job_of local.doing)) (sym (idle_at_opening env mix L c)) tt;
         };
       }
 

@@ -21,6 +21,7 @@ use Rattle.rht_walk.specs.declared.walk.WalkAt.{WalkAt}
 use Rattle.rht_core.specs.declared.event.Event.{Event}
 use Rattle.rht_core.specs.Alone.{bindings_at}
 use Rattle.rht_core.specs.Jobs.{Job, walks, job_of}
+use Rattle.rht_core.specs.ListedOwners.{owners_loaded}
 use Rattle.rht_core.specs.RunHistories.{bindings_behind}
 use Rattle.rht_core.specs.Runs.{Core, local_of, world_step}
 use Rattle.rht_core.specs.Standings.{standing, standing_with}
@@ -41,6 +42,9 @@ use Rattle.rht_core.proofs.Walking.KeptPairs.{stage_said}
 use Rattle.rht_core.proofs.Walking.MadeSerials.{AreMade}
 use Rattle.rht_core.proofs.Finding.PortPlaces.{PortPlacesRight}
 use Rattle.rht_core.proofs.Walking.WalkFacts.{HasWalkedTo, WalkMeans}
+use Rattle.rht_core.proofs.Walking.OwnersKept.{owners_of, KeepsOwners}
+use Rattle.rht_core.proofs.Walking.OwnersLead.{loaded_after, owners_lead}
+use Rattle.rht_core.proofs.Walking.OwnersOutlive.{owners_outlive}
 use Rattle.rht_core.proofs.Walking.WalkLeads.{Learns, walk_leads}
 use Rattle.rht_core.proofs.Walking.WalkOutlives.{walk_outlives}
 
@@ -71,14 +75,15 @@ module _ (L : Type 0) (mix : ℕ → ℕ → ℕ → ℕ) (env : Env) where
     pub at_end : count now ≡ G.attached
     pub rises : (i k : ℕ) → i ≤ k → k ≤ now → count i ≤ count k
 
-  -- A walk that began there knows what it needs.
+  -- A walk that began there and has loaded these owners knows what it needs, and shows them.
   pub record Walks (events : List Event) (core : Core L) (placed : Placed env mix L events core) (count : ℕ → ℕ) (seen : ℕ → Bool) (c : ℕ)
-      (from : Option Cursor) (begin : ℕ) (room : Pairs) (state : WalkAt) : Type 0 where
+      (from : Option Cursor) (begin : ℕ) (loaded : List ℕ) (room : Pairs) (state : WalkAt) : Type 0 where
     pub low : c < env.geometry.callers
     pub begun : begin < length events
     pub roomy : room.limit ≡ env.geometry.nodes
     pub known : WalkMeans env mix from begin (length events) (MissedOf events c begin) (WasLast count begin (length events))
         (BoundOf events c begin) seen room.items (mem env mix core.words) placed.ghost placed.places state
+    pub keeps : KeepsOwners env mix seen room.items loaded placed.ghost placed.places state
 
   -- ---- one that has ended
 
@@ -102,6 +107,7 @@ module _ (L : Type 0) (mix : ℕ → ℕ → ℕ → ℕ) (env : Env) where
     pub done_by : behind_call past ≤ length events
     pub walked : HasWalkedTo env mix G (count (behind_call past)) from (IsMissedIn events past.begin (behind_call past))
         (WasLast count past.begin (behind_call past)) (IsBoundIn events past.begin (behind_call past)) past.done.pairs next
+    pub whole : owners_of past.done.pairs ≡ owners_loaded env.geometry past.steps
 
   abbrev pub PastWalks : List Event → Ghost → (ℕ → ℕ) → Past → Type 0
   PastWalks events G count past =
@@ -129,14 +135,14 @@ module _ (L : Type 0) (mix : ℕ → ℕ → ℕ → ℕ) (env : Env) where
   one_found (first ∷ rest) owner same = let e : owner ≡ first = cc in (rest, ap (λ o. o ∷ rest) (sym e))
 
   module _ (events : List Event) (core : Core L) (placed : Placed env mix L events core) (count : ℕ → ℕ) (seen : ℕ → Bool) (c : ℕ) where
-    abbrev pub JobWalks : ℕ → Option Job → Type 0
-    JobWalks begin (Some (walks from limit room state)) = Walks events core placed count seen c from begin room state
-    JobWalks begin _ = Unit {0}
+    abbrev pub JobWalks : ℕ → List ℕ → Option Job → Type 0
+    JobWalks begin loaded (Some (walks from limit room state)) = Walks events core placed count seen c from begin loaded room state
+    JobWalks begin loaded _ = Unit {0}
 
     -- so it is of what the caller does, and of its calls that have ended
     pub record CallerWalks (trace : Trace) (job : Option Job) : Type 0 where
       pub past : AllByRecursion (PastWalks events placed.ghost count) trace.past
-      pub now : JobWalks trace.begin job
+      pub now : JobWalks trace.begin (owners_loaded env.geometry trace.steps) job
 
   -- the call is a walk
   abbrev pub is_walk : Call → Bool
@@ -260,6 +266,9 @@ module _ (L : Type 0) (mix : ℕ → ℕ → ℕ → ℕ) (env : Env) where
       abbrev Knows : List (ℕ × ℕ) → (ℕ → Type 0) → (ℕ → Type 0) → (ℕ × ℕ → Type 0) → WalkAt → Type 0
       Knows items Missed Was Bound state = WalkMeans env mix from begin now Missed Was Bound seen items M G placed.places state
 
+      abbrev Keeps : List (ℕ × ℕ) → List ℕ → WalkAt → Type 0
+      Keeps items loaded state = KeepsOwners env mix seen items loaded G placed.places state
+
       absent_then : (port : ℕ) → G'.bound port ≡ [] → MissedOf more c begin port
       absent_then port none =
           missing_after env mix L events event core stands placed c port begin begun core'.words G' turn.makes.made.whole
@@ -272,12 +281,14 @@ module _ (L : Type 0) (mix : ℕ → ℕ → ℕ → ℕ) (env : Env) where
           → ((port : ℕ) → Missed port → MissedOf more c begin port)
           → ((τ : ℕ) → Was τ → WasLast count' begin (length more) τ)
           → ((pair : ℕ × ℕ) → Bound pair → BoundOf more c begin pair)
-          → Knows room.items Missed Was Bound state
-          → Walks more core' (placed' L mix env events event looking turn) count' (turn.then c) c from begin room state
+          → Knows room.items Missed Was Bound state → (loaded : List ℕ) → Keeps room.items loaded state
+          → Walks more core' (placed' L mix env events event looking turn) count' (turn.then c) c from begin loaded room state
       unfolding next
-      outlives room roomy limit state does tied Missed Was Bound missed was bound known =
+      outlives room roomy limit state does tied Missed Was Bound missed was bound known loaded keeps =
           let see = turn.sees c low in
           let is : standing core' c ≡ standing_of_walk state = ap standing_with does in
+          let stood = subst (λ at. AllByRecursion (λ n. seen n ≡ true) at.nodes) is see.stands in
+          let turns = subst (λ at. (at ≡ stands_nowhere) ⊎ ((n : ℕ) → seen n ≡ true → turn.then c n ≡ true)) is see.turns in
           record {
             low = low;
             begun = omega (arith, longer, begun);
@@ -285,9 +296,10 @@ module _ (L : Type 0) (mix : ℕ → ℕ → ℕ → ℕ) (env : Env) where
             known = walk_outlives env mix from begin now Missed Was Bound (MissedOf more c begin) (WasLast count' begin (length more))
                 (BoundOf more c begin) missed was bound room.items M G placed.places
                 placed.inv.whole M' G' grow (met_now L mix env looking) then_places.places
-                then_places.stages then_places.kept (length more) (omega (arith, longer)) absent_then seen (turn.then c) see.met_too state tied
-                (subst (λ at. AllByRecursion (λ n. seen n ≡ true) at.nodes) is see.stands)
-                (subst (λ at. (at ≡ stands_nowhere) ⊎ ((n : ℕ) → seen n ≡ true → turn.then c n ≡ true)) is see.turns) known;
+                then_places.stages then_places.kept (length more) (omega (arith, longer)) absent_then seen (turn.then c) see.met_too state
+                tied stood turns known;
+            keeps = owners_outlive env mix room.items loaded M G placed.places placed.inv.whole G' grow (met_now L mix env looking)
+                then_places.places then_places.kept seen (turn.then c) see.met_too state tied stood turns keeps;
           }
 
       -- what is known by the events so far is known by those with this one
@@ -328,8 +340,8 @@ module _ (L : Type 0) (mix : ℕ → ℕ → ℕ → ℕ) (env : Env) where
       }
 
       -- its own operation leads on
-      module _ (limit : ℕ) (room : Pairs) (state : WalkAt)
-          (walking : Walks events core placed count seen c from begin room state) (within : IsWalkAtIn env.geometry state)
+      module _ (limit : ℕ) (loaded : List ℕ) (room : Pairs) (state : WalkAt)
+          (walking : Walks events core placed count seen c from begin loaded room state) (within : IsWalkAtIn env.geometry state)
           (tied : tied_of_walk env mix G state) (is : job_of (local_of core c).doing ≡ Some (walks from limit room state)) where
         abbrev old : ℕ
         old = old_of core.words (plan_at env.geometry c state)
@@ -350,10 +362,16 @@ module _ (L : Type 0) (mix : ℕ → ℕ → ℕ → ℕ) (env : Env) where
             placed.places placed.inv.whole placed.right placed.deaths of_ports learns limit room walking.roomy c state within tied stood
             (by_more room.items state tied stood walking.known)
 
+        keeps_next : Keeps after.items (loaded_after state loaded old) state'
+        keeps_next =
+            owners_lead env mix seen now core.words G placed.places placed.inv.whole placed.right of_ports from limit room walking.roomy
+            loaded c state within tied stood walking.keeps
+
         pub goes_on : after.limit ≡ env.geometry.nodes → job_of (local_of core' c).doing ≡ Some (walks from limit after state')
-            → Walks more core' (placed' L mix env events event looking turn) count' (turn.then c) c from begin after state'
+            → Walks more core' (placed' L mix env events event looking turn) count' (turn.then c) c from begin
+            (loaded_after state loaded old) after state'
         goes_on roomy does =
             outlives after roomy limit state' does
             (walk_ties env mix core.words G placed.inv.whole from limit (length room.items) c state within tied)
             (MissedOf more c begin) (WasLast count' begin (length more)) (BoundOf more c begin) (λ port said. said) (λ τ was. was)
-            (λ pair said. said) known_next
+            (λ pair said. said) known_next (loaded_after state loaded old) keeps_next
