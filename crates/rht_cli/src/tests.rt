@@ -16,6 +16,7 @@ use std::thread::Threads;
 
 mod claims;
 mod growth;
+mod hostile;
 mod walks;
 
 const USAGE: &str = "rht: usage: rht run | rht replay | rht gen NUMBER | rht check\n";
@@ -77,8 +78,19 @@ fn run_with<R: Threads + Wait + Sync, G: Gate + Sync>(
     outside: Outside,
     gate: &G,
 ) -> Result<Left, Fail> {
-    let list = strings(alloc, words)?;
     let bytes = script.as_bytes().to_vec(alloc)?;
+    run_bytes(rt, alloc, words, bytes, outside, gate)
+}
+
+fn run_bytes<R: Threads + Wait + Sync, G: Gate + Sync>(
+    rt: &R,
+    alloc: Global,
+    words: &[&str],
+    bytes: Vec<u8>,
+    outside: Outside,
+    gate: &G,
+) -> Result<Left, Fail> {
+    let list = strings(alloc, words)?;
     let mut source = MemSource::new(bytes, outside.piece.max(1), vec![in alloc; outside.take]?);
     let mut out = MemSink::new(alloc, 131_072, vec![in alloc; outside.put]?)?;
     let mut err = MemSink::new(alloc, 4096, vec![in alloc; outside.err]?)?;
