@@ -82,7 +82,7 @@ module _ (env : Env) (mix : ℕ → ℕ → ℕ → ℕ) (c : ℕ) (port owner :
       let j = word_index env mix claimed.bucket.place in
       let τ = home_is.passing.at.table in
       let of =
-      (home-word env mix M G whole port τ j (at-there env mix whole.tables claimed.table home_is.passing.at) home_is.here).of in
+      (home-word env mix M G whole port τ j (at-there home_is.passing.at) home_is.here).of in
       let table : table_at G j ≡ τ = ap table_of_page of in
       let ready : IsArming env mix c j G = record {
         holder = lock.holder;

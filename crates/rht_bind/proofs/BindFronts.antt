@@ -229,7 +229,7 @@ module _ (env : Env) (mix : ℕ → ℕ → ℕ → ℕ) (c : ℕ) (port owner :
             let is = k.means.bucket in
             let rest = list.first ∷ is.behind in
             let back = place_at-index env mix bucket.place is.found.standing.lock.bucket in
-            let is_there = at-there env mix whole.tables list.claimed.table k.means.table.passing.at in
+            let is_there = at-there k.means.table.passing.at in
             let made =
             front_made env mix c port bucket.place bucket.word list.first n list.before M stored G whole is
             listed k.means.node.key k.means.node.list (idle_moves_none env mix M G whole c k.only)

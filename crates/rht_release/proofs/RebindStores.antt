@@ -132,7 +132,7 @@ module _ (env : Env) (mix : ℕ → ℕ → ℕ → ℕ) (c : ℕ) (port owner n
           bound_to = bound;
           moves_none = none;
           not_out = stays_in env mix M G whole c port
-              table.passing.at.table j m [] table.passing.passed (at-there env mix whole.tables found.table table.passing.at) table.here
+              table.passing.at.table j m [] table.passing.passed (at-there table.passing.at) table.here
               lock.holder none bound first;
         }
 

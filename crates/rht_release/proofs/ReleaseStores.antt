@@ -253,7 +253,7 @@ module _ (env : Env) (mix : ℕ → ℕ → ℕ → ℕ) (c : ℕ) (port owner :
         let s = is.standing.stands in
         let first = whole.owned.member j m (subst (In m) (sym s.split) (in-middle m s.front s.rear)) in
         stays_in env mix M G whole c port at.passing.at.table j m behind at.passing.passed
-        (at-there env mix whole.tables found.table at.passing.at) at.here
+        (at-there at.passing.at) at.here
         is.standing.lock.holder none bound first
 
     -- ---- a node behind the first one is cut out of the list

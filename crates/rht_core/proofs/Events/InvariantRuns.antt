@@ -182,7 +182,6 @@ module _ (env : Env) (mix : ℕ → ℕ → ℕ → ℕ) where
       current_in = omega arith;
       current_is = opened CurrentTable tt;
       force = λ τ from l. opening_live τ l;
-      there = λ τ l. live-there env mix (opening_ghost env) τ (opening_live τ l);
       each = opening_table;
       slots = λ s has. rw (slots_at_opening s has) (record {
         attached =

@@ -33,7 +33,7 @@ module _ (env : Env) (mix : ℕ → ℕ → ℕ → ℕ) where
         let passing = means.shaped.passing in
         let at = passing.at in
         let grow = rely.tables.grow in
-        let there_is = at-there env mix whole.tables slot at in
+        let there_is = at-there at in
         placed-stays env mix M M' G G' whole whole' port at.table place there_is
         (grow.there at.table (less-grown env mix at.attached grow.attached) (λ l. there_is)) means.to
         (IsWayTo-stay env mix G G' grow port at.table place at.attached means.to)

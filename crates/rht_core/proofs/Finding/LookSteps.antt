@@ -24,7 +24,7 @@ use Rattle.rht_find.specs.declared.find.FindAt.{FindAt}
 use Rattle.rht_find.specs.declared.find.FindAt.TheVariants as at
 use Rattle.rht_find.proofs.FindBounds.{lessens}
 use Rattle.rht_ghost.proofs.Theory.Ghosts.{Ghost}
-use Rattle.rht_ghost.proofs.Theory.Wholes.{Whole, IsAt, AreThereFrom, force-there, one_slot}
+use Rattle.rht_ghost.proofs.Theory.Wholes.{Whole, IsAt, AreThereFrom, current-at, force-there, one_slot}
 use Rattle.rht_ghost.proofs.Theory.Passed.{TablesGrow, at-stays, there_from-grows}
 use Rattle.rht_ghost.proofs.Theory.Knowledge.{next_at}
 use Rattle.rht_ghost.proofs.Theory.Steps.{mem}
@@ -183,7 +183,7 @@ module _ (env : Env) where
           own = λ τ σ from less l same.
               let first = on τ from (omega (arith, less, l, all)) in
               let second = on σ (omega (arith, from, less)) (omega (arith, l, all)) in
-              let both = one_slot env mix G τ σ first second same in
+              let both = one_slot G τ σ first second same in
               omega (arith, less, both);
         })
 
@@ -200,7 +200,7 @@ module _ (env : Env) where
         (at_most made (most_at is.count) (most_in (table_steps env) 7) is.few
         (most_in-seven (table_steps env) is.count (low_index table made is)))
     future_spent table made is (Some next) behind = record {
-      at = next_at env mix G is.at.table next behind;
+      at = next_at env mix G is.at.table next is.at.on behind;
       low = is.low;
       on = is.on;
       count = is.count + 1;
@@ -210,11 +210,7 @@ module _ (env : Env) where
 
     -- the current table
     abbrev current_at : IsAt G (table_of (M CurrentTable))
-    current_at = record {
-      table = G.current;
-      attached = whole.tables.current_in;
-      slot_is = sym (current_slot env mix words G whole);
-    }
+    current_at = current-at env mix whole.tables (table_of (M CurrentTable)) (sym (current_slot env mix words G whole))
 
     -- but the last one, behind which the call has ended
     pub spent_leads : (caller made : ℕ) (state : FindAt) → says state ≡ Go → IsFindAtIn env state

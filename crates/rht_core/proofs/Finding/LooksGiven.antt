@@ -10,7 +10,7 @@ use Rattle.rht_find.specs.FindStanding.{standing_of_find}
 use Rattle.rht_find.specs.declared.find.FindAt.{FindAt}
 use Rattle.rht_find.specs.declared.find.FindAt.TheVariants as at
 use Rattle.rht_ghost.proofs.Theory.Ghosts.{Free, Taken, Ghost, seat_of, seat_in, seat, with_owner}
-use Rattle.rht_ghost.proofs.Theory.Wholes.{word_index, Whole}
+use Rattle.rht_ghost.proofs.Theory.Wholes.{word_index, Whole, IsAt}
 use Rattle.rht_ghost.proofs.Theory.Passed.{TablesGrow}
 use Rattle.rht_core.proofs.Finding.Places.{Places, PlacesRight}
 use Rattle.rht_core.proofs.Finding.Deaths.{IsLate, late_used}
@@ -59,6 +59,15 @@ module _ (env : Env) (mix : ℕ → ℕ → ℕ → ℕ) (now c n : ℕ) (M M' :
   late m is =
       late_then env mix now c n M M' G P whole right mine same met unmet since m
       (met_kept env mix now c n M M' G P whole right mine same met unmet m (seen_met m is))
+
+  -- tables are what they were
+  abbrev at_then : (slot : ℕ) → IsAt G slot → IsAt G' slot
+  at_then slot at = record {
+    table = at.table;
+    attached = at.attached;
+    slot_is = at.slot_is;
+    on = λ σ from l. let there = at.on σ from l in record { has_slot = there.has_slot; index = there.index };
+  }
 
   -- ---- the port
 
@@ -130,25 +139,25 @@ module _ (env : Env) (mix : ℕ → ℕ → ℕ → ℕ) (now c n : ℕ) (M M' :
     pub stage_then : (stage : Stage) → AllByRecursion (λ m. seen m ≡ true) (node_at stage)
         → StageMeans env mix port seen since Said M G P stage → StageMeans env mix port seen since Said' M' G' P' stage
     stage_then (Reaching slot) stood (of, known) = (
-      record { table = of.table; attached = of.attached; slot_is = of.slot_is },
+      at_then slot of,
       or_so (toward_then _) known,
     )
     stage_then (Heading slot j) stood (at, known) = (
-      record { of = record { table = at.of.table; attached = at.of.attached; slot_is = at.of.slot_is }; here = at.here },
+      record { of = at_then slot at.of; here = at.here },
       or_so (either (λ sits. same_port ∙ sits) (beyond_then _)) known,
     )
     stage_then (AtKey slot j m visited) stood (at, was_late, known) = (
-      record { of = record { table = at.of.table; attached = at.of.attached; slot_is = at.of.slot_is }; here = at.here },
+      record { of = at_then slot at.of; here = at.here },
       late m stood.0 was_late,
       or_so (either (ahead_then j m visited stood.0) (beyond_then _)) known,
     )
     stage_then (AtLink slot j m visited) stood (at, was_late, known) = (
-      record { of = record { table = at.of.table; attached = at.of.attached; slot_is = at.of.slot_is }; here = at.here },
+      record { of = at_then slot at.of; here = at.here },
       late m stood.0 was_late,
       or_so (either (below_then j m visited stood.0) (beyond_then _)) known,
     )
     stage_then (Ending slot) stood (of, known) = (
-      record { table = of.table; attached = of.attached; slot_is = of.slot_is },
+      at_then slot of,
       or_so (beyond_then _) known,
     )
     stage_then (Owning m) stood (was_late, key) = (
@@ -170,7 +179,7 @@ module _ (env : Env) (mix : ℕ → ℕ → ℕ → ℕ) (now c n : ℕ) (M M' :
     look_given (at.Locating reach) stood known =
         let of = known.0.0 in (
           (
-            record { table = of.table; attached = of.attached; slot_is = of.slot_is },
+            at_then reach.table of,
             or_so (Says Missing) (Says' Missing) (said Missing) (toward_then of.table) known.0.1,
           ),
           reaching-stays env mix G G' grow port reach of known.1,

@@ -130,7 +130,7 @@ module _ (env : Env) (mix : ℕ → ℕ → ℕ → ℕ) (port : ℕ) (seen : �
     head_word head there home_is =
         let τ = home_is.of.table in
         loaded_head env mix words G whole τ (hash_in env mix G port τ) (bucket_of_head head)
-        (at-there env mix whole.tables head.table home_is.of) (hash-below env mix M G whole port τ) home_is.here head.place there refl
+        (at-there home_is.of) (hash-below env mix M G whole port τ) home_is.here head.place there refl
 
     -- ---- the future of a table
 

@@ -57,7 +57,7 @@ module _ (env : Env) (mix : ℕ → ℕ → ℕ → ℕ) where
         → ReachTells env mix G port means.0.table next → ReachLeads next
     at_same slot means (m, next) same tells =
         let there : Means (Reaching m.table) =
-        (record { table = means.0.table; attached = means.0.attached; slot_is = means.0.slot_is ∙ sym same }, means.1) in
+        (record { table = means.0.table; attached = means.0.attached; slot_is = means.0.slot_is ∙ sym same; on = means.0.on }, means.1) in
         leads_on m next there tells
 
     pub reach_leads : (m : ReachModel) → IsReachIn env.geometry m → (means : Means (Reaching m.table))

@@ -322,7 +322,7 @@ module _ (env : Env) (mix : ℕ → ℕ → ℕ → ℕ) (words_at : ℕ → Lis
         number_is = subst (λ ws. number ≡ bucket_of mix port (G.table τ).shape (word_at g ws (Slot table SeedWord))) now number_is;
         within = below;
         stays = subst (λ p. StaysAt g words_at (G.table τ).shape number p from) (place_at-index env mix place is.bucket)
-            (stay τ number (word_index env mix place) (at-there env mix whole.tables table is.passing.at) below is.here).0;
+            (stay τ number (word_index env mix place) (at-there is.passing.at) below is.here).0;
       })
 
   -- ---- the end of a walk

@@ -264,7 +264,7 @@ module _ (env : Env) (words_at : ℕ → List ℕ) where
         let at = on.shaped.passing.at in
         let τ = at.table in
         let number = hash_in env mix G port τ in
-        let is_there = at-there env mix whole.tables slot at in
+        let is_there = at-there at in
         let shape_is = on.shaped.shape_is in
         let number_is = hash_in-words env mix words G whole port slot shape at shape_is in
         let ends = way_ends τ number is_there on.to.nested place same on.to.way none in

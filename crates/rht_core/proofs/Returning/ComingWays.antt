@@ -88,7 +88,7 @@ module _ (env : Env) (mix : ℕ → ℕ → ℕ → ℕ) (words : List ℕ) (G :
     slot = slot;
     there = there;
     table = is.passing.at.table;
-    is_there = at-there env mix whole.tables slot is.passing.at;
+    is_there = at-there is.passing.at;
     slot_is = is.passing.at.slot_is;
     number = hash_in env mix G port is.passing.at.table;
     below = hash-below env mix (mem env mix words) G whole port is.passing.at.table;

@@ -76,7 +76,7 @@ module _ (env : Env) (mix : ℕ → ℕ → ℕ → ℕ) (words : List ℕ) (G :
         → home env mix G port of.table ≡ Some j → Page (j / 64)
     home_page port slot j of there here = record {
       table = of.table;
-      of = (home-word env mix M G whole port of.table j (at-there env mix whole.tables slot of) here).of;
+      of = (home-word env mix M G whole port of.table j (at-there of) here).of;
       there = table_of_slot slot of there;
     }
 
@@ -84,7 +84,7 @@ module _ (env : Env) (mix : ℕ → ℕ → ℕ → ℕ) (words : List ℕ) (G :
         → IsWayIn env mix G number of.table place → Entry place.entry
     way_entry number slot place of there to = record {
       table = of.table;
-      open_in = way_open env mix M G whole of.table number (at-there env mix whole.tables slot of) to.nested place to.way;
+      open_in = way_open env mix M G whole of.table number (at-there of) to.nested place to.way;
       there = table_of_slot slot of there;
     }
 

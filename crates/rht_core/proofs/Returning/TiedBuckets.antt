@@ -393,7 +393,7 @@ module _ (env : Env) (mix : ℕ → ℕ → ℕ → ℕ) (words : List ℕ) (G :
   home_tied : (slot place : ℕ) (shape : Option ℕ) → IsAtHome env mix G port slot shape place → IsTied env mix G slot place
   home_tied slot place shape is = record {
     at = is.passing.at;
-    of = (home-word env mix (mem env mix words) G whole port is.passing.at.table _ (at-there env mix whole.tables slot is.passing.at)
+    of = (home-word env mix (mem env mix words) G whole port is.passing.at.table _ (at-there is.passing.at)
         is.here).of;
   }
 

@@ -30,7 +30,7 @@ use Rattle.rht_ghost.proofs.Theory.Passed.{TablesGrow, at-stays}
 use Rattle.rht_ghost.proofs.Theory.Steps.{mem}
 use Rattle.rht_ghost.proofs.Theory.WaysRead.{words_of_pages, read_by_entry, flat_read, way_read, way_next, place_of_bucket}
 use Rattle.rht_ghost.proofs.Theory.WaysStay.{IsWayIn-stay}
-use Rattle.rht_ghost.proofs.Theory.Wholes.{Whole, word_index, IsThere, IsAt, current-there, at-there}
+use Rattle.rht_ghost.proofs.Theory.Wholes.{Whole, word_index, IsThere, IsAt, current-at, current-there, at-there}
 
 module _ (env : Env) (mix : ℕ → ℕ → ℕ → ℕ) (G : Ghost) where
   -- the bucket is in a table that was attached, of this shape
@@ -114,17 +114,14 @@ module _ (env : Env) (mix : ℕ → ℕ → ℕ → ℕ) (words : List ℕ) (G :
   current_attached : IsAt G (table_of (M CurrentTable))
   current_attached =
       let right = whole.tables.each G.current (current-there env mix whole.tables) in
-      record {
-        table = G.current;
-        attached = whole.tables.current_in;
-        slot_is = let word = whole.tables.current_is in omega (arith, right.slot_in, word);
-      }
+      current-at env mix whole.tables (table_of (M CurrentTable))
+      (let word = whole.tables.current_is in omega (arith, right.slot_in, word))
 
   module _ (from : Option Cursor) (limit shown : ℕ) where
     visiting-tied : (visit : Visit) → IsVisitIn visit → IsWalked env mix G visit → Tied (visiting env.geometry visit)
     visiting-tied visit within is =
         let τ = is.of.table in
-        let is_there = at-there env mix whole.tables visit.table is.of in
+        let is_there = at-there is.of in
         let number = visit.bucket in
         cond_both (is_nested visit.shape) _ _ Tied
         (λ nested. record {
@@ -195,7 +192,7 @@ module _ (env : Env) (mix : ℕ → ℕ → ℕ → ℕ) (words : List ℕ) (G :
       below = number_below visit within is.walked
 
       is_there : IsThere G τ
-      is_there = at-there env mix whole.tables visit.table is.walked.of
+      is_there = at-there is.walked.of
 
       abbrev led_by : Option ℕ
       led_by = page_of env.geometry.pages (M (PageWord way.entry))

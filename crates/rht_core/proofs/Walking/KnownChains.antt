@@ -1,5 +1,5 @@
 -- What a walk knows at the nodes of a bucket's chain, and how each load there leads on from it.
-use Rattle.std.proofs.Common.{◌≡◌, ◌≢◌, ◌⊎◌, ℕ, ◌+◌, ◌^◌, ◌<◌, ◌≤◌, Bool, true, List, ◌∷◌, ◌++◌, Option, Some, None, refl, sym, ◌∙◌, ap, subst, inl, inr, arith}
+use Rattle.std.proofs.Common.{◌≡◌, ◌≢◌, ℕ, ◌+◌, ◌^◌, ◌<◌, ◌≤◌, Bool, true, List, Option, Some, None, refl, sym, ◌∙◌, ap, subst, inl, inr, arith}
 use Rattle.std.proofs.lemmas.Bool.{cases_eq}
 use Rattle.rht_words.specs.declared.env.Env.{Env}
 use Rattle.rht_words.specs.Links.{link_of, head_of}
@@ -107,7 +107,7 @@ module _ (env : Env) (mix : ℕ → ℕ → ℕ → ℕ) (from : Option Cursor) 
     same_table = index_is env mix M G whole slot tied.walked.of
 
     is_there : IsThere G (index_at G slot)
-    is_there = subst (IsThere G) (sym same_table) (at-there env mix whole.tables slot tied.walked.of)
+    is_there = subst (IsThere G) (sym same_table) (at-there tied.walked.of)
 
     below : visit.bucket < size_of (unpacked (G.table (index_at G slot)).shape)
     below =
@@ -192,7 +192,7 @@ module _ (env : Env) (mix : ℕ → ℕ → ℕ → ℕ) (from : Option Cursor) 
     bucket = word_index env mix chain.place
 
     there_now : IsThere G τ
-    there_now = subst (IsThere G) (sym (index_is env mix M G whole table walked.of)) (at-there env mix whole.tables table walked.of)
+    there_now = subst (IsThere G) (sym (index_is env mix M G whole table walked.of)) (at-there walked.of)
 
     number_low : chain.visit.bucket < size_of (unpacked (G.table τ).shape)
     number_low =

@@ -88,7 +88,6 @@ module _ (env : Env) (mix : ℕ → ℕ → ℕ → ℕ) where
         current_in = is.current_in;
         current_is = is.current_is;
         force = λ τ from l. is.slots.live τ l from;
-        there = λ τ l. restated_there τ (whole.tables.there τ l);
         each = λ τ now.
             let s = (G.table τ).slot in
             let has = sym (is.slots.has s) ∙ now.has_slot in

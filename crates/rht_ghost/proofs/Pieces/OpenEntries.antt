@@ -122,7 +122,7 @@ module _ (env : Env) (mix : ℕ → ℕ → ℕ → ℕ) (M : Memory) (G : Ghost
     pub open_in_table : IsOpenIn env G on.shaped.passing.at.table place.entry
     open_in_table =
         let at = on.shaped.passing.at in
-        way_open at.table (hash_in env mix G port at.table) (at-there env mix whole.tables slot at) on.to.nested place on.to.way
+        way_open at.table (hash_in env mix G port at.table) (at-there at) on.to.nested place on.to.way
 
     pub open_on_way : IsOpenEntry env G place.entry
     open_on_way = open_in_table.open_is
@@ -137,7 +137,7 @@ module _ (env : Env) (mix : ℕ → ℕ → ℕ → ℕ) (M : Memory) (G : Ghost
           record {
             shaped = on.shaped;
             to = on_way_next env mix M G whole port on.shaped.passing.at.table
-                (at-there env mix whole.tables slot on.shaped.passing.at) place on.to next page entry_is e;
+                (at-there on.shaped.passing.at) place on.to next page entry_is e;
             behind = tt;
           }
       entered_so (starts.Done there) e =

@@ -93,7 +93,7 @@ module _ (env : Env) (mix : ℕ → ℕ → ℕ → ℕ) where
           (starts.Running (nested_place env.geometry shape number)) (starts.Done (At place)))))
           (is_nested shape)
           (λ nested. way_begins env mix M G whole port slot at shape shape_is nested)
-          (λ flat. home_place env mix M G whole port τ (at-there env mix whole.tables slot at) place
+          (λ flat. home_place env mix M G whole port τ (at-there at) place
           (flat_home env mix M G whole port slot at shape shape_is flat))
 
       module _ (state : ReachAt) (place : PlaceModel) (same : place.geometry ≡ env.geometry)
@@ -105,9 +105,9 @@ module _ (env : Env) (mix : ℕ → ℕ → ℕ → ℕ) where
         entered_tells : (page : ℕ) → led_by ≡ Some page → (start : Start PlaceModel ℕ) → entered place page ≡ start
             → let next = went_behind place start in Tells (followed (at_slot state) next.0 next.1)
         entered_tells page leads (starts.Running next) e =
-            on_way_next env mix M G whole port τ (at-there env mix whole.tables slot at) place to next page leads e
+            on_way_next env mix M G whole port τ (at-there at) place to next page leads e
         entered_tells page leads (starts.Done there) e =
-            home_place env mix M G whole port τ (at-there env mix whole.tables slot at) there
+            home_place env mix M G whole port τ (at-there at) there
             (way_home env mix M G whole port slot at place same to page there leads e)
 
         -- and one that leads to none: the bucket is missing

@@ -14,7 +14,7 @@ use Rattle.rht_words.specs.declared.machine.Start.TheVariants as starts
 use Rattle.rht_nest.specs.Tables.{is_nested, table_pages, table_seed}
 use Rattle.rht_nest.specs.Place.{PlaceModel, nested_place, entered}
 use Rattle.rht_ghost.proofs.Theory.Ghosts.{Bucket, NodeHeld, Leaving, Middle, PageHeld, PageOf, SlotHeld, Live, Ghost, is_taken_by}
-use Rattle.rht_ghost.proofs.Theory.Wholes.{AreRetired, chain_of, key_of, place_at, word_index, hash_in, home, pages_of, MovesNone, moves_none, IsFurther, Whole, IsAt}
+use Rattle.rht_ghost.proofs.Theory.Wholes.{AreRetired, chain_of, key_of, place_at, word_index, hash_in, home, pages_of, MovesNone, moves_none, IsFurther, Whole, IsAt, AreThereFrom, there_behind}
 use Rattle.rht_ghost.proofs.Theory.Passed.{NoKey, Passed}
 use Rattle.rht_ghost.proofs.Theory.Knowns.{knows_plain, Armed, KnownAim, NoAim, Onward, From, Beyond, KnownRehash, KnownPlace, Follows, Nears, Faces, InBucket, Bare, Aims, LeavesBehind, AtEntry, AtHome, AtNode, AtTail, Brings, Collected, CollectedTo, CutsOut, Differing, Differs, Empties, FirstLink, Found, HasBrought, HasMade, HasPages, HasTaken, InList, InSlot, IsAmong, IsCollected, IsCollectedTo, IsCutOut, IsLeading, IsLeadingTo, IsOtherOwner, IsOwnersNode, IsPromoting, Known, KnownBucket, KnownEntry, KnownList, KnownMaking, KnownNode, KnownSlot, KnownTable, KnownWork, Leads, LeadsTo, Listing, Locks, LocksTakenOut, MakesNothing, Matching, Member, Missed, NoWork, Nowhere, OnWay, Passes, Promotes, Replaces, Rooted, Shaped, Stands, StandsAt, StandsInList, Succeeds, TakenOut, TakesOut, Unlocked, Unlocks, WithShape, Works, last_of}
 use Rattle.rht_ghost.proofs.Theory.Ways.{first_page, entries_in, IsNestedShape}
@@ -67,8 +67,13 @@ module _ (env : Env) (mix : ℕ → ℕ → ℕ → ℕ) where
     pub attached : τ + 1 < G.attached
     pub slot_is : (G.table (τ + 1)).slot ≡ next
 
-  abbrev pub next_at : (G : Ghost) (τ next : ℕ) → IsRightBehind G τ next → IsAt G next
-  next_at G τ next behind = record { table = τ + 1; attached = behind.attached; slot_is = behind.slot_is }
+  abbrev pub next_at : (G : Ghost) (τ next : ℕ) → AreThereFrom G τ → IsRightBehind G τ next → IsAt G next
+  next_at G τ next on behind = record {
+    table = τ + 1;
+    attached = behind.attached;
+    slot_is = behind.slot_is;
+    on = there_behind G τ on;
+  }
 
   -- the table is nested, so that the way to the bucket with this number leads over entries, at one of which it stands
   pub record IsWayIn (G : Ghost) (number τ : ℕ) (place : PlaceModel) : Type 0 where

@@ -432,17 +432,18 @@ module _ (env : Env) (mix : ℕ → ℕ → ℕ → ℕ) where
     pages = λ p τ from. grow.pages p τ;
   }
 
-  -- the table that a slot had is known by its index
+  -- tables of which all behind them are there are so still
+  pub there_from-grows : (G G' : Ghost) → TablesGrow G G' → (τ : ℕ) → AreThereFrom G τ → AreThereFrom G' τ
+  there_from-grows G G' grow τ there σ from l = grow.there σ l (there σ from)
+
+  -- so the table that a slot has is known still
   abbrev pub at-stays : (G G' : Ghost) → TablesGrow G G' → (slot : ℕ) → IsAt G slot → IsAt G' slot
   at-stays G G' grow slot at = record {
     table = at.table;
     attached = less-grown at.attached grow.attached;
     slot_is = (grow.tables at.table at.attached).slot ∙ at.slot_is;
+    on = there_from-grows G G' grow at.table at.on;
   }
-
-  -- so tables of which all behind them are there are so still
-  pub there_from-grows : (G G' : Ghost) → TablesGrow G G' → (τ : ℕ) → AreThereFrom G τ → AreThereFrom G' τ
-  there_from-grows G G' grow τ there σ from l = grow.there σ l (there σ from)
 
   pub table_at-grows : (G G' : Ghost) → TablesGrow G G' → (j : ℕ) → table_at G j ≤ table_at G' j
   table_at-grows G G' grow j = table_at-from 0 G G' (grows_from G G' grow) j (omega arith)

@@ -450,7 +450,6 @@ module _ (env : Env) (mix : ℕ → ℕ → ℕ → ℕ) where
         current_is = write.others CurrentTable tt apart.current ∙ right.current_is;
         force = λ τ from l.
             let live = right.force τ from l in kept.slots (G.table τ).slot (ap has_table live) ∙ live;
-        there = λ τ l. there_kept G G.table G.attached slot page kept τ l (right.there τ l);
         each = λ τ now.
             let s = (G.table τ).slot in
             let owner = back s now.has_slot in

@@ -229,7 +229,7 @@ module _ (env : Env) (mix : ℕ → ℕ → ℕ → ℕ) where
       → option_map (place_at env mix) (home env mix G port passing.at.table) ≡ Some place
       → IsAtHome env mix G port slot (Some shape) place
   at_home M G whole port slot shape place passing shape_is is =
-      let at = home_place M G whole port passing.at.table (at-there env mix whole.tables slot passing.at) place is in
+      let at = home_place M G whole port passing.at.table (at-there passing.at) place is in
       record { passing = passing; shape_is = shape_is; bucket = at.bucket; here = at.here }
 
   -- and where the words lead to none it is missing
