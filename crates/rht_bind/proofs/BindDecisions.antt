@@ -109,6 +109,7 @@ module _ (env : Env) (mix : ℕ → ℕ → ℕ → ℕ) (c : ℕ) (port owner :
           slots = k.only.slots;
           pages_in = k.only.pages_in;
           works = k.only.works;
+          reads = k.only.reads;
         }) (record {
           has = record { mine = k.means.node.has.mine; among = k.means.node.has.among };
           chain = k.means.node.chain;

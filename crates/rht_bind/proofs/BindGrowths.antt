@@ -347,6 +347,7 @@ module _ (env : Env) (mix : ℕ → ℕ → ℕ → ℕ) (c : ℕ) (port owner :
               slots = k.only.slots;
               pages_in = λ p held. subst (In p) (sym pages) (k.only.pages_in p held);
               works = k.only.works;
+              reads = k.only.reads;
             };
             means = record {
               node = k.means.node;

@@ -275,7 +275,7 @@ module _ (env : Env) (mix : ℕ → ℕ → ℕ → ℕ) (c : ℕ) (port owner n
     taken_out : HasTakenOut env mix c G' m
     taken_out = record { among = among; taken = taken_then c m n (First j) G.node taken_with }
 
-    only : HasOnly env mix c G' None (lock_left place before) None false None [] false
+    only : HasOnly env mix c G' None (lock_left place before) None false None [] false true
     only =
         let holder =
         holder_left env mix place word (link_of n) before c G lock change (front ++ n ∷ rear) refl refl in
@@ -289,6 +289,7 @@ module _ (env : Env) (mix : ℕ → ℕ → ℕ → ℕ) (c : ℕ) (port owner n
           slots = left.slots;
           pages_in = left.pages_in;
           works = left.works;
+          reads = left.reads;
         }
 
     still_locked : (node : ℕ) → before ≡ Some node → HoldsLock env mix c G' place word

@@ -123,7 +123,7 @@ module _ (env : Env) (mix : ℕ → ℕ → ℕ → ℕ) (c : ℕ) (port owner :
     record TakesOut (found : FoundPort) (op : Op) (node : ℕ) (front rear : List ℕ) (change : Change)
         (lock : Option ℕ)
         (known : KnownBucket) : Type 0 where
-      only : HasOnly env mix c G None (Some found.bucket.place) None false None [] false
+      only : HasOnly env mix c G None (Some found.bucket.place) None false None [] false true
       there : place_at env mix (word_index env mix found.bucket.place) ≡ found.bucket.place
       behind_maps : nodes_at env.geometry ≤ op_place op
       bound_to : G.bound port ≡ front ++ node ∷ rear
@@ -235,6 +235,7 @@ module _ (env : Env) (mix : ℕ → ℕ → ℕ → ℕ) (c : ℕ) (port owner :
             slots = only.slots;
             pages_in = only.pages_in;
             works = only.works;
+            reads = only.reads;
           }) tt tt (takes.means (record {
             among = takes.among;
             taken = taken_then c node x x_owner G.node takes.with_other;
@@ -372,7 +373,7 @@ module _ (env : Env) (mix : ℕ → ℕ → ℕ → ℕ) (c : ℕ) (port owner :
 
     -- The port's first node has the owner, and others are behind it, which are then the port's alone.
     record TakesFirst (found : FoundPort) (link : ℕ) (rear : List ℕ) (change : Change) : Type 0 where
-      only : HasOnly env mix c G None (Some found.bucket.place) None false None [] false
+      only : HasOnly env mix c G None (Some found.bucket.place) None false None [] false true
       is : IsFound env mix c M G found.bucket.place found.bucket.word port found.node found.before
       bound_to : G.bound port ≡ found.node ∷ rear
       owner_is : owner_of (M (Node found.node OwnerWord)) ≡ owner

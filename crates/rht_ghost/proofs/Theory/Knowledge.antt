@@ -1,6 +1,6 @@
 -- What a caller knows in each state: what that means of the words and the ghost, and that it has nothing more.
 -- It speaks of words and ghosts on which the caller holds the right, or which nobody changes.
-use Rattle.std.proofs.Common.{◌≡◌, ◌≢◌, ◌⊎◌, ℕ, ◌+◌, ◌/◌, ◌%◌, ◌<◌, ◌≤◌, List, [], ◌∷◌, length, Option, Some, None, Bool, true, false}
+use Rattle.std.proofs.Common.{◌≡◌, ◌≢◌, ◌⊎◌, ℕ, ◌+◌, ◌/◌, ◌%◌, ◌<◌, ◌≤◌, List, [], ◌∷◌, length, Option, Some, None, Bool, true, false, arith}
 use Rattle.std.specs.Prelude.{IfSome}
 use Rattle.rht_words.specs.declared.env.Env.{Env}
 use Rattle.rht_words.specs.Places.{Slot, ShapeWord, SeedWord, FutureWord, SerialWord, Node, ChainLink, KeyWord, OwnerWord, ListLink, IsBucketPlace}
@@ -483,10 +483,24 @@ module _ (env : Env) (mix : ℕ → ℕ → ℕ → ℕ) where
 
   -- ---- what it has, and nothing more
 
+  -- in its section a caller may come to the tables from the one on that was current when it was opened, and out of it to none
+  abbrev pub ReadsFrom : Bool → Option ℕ → ℕ → Type 0
+  ReadsFrom false None current = Unit {0}
+  ReadsFrom false (Some low) current = ⊥
+  ReadsFrom true None current = ⊥
+  ReadsFrom true (Some low) current = low ≤ current
+
+  pub ReadsFrom-later : (section : Bool) (from : Option ℕ) (current later : ℕ) → current ≤ later → ReadsFrom section from current
+      → ReadsFrom section from later
+  ReadsFrom-later false None current later more is = tt
+  ReadsFrom-later false (Some low) current later more is = is
+  ReadsFrom-later true None current later more is = is
+  ReadsFrom-later true (Some low) current later more is = omega (arith, is, more)
+
   -- The caller has no other node than this, has locked no other bucket than these, and has raised the count where this says so. It has no
-  -- other slot and pages than these, and does the work only where this says so.
+  -- other slot and pages than these, does the work only where this says so, and is in its section exactly where this does.
   pub record HasOnly (c : ℕ) (G : Ghost) (node lock second : Option ℕ) (raised : Bool) (slot : Option ℕ)
-      (pages : List ℕ) (worker : Bool) : Type 0 where
+      (pages : List ℕ) (worker section : Bool) : Type 0 where
     pub nodes : (n : ℕ) → G.node n ≡ NodeHeld c → node ≡ Some n
     pub locks : (j : ℕ) → (G.bucket j).holder ≡ Some c
         → (lock ≡ Some (place_at env mix j)) ⊎ (second ≡ Some (place_at env mix j))
@@ -494,14 +508,15 @@ module _ (env : Env) (mix : ℕ → ℕ → ℕ → ℕ) where
     pub slots : (s : ℕ) → G.slot s ≡ SlotHeld c → slot ≡ Some s
     pub pages_in : (p : ℕ) → G.page p ≡ PageHeld c → In p pages
     pub works : G.worker ≡ Some c → worker ≡ true
+    pub reads : ReadsFrom section (G.from c) G.current
 
   abbrev pub Only : {A : Type 0} → ℕ → Ghost → held.Held A → Type 0
-  Only c G h = HasOnly c G h.node h.lock h.second h.raised h.slot h.pages h.worker
+  Only c G h = HasOnly c G h.node h.lock h.second h.raised h.slot h.pages h.worker h.section
 
   -- so one that doesn't do the work has no entry on its way
   pub idle_moves_none : (M : Memory) (G : Ghost) → Whole env mix M G → (c : ℕ) {has lock second : Option ℕ}
-      {raised : Bool} {slot : Option ℕ} {pages : List ℕ}
-      → HasOnly c G has lock second raised slot pages false → MovesNone env mix G c
+      {raised : Bool} {slot : Option ℕ} {pages : List ℕ} {section : Bool}
+      → HasOnly c G has lock second raised slot pages false section → MovesNone env mix G c
   idle_moves_none M G whole c only =
       moves_none env mix M G whole c (λ works. let both = only.works works in cc)
 

@@ -14,7 +14,7 @@ use Rattle.rht_ghost.proofs.Theory.Ghosts.{Ghost, seat-used}
 use Rattle.rht_ghost.proofs.Theory.Wholes.{retired_stay, key_of, word_index, home, out-seated, Whole, IsAt, current-there}
 use Rattle.rht_ghost.proofs.Theory.Passed.{place-table, TableStays, TablesGrow, table_at-grows, home-stays, at-stays}
 use Rattle.rht_ghost.proofs.Theory.Knowns.{KnownAim, NoAim, Onward, From, Beyond, KnownRehash, KnownPlace, Follows, Nears, Faces, KnownEntry, InBucket, Bare, AtEntry, AtTail, Aims, Brings, Empties, LeavesBehind, HasBrought, HasMade, HasPages, HasTaken, Known, KnownMaking, KnownWork, MakesNothing, NoWork, Rooted, TakesOut, Works, last_of}
-use Rattle.rht_ghost.proofs.Theory.Knowledge.{AimMeans, IsWayIn, IsRooted, IsFollowed, IsNearing, IsFacing, IsLeftBehind, IsNext, IsInBucket, IsBare, IsAim, IsAiming, IsWorking, HasLock, HasOnly, HasSlot, IsBringing, IsBrought, IsEmptying, IsEntry, IsOutOf, IsRoot, IsTail, IsTakenOut, IsTarget, Knowing, MakingMeans, Means, WorkMeans, bucket_at}
+use Rattle.rht_ghost.proofs.Theory.Knowledge.{AimMeans, IsWayIn, IsRooted, IsFollowed, IsNearing, IsFacing, IsLeftBehind, IsNext, IsInBucket, IsBare, IsAim, IsAiming, IsWorking, HasLock, HasOnly, ReadsFrom, ReadsFrom-later, HasSlot, IsBringing, IsBrought, IsEmptying, IsEntry, IsOutOf, IsRoot, IsTail, IsTakenOut, IsTarget, Knowing, MakingMeans, Means, TableMeans, WorkMeans, bucket_at}
 use Rattle.rht_ghost.proofs.Theory.Reliance.{HoldingsStay, Rely, WordStays, WorkStays, members_used}
 use Rattle.rht_ghost.proofs.Theory.WaysStay.{IsWayIn-stay}
 use Rattle.rht_ghost.proofs.Theory.KnowledgeStays.{BucketMeans-own, NodeMeans-stay, TableMeans-stay}
@@ -356,10 +356,10 @@ module _ (env : Env) (mix : ℕ → ℕ → ℕ → ℕ) where
 
   -- what is known outlives a step of anybody else, and so does that there is nothing more
   module _ (c : ℕ) (M M' : Memory) (G G' : Ghost) (whole : Whole env mix M G) (rely : Rely env mix c M G M' G') where
-    pub Means-rely : (known : Known) → Means env mix c M G known → Means env mix c M' G' known
-    Means-rely known means = record {
+    pub Means-rely : (known : Known) → TableMeans env mix G' known.table → Means env mix c M G known → Means env mix c M' G' known
+    Means-rely known table means = record {
       node = NodeMeans-stay env mix c M M' G G' rely.nodes rely.words known.node means.node;
-      table = TableMeans-stay env mix c M M' G G' rely.tables known.table means.table;
+      table = table;
       bucket = BucketMeans-own env mix c M M' G G' (members_used env mix M G whole) rely.locks rely.lists rely.chains rely.keys
           rely.owners rely.taken rely.tables rely.unbound known.bucket
           (λ node has. (
@@ -374,21 +374,27 @@ module _ (env : Env) (mix : ℕ → ℕ → ℕ → ℕ) where
     }
 
     pub Only-rely : (has lock second : Option ℕ) (raised : Bool) (slot : Option ℕ) (pages : List ℕ)
-        (worker : Bool) → HasOnly env mix c G has lock second raised slot pages worker
-        → HasOnly env mix c G' has lock second raised slot pages worker
-    Only-rely has lock second raised slot pages worker only = record {
+        (worker was now : Bool) → ReadsFrom env mix now (G'.from c) G'.current
+        → HasOnly env mix c G has lock second raised slot pages worker was
+        → HasOnly env mix c G' has lock second raised slot pages worker now
+    Only-rely has lock second raised slot pages worker was now reads only = record {
       nodes = λ n held. only.nodes n (rely.no_node n held);
       locks = λ j holds. only.locks j (rely.no_lock j holds);
       raising = rely.raised ∙ only.raising;
       slots = λ s held. only.slots s (rely.holdings.no_slot s held);
       pages_in = λ p held. only.pages_in p (rely.holdings.no_page p held);
       works = λ works. only.works (rely.no_work works);
+      reads = reads;
     }
 
+  -- so all that it knows does, where it has its section open, or not, as before
   pub Knowing-rely : {A : Type 0} → (c : ℕ) (M M' : Memory) (G G' : Ghost) (h : held.Held A)
-      (known : Known) → Whole env mix M G
+      (known : Known) → Whole env mix M G → G'.from c ≡ G.from c
       → Rely env mix c M G M' G' → Knowing env mix c h known M G → Knowing env mix c h known M' G'
-  Knowing-rely c M M' G G' h known whole rely knows = record {
-    only = Only-rely c M M' G G' whole rely h.node h.lock h.second h.raised h.slot h.pages h.worker knows.only;
-    means = Means-rely c M M' G G' whole rely known knows.means;
+  Knowing-rely c M M' G G' h known whole from rely knows = record {
+    only = Only-rely c M M' G G' whole rely h.node h.lock h.second h.raised h.slot h.pages h.worker h.section h.section
+        (subst (λ f. ReadsFrom env mix h.section f G'.current) (sym from)
+        (ReadsFrom-later env mix h.section (G.from c) G.current G'.current rely.tables.grow.current knows.only.reads)) knows.only;
+    means = Means-rely c M M' G G' whole rely known (TableMeans-stay env mix c M M' G G' rely.tables known.table knows.means.table)
+        knows.means;
   }

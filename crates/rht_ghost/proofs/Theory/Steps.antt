@@ -21,7 +21,7 @@ use Rattle.rht_model.specs.Multimap.{Multimap, Agree}
 use Rattle.rht_model.specs.Answers.{Answer, is_change}
 use Rattle.rht_arena.specs.Laws.{map_place, map_bit, IsTaking}
 use Rattle.rht_words.specs.TableWords.{IsTableWord}
-use Rattle.rht_ghost.proofs.Theory.Ghosts.{put, put-all, Owner, Free, NodeHeld, First, Leaving, Taken, PageFree, PageHeld, SlotFree, SlotHeld, Ghost, is_taken_by, with_holder, with_armed, with_owner, with_raised, with_slot, has_bit, with_pages, made_table, with_table}
+use Rattle.rht_ghost.proofs.Theory.Ghosts.{put, put-other, put-all, Owner, Free, NodeHeld, First, Leaving, Taken, PageFree, PageHeld, SlotFree, SlotHeld, Ghost, is_taken_by, with_holder, with_armed, with_owner, with_raised, with_from, with_slot, has_bit, with_pages, made_table, with_table}
 use Rattle.rht_ghost.proofs.Theory.Wholes.{place_at, outs, Whole}
 use Rattle.rht_ghost.proofs.Theory.Reliance.{bound_used}
 use Rattle.rht_ghost.proofs.Theory.Frames.{Made, still}
@@ -381,8 +381,8 @@ module _ (env : Env) (mix : ℕ → ℕ → ℕ → ℕ) where
   ghost_after c (CutsOff j entry before) G = cut_off G j before
   ghost_after c Publishes G = published G
   ghost_after c (Retires s) G = retired G s
-  ghost_after c (Opens d) G = G
-  ghost_after c (Closes d) G = G
+  ghost_after c (Opens d) G = with_from G d (Some G.current)
+  ghost_after c (Closes d) G = with_from G d None
   ghost_after c (ReturnsNode n) G = with_owner G n Free
 
   -- the words as a memory
@@ -430,6 +430,13 @@ module _ (env : Env) (mix : ℕ → ℕ → ℕ → ℕ) where
   ReadyFor c M G (Opens d) = d ≡ c
   ReadyFor c M G (Closes d) = d ≡ c
   ReadyFor c M G (ReturnsNode n) = G.node n ≡ Taken c
+
+  -- a move opens no other caller's section, and closes none
+  pub other_sections : (c k : ℕ) (move : Move) (M : Memory) (G : Ghost) → ReadyFor c M G move → k ≢ c
+      → (ghost_after c move G).from k ≡ G.from k
+  other_sections c k (Opens d) M G mine other = put-other G.from d (Some G.current) k (λ e. other (e ∙ mine))
+  other_sections c k (Closes d) M G mine other = put-other G.from d None k (λ e. other (e ∙ mine))
+  other_sections c k _ M G ready other = refl
 
   -- which operation the move is, and how what the call holds changes by it
   abbrev pub Does : Move → Op → ℕ → Holding → Holding → Type 0

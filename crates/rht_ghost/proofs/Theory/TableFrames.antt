@@ -385,6 +385,7 @@ module _ (env : Env) (mix : ℕ → ℕ → ℕ → ℕ) where
         slots = slots_in;
         pages_in = pages_in;
         works = knows.only.works;
+        reads = knows.only.reads;
       };
       means = record {
         node = NodeMeans-stay env mix c M M' G G' (λ n has. has.mine) (λ n has w. node_word n w has.among)
