@@ -116,7 +116,7 @@ module _ (env : Env) (mix : ℕ → ℕ → ℕ → ℕ) (c : ℕ) (port owner :
           key = k.means.node.key;
           owner = k.means.node.owner;
           list = k.means.node.list;
-        }) (TableMeans-stay env mix c M M G G'
+        }) (TableMeans-stay env mix c M M G G' refl
             (tables_stay env mix M G G' whole (same_tables env mix G G'.bucket G.node G.bound G.raised)
             (armed_passes env mix c j G ready)) (at_home port owner claimed) home_is) (record {
               lock = record {
@@ -145,7 +145,8 @@ module _ (env : Env) (mix : ℕ → ℕ → ℕ → ℕ) (c : ℕ) (port owner :
       (knows_of port owner (own port owner claimed.attempt.node) (at_home port owner claimed) bucket) M G
       → BindKnows (unlocking_full claimed why) M G
   full_knows claimed why bucket lock k =
-      record { knowing = plainly env mix k.only k.means.node k.means.table.passing.at lock; fits = tt }
+      let passing = k.means.table.passing in
+      record { knowing = plainly env mix k.only k.means.node (record { at = passing.at; since = passing.since }) lock; fits = tt }
 
   -- the future of a table in which the port was looked for in vain: where there is none, a chain that is
   -- full takes no node

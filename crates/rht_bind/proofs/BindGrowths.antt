@@ -249,7 +249,7 @@ module _ (env : Env) (mix : ℕ → ℕ → ℕ → ℕ) (c : ℕ) (port owner :
     found = M (Slot growing.table FutureWord)
 
     abbrev at_last : IsAt G growing.table
-    at_last = known.knowing.means.table
+    at_last = known.knowing.means.table.at
 
     abbrev τ : ℕ
     τ = at_last.table

@@ -115,7 +115,7 @@ module _ (env : Env) (mix : ℕ → ℕ → ℕ → ℕ) (c : ℕ) (port owner n
         whole.owned.member j m (subst (In m) (sym s.split) (in-middle m front rear))
 
     -- the way to the bucket, and that no entry of its own is on its way
-    table : IsAtHome env mix G port found.table (Some found.shape) place
+    table : IsAtHome env mix c G port found.table (Some found.shape) place
     table = k.means.table
 
     none : MovesNone env mix G c

@@ -245,7 +245,7 @@ module _ (env : Env) (mix : ℕ → ℕ → ℕ → ℕ) (c : ℕ) (port owner :
     -- The port's first node isn't on its way out of any bucket, where it was found in the bucket to which the caller has come.
     found_stays : (found : FoundPort) (behind : List ℕ)
         → (is : IsFound env mix c M G found.bucket.place found.bucket.word port found.node found.before)
-        → IsAtHome env mix G port found.table (Some found.shape) found.bucket.place
+        → IsAtHome env mix c G port found.table (Some found.shape) found.bucket.place
         → MovesNone env mix G c → G.bound port ≡ found.node ∷ behind
         → (i : ℕ) → (G.bucket i).out ≢ Some found.node
     found_stays found behind is at none bound =
@@ -430,7 +430,7 @@ module _ (env : Env) (mix : ℕ → ℕ → ℕ → ℕ) (c : ℕ) (port owner :
     -- what the moves of such a store ask
     found_in : (found : FoundPort) (link : ℕ)
         (is : IsFound env mix c M G found.bucket.place found.bucket.word port found.node found.before)
-        (behind : List ℕ) → IsAtHome env mix G port found.table (Some found.shape) found.bucket.place
+        (behind : List ℕ) → IsAtHome env mix c G port found.table (Some found.shape) found.bucket.place
         → MovesNone env mix G c → G.bound port ≡ found.node ∷ behind
         → let s = is.standing.stands in
         IsFoundIn env mix c port (word_index env mix found.bucket.place) found.node s.front s.rear found.before M

@@ -26,7 +26,7 @@ module _ (env : Env) (mix : ℕ → ℕ → ℕ → ℕ) where
   module _ (c : ℕ) (M M' : Memory) (G G' : Ghost) (whole : Whole env mix M G) (whole' : Whole env mix M' G')
       (rely : Rely env mix c M G M' G') where
     -- the page outlives a step of anybody else: entries that lead to a page lead there still
-    there-stays : (early : Option Answer) (known : KnownTable) → TableMeans env mix G known
+    there-stays : (early : Option Answer) (known : KnownTable) → TableMeans env mix c G known
         → IsThereFor early known M → IsThereFor early known M'
     there-stays None known means there = there
     there-stays (Some answer) (OnWay port slot shape place further) means there =

@@ -69,15 +69,15 @@ module _ (env : Env) (mix : ℕ → ℕ → ℕ → ℕ) (words : List ℕ) (G :
       (ap (λ s. slot_of (M (Slot s FutureWord))) at.slot_is ∙ none)
 
   -- behind a walk of the port's bucket in vain
-  pub unbound-walked : (c port slot place word : ℕ) (shape : Option ℕ) → IsAtHome env mix G port slot shape place
+  pub unbound-walked : (c port slot place word : ℕ) (shape : Option ℕ) → IsAtHome env mix c G port slot shape place
       → IsMissed env mix c M G place word port → slot_of (M (Slot slot FutureWord)) ≡ None → stands_for env.geometry words port ≡ []
   unbound-walked c port slot place word shape at missed none =
       no_owner port (unbound_at_last env mix M G whole port at.passing.at.table (word_index env mix place) at.passing.passed at.here
       missed.none missed.lock.still (no_future slot at.passing.at none))
 
   -- before the entries are looked at
-  pub unbound-early : (words_at : ℕ → List ℕ) (from port slot shape : ℕ) (place : PlaceModel) (early : Option ℕ)
-      → IsOnWay env mix G port slot shape place early → words ≡ words_at from → BucketsStay env mix words_at G from
+  pub unbound-early : {c : ℕ} (words_at : ℕ → List ℕ) (from port slot shape : ℕ) (place : PlaceModel) (early : Option ℕ)
+      → IsOnWay env mix c G port slot shape place early → words ≡ words_at from → BucketsStay env mix words_at G from
       → slot_of (M (Slot slot FutureWord)) ≡ None
       → (stands_for env.geometry (words_at from) port ≡ []) ⊎ IsThereFrom env.geometry words_at mix port slot shape from
   unbound-early words_at from port slot shape place early on now stay none = go (home env mix G port τ) refl

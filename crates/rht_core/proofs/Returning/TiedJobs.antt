@@ -128,16 +128,16 @@ module _ (env : Env) (mix : ℕ → ℕ → ℕ → ℕ) where
       → tied_with G (told (job_after mix env job old)).0
   job_ties words G whole c (finds port state) within knows old found tied = none-tied G (finds port) plain_ending (λ state. tt) _
   job_ties words G whole c (binds port owner once state) within knows old found tied =
-      told-tied G (binds port owner once) plain_ending _ (bind_ties env mix words G whole port owner once state old knows.knowing.means.table tied)
+      told-tied G (binds port owner once) plain_ending _ (bind_ties env mix words G whole c port owner once state old knows.knowing.means.table tied)
   job_ties words G whole c (lists port room state) within knows old found tied =
       let after = all.room_after state room old in
       told-tied G (lists port after) (listing_ending after) _
-      (all_ties env mix words G whole port 0 room.items state old within.at_in knows.knowing.means.table tied)
+      (all_ties env mix words G whole c port 0 room.items state old within.at_in knows.knowing.means.table tied)
   job_ties words G whole c (releases port owner state) within knows old found tied =
-      told-tied G (releases port owner) node_ending _ (release_ties env mix words G whole port owner state old within knows.knowing.means.table tied)
+      told-tied G (releases port owner) node_ending _ (release_ties env mix words G whole c port owner state old within knows.knowing.means.table tied)
   job_ties words G whole c (rebinds port owner new state) within knows old found tied =
       told-tied G (rebinds port owner new) node_ending _
-      (rebind_ties env mix words G whole port owner new state old within.at_in knows.knowing.means.table tied)
+      (rebind_ties env mix words G whole c port owner new state old within.at_in knows.knowing.means.table tied)
   job_ties words G whole c (works state) within knows old found tied = none-tied G works plain_ending (λ state. tt) _
   job_ties words G whole c (tidies batch state) within knows old found tied = none-tied G tidying plain_ending (λ at. tt) _
   job_ties words G whole c (walks from limit room state) within knows old found tied =

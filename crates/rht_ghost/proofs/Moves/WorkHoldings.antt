@@ -71,7 +71,7 @@ module _ (env : Env) (mix : ℕ → ℕ → ℕ → ℕ) (c : ℕ) (G : Ghost) (
     slots = only.slots;
     pages_in = only.pages_in;
     works = only.works;
-    reads = ReadsFrom-later env mix section (G.from c) G.current (G.current + 1) (omega arith) only.reads;
+    reads = ReadsFrom-later section (G.from c) G.current (G.current + 1) (omega arith) only.reads;
   }
 
   pub retired_only : (s : ℕ) → HasOnly env mix c (retired G s) node lock second raised slot pages worker section

@@ -119,9 +119,9 @@ module _ (env : Env) (mix : ℕ → ℕ → ℕ → ℕ) (c : ℕ) (h : Holding)
         (chains_passes env mix M G (with_owner G n owner) whole same)
 
     tables-reowned : (n : ℕ) (owner : Owner) → is_used (G.node n) ≡ false → is_used owner ≡ false
-        → TableMeans env mix G table → TableMeans env mix (with_owner G n owner) table
+        → TableMeans env mix c G table → TableMeans env mix c (with_owner G n owner) table
     tables-reowned n owner was now means =
-        TableMeans-stay env mix c M M G (with_owner G n owner) (stays-reowned n owner was now) table means
+        TableMeans-stay env mix c M M G (with_owner G n owner) refl (stays-reowned n owner was now) table means
 
     -- and where none has
     stays-same : TablesStay env mix G G

@@ -117,7 +117,7 @@ module _ (env : Env) (mix : ℕ → ℕ → ℕ → ℕ) (M : Memory) (G : Ghost
       ap (page_of env.geometry.pages) (whole.entries j here.within here.entry ∙ ap entry_word leads)
       ∙ entries_come_back.entry_names env.geometry.pages page within
 
-  module _ (port slot shape : ℕ) (place : PlaceModel) (on : IsOnWay env mix G port slot shape place None) where
+  module _ {c : ℕ} (port slot shape : ℕ) (place : PlaceModel) (on : IsOnWay env mix c G port slot shape place None) where
     -- the entry at which the way stands is in use
     pub open_in_table : IsOpenIn env G on.shaped.passing.at.table place.entry
     open_in_table =
@@ -132,7 +132,7 @@ module _ (env : Env) (mix : ℕ → ℕ → ℕ → ℕ) (M : Memory) (G : Ghost
       entry_is = led place.entry page open_on_way leads
 
       entered_so : (start : Start PlaceModel ℕ) → entered place page ≡ start
-          → TableMeans env mix G (known_entered port slot shape start)
+          → TableMeans env mix c G (known_entered port slot shape start)
       entered_so (starts.Running next) e =
           record {
             shaped = on.shaped;
@@ -145,5 +145,5 @@ module _ (env : Env) (mix : ℕ → ℕ → ℕ → ℕ) (M : Memory) (G : Ghost
           (way_home env mix M G whole port slot on.shaped.passing.at place same on.to page there entry_is e)
 
       -- and behind the page the way goes on
-      pub entered_on_way : TableMeans env mix G (known_entered port slot shape (entered place page))
+      pub entered_on_way : TableMeans env mix c G (known_entered port slot shape (entered place page))
       entered_on_way = entered_so (entered place page) refl

@@ -44,7 +44,7 @@ module _ (env : Env) (mix : ℕ → ℕ → ℕ → ℕ) (c : ℕ) (h : Holding)
     write = is_write env.geometry words (Section c) turning all within refl
 
     -- what it knew it still knows, in its section and out of it
-    module _ (was now : Bool) (from : Option ℕ) (reads : ReadsFrom env mix now from G.current) where
+    module _ (was now : Bool) (from : Option ℕ) (reads : ReadsFrom now from G.current) where
       abbrev G' : Ghost
       G' = with_from G c from
 
@@ -54,13 +54,14 @@ module _ (env : Env) (mix : ℕ → ℕ → ℕ → ℕ) (c : ℕ) (h : Holding)
       rely : Rely env mix c M G M' G'
       rely = turn_rely env mix c ((M (Section c) + 1) % 2 ^ 64) from M M' G whole write c
 
-      reads_then : ReadsFrom env mix now (G'.from c) G'.current
-      reads_then = subst (λ f. ReadsFrom env mix now f G.current) (sym (put-same G.from c from)) reads
+      reads_then : ReadsFrom now (G'.from c) G'.current
+      reads_then = subst (λ f. ReadsFrom now f G.current) (sym (put-same G.from c from)) reads
 
       known_then : knowing was M G → knowing now M' G'
       known_then knows = record {
-        only = Only-rely env mix c M M' G G' whole rely h.node h.lock h.second h.raised h.slot h.pages h.worker was now reads_then knows.only;
-        means = Means-rely env mix c M M' G G' whole rely known (subst (TableMeans env mix G') (sym nowhere) tt) knows.means;
+        only = Only-rely env mix c M M' G G' whole rely h.node h.lock h.second h.raised h.slot h.pages h.worker was now reads_then
+            knows.only;
+        means = Means-rely env mix c M M' G G' whole rely known (subst (TableMeans env mix c G') (sym nowhere) tt) knows.means;
       }
 
     pub open_step : knowing false M G

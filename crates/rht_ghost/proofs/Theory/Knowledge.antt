@@ -16,12 +16,40 @@ use Rattle.rht_nest.specs.Place.{PlaceModel, nested_place, entered}
 use Rattle.rht_ghost.proofs.Theory.Ghosts.{Bucket, NodeHeld, Leaving, Middle, PageHeld, PageOf, SlotHeld, Live, Ghost, is_taken_by}
 use Rattle.rht_ghost.proofs.Theory.Wholes.{AreRetired, chain_of, key_of, place_at, word_index, hash_in, home, pages_of, MovesNone, moves_none, IsFurther, Whole, IsAt, AreThereFrom, there_behind}
 use Rattle.rht_ghost.proofs.Theory.Passed.{NoKey, Passed}
-use Rattle.rht_ghost.proofs.Theory.Knowns.{knows_plain, Armed, KnownAim, NoAim, Onward, From, Beyond, KnownRehash, KnownPlace, Follows, Nears, Faces, InBucket, Bare, Aims, LeavesBehind, AtEntry, AtHome, AtNode, AtTail, Brings, Collected, CollectedTo, CutsOut, Differing, Differs, Empties, FirstLink, Found, HasBrought, HasMade, HasPages, HasTaken, InList, InSlot, IsAmong, IsCollected, IsCollectedTo, IsCutOut, IsLeading, IsLeadingTo, IsOtherOwner, IsOwnersNode, IsPromoting, Known, KnownBucket, KnownEntry, KnownList, KnownMaking, KnownNode, KnownSlot, KnownTable, KnownWork, Leads, LeadsTo, Listing, Locks, LocksTakenOut, MakesNothing, Matching, Member, Missed, NoWork, Nowhere, OnWay, Passes, Promotes, Replaces, Rooted, Shaped, Stands, StandsAt, StandsInList, Succeeds, TakenOut, TakesOut, Unlocked, Unlocks, WithShape, Works, last_of}
+use Rattle.rht_ghost.proofs.Theory.Knowns.{knows_plain, Armed, KnownAim, NoAim, Onward, From, Beyond, KnownRehash, KnownPlace, Follows, Nears, Faces, InBucket, Bare, Aims, LeavesBehind, AtEntry, AtHome, AtNode, AtTail, Brings, Collected, CollectedTo, CutsOut, Differing, Differs, Empties, FirstLink, Found, HasBrought, HasMade, HasPages, HasTaken, InList, InSlot, IsAmong, IsCollected, IsCollectedTo, IsCutOut, IsLeading, IsLeadingTo, IsOtherOwner, IsOwnersNode, IsPromoting, Known, KnownBucket, KnownEntry, KnownList, KnownMaking, KnownNode, KnownSlot, KnownTable, KnownWork, Leads, LeadsTo, Listing, Locks, LocksTakenOut, MakesNothing, Matching, Member, Missed, NoWork, Nowhere, OnWay, Passes, Promotes, Replaces, Rooted, Shaped, Stands, StandsAt, StandsInList, Succeeds, TakenOut, TakesOut, Unlocked, Unlocks, Works, last_of}
 use Rattle.rht_ghost.proofs.Theory.Ways.{first_page, entries_in, IsNestedShape}
 
 -- the caller does the work, and each table before the current one that has a slot is retired, but for the one in this slot
 abbrev pub DoesWork : ℕ → Ghost → Option ℕ → Type 0
 DoesWork c G slot = (G.worker ≡ Some c) × AreRetired G slot
+
+-- a section that was opened while this table was the current one comes to that one
+abbrev pub IsSince : Option ℕ → ℕ → Type 0
+IsSince None τ = ⊥
+IsSince (Some low) τ = low ≤ τ
+
+pub since-later : (from : Option ℕ) (τ σ : ℕ) → τ ≤ σ → IsSince from τ → IsSince from σ
+since-later None τ σ more since = since
+since-later (Some low) τ σ more since = omega (arith, since, more)
+
+-- in its section a caller may come to the tables from the one on that was current when it was opened, and out of it to none
+abbrev pub ReadsFrom : Bool → Option ℕ → ℕ → Type 0
+ReadsFrom false None current = Unit {0}
+ReadsFrom false (Some low) current = ⊥
+ReadsFrom true None current = ⊥
+ReadsFrom true (Some low) current = low ≤ current
+
+pub ReadsFrom-later : (section : Bool) (from : Option ℕ) (current later : ℕ) → current ≤ later → ReadsFrom section from current
+    → ReadsFrom section from later
+ReadsFrom-later false None current later more is = tt
+ReadsFrom-later false (Some low) current later more is = is
+ReadsFrom-later true None current later more is = is
+ReadsFrom-later true (Some low) current later more is = omega (arith, is, more)
+
+-- so it comes to the current one
+pub since-current : (from : Option ℕ) (current : ℕ) → ReadsFrom true from current → IsSince from current
+since-current None current reads = reads
+since-current (Some low) current reads = reads
 
 module _ (env : Env) (mix : ℕ → ℕ → ℕ → ℕ) where
   -- ---- what it means
@@ -41,13 +69,19 @@ module _ (env : Env) (mix : ℕ → ℕ → ℕ → ℕ) where
     pub owner : IfSome known.owner (λ value. M (Node known.node OwnerWord) ≡ value)
     pub list : IfSome known.list (λ value. M (Node known.node ListLink) ≡ value)
 
-  -- a table has this slot, and none of those before it binds the port
-  pub record IsPassing (G : Ghost) (port slot : ℕ) : Type 0 where
+  -- a table has this slot, to which the caller's section comes
+  pub record IsMet (c : ℕ) (G : Ghost) (slot : ℕ) : Type 0 where
     pub at : IsAt G slot
+    pub since : IsSince (G.from c) at.table
+
+  -- and none of those before it binds the port
+  pub record IsPassing (c : ℕ) (G : Ghost) (port slot : ℕ) : Type 0 where
+    pub at : IsAt G slot
+    pub since : IsSince (G.from c) at.table
     pub passed : Passed env mix G port at.table
 
-  pub record IsShaped (G : Ghost) (port slot shape : ℕ) : Type 0 where
-    pub passing : IsPassing G port slot
+  pub record IsShaped (c : ℕ) (G : Ghost) (port slot shape : ℕ) : Type 0 where
+    pub passing : IsPassing c G port slot
     pub shape_is : (G.table passing.at.table).shape ≡ shape
 
   -- behind the entry with which the way to the bucket with this number begins is a page of entries, and the way stands at one of these
@@ -85,30 +119,24 @@ module _ (env : Env) (mix : ℕ → ℕ → ℕ → ℕ) where
   IsWayTo G port τ place = IsWayIn G (hash_in env mix G port τ) τ place
 
   -- none of the tables before binds the port, and the table behind may be known
-  pub record IsOnWay (G : Ghost) (port slot shape : ℕ) (place : PlaceModel) (early : Option ℕ) : Type 0 where
-    pub shaped : IsShaped G port slot shape
+  pub record IsOnWay (c : ℕ) (G : Ghost) (port slot shape : ℕ) (place : PlaceModel) (early : Option ℕ) : Type 0 where
+    pub shaped : IsShaped c G port slot shape
     pub to : IsWayTo G port shaped.passing.at.table place
     pub behind : IfSome early (IsRightBehind G shaped.passing.at.table)
 
-  pub record IsAtHome (G : Ghost) (port slot : ℕ) (shape : Option ℕ) (place : ℕ) : Type 0 where
-    pub passing : IsPassing G port slot
+  pub record IsAtHome (c : ℕ) (G : Ghost) (port slot : ℕ) (shape : Option ℕ) (place : ℕ) : Type 0 where
+    pub passing : IsPassing c G port slot
     pub shape_is : IfSome shape (λ s. (G.table passing.at.table).shape ≡ s)
     pub bucket : IsBucketPlace env.geometry place
     pub here : home env mix G port passing.at.table ≡ Some (word_index env mix place)
 
-  -- a table has this slot, and this shape
-  pub record HasShape (G : Ghost) (slot shape : ℕ) : Type 0 where
-    pub at : IsAt G slot
-    pub shape_is : (G.table at.table).shape ≡ shape
-
-  abbrev pub TableMeans : Ghost → KnownTable → Type 0
-  TableMeans G Nowhere = Unit {0}
-  TableMeans G (InSlot slot) = IsAt G slot
-  TableMeans G (WithShape slot shape) = HasShape G slot shape
-  TableMeans G (Passes port slot) = IsPassing G port slot
-  TableMeans G (Shaped port slot shape) = IsShaped G port slot shape
-  TableMeans G (OnWay port slot shape place early) = IsOnWay G port slot shape place early
-  TableMeans G (AtHome port slot shape place) = IsAtHome G port slot shape place
+  abbrev pub TableMeans : ℕ → Ghost → KnownTable → Type 0
+  TableMeans c G Nowhere = Unit {0}
+  TableMeans c G (InSlot slot) = IsMet c G slot
+  TableMeans c G (Passes port slot) = IsPassing c G port slot
+  TableMeans c G (Shaped port slot shape) = IsShaped c G port slot shape
+  TableMeans c G (OnWay port slot shape place early) = IsOnWay c G port slot shape place early
+  TableMeans c G (AtHome port slot shape place) = IsAtHome c G port slot shape place
 
   -- the caller has locked the bucket, in which it may be armed, and out of which an entry may be on its way; or neither is so
   pub record HasLock (c : ℕ) (G : Ghost) (place word : ℕ) : Type 0 where
@@ -476,26 +504,12 @@ module _ (env : Env) (mix : ℕ → ℕ → ℕ → ℕ) where
 
   pub record Means (c : ℕ) (M : Memory) (G : Ghost) (known : Known) : Type 0 where
     pub node : IfSome known.node (NodeMeans c M G)
-    pub table : TableMeans G known.table
+    pub table : TableMeans c G known.table
     pub bucket : BucketMeans c M G known.bucket
     pub making : MakingMeans c M G known.making
     pub work : WorkMeans c M G known.work
 
   -- ---- what it has, and nothing more
-
-  -- in its section a caller may come to the tables from the one on that was current when it was opened, and out of it to none
-  abbrev pub ReadsFrom : Bool → Option ℕ → ℕ → Type 0
-  ReadsFrom false None current = Unit {0}
-  ReadsFrom false (Some low) current = ⊥
-  ReadsFrom true None current = ⊥
-  ReadsFrom true (Some low) current = low ≤ current
-
-  pub ReadsFrom-later : (section : Bool) (from : Option ℕ) (current later : ℕ) → current ≤ later → ReadsFrom section from current
-      → ReadsFrom section from later
-  ReadsFrom-later false None current later more is = tt
-  ReadsFrom-later false (Some low) current later more is = is
-  ReadsFrom-later true None current later more is = is
-  ReadsFrom-later true (Some low) current later more is = omega (arith, is, more)
 
   -- The caller has no other node than this, has locked no other bucket than these, and has raised the count where this says so. It has no
   -- other slot and pages than these, does the work only where this says so, and is in its section exactly where this does.
@@ -530,7 +544,7 @@ module _ (env : Env) (mix : ℕ → ℕ → ℕ → ℕ) where
   -- what is known of a call that makes no table and doesn't do the work
   pub plainly : {A : Type 0} {c : ℕ} {h : held.Held A} {node : Option KnownNode} {table : KnownTable} {bucket : KnownBucket}
       {M : Memory} {G : Ghost}
-      → Only c G h → IfSome node (NodeMeans c M G) → TableMeans G table → BucketMeans c M G bucket
+      → Only c G h → IfSome node (NodeMeans c M G) → TableMeans c G table → BucketMeans c M G bucket
       → Knowing c h (knows_plain node table bucket) M G
   plainly only node table bucket =
       record { only = only; means = record { node = node; table = table; bucket = bucket; making = tt; work = tt } }

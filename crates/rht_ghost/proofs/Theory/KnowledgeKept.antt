@@ -356,7 +356,7 @@ module _ (env : Env) (mix : ℕ → ℕ → ℕ → ℕ) where
 
   -- what is known outlives a step of anybody else, and so does that there is nothing more
   module _ (c : ℕ) (M M' : Memory) (G G' : Ghost) (whole : Whole env mix M G) (rely : Rely env mix c M G M' G') where
-    pub Means-rely : (known : Known) → TableMeans env mix G' known.table → Means env mix c M G known → Means env mix c M' G' known
+    pub Means-rely : (known : Known) → TableMeans env mix c G' known.table → Means env mix c M G known → Means env mix c M' G' known
     Means-rely known table means = record {
       node = NodeMeans-stay env mix c M M' G G' rely.nodes rely.words known.node means.node;
       table = table;
@@ -374,7 +374,7 @@ module _ (env : Env) (mix : ℕ → ℕ → ℕ → ℕ) where
     }
 
     pub Only-rely : (has lock second : Option ℕ) (raised : Bool) (slot : Option ℕ) (pages : List ℕ)
-        (worker was now : Bool) → ReadsFrom env mix now (G'.from c) G'.current
+        (worker was now : Bool) → ReadsFrom now (G'.from c) G'.current
         → HasOnly env mix c G has lock second raised slot pages worker was
         → HasOnly env mix c G' has lock second raised slot pages worker now
     Only-rely has lock second raised slot pages worker was now reads only = record {
@@ -393,8 +393,8 @@ module _ (env : Env) (mix : ℕ → ℕ → ℕ → ℕ) where
       → Rely env mix c M G M' G' → Knowing env mix c h known M G → Knowing env mix c h known M' G'
   Knowing-rely c M M' G G' h known whole from rely knows = record {
     only = Only-rely c M M' G G' whole rely h.node h.lock h.second h.raised h.slot h.pages h.worker h.section h.section
-        (subst (λ f. ReadsFrom env mix h.section f G'.current) (sym from)
-        (ReadsFrom-later env mix h.section (G.from c) G.current G'.current rely.tables.grow.current knows.only.reads)) knows.only;
-    means = Means-rely c M M' G G' whole rely known (TableMeans-stay env mix c M M' G G' rely.tables known.table knows.means.table)
+        (subst (λ f. ReadsFrom h.section f G'.current) (sym from)
+        (ReadsFrom-later h.section (G.from c) G.current G'.current rely.tables.grow.current knows.only.reads)) knows.only;
+    means = Means-rely c M M' G G' whole rely known (TableMeans-stay env mix c M M' G G' from rely.tables known.table knows.means.table)
         knows.means;
   }

@@ -10,8 +10,8 @@ use Rattle.rht_words.proofs.Members.{In-append_left, In-append_cases, in-middle}
 use Rattle.rht_ghost.proofs.Theory.Ghosts.{NodeHeld, Ghost, is_taken_by}
 use Rattle.rht_ghost.proofs.Theory.Wholes.{chain_of, key_of, word_index, IsAt}
 use Rattle.rht_ghost.proofs.Theory.Passed.{NoKey, NoKey-same, home-stays, at-stays}
-use Rattle.rht_ghost.proofs.Theory.Knowns.{Armed, AtHome, AtNode, Collected, CollectedTo, CutsOut, Differing, Differs, FirstLink, Found, InList, InSlot, IsAmong, IsLeading, IsOwnersNode, KnownBucket, KnownList, KnownNode, KnownTable, Leads, LeadsTo, Listing, Locks, LocksTakenOut, Matching, Member, Missed, NoOwner, Nowhere, OnWay, Passes, Promotes, Replaces, Shaped, Stands, StandsInList, Succeeds, TakenOut, Unlocked, Unlocks, WithShape, first_of_list, owners_of}
-use Rattle.rht_ghost.proofs.Theory.Knowledge.{ArmedFor, BucketMeans, HasLock, HasNode, HasTakenOut, HoldsLock, IsArmed, IsDiffering, IsFound, IsInList, IsMember, IsPassing, IsPlain, IsPlainList, IsReaching, IsShaped, IsStanding, ListMeans, NodeMeans, TableMeans, bucket_at}
+use Rattle.rht_ghost.proofs.Theory.Knowns.{Armed, AtHome, AtNode, Collected, CollectedTo, CutsOut, Differing, Differs, FirstLink, Found, InList, InSlot, IsAmong, IsLeading, IsOwnersNode, KnownBucket, KnownList, KnownNode, KnownTable, Leads, LeadsTo, Listing, Locks, LocksTakenOut, Matching, Member, Missed, NoOwner, Nowhere, OnWay, Passes, Promotes, Replaces, Shaped, Stands, StandsInList, Succeeds, TakenOut, Unlocked, Unlocks, first_of_list, owners_of}
+use Rattle.rht_ghost.proofs.Theory.Knowledge.{ArmedFor, BucketMeans, HasLock, HasNode, HasTakenOut, HoldsLock, IsArmed, IsDiffering, IsFound, IsInList, IsMember, IsPassing, IsPlain, IsPlainList, IsReaching, IsShaped, IsSince, IsStanding, ListMeans, NodeMeans, TableMeans, bucket_at}
 use Rattle.rht_ghost.proofs.Theory.WaysStay.{IsWayTo-stay, IsRightBehind-stay}
 use Rattle.rht_ghost.proofs.Theory.Reliance.{ChainsStay, MembersUsed, TablesStay, WordStays}
 
@@ -40,11 +40,15 @@ module _ (env : Env) (mix : ℕ → ℕ → ℕ → ℕ) where
         list = known-stays known.node ListLink known.list means.has means.list;
       }
 
-    -- of tables: where these stay
-    module _ (stay : TablesStay env mix G G') where
-      abbrev IsPassing-stay : (port slot : ℕ) → IsPassing env mix G port slot → IsPassing env mix G' port slot
+    -- of tables: where these stay, and so does to which of them the caller's section comes
+    module _ (from : G'.from c ≡ G.from c) (stay : TablesStay env mix G G') where
+      since-stays : (τ : ℕ) → IsSince (G.from c) τ → IsSince (G'.from c) τ
+      since-stays τ = subst (λ f. IsSince f τ) (sym from)
+
+      abbrev IsPassing-stay : (port slot : ℕ) → IsPassing env mix c G port slot → IsPassing env mix c G' port slot
       IsPassing-stay port slot means = record {
         at = at-stays env mix G G' stay.grow slot means.at;
+        since = since-stays means.at.table means.since;
         passed = stay.passed port means.at.table means.passed;
       }
 
@@ -53,18 +57,17 @@ module _ (env : Env) (mix : ℕ → ℕ → ℕ → ℕ) where
       shape-stays slot None at is = tt
       shape-stays slot (Some s) at is = (stay.grow.tables at.table at.attached).shape ∙ is
 
-      abbrev IsShaped-stay : (port slot shape : ℕ) → IsShaped env mix G port slot shape → IsShaped env mix G' port slot shape
+      abbrev IsShaped-stay : (port slot shape : ℕ) → IsShaped env mix c G port slot shape → IsShaped env mix c G' port slot shape
       IsShaped-stay port slot shape means = record {
         passing = IsPassing-stay port slot means.passing;
         shape_is = shape-stays slot (Some shape) means.passing.at means.shape_is;
       }
 
-      pub TableMeans-stay : (known : KnownTable) → TableMeans env mix G known → TableMeans env mix G' known
+      pub TableMeans-stay : (known : KnownTable) → TableMeans env mix c G known → TableMeans env mix c G' known
       TableMeans-stay Nowhere means = tt
-      TableMeans-stay (InSlot slot) means = at-stays env mix G G' stay.grow slot means
-      TableMeans-stay (WithShape slot shape) means = record {
+      TableMeans-stay (InSlot slot) means = record {
         at = at-stays env mix G G' stay.grow slot means.at;
-        shape_is = shape-stays slot (Some shape) means.at means.shape_is;
+        since = since-stays means.at.table means.since;
       }
       TableMeans-stay (Passes port slot) means = IsPassing-stay port slot means
       TableMeans-stay (Shaped port slot shape) means = IsShaped-stay port slot shape means

@@ -390,7 +390,7 @@ module _ (env : Env) (mix : ℕ → ℕ → ℕ → ℕ) where
       means = record {
         node = NodeMeans-stay env mix c M M' G G' (λ n has. has.mine) (λ n has w. node_word n w has.among)
             known.node knows.means.node;
-        table = TableMeans-stay env mix c M M' G G' kept_stay known.table knows.means.table;
+        table = TableMeans-stay env mix c M M' G G' refl kept_stay known.table knows.means.table;
         bucket = BucketMeans-own env mix c M M' G G' (members_used env mix M G whole) (λ j h. refl) (λ j n h i. refl)
             (chains_stay env mix c M M' G a v whole write (λ n used. apart.nodes n ChainLink))
             (λ n l used. node_word n KeyWord l) (λ n l used. node_word n OwnerWord l) (λ n. refl) kept_stay
