@@ -26,10 +26,10 @@ use Rattle.rht_walk.proofs.WalkStays.{some_buckets}
 use Rattle.rht_ghost.proofs.Pieces.TableLoads.{shape_word}
 use Rattle.rht_ghost.proofs.Theory.Ghosts.{Ghost}
 use Rattle.rht_ghost.proofs.Theory.Knowledge.{IsWayIn}
-use Rattle.rht_ghost.proofs.Theory.Passed.{TablesGrow, at-stays}
+use Rattle.rht_ghost.proofs.Theory.Passed.{TablesGrow, grows_from, at-stays}
 use Rattle.rht_ghost.proofs.Theory.Steps.{mem}
 use Rattle.rht_ghost.proofs.Theory.WaysRead.{words_of_pages, read_by_entry, flat_read, way_read, way_next, place_of_bucket}
-use Rattle.rht_ghost.proofs.Theory.WaysStay.{IsWayIn-stay}
+use Rattle.rht_ghost.proofs.Theory.WaysStay.{IsWayIn-from}
 use Rattle.rht_ghost.proofs.Theory.Wholes.{Whole, word_index, IsThere, IsAt, current-at, current-there, at-there}
 
 module _ (env : Env) (mix : ℕ → ℕ → ℕ → ℕ) (G : Ghost) where
@@ -74,7 +74,8 @@ module _ (env : Env) (mix : ℕ → ℕ → ℕ → ℕ) (G G' : Ghost) (grow : 
   way-stays : (visit : Visit) (way : PlaceModel) → IsOnWayTo env mix G visit way → IsOnWayTo env mix G' visit way
   way-stays visit way is = record {
     walked = walked-stays visit is.walked;
-    to = IsWayIn-stay env mix G G' grow visit.bucket is.walked.of.table way is.walked.of.attached is.to;
+    to = IsWayIn-from env mix 0 G G' (grows_from env mix G G' grow) visit.bucket is.walked.of.table way is.walked.of.attached
+        (omega arith) is.to;
   }
 
   bucket-stays : (visit : Visit) (place : ℕ) → IsAtBucket env mix G visit place → IsAtBucket env mix G' visit place

@@ -1,8 +1,8 @@
 -- A caller opens its read section, and closes it: an addition to its section word, of which the whole doesn't speak, nor what callers know.
 -- What a caller knows of itself changes with it: to which tables it may come.
-use Rattle.std.proofs.Common.{◌≡◌, ℕ, Option, refl, ◌∙◌}
+use Rattle.std.proofs.Common.{ℕ, Option, refl, ◌∙◌}
 use Rattle.rht_words.specs.declared.env.Env.{Env}
-use Rattle.rht_words.specs.Places.{Section, NodeWord, ChainLink, Node, Slot, PortCount}
+use Rattle.rht_words.specs.Places.{Section, Node, Slot, PortCount}
 use Rattle.rht_words.proofs.Memory.{Memory, IsWrite}
 use Rattle.rht_ghost.proofs.Theory.Ghosts.{Ghost, with_from}
 use Rattle.rht_ghost.proofs.Theory.Wholes.{Whole}

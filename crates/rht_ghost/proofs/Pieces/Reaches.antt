@@ -2,7 +2,7 @@
 --
 -- What they tell is true of the words and of any table that is known by its slot. It is no knowledge of a caller: it may be carried along
 -- in any induction over runs, since it outlives whatever leaves tables what they are.
-use Rattle.std.proofs.Common.{◌≡◌, ℕ, ◌<◌, List, Option, Some, None, cond, refl, sym, ◌∙◌, ap, subst}
+use Rattle.std.proofs.Common.{◌≡◌, ℕ, ◌<◌, List, Option, Some, None, cond, refl, sym, ◌∙◌, ap, subst, arith}
 use Rattle.rht_words.specs.declared.env.Env.{Env}
 use Rattle.rht_words.specs.declared.geometry.Geometry.{Geometry}
 use Rattle.rht_words.specs.declared.machine.Next.{Next}
@@ -24,10 +24,10 @@ use Rattle.rht_nest.specs.declared.reach.ReachAt.{ReachAt}
 use Rattle.rht_nest.specs.declared.reach.ReachAt.TheVariants as reaches
 use Rattle.rht_ghost.proofs.Theory.Ghosts.{Ghost}
 use Rattle.rht_ghost.proofs.Theory.Wholes.{IsAt, at-there, Whole, hash_in, home}
-use Rattle.rht_ghost.proofs.Theory.Passed.{TablesGrow}
+use Rattle.rht_ghost.proofs.Theory.Passed.{TablesGrow, grows_from}
 use Rattle.rht_ghost.proofs.Theory.Knowledge.{IsWayTo}
 use Rattle.rht_ghost.proofs.Theory.WaysRead.{IsPlaceOf, on_way_next, home_place}
-use Rattle.rht_ghost.proofs.Theory.WaysStay.{IsWayTo-stay}
+use Rattle.rht_ghost.proofs.Theory.WaysStay.{IsWayTo-from}
 use Rattle.rht_ghost.proofs.Theory.Steps.{Holding, by_test, mem, SilentStep, loads}
 use Rattle.rht_ghost.proofs.Pieces.TableLoads.{shape_word, way_begins, flat_home, way_missing, way_home}
 
@@ -53,7 +53,8 @@ module _ (env : Env) (mix : ℕ → ℕ → ℕ → ℕ) where
       → IsReachingHome G port τ state → IsReachingHome G' port τ state
   IsReachingHome-stay G G' grow port τ reaches.Shape attached is = tt
   IsReachingHome-stay G G' grow port τ (reaches.Seed shape) attached is = (grow.tables τ attached).shape ∙ is
-  IsReachingHome-stay G G' grow port τ (reaches.Entry place) attached is = IsWayTo-stay env mix G G' grow port τ place attached is
+  IsReachingHome-stay G G' grow port τ (reaches.Entry place) attached is =
+      IsWayTo-from env mix 0 G G' (grows_from env mix G G' grow) port τ place attached (omega arith) is
 
   module _ (words : List ℕ) (G : Ghost) (whole : Whole env mix (mem env mix words) G) where
     abbrev M : Memory

@@ -12,10 +12,10 @@ use Rattle.rht_ghost.proofs.Theory.Ghosts.{has_entries, Table, blank_bucket, Pag
 use Rattle.rht_ghost.proofs.Theory.Wholes.{key_of, list_of, home, future_in, IsNoBucket, PlacedRight, EntriesRight, TableRight, TablesRight, SlotsRight, PagesRight, MovingRight, OutRight, IsHomeOf, IsFirstAt, IsLeavingAt, Owned, Whole, seated_at, IsThere, there-attached}
 use Rattle.rht_nest.specs.Tables.{table_seed}
 use Rattle.rht_ghost.proofs.Theory.Entries.{PlacedRight-pages}
-use Rattle.rht_ghost.proofs.Theory.Passed.{held-bucket, member-bucket, home-stays, TableStays, same-TableStays, TablesGrow, PassesStay, Passed-stays}
+use Rattle.rht_ghost.proofs.Theory.Passed.{held-bucket, member-bucket, home-stays, TableStays, same-TableStays, TablesGrow, grows_from, PassesStay}
 use Rattle.rht_ghost.proofs.Theory.Knowns.{Known, KnownMaking}
 use Rattle.rht_ghost.proofs.Theory.Knowledge.{MakingMeans, Knowing}
-use Rattle.rht_ghost.proofs.Theory.Reliance.{TablesStay, HoldingsStay, WorkStays, members_used, Rely}
+use Rattle.rht_ghost.proofs.Theory.Reliance.{TablesStay, all_stay, HoldingsStay, WorkStays, members_used, Rely}
 use Rattle.rht_ghost.proofs.Theory.KnowledgeStays.{NodeMeans-stay, TableMeans-stay, BucketMeans-own}
 use Rattle.rht_ghost.proofs.Theory.KnowledgeKept.{WorkMeans-stay}
 use Rattle.rht_ghost.proofs.Theory.Frames.{passes_same, chains_stay}
@@ -131,10 +131,7 @@ module _ (env : Env) (mix : ℕ → ℕ → ℕ → ℕ) where
     })
 
     pub kept_stay : TablesStay env mix G G'
-    kept_stay = record {
-      grow = kept_grow;
-      passed = Passed-stays env mix M G G' whole kept_grow kept_passes;
-    }
+    kept_stay = all_stay env mix M G G' whole kept_grow kept_passes
 
     pub node_word : (n : ℕ) (w : NodeWord) → n < env.geometry.nodes → M' (Node n w) ≡ M (Node n w)
     node_word n w l = write.others (Node n w) l (apart.nodes n w)
@@ -399,7 +396,9 @@ module _ (env : Env) (mix : ℕ → ℕ → ℕ → ℕ) where
             knows.means.bucket;
         making = means;
         work = WorkMeans-stay env mix c M M' G G' whole (record {
-          grow = kept_grow;
+          low = 0;
+          current = omega arith;
+          grow = grows_from env mix G G' kept_grow;
           locks = λ j h. refl;
           keys = λ n l used. node_word n KeyWord l;
           work = work_kept c;
