@@ -10,7 +10,7 @@ use Rattle.rht_words.proofs.Memory.{Memory, IsWrite, is_write}
 use Rattle.rht_ghost.proofs.Theory.Ghosts.{Ghost, put-same, with_from}
 use Rattle.rht_ghost.proofs.Theory.Wholes.{Whole}
 use Rattle.rht_ghost.proofs.Theory.Knowns.{Known, Nowhere}
-use Rattle.rht_ghost.proofs.Theory.Knowledge.{Knowing, ReadsFrom, TableMeans}
+use Rattle.rht_ghost.proofs.Theory.Knowledge.{Knowing, ReadsFrom, outside-none, TableMeans}
 use Rattle.rht_ghost.proofs.Theory.KnowledgeKept.{Means-rely, Only-rely}
 use Rattle.rht_ghost.proofs.Theory.Steps.{Opens, Closes, Holding, mem, SilentStep, silent}
 use Rattle.rht_ghost.proofs.Moves.Sections.{turn_section, turn_rely}
@@ -67,7 +67,8 @@ module _ (env : Env) (mix : ℕ → ℕ → ℕ → ℕ) (c : ℕ) (h : Holding)
     pub open_step : knowing false M G
         → SilentStep env mix c words G turning (holding false) (holding true) (knowing true)
     open_step knows =
-        silent env mix c words G turning (holding false) (holding true) (knowing true) (Opens c) whole refl tt
+        silent env mix c words G turning (holding false) (holding true) (knowing true) (Opens c) whole
+        (refl, outside-none (G.from c) G.current knows.only.reads) tt
         (turned false true (Some G.current) (omega arith))
         (record { within = within; turns = refl; outside = refl; holds = refl })
         (known_then false true (Some G.current) (omega arith) knows)

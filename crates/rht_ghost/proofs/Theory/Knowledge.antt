@@ -1,6 +1,6 @@
 -- What a caller knows in each state: what that means of the words and the ghost, and that it has nothing more.
 -- It speaks of words and ghosts on which the caller holds the right, or which nobody changes.
-use Rattle.std.proofs.Common.{◌≡◌, ◌≢◌, ◌⊎◌, ℕ, ◌+◌, ◌/◌, ◌%◌, ◌<◌, ◌≤◌, List, [], ◌∷◌, length, Option, Some, None, Bool, true, false, arith}
+use Rattle.std.proofs.Common.{◌≡◌, ◌≢◌, ◌⊎◌, refl, ℕ, ◌+◌, ◌/◌, ◌%◌, ◌<◌, ◌≤◌, List, [], ◌∷◌, length, Option, Some, None, Bool, true, false, arith}
 use Rattle.std.specs.Prelude.{IfSome}
 use Rattle.rht_words.specs.declared.env.Env.{Env}
 use Rattle.rht_words.specs.Places.{Slot, ShapeWord, SeedWord, FutureWord, SerialWord, Node, ChainLink, KeyWord, OwnerWord, ListLink, IsBucketPlace}
@@ -46,7 +46,12 @@ ReadsFrom-later false (Some low) current later more is = is
 ReadsFrom-later true None current later more is = is
 ReadsFrom-later true (Some low) current later more is = omega (arith, is, more)
 
--- so it comes to the current one
+-- out of it there is none
+pub outside-none : (from : Option ℕ) (current : ℕ) → ReadsFrom false from current → from ≡ None
+outside-none None current reads = refl
+outside-none (Some low) current reads = absurd reads
+
+-- and in it it comes to the current one
 pub since-current : (from : Option ℕ) (current : ℕ) → ReadsFrom true from current → IsSince from current
 since-current None current reads = reads
 since-current (Some low) current reads = reads
