@@ -324,8 +324,8 @@ module _ (env : Env) (mix : ℕ → ℕ → ℕ → ℕ) (L : Type 0) where
           (λ t.
           let was = eqb-true (section_of core c % 2) 1 t in
           record {
-            right = made-keeps env mix makes.caller c (mem env mix core.words) (mem env mix core'.words) G G' r meets.from_is makes.made unmet
-                (odd ∙ sym was) meets.right;
+            right = made-keeps env mix makes.caller c (mem env mix core.words) (mem env mix core'.words) G G' r meets.from_is makes.made
+                unmet (odd ∙ sym was) meets.right;
             from_is = still_from was odd;
             stands = λ open_then.
                 stays_met env mix stay.low G G' r stay.grows open_then (λ first is. stay.sections c first (sym meets.from_is ∙ is))
