@@ -14,6 +14,10 @@ use Rattle.rht_words.specs.Operations.{old_of}
 use Rattle.rht_words.specs.Places.{Section, word_at}
 use Rattle.rht_words.specs.Standing.{Standing, stands_nowhere}
 use Rattle.rht_words.proofs.Memory.{Memory}
+use Rattle.rht_words.specs.Members.{In}
+use Rattle.rht_words.proofs.Members.{AllByRecursion-In}
+use Rattle.rht_ghost.proofs.Theory.Wholes.{one_table}
+use Rattle.rht_core.proofs.Returning.TiedWalks.{AreFrom}
 use Rattle.rht_words.proofs.EachElement.{AllByRecursion-weaker}
 use Rattle.rht_model.specs.declared.history.Call.{Call}
 use Rattle.rht_callers.specs.declared.local.Local.{Local}
@@ -49,22 +53,27 @@ use Rattle.rht_core.proofs.Returning.StaleLinks.{made-keeps}
 nowhere_right : (G : Ghost) (r : Reader) (at : Standing) → at ≡ stands_nowhere → StandsRight G r at
 nowhere_right G r at is = subst (StandsRight G r) (sym is) (record { tables = tt; nodes = tt; listed = tt })
 
+-- a table that a section has met is not before one from which on tables stay that isn't behind the section's first one
+meets-from : (low : ℕ) (G : Ghost) (r : Reader) → IsOpen r → ((first : ℕ) → r.from ≡ Some first → low ≤ first) → (slot : ℕ)
+    → (meets : MeetsTable G r slot) → low ≤ meets.at.table
+meets-from low G r reads begins slot meets = go r.from refl
+  where
+    go : (from : Option ℕ) → r.from ≡ from → low ≤ meets.at.table
+    go None is = absurd (let closed = ap is_some is in cc)
+    go (Some first) is =
+        let since = meets.since first is in let begin = begins first is in omega (arith, since, begin)
+
 -- what was met stays met, and more may be
 stays_met : (env : Env) (mix : ℕ → ℕ → ℕ → ℕ) (low : ℕ) (G G' : Ghost) (r : Reader) → GrowsFrom env mix low G G' → IsOpen r
     → ((first : ℕ) → r.from ≡ Some first → low ≤ first) → (at : Standing) → StandsRight G r at → StandsRight G' (meets_too G' r) at
 stays_met env mix low G G' r grow reads begins at stands = record {
   tables = AllByRecursion-weaker (MeetsTable G r) (MeetsTable G' (meets_too G' r)) (λ slot meets. record {
-    at = at-from env mix low G G' grow slot meets.at (comes slot meets r.from refl);
+    at = at-from env mix low G G' grow slot meets.at (meets-from low G r reads begins slot meets);
     since = meets.since;
   }) at.tables stands.tables;
   nodes = AllByRecursion-weaker _ _ (λ n met. or_left (r.chains n) (is_open r && is_first (G'.node n)) met) at.nodes stands.nodes;
   listed = AllByRecursion-weaker _ _ (λ n met. or_left (r.lists n) (is_open r && is_listed (G'.node n)) met) at.listed stands.listed;
 }
-  where
-    comes : (slot : ℕ) (meets : MeetsTable G r slot) (from : Option ℕ) → r.from ≡ from → low ≤ meets.at.table
-    comes slot meets None is = absurd (let closed = ap is_some is in cc)
-    comes slot meets (Some first) is =
-        let since = meets.since first is in let begin = begins first is in omega (arith, since, begin)
 
 -- a caller knows whether it is in its section
 knows-reads : (env : Env) (mix : ℕ → ℕ → ℕ → ℕ) (c : ℕ) (job : Option Job) (M : Memory) (G : Ghost) → Knows env mix c job M G
@@ -272,8 +281,24 @@ module _ (env : Env) (mix : ℕ → ℕ → ℕ → ℕ) (L : Type 0) where
           (standing core' c) comes
     ]
 
+    begins : (first : ℕ) → r.from ≡ Some first → stay.low ≤ first
+    begins first is = stay.sections c first (sym meets.from_is ∙ is)
+
+    -- where it stands now it is in tables that stay
+    stands_from : AreFrom stay.low G (standing core' c).tables
+    stands_from slot there at = elim (cases_eq (section_of core c % 2) 1) [
+      | inl odd ↦
+          let reads = meets.right.odd.0 odd in
+          let met = AllByRecursion-In (MeetsTable G r) slot (standing core' c).tables (stands_then odd reads).tables there in
+          let from = meets-from stay.low G r reads begins slot met in
+          omega (arith, from, one_table at met.at)
+      | inr not ↦
+          absurd (subst (λ (s : Standing). In slot s.tables) (leads.outside (even (section_of core c) not)) there)
+    ]
+
     tied_then : tied_with env mix G' (job_of (local_of core' c).doing)
-    tied_then = ties_stay env mix G G' stay.grow (job_of (local_of core' c).doing) (leads.ties meets.tied)
+    tied_then =
+        ties_stay env mix stay.low G G' stay.grows (job_of (local_of core' c).doing) stands_from (leads.ties meets.tied)
 
     -- by its section's word behind the event: from which table on it reads then
     module _ (parity' : AreRight env mix L core') (low : c < 16) where
@@ -328,8 +353,7 @@ module _ (env : Env) (mix : ℕ → ℕ → ℕ → ℕ) (L : Type 0) where
                 unmet (odd ∙ sym was) meets.right;
             from_is = still_from was odd;
             stands = λ open_then.
-                stays_met env mix stay.low G G' r stay.grows open_then (λ first is. stay.sections c first (sym meets.from_is ∙ is))
-                (standing core' c) (stands_then was open_then);
+                stays_met env mix stay.low G G' r stay.grows open_then begins (standing core' c) (stands_then was open_then);
             tied = tied_then;
           })
           (λ f. record {
