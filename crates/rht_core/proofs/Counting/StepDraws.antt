@@ -232,7 +232,7 @@ module _ (env : Env) (mix : ℕ → ℕ → ℕ → ℕ) where
 
         pub step-grown : AreGrown has.ghost has.of_table G' step-draws.of_table
         step-grown =
-            let grow = (of.step.made.others (suc c) (λ e. absurd (omega (arith, e)))).tables.grows in
+            let grow = (of.step.made.others (suc c) (λ e. absurd (omega (arith, e)))).tables.grow in
             record {
               attached = grow.attached;
               current = grow.current;

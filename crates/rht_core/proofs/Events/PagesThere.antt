@@ -33,7 +33,7 @@ module _ (env : Env) (mix : ℕ → ℕ → ℕ → ℕ) where
         let passing = means.shaped.passing in
         let at = passing.at in
         let stay = rely.tables in
-        let grow = stay.grows in
+        let grow = stay.grow in
         let from = since-low env mix stay c at.table passing.since in
         let there_is = at-there at in
         placed-stays env mix M M' G G' whole whole' port at.table place there_is

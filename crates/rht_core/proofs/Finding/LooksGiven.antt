@@ -10,8 +10,8 @@ use Rattle.rht_find.specs.FindStanding.{standing_of_find}
 use Rattle.rht_find.specs.declared.find.FindAt.{FindAt}
 use Rattle.rht_find.specs.declared.find.FindAt.TheVariants as at
 use Rattle.rht_ghost.proofs.Theory.Ghosts.{Free, Taken, Ghost, seat_of, seat_in, seat, with_owner}
-use Rattle.rht_ghost.proofs.Theory.Wholes.{word_index, Whole, IsAt}
-use Rattle.rht_ghost.proofs.Theory.Passed.{TablesGrow}
+use Rattle.rht_ghost.proofs.Theory.Wholes.{word_index, Whole, IsAt, AreFrom}
+use Rattle.rht_ghost.proofs.Theory.Passed.{GrowsFrom}
 use Rattle.rht_core.proofs.Finding.Places.{Places, PlacesRight}
 use Rattle.rht_core.proofs.Finding.Deaths.{IsLate, late_used}
 use Rattle.rht_core.proofs.Finding.Finders.{IsBeyond, IsUnder, HasVisited, IsAhead, IsBelow}
@@ -167,28 +167,30 @@ module _ (env : Env) (mix : ℕ → ℕ → ℕ → ℕ) (now c n : ℕ) (M M' :
 
   -- ---- and its states
 
-  module _ (grow : TablesGrow env mix G G') (Says Says' : Reply → Type 0) (said : (reply : Reply) → Says reply → Says' reply) where
+  module _ (low : ℕ) (grow : GrowsFrom env mix low G G') (Says Says' : Reply → Type 0)
+      (said : (reply : Reply) → Says reply → Says' reply) where
     stays : (stage : Stage) → AllByRecursion (λ m. seen m ≡ true) (node_at stage)
         → StageMeans env mix port seen since (Says Missing) M G P stage → StageMeans env mix port seen since (Says' Missing) M' G' P' stage
     stays = stage_then (Says Missing) (Says' Missing) (said Missing)
 
     pub look_given : (state : FindAt) → AllByRecursion (λ m. seen m ≡ true) (standing_of_find state).nodes
+        → AreFrom low G (standing_of_find state).tables
         → LookMeans env mix port seen since Says M G P state → LookMeans env mix port seen since Says' M' G' P' state
-    look_given at.Opening stood known = tt
-    look_given at.CurrentTable stood known = tt
-    look_given (at.Locating reach) stood known =
+    look_given at.Opening stood from known = tt
+    look_given at.CurrentTable stood from known = tt
+    look_given (at.Locating reach) stood from known =
         let of = known.0.0 in (
           (
             at_then reach.table of,
             or_so (Says Missing) (Says' Missing) (said Missing) (toward_then of.table) known.0.1,
           ),
-          reaching-stays env mix G G' grow port reach of known.1,
+          reaching-stays env mix low G G' grow port reach of (from reach.table (inl refl) of) known.1,
         )
-    look_given (at.Heading head) stood known = stays (Heading head.table (word_index env mix head.place)) tt known
-    look_given (at.Key head node visited) stood known =
+    look_given (at.Heading head) stood from known = stays (Heading head.table (word_index env mix head.place)) tt known
+    look_given (at.Key head node visited) stood from known =
         stays (AtKey head.table (word_index env mix head.place) node visited) stood known
-    look_given (at.Link head node visited) stood known =
+    look_given (at.Link head node visited) stood from known =
         stays (AtLink head.table (word_index env mix head.place) node visited) stood known
-    look_given (at.Future table) stood known = stays (Ending table) tt known
-    look_given (at.Owner node) stood known = stays (Owning node) stood known
-    look_given (at.Closing reply) stood known = said reply known
+    look_given (at.Future table) stood from known = stays (Ending table) tt known
+    look_given (at.Owner node) stood from known = stays (Owning node) stood known
+    look_given (at.Closing reply) stood from known = said reply known

@@ -57,7 +57,7 @@ use Rattle.rht_core.proofs.Finding.PlacesInRuns.{Placed, EventMakes, event_makes
 use Rattle.rht_core.proofs.Finding.Lookups.{LookMeans}
 use Rattle.rht_core.proofs.Returning.ComingJobs.{KnowsLook, job_comes}
 use Rattle.rht_core.proofs.Returning.GoneBack.{gives_back}
-use Rattle.rht_core.proofs.Returning.Meeting.{Leads, MeetsRight, stands_next, next_job, event_leads, stands_outside, reader_then, meets_then, stood, will_stand, turns}
+use Rattle.rht_core.proofs.Returning.Meeting.{Leads, MeetsRight, stands_next, next_job, event_leads, stands_outside, reader_then, meets_then, stands_from, stood, will_stand, turns}
 use Rattle.rht_core.proofs.Returning.Batches.{AreOut}
 use Rattle.rht_core.proofs.Returning.MetBySome.{met-of, apart-unmet}
 use Rattle.rht_core.proofs.Returning.SectionWords.{event_turns}
@@ -265,7 +265,7 @@ module _ (L : Type 0) (mix : ℕ → ℕ → ℕ → ℕ) (env : Env) where
             meets_then env mix L events core core' placed (met_now L mix env looking) (ApartNow L mix env looking) makes c
             (looking.readers c) (looking.meets c low) (leads c low) not_met parity' (few c low)
 
-        pub sees_on : SeesOn L mix env core core' (met_now L mix env looking) (looking.readers c).chains (readers' c).chains c
+        pub sees_on : SeesOn L mix env core core' G (met_now L mix env looking) (looking.readers c).chains (readers' c).chains c
         sees_on = record {
           met_too = λ n is. met-of looking.readers env.geometry.callers c n low is;
           stood = stood env mix L events core core' placed (met_now L mix env looking) (ApartNow L mix env looking) makes c
@@ -274,6 +274,8 @@ module _ (L : Type 0) (mix : ℕ → ℕ → ℕ → ℕ) (env : Env) where
               (looking.readers c) (looking.meets c low) (leads c low) not_met;
           turns = turns env mix L events core core' placed (met_now L mix env looking) (ApartNow L mix env looking) makes c
               (looking.readers c) (looking.meets c low) (leads c low) not_met (stands_outside env mix L core' parity' c (few c low));
+          tables = stands_from env mix L events core core' placed (met_now L mix env looking) (ApartNow L mix env looking) makes c
+              (looking.readers c) (looking.meets c low) (leads c low) not_met;
         }
 
       -- what is kept for waiting nodes

@@ -181,7 +181,7 @@ module _ (env : Env) (mix : ℕ → ℕ → ℕ → ℕ) where
         → IsLast after slot shape
     still_last slot shape same was =
         let ends = was.last in
-        let grow = (does.step.made.others (suc does.caller) (λ e. absurd (omega (arith, e)))).tables.grows in
+        let grow = (does.step.made.others (suc does.caller) (λ e. absurd (omega (arith, e)))).tables.grow in
         let stays = grow.tables was.table (omega (arith, ends)) in
         record {
           table = was.table;

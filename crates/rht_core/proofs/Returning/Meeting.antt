@@ -16,8 +16,7 @@ use Rattle.rht_words.specs.Standing.{Standing, stands_nowhere}
 use Rattle.rht_words.proofs.Memory.{Memory}
 use Rattle.rht_words.specs.Members.{In}
 use Rattle.rht_words.proofs.Members.{AllByRecursion-In}
-use Rattle.rht_ghost.proofs.Theory.Wholes.{one_table}
-use Rattle.rht_core.proofs.Returning.TiedWalks.{AreFrom}
+use Rattle.rht_ghost.proofs.Theory.Wholes.{AreFrom, one_table}
 use Rattle.rht_words.proofs.EachElement.{AllByRecursion-weaker}
 use Rattle.rht_model.specs.declared.history.Call.{Call}
 use Rattle.rht_callers.specs.declared.local.Local.{Local}
@@ -281,16 +280,13 @@ module _ (env : Env) (mix : ℕ → ℕ → ℕ → ℕ) (L : Type 0) where
           (standing core' c) comes
     ]
 
-    begins : (first : ℕ) → r.from ≡ Some first → stay.low ≤ first
-    begins first is = stay.sections c first (sym meets.from_is ∙ is)
-
-    -- where it stands now it is in tables that stay
-    stands_from : AreFrom stay.low G (standing core' c).tables
-    stands_from slot there at = elim (cases_eq (section_of core c % 2) 1) [
+    -- where it stands now it is in no table before one that is behind no table with which a section begins
+    pub stands_from : (least : ℕ) → ((d first : ℕ) → G.from d ≡ Some first → least ≤ first) → AreFrom least G (standing core' c).tables
+    stands_from least begins slot there at = elim (cases_eq (section_of core c % 2) 1) [
       | inl odd ↦
           let reads = meets.right.odd.0 odd in
           let met = AllByRecursion-In (MeetsTable G r) slot (standing core' c).tables (stands_then odd reads).tables there in
-          let from = meets-from stay.low G r reads begins slot met in
+          let from = meets-from least G r reads (λ first is. begins c first (sym meets.from_is ∙ is)) slot met in
           omega (arith, from, one_table at met.at)
       | inr not ↦
           absurd (subst (λ (s : Standing). In slot s.tables) (leads.outside (even (section_of core c) not)) there)
@@ -298,7 +294,8 @@ module _ (env : Env) (mix : ℕ → ℕ → ℕ → ℕ) (L : Type 0) where
 
     tied_then : tied_with env mix G' (job_of (local_of core' c).doing)
     tied_then =
-        ties_stay env mix stay.low G G' stay.grows (job_of (local_of core' c).doing) stands_from (leads.ties meets.tied)
+        ties_stay env mix stay.low G G' stay.grow (job_of (local_of core' c).doing) (stands_from stay.low stay.sections)
+        (leads.ties meets.tied)
 
     -- by its section's word behind the event: from which table on it reads then
     module _ (parity' : AreRight env mix L core') (low : c < 16) where
@@ -353,7 +350,8 @@ module _ (env : Env) (mix : ℕ → ℕ → ℕ → ℕ) (L : Type 0) where
                 unmet (odd ∙ sym was) meets.right;
             from_is = still_from was odd;
             stands = λ open_then.
-                stays_met env mix stay.low G G' r stay.grows open_then begins (standing core' c) (stands_then was open_then);
+                stays_met env mix stay.low G G' r stay.grow open_then (λ first is. stay.sections c first (sym meets.from_is ∙ is))
+                (standing core' c) (stands_then was open_then);
             tied = tied_then;
           })
           (λ f. record {

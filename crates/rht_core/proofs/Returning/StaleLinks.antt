@@ -20,8 +20,8 @@ module _ (env : Env) (mix : ℕ → ℕ → ℕ → ℕ) where
       let stay = (made.others (suc d) (λ e. absurd (omega arith))).tables in
       record {
         section = section;
-        current = stay.grows.current;
-        there = λ τ is. there_from-from env mix stay.low G G' stay.grows τ (stay.sections c τ (sym from_is ∙ is));
+        current = stay.grow.current;
+        there = λ τ is. there_from-from env mix stay.low G G' stay.grow τ (stay.sections c τ (sym from_is ∙ is));
         used = λ n met used. elim (made.stale.owners.used n used) [
           | inl stays ↦ stays
           | inr back ↦ absurd (both_ways (r.lists n) (unmet n back) met)

@@ -1,5 +1,5 @@
 -- The bucket that a call has locked is one of the table at which it stands: said of jobs. It outlives what others do.
-use Rattle.std.proofs.Common.{◌≡◌, ℕ, ◌/◌, ◌≤◌, List, length, Option, Some, None, refl, sym, ◌∙◌, subst, inl}
+use Rattle.std.proofs.Common.{◌≡◌, ℕ, ◌/◌, ◌≤◌, List, length, Option, Some, None, refl, sym, subst, inl}
 use Rattle.std.specs.Prelude.{IfSome}
 use Rattle.rht_words.specs.declared.env.Env.{Env}
 use Rattle.rht_words.specs.declared.machine.Next.{Next}
@@ -24,7 +24,7 @@ use Rattle.rht_core.proofs.Events.JobsOfCallers.{first_rebind-so, first_tidy-so,
 use Rattle.rht_core.proofs.Machines.JobSteps.{JobIn, JobKnows}
 use Rattle.rht_words.specs.Operations.{old_of}
 use Rattle.rht_walk.specs.Walk as walk
-use Rattle.rht_core.proofs.Returning.TiedWalks.{AreFrom, tied_of_walk, walk-stays, walk_ties}
+use Rattle.rht_core.proofs.Returning.TiedWalks.{tied_of_walk, walk-stays, walk_ties}
 use Rattle.rht_core.specs.Standings.{standing_of, standing_with}
 use Rattle.rht_bind.specs.BindStanding.{standing_of_bind}
 use Rattle.rht_release.specs.AllStanding.{standing_of_all}
@@ -35,7 +35,7 @@ use Rattle.rht_core.proofs.Returning.TiedBuckets.{IsTied, tied_of_seek, tied_of_
 use Rattle.rht_ghost.proofs.Theory.Ghosts.{Ghost}
 use Rattle.rht_ghost.proofs.Theory.Passed.{GrowsFrom, at-from}
 use Rattle.rht_ghost.proofs.Theory.Steps.{mem}
-use Rattle.rht_ghost.proofs.Theory.Wholes.{Whole, IsAt, word_index}
+use Rattle.rht_ghost.proofs.Theory.Wholes.{AreFrom, Whole, IsAt, word_index}
 
 module _ (env : Env) (mix : ℕ → ℕ → ℕ → ℕ) where
   abbrev pub tied_of : Ghost → Job → Type 0

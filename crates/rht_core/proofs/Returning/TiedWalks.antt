@@ -30,9 +30,8 @@ use Rattle.rht_ghost.proofs.Theory.Passed.{GrowsFrom, at-from}
 use Rattle.rht_ghost.proofs.Theory.Steps.{mem}
 use Rattle.rht_ghost.proofs.Theory.WaysRead.{words_of_pages, read_by_entry, flat_read, way_read, way_next, place_of_bucket}
 use Rattle.rht_ghost.proofs.Theory.WaysStay.{IsWayIn-from}
-use Rattle.rht_words.specs.Members.{In}
 use Rattle.rht_walk.specs.WalkStanding.{standing_of_walk}
-use Rattle.rht_ghost.proofs.Theory.Wholes.{Whole, word_index, IsThere, IsAt, current-at, current-there, at-there}
+use Rattle.rht_ghost.proofs.Theory.Wholes.{AreFrom, Whole, word_index, IsThere, IsAt, current-at, current-there, at-there}
 
 module _ (env : Env) (mix : ℕ → ℕ → ℕ → ℕ) (G : Ghost) where
   -- the bucket is in a table that was attached, of this shape
@@ -65,10 +64,6 @@ module _ (env : Env) (mix : ℕ → ℕ → ℕ → ℕ) (G : Ghost) where
   tied_of_walk (at.Closing end) = Unit {0}
 
 -- ---- it outlives whatever leaves the tables what they are in which a walk stands
-
--- the tables that have these slots are such as stay
-abbrev pub AreFrom : ℕ → Ghost → List ℕ → Type 0
-AreFrom low G slots = (slot : ℕ) → In slot slots → (at : IsAt G slot) → low ≤ at.table
 
 module _ (env : Env) (mix : ℕ → ℕ → ℕ → ℕ) (low : ℕ) (G G' : Ghost) (grow : GrowsFrom env mix low G G') where
   abbrev walked-stays : (visit : Visit) → ((at : IsAt G visit.table) → low ≤ at.table) → IsWalked env mix G visit

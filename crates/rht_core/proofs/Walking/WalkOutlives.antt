@@ -1,5 +1,5 @@
 -- What a walk knows outlives an operation of anybody.
-use Rattle.std.proofs.Common.{◌≡◌, ◌⊎◌, ℕ, ◌+◌, ◌<◌, ◌≤◌, Bool, true, List, [], ◌∷◌, Option, Some, None, refl, sym, ◌∙◌, ap, subst, inl, inr, arith}
+use Rattle.std.proofs.Common.{◌≡◌, ◌⊎◌, ℕ, ◌+◌, ◌<◌, ◌≤◌, Bool, true, List, [], Option, Some, None, refl, sym, ◌∙◌, ap, subst, inl, inr, arith}
 use Rattle.std.specs.List.{AllByRecursion}
 use Rattle.rht_words.specs.declared.env.Env.{Env}
 use Rattle.rht_words.specs.Members.{In}
@@ -16,7 +16,7 @@ use Rattle.rht_walk.specs.declared.walk.WalkEnd.TheVariants as ends
 use Rattle.rht_walk.specs.declared.walk.WalkAt.{WalkAt}
 use Rattle.rht_walk.specs.declared.walk.WalkAt.TheVariants as at
 use Rattle.rht_ghost.proofs.Theory.Ghosts.{Ghost, index_at}
-use Rattle.rht_ghost.proofs.Theory.Passed.{TablesGrow, hash-stays}
+use Rattle.rht_ghost.proofs.Theory.Passed.{TablesGrow, grows_from, hash-stays}
 use Rattle.rht_ghost.proofs.Theory.Wholes.{key_of, hash_in, word_index, Whole}
 use Rattle.rht_ghost.proofs.Theory.Wholes as wholes
 use Rattle.rht_core.proofs.Finding.Deaths.{IsLate}
@@ -129,8 +129,8 @@ module _ (env : Env) (mix : ℕ → ℕ → ℕ → ℕ) (from : Option Cursor) 
           → StageMeans env mix port seen' since (SaidOf Missed' items port) M' G' P' stage
       stage_then port since began stage stood known =
           stage-seen env mix port seen seen' since M' G' P' keeps (SaidOf Missed' items port) stage
-          (stages port seen since began (SaidOf Missed items port) (SaidOf Missed' items port) (said port)
-          (λ none. inl (absent port none)) seen_met stage stood known)
+          (stages 0 (grows_from env mix G G' grow) port seen since began (SaidOf Missed items port) (SaidOf Missed' items port) (said port)
+          (λ none. inl (absent port none)) seen_met stage stood (λ slot there at. omega arith) known)
 
       -- a node that its section has met
       node_then : (since n : ℕ) → since ≤ now → seen n ≡ true → IsLate env G P since n

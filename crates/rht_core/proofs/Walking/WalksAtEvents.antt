@@ -202,7 +202,7 @@ module _ (L : Type 0) (mix : ℕ → ℕ → ℕ → ℕ) (env : Env) where
     longer = length_push events event
 
     pub grow : TablesGrow env mix G G'
-    grow = (turn.makes.made.others (suc turn.makes.caller) (λ e. absurd (omega arith))).tables.grow
+    grow = (turn.makes.made.others (suc turn.makes.caller) (λ e. absurd (omega arith))).tables.all
 
     -- how many tables are attached then
     abbrev pub count' : ℕ → ℕ
@@ -293,7 +293,7 @@ module _ (L : Type 0) (mix : ℕ → ℕ → ℕ → ℕ) (env : Env) where
 
       -- what is known by the events so far is known by those with this one
       same_grow : TablesGrow env mix G G
-      same_grow = ((still env mix 0 M G placed.inv.whole).others 1 (λ e. absurd (omega (arith, e)))).tables.grow
+      same_grow = ((still env mix 0 M G placed.inv.whole).others 1 (λ e. absurd (omega (arith, e)))).tables.all
 
       missed_now : (port : ℕ) → G.bound port ≡ [] → MissedOf more c begin port
       missed_now port none = missing_said env mix L events event core stands placed c port begin begun none
@@ -307,7 +307,7 @@ module _ (L : Type 0) (mix : ℕ → ℕ → ℕ → ℕ) (env : Env) where
           (MissedOf more c begin) (WasLast count' begin (length more)) (BoundOf more c begin) (missed_later c begin)
           (λ τ. last_later begin now τ (omega arith) (length more) (omega (arith, longer))) (bound_later c begin) items M G
           placed.places placed.inv.whole M G same_grow seen placed.places
-          (λ port seen since began Said Said' said absent seen_met stage stood known.
+          (λ low grow port seen since began Said Said' said absent seen_met stage stood from_low known.
           stage_said env mix port seen since Said Said' said M G placed.places stage known)
           (λ i n p is at. at) now (omega arith) missed_now seen seen (λ n is. is) state tied stood (inr (λ n is. is)) known
 

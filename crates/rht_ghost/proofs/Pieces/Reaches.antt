@@ -2,7 +2,7 @@
 --
 -- What they tell is true of the words and of any table that is known by its slot. It is no knowledge of a caller: it may be carried along
 -- in any induction over runs, since it outlives whatever leaves tables what they are.
-use Rattle.std.proofs.Common.{◌≡◌, ℕ, ◌<◌, List, Option, Some, None, cond, refl, sym, ◌∙◌, ap, subst, arith}
+use Rattle.std.proofs.Common.{◌≡◌, ℕ, ◌<◌, ◌≤◌, List, Option, Some, None, cond, refl, sym, ◌∙◌, ap, subst}
 use Rattle.rht_words.specs.declared.env.Env.{Env}
 use Rattle.rht_words.specs.declared.geometry.Geometry.{Geometry}
 use Rattle.rht_words.specs.declared.machine.Next.{Next}
@@ -24,7 +24,7 @@ use Rattle.rht_nest.specs.declared.reach.ReachAt.{ReachAt}
 use Rattle.rht_nest.specs.declared.reach.ReachAt.TheVariants as reaches
 use Rattle.rht_ghost.proofs.Theory.Ghosts.{Ghost}
 use Rattle.rht_ghost.proofs.Theory.Wholes.{IsAt, at-there, Whole, hash_in, home}
-use Rattle.rht_ghost.proofs.Theory.Passed.{TablesGrow, grows_from}
+use Rattle.rht_ghost.proofs.Theory.Passed.{GrowsFrom}
 use Rattle.rht_ghost.proofs.Theory.Knowledge.{IsWayTo}
 use Rattle.rht_ghost.proofs.Theory.WaysRead.{IsPlaceOf, on_way_next, home_place}
 use Rattle.rht_ghost.proofs.Theory.WaysStay.{IsWayTo-from}
@@ -48,13 +48,13 @@ module _ (env : Env) (mix : ℕ → ℕ → ℕ → ℕ) where
   ReachTells G port τ (m, Go) = IsReachingHome G port τ m.at
   ReachTells G port τ (m, Done bucket) = HasReached G port τ bucket
 
-  -- it outlives whatever leaves tables what they are
-  pub IsReachingHome-stay : (G G' : Ghost) → TablesGrow env mix G G' → (port τ : ℕ) (state : ReachAt) → τ < G.attached
-      → IsReachingHome G port τ state → IsReachingHome G' port τ state
-  IsReachingHome-stay G G' grow port τ reaches.Shape attached is = tt
-  IsReachingHome-stay G G' grow port τ (reaches.Seed shape) attached is = (grow.tables τ attached).shape ∙ is
-  IsReachingHome-stay G G' grow port τ (reaches.Entry place) attached is =
-      IsWayTo-from env mix 0 G G' (grows_from env mix G G' grow) port τ place attached (omega arith) is
+  -- it outlives whatever leaves the table what it is
+  pub IsReachingHome-from : (low : ℕ) (G G' : Ghost) → GrowsFrom env mix low G G' → (port τ : ℕ) (state : ReachAt) → τ < G.attached
+      → low ≤ τ → IsReachingHome G port τ state → IsReachingHome G' port τ state
+  IsReachingHome-from low G G' grow port τ reaches.Shape attached from is = tt
+  IsReachingHome-from low G G' grow port τ (reaches.Seed shape) attached from is = (grow.tables τ attached).shape ∙ is
+  IsReachingHome-from low G G' grow port τ (reaches.Entry place) attached from is =
+      IsWayTo-from env mix low G G' grow port τ place attached from is
 
   module _ (words : List ℕ) (G : Ghost) (whole : Whole env mix (mem env mix words) G) where
     abbrev M : Memory

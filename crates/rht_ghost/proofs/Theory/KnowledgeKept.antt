@@ -378,7 +378,7 @@ module _ (env : Env) (mix : ℕ → ℕ → ℕ → ℕ) where
           (record {
             low = rely.tables.low;
             current = rely.tables.current;
-            grow = rely.tables.grows;
+            grow = rely.tables.grow;
             locks = rely.locks;
             keys = rely.keys;
             work = rely.work;
@@ -407,7 +407,7 @@ module _ (env : Env) (mix : ℕ → ℕ → ℕ → ℕ) where
   Knowing-rely c M M' G G' h known whole from rely knows = record {
     only = Only-rely c M M' G G' whole rely h.node h.lock h.second h.raised h.slot h.pages h.worker h.section h.section
         (subst (λ f. ReadsFrom h.section f G'.current) (sym from)
-        (ReadsFrom-later h.section (G.from c) G.current G'.current rely.tables.grows.current knows.only.reads)) knows.only;
+        (ReadsFrom-later h.section (G.from c) G.current G'.current rely.tables.grow.current knows.only.reads)) knows.only;
     means = Means-rely c M M' G G' whole rely known (TableMeans-stay env mix c M M' G G' from rely.tables known.table knows.means.table)
         knows.means;
   }

@@ -50,7 +50,7 @@ module _ (env : Env) (mix : ℕ → ℕ → ℕ → ℕ) where
 
       abbrev IsPassing-stay : (port slot : ℕ) → IsPassing env mix c G port slot → IsPassing env mix c G' port slot
       IsPassing-stay port slot means = record {
-        at = at-from env mix stay.low G G' stay.grows slot means.at (reaches means.at.table means.since);
+        at = at-from env mix stay.low G G' stay.grow slot means.at (reaches means.at.table means.since);
         since = since-stays means.at.table means.since;
         passed = stay.passed port means.at.table (reaches means.at.table means.since) means.passed;
       }
@@ -58,7 +58,7 @@ module _ (env : Env) (mix : ℕ → ℕ → ℕ → ℕ) where
       shape-stays : (slot : ℕ) (shape : Option ℕ) (at : IsAt G slot)
           → IfSome shape (λ s. (G.table at.table).shape ≡ s) → IfSome shape (λ s. (G'.table at.table).shape ≡ s)
       shape-stays slot None at is = tt
-      shape-stays slot (Some s) at is = (stay.grows.tables at.table at.attached).shape ∙ is
+      shape-stays slot (Some s) at is = (stay.grow.tables at.table at.attached).shape ∙ is
 
       abbrev IsShaped-stay : (port slot shape : ℕ) → IsShaped env mix c G port slot shape → IsShaped env mix c G' port slot shape
       IsShaped-stay port slot shape means = record {
@@ -69,7 +69,7 @@ module _ (env : Env) (mix : ℕ → ℕ → ℕ → ℕ) where
       pub TableMeans-stay : (known : KnownTable) → TableMeans env mix c G known → TableMeans env mix c G' known
       TableMeans-stay Nowhere means = tt
       TableMeans-stay (InSlot slot) means = record {
-        at = at-from env mix stay.low G G' stay.grows slot means.at (reaches means.at.table means.since);
+        at = at-from env mix stay.low G G' stay.grow slot means.at (reaches means.at.table means.since);
         since = since-stays means.at.table means.since;
       }
       TableMeans-stay (Passes port slot) means = IsPassing-stay port slot means
@@ -78,9 +78,9 @@ module _ (env : Env) (mix : ℕ → ℕ → ℕ → ℕ) where
           let passing = means.shaped.passing in
           record {
             shaped = IsShaped-stay port slot shape means.shaped;
-            to = IsWayTo-from env mix stay.low G G' stay.grows port passing.at.table place passing.at.attached
+            to = IsWayTo-from env mix stay.low G G' stay.grow port passing.at.table place passing.at.attached
                 (reaches passing.at.table passing.since) means.to;
-            behind = IsRightBehind-from env mix stay.low G G' stay.grows passing.at.table early means.behind;
+            behind = IsRightBehind-from env mix stay.low G G' stay.grow passing.at.table early means.behind;
           }
       TableMeans-stay (AtHome port slot shape place) means =
           let passing = means.passing in
@@ -88,7 +88,7 @@ module _ (env : Env) (mix : ℕ → ℕ → ℕ → ℕ) where
             passing = IsPassing-stay port slot passing;
             shape_is = shape-stays slot shape passing.at means.shape_is;
             bucket = means.bucket;
-            here = home-from env mix stay.low G G' stay.grows port passing.at.table (word_index env mix place) passing.at.attached
+            here = home-from env mix stay.low G G' stay.grow port passing.at.table (word_index env mix place) passing.at.attached
                 (reaches passing.at.table passing.since) means.here;
           }
 
@@ -136,8 +136,8 @@ module _ (env : Env) (mix : ℕ → ℕ → ℕ → ℕ) where
             table = is.table;
             armed = record {
               passed = stay.passed port is.table reaches armed.passed;
-              here = home-from env mix stay.low G G' stay.grows port is.table j armed.passed.attached reaches armed.here;
-              of = stay.grows.pages (j / 64) is.table reaches armed.of;
+              here = home-from env mix stay.low G G' stay.grow port is.table j armed.passed.attached reaches armed.here;
+              of = stay.grow.pages (j / 64) is.table reaches armed.of;
               armed = ap (λ b. b.armed) (locks j is.lock.holder) ∙ armed.armed;
               unbound = unbound port is.table j armed;
             };

@@ -18,9 +18,9 @@ module _ (env : Env) (mix : ℕ → ℕ → ℕ → ℕ) where
     pub low : ℕ
     pub current : low ≤ G.current
     pub sections : (c first : ℕ) → G.from c ≡ Some first → low ≤ first
-    pub grows : GrowsFrom env mix low G G'
+    pub grow : GrowsFrom env mix low G G'
     pub passed : (port τ : ℕ) → low ≤ τ → Passed env mix G port τ → Passed env mix G' port τ
-    pub grow : TablesGrow env mix G G'
+    pub all : TablesGrow env mix G G'
 
   -- a table to which a caller's section comes is one that stays
   pub since-low : {G G' : Ghost} (stay : TablesStay G G') (c τ : ℕ) → IsSince (G.from c) τ → stay.low ≤ τ
@@ -36,9 +36,9 @@ module _ (env : Env) (mix : ℕ → ℕ → ℕ → ℕ) where
     low = 0;
     current = omega arith;
     sections = λ c first is. omega arith;
-    grows = grows_from env mix G G' grow;
+    grow = grows_from env mix G G' grow;
     passed = λ port τ from. Passed-stays env mix M G G' whole grow passes port τ;
-    grow = grow;
+    all = grow;
   }
 
   -- the slots and the pages that it has, with the words of the slots; and nobody gives it any

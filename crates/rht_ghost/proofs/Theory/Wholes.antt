@@ -60,6 +60,10 @@ pub record IsAt (G : Ghost) (slot : ℕ) : Type 0 where
 pub at-there : {G : Ghost} {slot : ℕ} (at : IsAt G slot) → IsThere G at.table
 at-there {G} {slot} at = at.on at.table (omega arith) at.attached
 
+-- the tables that have these slots aren't before this one
+abbrev pub AreFrom : ℕ → Ghost → List ℕ → Type 0
+AreFrom low G slots = (slot : ℕ) → In slot slots → (at : IsAt G slot) → low ≤ at.table
+
 -- no other table that is there has a slot that one has
 pub one_slot : (G : Ghost) (τ σ : ℕ) → IsThere G τ → IsThere G σ → (G.table τ).slot ≡ (G.table σ).slot → τ ≡ σ
 one_slot G τ σ there other same = sym there.index ∙ ap (index_at G) same ∙ other.index
