@@ -1,9 +1,9 @@
 -- Where a slot has a table, it has the same one behind an operation; so what is said of a walk's table may name it by its slot.
-use Rattle.std.proofs.Common.{◌≡◌, ℕ, ◌+◌, ◌<◌, Bool, true, Some, None, sym, ◌∙◌, ap, subst, arith}
+use Rattle.std.proofs.Common.{◌≡◌, ℕ, ◌+◌, ◌<◌, ◌≤◌, Bool, true, Some, None, sym, ◌∙◌, ap, subst, arith}
 use Rattle.rht_words.specs.declared.env.Env.{Env}
 use Rattle.rht_words.proofs.Memory.{Memory}
 use Rattle.rht_ghost.proofs.Theory.Ghosts.{Ghost, has_table, index_at}
-use Rattle.rht_ghost.proofs.Theory.Passed.{TablesGrow, less-grown, there_from-grows}
+use Rattle.rht_ghost.proofs.Theory.Passed.{GrowsFrom, less-grown, there_from-from}
 use Rattle.rht_ghost.proofs.Theory.Wholes.{Whole, IsThere, AreThereFrom, IsAt, home, slot-there, at-there}
 use Rattle.rht_core.proofs.Finding.Deaths.{DeathsRight}
 use Rattle.rht_core.proofs.Finding.Places.{Places, PlacesRight}
@@ -34,12 +34,13 @@ module _ (env : Env) (mix : ℕ → ℕ → ℕ → ℕ) (M : Memory) (G : Ghost
       record { table = index_at G slot; attached = is.attached; slot_is = is.slot; on = of.on }
 
   -- and behind an operation
-  module _ (G' : Ghost) (grow : TablesGrow env mix G G') (slot : ℕ) (of : IsAttached G slot) where
+  module _ (low : ℕ) (G' : Ghost) (grow : GrowsFrom env mix low G G') (slot : ℕ) (of : IsAttached G slot)
+      (from : low ≤ index_at G slot) where
     abbrev τ : ℕ
     τ = index_at G slot
 
     there_still : IsThere G' τ
-    there_still = grow.there τ (less-grown env mix of.attached grow.attached) (λ l. slot-there env mix whole.tables slot of.table)
+    there_still = grow.there τ from (less-grown env mix of.attached grow.attached) (λ l. slot-there env mix whole.tables slot of.table)
 
     slot_still : (G'.table τ).slot ≡ slot
     slot_still = (grow.tables τ of.attached).slot ∙ (whole.tables.slots slot of.table).slot
@@ -51,7 +52,7 @@ module _ (env : Env) (mix : ℕ → ℕ → ℕ → ℕ) (M : Memory) (G : Ghost
     attached_stays = record {
       table = subst (λ s. has_table (G'.slot s) ≡ true) slot_still there_still.has_slot;
       attached = let more = grow.attached in let low = of.attached in omega (arith, index_stays, more, low);
-      on = subst (AreThereFrom G') (sym index_stays) (there_from-grows env mix G G' grow τ of.on);
+      on = subst (AreThereFrom G') (sym index_stays) (there_from-from env mix low G G' grow τ from of.on);
     }
 
 -- ---- stages by slots
