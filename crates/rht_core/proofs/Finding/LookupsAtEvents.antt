@@ -25,7 +25,7 @@ use Rattle.rht_find.specs.declared.find.FindAt.{FindAt}
 use Rattle.rht_find.specs.declared.find.FindAt.TheVariants as at
 use Rattle.rht_core.specs.declared.event.Event.{Event}
 use Rattle.rht_grace.specs.Batch.{BatchModel}
-use Rattle.rht_core.specs.Jobs.{Job, finds, first_job, job_of, job_plan, job_next, job_after, told, call_of}
+use Rattle.rht_core.specs.Jobs.{Job, finds, held_of, first_job, job_of, job_plan, job_next, job_after, told, call_of}
 use Rattle.rht_core.specs.Runs.{Core, local_of, world_step}
 use Rattle.rht_core.specs.Standings.{standing, standing_with}
 use Rattle.rht_core.specs.Traces.{Did, Past, Trace, Traced, trace_did, traces_after, traced_of, behind_call}
@@ -35,7 +35,9 @@ use Rattle.rht_core.specs.Alone.{bindings_at}
 use Rattle.rht_ghost.proofs.Theory.Reliance.{TablesStay}
 use Rattle.rht_ghost.proofs.Theory.Wholes.{AreFrom}
 use Rattle.rht_ghost.proofs.Theory.Ghosts.{Ghost}
-use Rattle.rht_ghost.proofs.Theory.Steps.{mem, ghost_after}
+use Rattle.rht_ghost.proofs.Theory.Steps.{mem, ghost_after, section_turns}
+use Rattle.rht_ghost.proofs.Theory.Knowledge.{ReadsFrom}
+use Rattle.rht_core.proofs.Events.Invariants.{Knows}
 use Rattle.rht_core.proofs.Events.JobsOfCallers.{first_rebind-so, first_tidy-so, same_call}
 use Rattle.rht_core.proofs.Machines.JobSteps.{JobIn}
 use Rattle.rht_ghost.proofs.Theory.Answering.{IsSaidOn}
@@ -70,7 +72,7 @@ module _ (L : Type 0) (mix : ℕ → ℕ → ℕ → ℕ) (env : Env) where
     pub low : c < env.geometry.callers
     pub begun : begin < length events
     pub means : LookMeans env mix port seen (begin + 1) (SaysOf events c port begin) (mem env mix core.words) placed.ghost placed.places state
-    pub spent : IsSpent env placed.ghost state made
+    pub spent : IsSpent env c placed.ghost state made
 
   -- one that has ended took no more operations than the bound, and its answer was right at an event of it
   pub record HasLooked (events : List Event) (c port : ℕ) (past : Past) : Type 0 where
@@ -187,7 +189,7 @@ module _ (L : Type 0) (mix : ℕ → ℕ → ℕ → ℕ) (env : Env) where
         → ((reply : Reply) → Says reply → SaysOf more c port begin reply) → (state : FindAt)
         → job_of (local_of core' c).doing ≡ Some (finds port state)
         → LookMeans env mix port (seen c) (begin + 1) Says (mem env mix core.words) placed.ghost placed.places state
-        → IsSpent env placed.ghost state made
+        → IsSpent env c placed.ghost state made
         → Looks more core' placed' (then c) c port begin made state
     unfolding next
     outlives c port begin made low begun Says said state does known spent =
@@ -205,8 +207,11 @@ module _ (L : Type 0) (mix : ℕ → ℕ → ℕ → ℕ) (env : Env) where
               (end-next L mix env events event))
               see.met_too state (subst (λ at. AllByRecursion (λ n. seen c n ≡ true) at.nodes) is see.stands)
               (subst (λ (at : Standing). AreFrom tables.low placed.ghost at.tables) is (see.tables tables.low tables.sections)) known);
-          spent = spent_stays env mix port (seen c) (begin + 1) Says core.words placed.ghost placed.places placed.inv.whole placed'.ghost
-              tables.all made state known spent;
+          spent = spent_stays env c mix port (seen c) (begin + 1) Says core.words placed.ghost placed.places placed.inv.whole placed'.ghost
+              tables (section_turns env mix makes.caller c makes.move (mem env mix core.words) placed.ghost makes.ready) made state
+              (subst (λ (K : Ghost). ReadsFrom (held_of (finds port state)).section (K.from c) K.current) makes.same
+              (subst (λ job. Knows env mix c job (mem env mix core'.words) makes.ghost) does (makes.inv.each c)).knowing.only.reads)
+              known spent;
         }
 
     said-later : (c port begin : ℕ) (reply : Reply) → SaysOf events c port begin reply → SaysOf more c port begin reply
@@ -261,8 +266,10 @@ module _ (L : Type 0) (mix : ℕ → ℕ → ℕ → ℕ) (env : Env) where
       goes_on still does =
           outlives c port begin (made + 1) looks.low looks.begun (SaysOf more c port begin) (λ reply said. said)
           (goes mix env port state old) does known_next
-          (spent_leads env mix port (seen c) (begin + 1) (SaysOf events c port begin) core.words placed.ghost placed.places
-          placed.inv.whole c made state still within looks.means looks.spent)
+          (spent_leads env c mix port (seen c) (begin + 1) (SaysOf events c port begin) core.words placed.ghost placed.places
+          placed.inv.whole c made state still within looks.means looks.spent
+          (λ e. subst (λ s. ReadsFrom (held_of (finds port s)).section (placed.ghost.from c) placed.ghost.current) e
+          (subst (λ job. Knows env mix c job (mem env mix core.words) placed.ghost) is (placed.inv.each c)).knowing.only.reads))
 
     -- behind the last one it has ended
     ends_with : (c port begin made : ℕ) (state : FindAt) (reply : Reply) → says state ≡ Done reply
