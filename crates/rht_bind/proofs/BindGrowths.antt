@@ -249,7 +249,7 @@ module _ (env : Env) (mix : ℕ → ℕ → ℕ → ℕ) (c : ℕ) (port owner :
     found = M (Slot growing.table FutureWord)
 
     abbrev at_last : IsAt G growing.table
-    at_last = known.knowing.means.table
+    at_last = known.knowing.means.table.at
 
     abbrev τ : ℕ
     τ = at_last.table
@@ -275,7 +275,7 @@ module _ (env : Env) (mix : ℕ → ℕ → ℕ → ℕ) (c : ℕ) (port owner :
         → BindMoved (at.Attaching growing slot shape)
         (behind_attempt (has_attached growing.attempt) (ended_attempt once slot), Go)
     won none =
-        let is_there = at-there env mix whole.tables growing.table at_last in
+        let is_there = at-there at_last in
         let made_is = known.knowing.means.making in
         let M' = mem env mix (applied words op) in
         let ready : IsAttaching env mix c slot shape seed serial M G = record { made = made_is; seed_is = refl; serial_is = refl } in
@@ -347,6 +347,7 @@ module _ (env : Env) (mix : ℕ → ℕ → ℕ → ℕ) (c : ℕ) (port owner :
               slots = k.only.slots;
               pages_in = λ p held. subst (In p) (sym pages) (k.only.pages_in p held);
               works = k.only.works;
+              reads = k.only.reads;
             };
             means = record {
               node = k.means.node;

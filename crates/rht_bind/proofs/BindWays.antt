@@ -182,7 +182,7 @@ module _ (env : Env) (mix : ℕ → ℕ → ℕ → ℕ) (c : ℕ) (port owner :
         knowing =
             plainly env mix known.knowing.only known.knowing.means.node
             (first_passed env mix c (holds_node (Some attempt.node) None)
-            (Some (own port owner attempt.node)) Unlocked words G whole port) tt;
+            (Some (own port owner attempt.node)) Unlocked words G whole known.knowing.only.reads port) tt;
         fits = tt;
       })
 
@@ -254,7 +254,7 @@ module _ (env : Env) (mix : ℕ → ℕ → ℕ → ℕ) (c : ℕ) (port owner :
           means = record {
             node = k.means.node;
             table =
-                subst (TableMeans env mix G') (same_growing attempt table shape place state)
+                subst (TableMeans env mix c G') (same_growing attempt table shape place state)
                 k.means.table;
             bucket = tt;
             making = k.means.making;
@@ -295,7 +295,7 @@ module _ (env : Env) (mix : ℕ → ℕ → ℕ → ℕ) (c : ℕ) (port owner :
         means = record {
           node = known.knowing.means.node;
           table =
-              subst (TableMeans env mix G) (sym (same_growing attempt table shape place grow.at))
+              subst (TableMeans env mix c G) (sym (same_growing attempt table shape place grow.at))
               known.knowing.means.table;
           bucket = tt;
           making = known.knowing.means.making;

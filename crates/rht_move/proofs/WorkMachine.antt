@@ -54,18 +54,18 @@ module _ (env : Env) (mix : ℕ → ℕ → ℕ → ℕ) (c : ℕ) (low : c < en
   open_section : WorkKnows at.Opening M G → WorkStep at.Opening
   open_section known =
       leads at.CurrentTable (inl refl) refl refl refl
-      (open_step env mix c holds_work_lock (knows_work MakesNothing Works) words G all whole low known)
+      (open_step env mix c holds_work_lock (knows_work MakesNothing Works) refl words G all whole low known)
 
   close_section : (ending : Ending) → WorkKnows (at.Closing ending) M G → WorkStep (at.Closing ending)
   close_section (endings.Retiring root again) known =
       let answer = Some (plain (replies.Moved again)) in
       leads (at.Retiring root again) (inl (keeps answer)) refl refl refl
-      (close_step env mix c (holds_outcome (HasMoved again)) (knows_work MakesNothing (LeavesBehind root)) words G all
+      (close_step env mix c (holds_outcome (HasMoved again)) (knows_work MakesNothing (LeavesBehind root)) refl words G all
       whole low known)
   close_section (endings.LettingGo outcome) known =
       let answer = Some (plain (reply_of outcome)) in
       leads (at.LettingGo outcome) (inl (keeps answer)) refl refl refl
-      (close_step env mix c (holds_outcome outcome) (knows_work MakesNothing Works) words G all whole low known)
+      (close_step env mix c (holds_outcome outcome) (knows_work MakesNothing Works) refl words G all whole low known)
 
   -- ---- the next bucket, or the table is empty
 

@@ -150,8 +150,8 @@ module _ (env : Env) where
         bind-flat state of attempt locate shape is seed =
             let here = subst AtSized is of in
             let G = here.does.ghost in
-            let shaped : TableMeans env mix G (Shaped port locate.table shape) =
-            subst (λ s. TableMeans env mix G (known_locate port locate.table s)) seed here.does.knows.knowing.means.table in
+            let shaped : TableMeans env mix here.does.caller G (Shaped port locate.table shape) =
+            subst (λ s. TableMeans env mix here.does.caller G (known_locate port locate.table s)) seed here.does.knows.knowing.means.table in
             (subst IsSized shaped.shape_is (here.sized _ shaped.passing.at.attached)).flat
 
         bind-sees : (state : BindAt) → AtSized state → IsCalmAt env Any Any state did.old

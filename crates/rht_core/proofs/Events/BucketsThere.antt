@@ -91,7 +91,7 @@ module _ (env : Env) (mix : ℕ → ℕ → ℕ → ℕ) where
         go (Some op) is =
             let (of, moved) = moves.some op is in
             subst (TablesGrow env mix G) (sym moved)
-            (of.step.made.others (suc c) (λ e. absurd (omega arith))).tables.grow
+            (of.step.made.others (suc c) (λ e. absurd (omega arith))).tables.all
 
     module _ (τ slot seed shape number j : ℕ) where
       -- by the invariant this table is there, has this slot, seed and shape, and has this word for the bucket with this number

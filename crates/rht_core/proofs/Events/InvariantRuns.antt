@@ -52,6 +52,7 @@ opening_ghost env = record {
   slot = put (λ s. SlotFree) 0 (Live 0);
   worker = None;
   raised = λ c. false;
+  from = λ c. None;
 }
 
 first_page : (env : Env) (p : ℕ) → p < first_pages env → opening_page env p ≡ PageOf 0
@@ -182,7 +183,6 @@ module _ (env : Env) (mix : ℕ → ℕ → ℕ → ℕ) where
       current_in = omega arith;
       current_is = opened CurrentTable tt;
       force = λ τ from l. opening_live τ l;
-      there = λ τ l. live-there env mix (opening_ghost env) τ (opening_live τ l);
       each = opening_table;
       slots = λ s has. rw (slots_at_opening s has) (record {
         attached =
@@ -247,6 +247,7 @@ module _ (env : Env) (mix : ℕ → ℕ → ℕ → ℕ) where
           slots = λ s held. absurd (no_slot_held s c held);
           pages_in = λ p held. absurd (no_page_held p c held);
           works = λ works. absurd (cc);
+          reads = tt;
         };
         means = record { node = tt; table = tt; bucket = tt; making = tt; work = tt };
       });

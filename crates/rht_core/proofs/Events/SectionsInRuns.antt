@@ -130,7 +130,7 @@ module _ (env : Env) (mix : ℕ → ℕ → ℕ → ℕ) (c : ℕ) (M : Memory) 
   by_move (CutsOff j entry (Some before)) ready does = keeps (at_node g op old before ChainLink does.on) does.holds refl
   by_move Publishes ready does = keeps (first_word g op old 0 (omega arith) does.on) does.holds refl
   by_move (Retires s) ready does = keeps (at_slot g op old s (slot_offset StateWord) (ap op_place does.retiring)) does.holds refl
-  by_move (Opens d) ready does = inr (subst TurnsSection ready (record {
+  by_move (Opens d) ready does = inr (subst TurnsSection ready.0 (record {
     adds = does.turns;
     turns = sum_is _ _ (ap odd_by does.outside) (ap (λ (x : Holding). odd_by x.section) does.holds);
   }))

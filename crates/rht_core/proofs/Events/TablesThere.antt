@@ -14,7 +14,7 @@ use Rattle.rht_core.specs.declared.event.Event.{Event}
 use Rattle.rht_core.specs.Runs.{World, run_of, IsAdmitted, IsAdmittedEvent}
 use Rattle.rht_core.specs.Seen.{words_before}
 use Rattle.rht_ghost.proofs.Theory.Ghosts.{Ghost}
-use Rattle.rht_ghost.proofs.Theory.Wholes.{Whole, IsAt, at-on}
+use Rattle.rht_ghost.proofs.Theory.Wholes.{Whole, IsAt, current-at, there_behind}
 use Rattle.rht_ghost.proofs.Theory.Passed.{TablesGrow, at-stays}
 use Rattle.rht_ghost.proofs.Theory.Steps.{mem}
 use Rattle.rht_ghost.proofs.Pieces.TableLoads.{shape_word}
@@ -73,17 +73,18 @@ module _ (env : Env) (mix : ℕ → ℕ → ℕ → ℕ) where
 
   module _ (words : List ℕ) (G : Ghost) (whole : Whole env mix (mem env mix words) G) where
     current_at : (slot : ℕ) → table_of (word_at g words CurrentTable) ≡ slot → IsAt G slot
-    current_at slot is = record {
-      table = G.current;
-      attached = whole.tables.current_in;
-      slot_is = sym (current_slot env mix words G whole) ∙ is;
-    }
+    current_at slot is = current-at env mix whole.tables slot (sym (current_slot env mix words G whole) ∙ is)
 
     future_at : (front slot : ℕ) → IsAt G front → slot_of (word_at g words (Slot front FutureWord)) ≡ Some slot → IsAt G slot
     future_at front slot at leads =
-        let next = next_named env mix words G whole at.table slot (at-on env mix whole.tables front at) at.attached
+        let next = next_named env mix words G whole at.table slot at.on at.attached
         (subst (λ s. slot_of (word_at g words (Slot s FutureWord)) ≡ Some slot) (sym at.slot_is) leads) in
-        record { table = at.table + 1; attached = next.attached; slot_is = next.slot_is }
+        record {
+          table = at.table + 1;
+          attached = next.attached;
+          slot_is = next.slot_is;
+          on = there_behind G at.table at.on;
+        }
 
   -- where tables grow from one moment to another
   grown : (was now : List ℕ) (G G' : Ghost) → Whole env mix (mem env mix was) G → Whole env mix (mem env mix now) G'

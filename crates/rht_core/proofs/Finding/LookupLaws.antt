@@ -62,8 +62,9 @@ module _ (L : Type 0) (mix : ℕ → ℕ → ℕ → ℕ) (env : Env) (events : 
   now_short None call at_job looks asked port is = absurd (let none = at_job.call in cc)
   now_short (Some (finds other state)) call at_job looks asked port is =
       let made = length (r.traces c).steps in
-      let most = spent_most env mix other (looking.readers c).chains ((r.traces c).begin + 1) (SaysOf L mix env events c other (r.traces c).begin)
-      r.world.core.words looking.placed.ghost looking.placed.places looking.placed.inv.whole made state looks.means looks.spent in
+      let most = spent_most env c mix other (looking.readers c).chains ((r.traces c).begin + 1)
+      (SaysOf L mix env events c other (r.traces c).begin) r.world.core.words looking.placed.ghost looking.placed.places
+      looking.placed.inv.whole made state looks.means looks.spent in
       below_bound made (find_bound env) (within_bound env made most)
   now_short (Some _) call at_job looks asked port is = absurd (let same = at_job.call in cc)
 

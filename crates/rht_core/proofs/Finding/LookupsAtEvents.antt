@@ -10,7 +10,7 @@ use Rattle.rht_words.specs.declared.machine.Next.{Next}
 use Rattle.rht_words.specs.declared.machine.Next.TheVariants.{Go, Done}
 use Rattle.rht_words.specs.Operations.{old_of}
 use Rattle.rht_words.proofs.EachElement.{AllByRecursion-push, AllByRecursion-weaker}
-use Rattle.rht_words.specs.Standing.{stands_nowhere}
+use Rattle.rht_words.specs.Standing.{Standing, stands_nowhere}
 use Rattle.rht_model.specs.declared.history.Call.{Call}
 use Rattle.rht_model.specs.declared.history.Call.TheVariants as calls
 use Rattle.rht_model.specs.declared.history.Reply.{Reply}
@@ -25,15 +25,19 @@ use Rattle.rht_find.specs.declared.find.FindAt.{FindAt}
 use Rattle.rht_find.specs.declared.find.FindAt.TheVariants as at
 use Rattle.rht_core.specs.declared.event.Event.{Event}
 use Rattle.rht_grace.specs.Batch.{BatchModel}
-use Rattle.rht_core.specs.Jobs.{Job, finds, first_job, job_of, job_plan, job_next, job_after, told, call_of}
+use Rattle.rht_core.specs.Jobs.{Job, finds, held_of, first_job, job_of, job_plan, job_next, job_after, told, call_of}
 use Rattle.rht_core.specs.Runs.{Core, local_of, world_step}
 use Rattle.rht_core.specs.Standings.{standing, standing_with}
 use Rattle.rht_core.specs.Traces.{Did, Past, Trace, Traced, trace_did, traces_after, traced_of, behind_call}
 use Rattle.rht_core.specs.RunHistories.{bindings_behind}
 use Rattle.rht_stands.specs.StandsFor.{stands_for}
 use Rattle.rht_core.specs.Alone.{bindings_at}
-use Rattle.rht_ghost.proofs.Theory.Passed.{TablesGrow}
-use Rattle.rht_ghost.proofs.Theory.Steps.{mem, ghost_after}
+use Rattle.rht_ghost.proofs.Theory.Reliance.{TablesStay}
+use Rattle.rht_ghost.proofs.Theory.Wholes.{AreFrom}
+use Rattle.rht_ghost.proofs.Theory.Ghosts.{Ghost}
+use Rattle.rht_ghost.proofs.Theory.Steps.{mem, ghost_after, section_turns}
+use Rattle.rht_ghost.proofs.Theory.Knowledge.{ReadsFrom}
+use Rattle.rht_core.proofs.Events.Invariants.{Knows}
 use Rattle.rht_core.proofs.Events.JobsOfCallers.{first_rebind-so, first_tidy-so, same_call}
 use Rattle.rht_core.proofs.Machines.JobSteps.{JobIn}
 use Rattle.rht_ghost.proofs.Theory.Answering.{IsSaidOn}
@@ -68,7 +72,7 @@ module _ (L : Type 0) (mix : ℕ → ℕ → ℕ → ℕ) (env : Env) where
     pub low : c < env.geometry.callers
     pub begun : begin < length events
     pub means : LookMeans env mix port seen (begin + 1) (SaysOf events c port begin) (mem env mix core.words) placed.ghost placed.places state
-    pub spent : IsSpent env placed.ghost state made
+    pub spent : IsSpent env c placed.ghost state made
 
   -- one that has ended took no more operations than the bound, and its answer was right at an event of it
   pub record HasLooked (events : List Event) (c port : ℕ) (past : Past) : Type 0 where
@@ -107,12 +111,14 @@ module _ (L : Type 0) (mix : ℕ → ℕ → ℕ → ℕ) (env : Env) where
     pub waits : AllWait env mix L r.world.core readers r.world.core
 
   -- Where a caller stands before and behind an event its section has met the node; what it has met some section has met; and it has met that
-  -- still, or it stands nowhere.
-  pub record SeesOn (core core' : Core L) (met seen seen' : ℕ → Bool) (c : ℕ) : Type 0 where
+  -- still, or it stands nowhere. The tables in which it stands behind it aren't before one that is behind no table with which a section
+  -- begins.
+  pub record SeesOn (core core' : Core L) (G : Ghost) (met seen seen' : ℕ → Bool) (c : ℕ) : Type 0 where
     pub met_too : (n : ℕ) → seen n ≡ true → met n ≡ true
     pub stood : AllByRecursion (λ n. seen n ≡ true) (standing core c).nodes
     pub stands : AllByRecursion (λ n. seen n ≡ true) (standing core' c).nodes
     pub turns : (standing core' c ≡ stands_nowhere) ⊎ ((n : ℕ) → seen n ≡ true → seen' n ≡ true)
+    pub tables : (low : ℕ) → ((d first : ℕ) → G.from d ≡ Some first → low ≤ first) → AreFrom low G (standing core' c).tables
 
   -- ---- one event more
 
@@ -129,7 +135,8 @@ module _ (L : Type 0) (mix : ℕ → ℕ → ℕ → ℕ) (env : Env) where
         (met_now looking) (ApartNow looking)
     pub then : ℕ → ℕ → Bool
     pub sees : (c : ℕ) → c < env.geometry.callers
-        → SeesOn (R events).world.core (world_step mix (R events).world event).core (met_now looking) (looking.readers c).chains (then c) c
+        → SeesOn (R events).world.core (world_step mix (R events).world event).core looking.placed.ghost (met_now looking)
+        (looking.readers c).chains (then c) c
 
   module _ (events : List Event) (event : Event) (looking : AreLooking events (R events)) (turn : Turns events event looking) where
     abbrev met : ℕ → Bool
@@ -174,15 +181,15 @@ module _ (L : Type 0) (mix : ℕ → ℕ → ℕ → ℕ) (env : Env) where
     longer : length more ≡ length events + 1
     longer = length_push events event
 
-    grow : TablesGrow env mix placed.ghost (ghost_after env mix makes.caller makes.move placed.ghost)
-    grow = (makes.made.others (suc makes.caller) (λ e. absurd (omega arith))).tables.grow
+    tables : TablesStay env mix placed.ghost (ghost_after env mix makes.caller makes.move placed.ghost)
+    tables = (makes.made.others (suc makes.caller) (λ e. absurd (omega arith))).tables
 
     -- what a look-up knows behind the event, where it knew it before by answers as of the events with this one
     outlives : (c port begin made : ℕ) → c < env.geometry.callers → begin < length events → (Says : Reply → Type 0)
         → ((reply : Reply) → Says reply → SaysOf more c port begin reply) → (state : FindAt)
         → job_of (local_of core' c).doing ≡ Some (finds port state)
         → LookMeans env mix port (seen c) (begin + 1) Says (mem env mix core.words) placed.ghost placed.places state
-        → IsSpent env placed.ghost state made
+        → IsSpent env c placed.ghost state made
         → Looks more core' placed' (then c) c port begin made state
     unfolding next
     outlives c port begin made low begun Says said state does known spent =
@@ -194,13 +201,17 @@ module _ (L : Type 0) (mix : ℕ → ℕ → ℕ → ℕ) (env : Env) where
           means = look_seen env mix port (seen c) (then c) (begin + 1) (mem env mix core'.words) placed'.ghost placed'.places
               (SaysOf more c port begin) state
               (subst (λ at. (at ≡ stands_nowhere) ⊎ ((n : ℕ) → seen c n ≡ true → then c n ≡ true)) is see.turns)
-              ((next_places env mix L events event core core' stands placed met Apart makes).looks port (seen c) (begin + 1)
-              (omega (arith, begun)) Says (SaysOf more c port begin) said
+              ((next_places env mix L events event core core' stands placed met Apart makes).looks tables.low tables.grow port
+              (seen c) (begin + 1) (omega (arith, begun)) Says (SaysOf more c port begin) said
               (missing_after env mix L events event core stands placed c port begin begun core'.words placed'.ghost makes.made.whole
               (end-next L mix env events event))
-              see.met_too state (subst (λ at. AllByRecursion (λ n. seen c n ≡ true) at.nodes) is see.stands) known);
-          spent = spent_stays env mix port (seen c) (begin + 1) Says core.words placed.ghost placed.places placed.inv.whole placed'.ghost
-              grow made state known spent;
+              see.met_too state (subst (λ at. AllByRecursion (λ n. seen c n ≡ true) at.nodes) is see.stands)
+              (subst (λ (at : Standing). AreFrom tables.low placed.ghost at.tables) is (see.tables tables.low tables.sections)) known);
+          spent = spent_stays env c mix port (seen c) (begin + 1) Says core.words placed.ghost placed.places placed.inv.whole placed'.ghost
+              tables (section_turns env mix makes.caller c makes.move (mem env mix core.words) placed.ghost makes.ready) made state
+              (subst (λ (K : Ghost). ReadsFrom (held_of (finds port state)).section (K.from c) K.current) makes.same
+              (subst (λ job. Knows env mix c job (mem env mix core'.words) makes.ghost) does (makes.inv.each c)).knowing.only.reads)
+              known spent;
         }
 
     said-later : (c port begin : ℕ) (reply : Reply) → SaysOf events c port begin reply → SaysOf more c port begin reply
@@ -255,8 +266,10 @@ module _ (L : Type 0) (mix : ℕ → ℕ → ℕ → ℕ) (env : Env) where
       goes_on still does =
           outlives c port begin (made + 1) looks.low looks.begun (SaysOf more c port begin) (λ reply said. said)
           (goes mix env port state old) does known_next
-          (spent_leads env mix port (seen c) (begin + 1) (SaysOf events c port begin) core.words placed.ghost placed.places
-          placed.inv.whole c made state still within looks.means looks.spent)
+          (spent_leads env c mix port (seen c) (begin + 1) (SaysOf events c port begin) core.words placed.ghost placed.places
+          placed.inv.whole c made state still within looks.means looks.spent
+          (λ e. subst (λ s. ReadsFrom (held_of (finds port s)).section (placed.ghost.from c) placed.ghost.current) e
+          (subst (λ job. Knows env mix c job (mem env mix core.words) placed.ghost) is (placed.inv.each c)).knowing.only.reads))
 
     -- behind the last one it has ended
     ends_with : (c port begin made : ℕ) (state : FindAt) (reply : Reply) → says state ≡ Done reply

@@ -53,11 +53,11 @@ use Rattle.rht_core.proofs.Tracing.RepliesInRuns.{Holds, Answered, runs-right}
 use Rattle.rht_core.proofs.Finding.Places.{Places}
 use Rattle.rht_core.proofs.Finding.GivenBack.{IsUnmet}
 use Rattle.rht_core.proofs.Finding.LookupsAtEvents.{SaysOf, Looks, JobLooks, AreLooking, SeesOn, Turns, EachLooks, LooksThen, met_now, ApartNow, placed', as_before, found_with, pasts-later, first-looks, own, known_next}
-use Rattle.rht_core.proofs.Finding.PlacesInRuns.{Placed, EventMakes, event_makes, event-ghost, next, placed_opening}
+use Rattle.rht_core.proofs.Finding.PlacesInRuns.{Placed, EventMakes, event_makes, event-ghost, next, placed_opening, opening-closed}
 use Rattle.rht_core.proofs.Finding.Lookups.{LookMeans}
 use Rattle.rht_core.proofs.Returning.ComingJobs.{KnowsLook, job_comes}
 use Rattle.rht_core.proofs.Returning.GoneBack.{gives_back}
-use Rattle.rht_core.proofs.Returning.Meeting.{Leads, MeetsRight, stands_next, next_job, event_leads, stands_outside, reader_then, meets_then, stood, will_stand, turns}
+use Rattle.rht_core.proofs.Returning.Meeting.{Leads, MeetsRight, stands_next, next_job, event_leads, stands_outside, reader_then, meets_then, stands_from, stood, will_stand, turns}
 use Rattle.rht_core.proofs.Returning.Batches.{AreOut}
 use Rattle.rht_core.proofs.Returning.MetBySome.{met-of, apart-unmet}
 use Rattle.rht_core.proofs.Returning.SectionWords.{event_turns}
@@ -263,9 +263,9 @@ module _ (L : Type 0) (mix : ℕ → ℕ → ℕ → ℕ) (env : Env) where
         pub meets_next : MeetsRight env mix L core' G' c (readers' c)
         meets_next =
             meets_then env mix L events core core' placed (met_now L mix env looking) (ApartNow L mix env looking) makes c
-            (looking.readers c) (looking.meets c low) (leads c low) not_met
+            (looking.readers c) (looking.meets c low) (leads c low) not_met parity' (few c low)
 
-        pub sees_on : SeesOn L mix env core core' (met_now L mix env looking) (looking.readers c).chains (readers' c).chains c
+        pub sees_on : SeesOn L mix env core core' G (met_now L mix env looking) (looking.readers c).chains (readers' c).chains c
         sees_on = record {
           met_too = λ n is. met-of looking.readers env.geometry.callers c n low is;
           stood = stood env mix L events core core' placed (met_now L mix env looking) (ApartNow L mix env looking) makes c
@@ -274,6 +274,8 @@ module _ (L : Type 0) (mix : ℕ → ℕ → ℕ → ℕ) (env : Env) where
               (looking.readers c) (looking.meets c low) (leads c low) not_met;
           turns = turns env mix L events core core' placed (met_now L mix env looking) (ApartNow L mix env looking) makes c
               (looking.readers c) (looking.meets c low) (leads c low) not_met (stands_outside env mix L core' parity' c (few c low));
+          tables = stands_from env mix L events core core' placed (met_now L mix env looking) (ApartNow L mix env looking) makes c
+              (looking.readers c) (looking.meets c low) (leads c low) not_met;
         }
 
       -- what is kept for waiting nodes
@@ -319,6 +321,7 @@ module _ (L : Type 0) (mix : ℕ → ℕ → ℕ → ℕ) (env : Env) where
     meets = λ c low. record {
       right = reader-leaves env mix _ _ c
           (ap (λ w. w % 2) ((stand_in_place env).each (Section c) (let callers = env.geometry.within.callers_within in omega (arith, low, callers.1))));
+      from_is = sym (opening-closed env mix L c);
       stands = λ open_then. absurd (cc);
       tied = subst (λ (local : Local L). tied_with env mix (placed_opening env mix L).ghost (job_of local.doing))
           (sym (idle_at_opening env mix L c)) tt;

@@ -9,8 +9,8 @@ use Rattle.rht_model.specs.declared.history.Reply.TheVariants.{Missing}
 use Rattle.rht_find.specs.FindStanding.{standing_of_find}
 use Rattle.rht_find.specs.declared.find.FindAt.{FindAt}
 use Rattle.rht_ghost.proofs.Theory.Ghosts.{Free, Ghost, IsUsed, seat_of, with_owner, some-same}
-use Rattle.rht_ghost.proofs.Theory.Wholes.{Whole}
-use Rattle.rht_ghost.proofs.Theory.Passed.{TablesGrow}
+use Rattle.rht_ghost.proofs.Theory.Wholes.{Whole, AreFrom}
+use Rattle.rht_ghost.proofs.Theory.Passed.{TablesGrow, GrowsFrom}
 use Rattle.rht_ghost.proofs.Theory.Frames.{Made}
 use Rattle.rht_ghost.proofs.Theory.Steps.{Move, ReturnsNode, ghost_after, ReadyFor}
 use Rattle.rht_core.proofs.Finding.Places.{Places, PlacesRight}
@@ -18,7 +18,7 @@ use Rattle.rht_core.proofs.Finding.Deaths.{DeathsRight, DeathsMove, deaths_after
 use Rattle.rht_core.proofs.Finding.GivenBack.{IsUnmet, kept_places, same_seat, was_used, met_kept, place_stays, dead_was, right_then, deaths_then}
 use Rattle.rht_core.proofs.Finding.Lookups.{LookMeans, look_stays}
 use Rattle.rht_core.proofs.Finding.LooksGiven.{node_at, stage_then, look_given}
-use Rattle.rht_core.proofs.Finding.Stages.{Stage, StageMeans, stage_stays}
+use Rattle.rht_core.proofs.Finding.Stages.{Stage, StageMeans, tables_at, stage_stays}
 use Rattle.rht_core.proofs.Finding.PlacesSteps.{places_step}
 use Rattle.rht_core.proofs.Returning.GoneBack.{returned, owners_stay}
 use Rattle.rht_core.proofs.Finding.PortPlaces.{PortPlacesRight}
@@ -41,21 +41,22 @@ pub record HadDied (G : Ghost) (P : Places) (n t : ℕ) : Type 0 where
   pub none : seat_of (G.node n) ≡ None
   pub dead : P.dead n ≡ Some t
 
--- What look-ups know of whose nodes it is said that they were met: such a one stands at such a node alone.
+-- What look-ups know of whose nodes it is said that they were met: such a one stands at such a node alone, and in tables that stay.
 abbrev pub LooksOutlive : Env → (ℕ → ℕ → ℕ → ℕ) → ℕ → Memory → Ghost → Places → Memory → Ghost → Places → (ℕ → Bool) → Type 1
 LooksOutlive env mix now M G P M' G' P' met =
-    (port : ℕ) (seen : ℕ → Bool) (since : ℕ) → since ≤ now
+    (low : ℕ) → GrowsFrom env mix low G G' → (port : ℕ) (seen : ℕ → Bool) (since : ℕ) → since ≤ now
     → (Says Says' : Reply → Type 0) → ((reply : Reply) → Says reply → Says' reply) → (G'.bound port ≡ [] → Says' Missing)
     → ((n : ℕ) → seen n ≡ true → met n ≡ true)
     → (state : FindAt) → AllByRecursion (λ n. seen n ≡ true) (standing_of_find state).nodes
+    → AreFrom low G (standing_of_find state).tables
     → LookMeans env mix port seen since Says M G P state → LookMeans env mix port seen since Says' M' G' P' state
 
 -- And what they know in a stage outlives it, where their section has met the node at which they stand.
 abbrev pub StagesOutlive : Env → (ℕ → ℕ → ℕ → ℕ) → ℕ → Memory → Ghost → Places → Memory → Ghost → Places → (ℕ → Bool) → Type 1
 StagesOutlive env mix now M G P M' G' P' met =
-    (port : ℕ) (seen : ℕ → Bool) (since : ℕ) → since ≤ now
+    (low : ℕ) → GrowsFrom env mix low G G' → (port : ℕ) (seen : ℕ → Bool) (since : ℕ) → since ≤ now
     → (Said Said' : Type 0) → (Said → Said') → (G'.bound port ≡ [] → Said') → ((n : ℕ) → seen n ≡ true → met n ≡ true)
-    → (stage : Stage) → AllByRecursion (λ n. seen n ≡ true) (node_at stage)
+    → (stage : Stage) → AllByRecursion (λ n. seen n ≡ true) (node_at stage) → AreFrom low G (tables_at stage)
     → StageMeans env mix port seen since Said M G P stage → StageMeans env mix port seen since Said' M' G' P' stage
 
 pub record PlacesThen (env : Env) (mix : ℕ → ℕ → ℕ → ℕ) (now : ℕ) (M : Memory) (G : Ghost) (P : Places) (M' : Memory) (G' : Ghost)
@@ -76,7 +77,7 @@ module _ (env : Env) (mix : ℕ → ℕ → ℕ → ℕ) (now c : ℕ) (M : Memo
   Then G' = PlacesThen env mix now M G P M' G' met
 
   grow : (G' : Ghost) → Made env mix c M G M' G' → TablesGrow env mix G G'
-  grow G' made = (made.others (c + 1) (λ e. absurd (omega arith))).tables.grow
+  grow G' made = (made.others (c + 1) (λ e. absurd (omega arith))).tables.all
 
   -- who has no seat by now has lost it now, or had none
   dead_by : {G' : Ghost} {P' : Places} → DeathsMove now G P G' P' → (n t : ℕ) → IsUsed (G'.node n) → seat_of (G'.node n) ≡ None
@@ -101,12 +102,12 @@ module _ (env : Env) (mix : ℕ → ℕ → ℕ → ℕ) (now c : ℕ) (M : Memo
         right_now = step.right_now;
         deaths_now = deaths_after env mix now M G P M' G' step.places step.frame whole step.deaths;
         dead = dead_by step.deaths;
-        looks = λ port seen since began Says Says' said absent seen_met state stood known.
-            look_stays env mix port seen since now M G P M' G' whole made.whole right step (grow G' made) began Says Says' said absent
-            state known;
-        stages = λ port seen since began Said Said' said absent seen_met stage stood known.
-            stage_stays env mix port seen since now M G P M' G' whole made.whole right step (grow G' made) began Said Said' said absent
-            stage known;
+        looks = λ low grow port seen since began Says Says' said absent seen_met state stood from known.
+            look_stays env mix port seen since now M G P M' G' whole made.whole right step low grow began Says Says' said absent
+            state from known;
+        stages = λ low grow port seen since began Said Said' said absent seen_met stage stood from known.
+            stage_stays env mix port seen since now M G P M' G' whole made.whole right step low grow began Said Said' said absent
+            stage from known;
         of_ports = port_places_then env mix now M G P M' G' whole made.whole right step (grow G' made);
         kept = λ i n p is. step.move.kept i n p;
       }
@@ -123,10 +124,10 @@ module _ (env : Env) (mix : ℕ → ℕ → ℕ → ℕ) (now c : ℕ) (M : Memo
       none = sym (same_seat env mix now c n M M' G P whole right mine given.words met given.unmet m) ∙ seatless;
       dead = (dead_was env mix now c n M M' G P whole right mine given.words met given.unmet m t is).1;
     });
-    looks = λ port seen since began Says Says' said absent seen_met state stood known.
+    looks = λ low grow port seen since began Says Says' said absent seen_met state stood from known.
         look_given env mix now c n M M' G P whole right mine given.words met given.unmet port seen seen_met since
-        (grow (with_owner G n Free) made) Says Says' said state stood known;
-    stages = λ port seen since began Said Said' said absent seen_met stage stood known.
+        low grow Says Says' said state stood from known;
+    stages = λ low grow port seen since began Said Said' said absent seen_met stage stood from known.
         stage_then env mix now c n M M' G P whole right mine given.words met given.unmet port seen seen_met since Said Said' said stage stood
         known;
     of_ports = port_places_given env mix now c n M M' G P whole right mine given.words met given.unmet;

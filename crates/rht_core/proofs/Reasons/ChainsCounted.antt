@@ -310,7 +310,7 @@ module _ (env : Env) (mix : ℕ → ℕ → ℕ → ℕ) (words_at : ℕ → Lis
       }
 
   -- the bucket of the port in a table is at its place from the event on
-  home-place : (table shape place from : ℕ) → IsAtHome env mix G port table (Some shape) place → words ≡ words_at from
+  home-place : (table shape place from : ℕ) → IsAtHome env mix c G port table (Some shape) place → words ≡ words_at from
       → BucketsStay env mix words_at G from → HasPlace g words_at mix port table shape place from
   home-place table shape place from is now stay =
       let τ = is.passing.at.table in
@@ -322,7 +322,7 @@ module _ (env : Env) (mix : ℕ → ℕ → ℕ → ℕ) (words_at : ℕ → Lis
         number_is = subst (λ ws. number ≡ bucket_of mix port (G.table τ).shape (word_at g ws (Slot table SeedWord))) now number_is;
         within = below;
         stays = subst (λ p. StaysAt g words_at (G.table τ).shape number p from) (place_at-index env mix place is.bucket)
-            (stay τ number (word_index env mix place) (at-there env mix whole.tables table is.passing.at) below is.here).0;
+            (stay τ number (word_index env mix place) (at-there is.passing.at) below is.here).0;
       })
 
   -- ---- the end of a walk
@@ -424,7 +424,7 @@ module _ (env : Env) (mix : ℕ → ℕ → ℕ → ℕ) (words_at : ℕ → Lis
       (HasCounted-push g words_at mix port table shape place walk.length steps did (no_key-link g did node is) has)
 
   pub probe-counted : (table shape : ℕ) (h : Geometry) (key : ℕ) (state : ProbeAt) (steps : List Did) (did : Did)
-      → IsProbeAtIn g state → IsProbeFor port state → IsAtHome env mix G port table (Some shape) (place_of_probe state)
+      → IsProbeAtIn g state → IsProbeFor port state → IsAtHome env mix c G port table (Some shape) (place_of_probe state)
       → BucketMeans env mix c M G (known_probe port state) → did.op ≡ probe_plan_at state
       → h ≡ g → did.old ≡ old_of words did.op → words ≡ words_at did.index → BucketsStay env mix words_at G did.index
       → WalkCounted g words_at mix port table shape state steps
@@ -449,7 +449,7 @@ module _ (env : Env) (mix : ℕ → ℕ → ℕ → ℕ) (words_at : ℕ → Lis
     pub within : bucket < size_of (unpacked shape)
     pub each : AllByRecursion (FindsBucketAt g words_at mix port table shape bucket place) steps
 
-  found-in : (table shape place : ℕ) (steps : List Did) → IsAtHome env mix G port table (Some shape) place
+  found-in : (table shape place : ℕ) (steps : List Did) → IsAtHome env mix c G port table (Some shape) place
       → FoundSoFar g words_at mix port table shape place steps → FoundIn table shape place steps
   found-in table shape place steps is (inl none) =
       let τ = is.passing.at.table in
@@ -464,7 +464,7 @@ module _ (env : Env) (mix : ℕ → ℕ → ℕ → ℕ) (words_at : ℕ → Lis
 
   -- the nodes that were counted in a port's bucket are its chain, of which this is so
   abbrev chain-counted : (Many : ℕ → Type 0) (table shape place count : ℕ) (steps : List Did)
-      → IsAtHome env mix G port table (Some shape) place → Many count → HasCounted g words_at mix port table shape place count steps
+      → IsAtHome env mix c G port table (Some shape) place → Many count → HasCounted g words_at mix port table shape place count steps
       → SawChain g words_at mix port table shape Many steps
   chain-counted Many table shape place count steps is so has =
       let found = found-in table shape place steps is has.found in
@@ -479,14 +479,14 @@ module _ (env : Env) (mix : ℕ → ℕ → ℕ → ℕ) (words_at : ℕ → Lis
       }
 
   -- 16 or more are a long one
-  pub long-counted : (table shape place count : ℕ) (steps : List Did) → IsAtHome env mix G port table (Some shape) place
+  pub long-counted : (table shape place count : ℕ) (steps : List Did) → IsAtHome env mix c G port table (Some shape) place
       → 16 ≤ count → HasWalked g words_at mix port table shape place count steps
       → SawLongChain g words_at mix port table shape steps
   long-counted table shape place count steps is enough has =
       chain-counted (λ many. 16 ≤ many) table shape place count steps is enough has.counted
 
   -- and fewer a short one
-  pub short-counted : (table shape place count : ℕ) (steps : List Did) → IsAtHome env mix G port table (Some shape) place
+  pub short-counted : (table shape place count : ℕ) (steps : List Did) → IsAtHome env mix c G port table (Some shape) place
       → count < 16 → HasWalked g words_at mix port table shape place count steps
       → SawShortChain g words_at mix port table shape steps
   short-counted table shape place count steps is few has = record {

@@ -242,7 +242,7 @@ module _ (M : Type 0) (mix : ℕ → ℕ → ℕ → ℕ) (env : Env) (events : 
         let here : place_of g (PageWord place.entry) ≡ place_of g (PageWord entry) =
         ap (λ (h : Geometry). place_of h (PageWord place.entry)) (sym same_g) ∙ sym performs.knows.fits ∙ on in
         let same : place.entry ≡ entry = omega (arith, here) in
-        let on_way = subst (λ a. TableMeans env mix performs.ghost (known_growing port table shape place a)) at_is
+        let on_way = subst (λ a. TableMeans env mix performs.caller performs.ghost (known_growing port table shape place a)) at_is
         performs.knows.knowing.means.table in
         let unset : mem env mix performs.words (PageWord place.entry) ≡ 0 =
         ap (λ i. mem env mix performs.words (PageWord i)) same ∙ sym (ap (old_of performs.words) enters.exchanges) ∙ sym performs.found

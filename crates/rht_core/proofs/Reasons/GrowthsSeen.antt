@@ -45,7 +45,7 @@ module _ (env : Env) (mix : ℕ → ℕ → ℕ → ℕ) (port owner : ℕ) (onc
       let found : did.old ≡ mem env mix does.words (Slot growing.table FutureWord) =
       does.found ∙ ap (old_of does.words) does.planned in
       let few = future_few env mix does.words does.ghost growing.table does.whole
-      does.knows.knowing.means.table in
+      does.knows.knowing.means.table.at in
       omega (arith, found, few)
 
   pub again_few : (growing : Growing) (refusal : Refusal) (did : Did)
@@ -54,7 +54,7 @@ module _ (env : Env) (mix : ℕ → ℕ → ℕ → ℕ) (port owner : ℕ) (onc
       let found : did.old ≡ mem env mix does.words (Slot growing.table FutureWord) =
       does.found ∙ ap (old_of does.words) does.planned in
       let few = future_few env mix does.words does.ghost growing.table does.whole
-      does.knows.knowing.means.table in
+      does.knows.knowing.means.table.at in
       omega (arith, found, few)
 
 module _ (env : Env) (words_at : ℕ → List ℕ) (mix : ℕ → ℕ → ℕ → ℕ) (port : ℕ) (once : Bool) where

@@ -54,7 +54,7 @@ use Rattle.rht_core.specs.Jobs.{works}
 use Rattle.rht_core.specs.Traces.{Did}
 use Rattle.rht_core.specs.Seen.{TurnsSection}
 use Rattle.rht_ghost.proofs.Theory.Steps.{mem, by_test}
-use Rattle.rht_ghost.proofs.Theory.Wholes.{IsAt, at-on}
+use Rattle.rht_ghost.proofs.Theory.Wholes.{IsAt}
 use Rattle.rht_core.proofs.Tracing.TracedJobs.{Performs}
 use Rattle.rht_core.proofs.Reasons.AttachedTables.{IsNoFutureExchange, lock-none, make-none}
 use Rattle.rht_core.proofs.Reasons.MadeSizes.{made_flat}
@@ -283,7 +283,7 @@ module _ (env : Env) (c : ℕ) (words_at : ℕ → List ℕ) (mix : ℕ → ℕ 
   ends-here job did does slot at none =
       let G = does.ghost in
       let τ = at.table in
-      let last = none_last env mix (mem env mix does.words) G does.whole τ (at-on env mix does.whole.tables slot at) at.attached
+      let last = none_last env mix (mem env mix does.words) G does.whole τ at.on at.attached
       (ap (λ s. slot_of (mem env mix does.words (Slot s FutureWord))) at.slot_is ∙ none) in (
         (G.table τ).shape,
         last_in env mix does.words G does.whole slot (G.table τ).shape

@@ -255,8 +255,8 @@ module _ (env : Env) (words_at : ℕ → List ℕ) where
         ]
 
     -- by the words before the load the way to the port's bucket ends at the entry
-    pub misses-page : (port slot shape : ℕ) (place : PlaceModel) (did : Did)
-        → IsOnWay env mix G port slot shape place None → words ≡ words_at did.index → place.geometry ≡ g
+    pub misses-page : {c : ℕ} (port slot shape : ℕ) (place : PlaceModel) (did : Did)
+        → IsOnWay env mix c G port slot shape place None → words ≡ words_at did.index → place.geometry ≡ g
         → did.op ≡ Load (place_of g (PageWord place.entry)) → page_of g.pages (M (PageWord place.entry)) ≡ None
         → MissesPage g words_at mix port slot shape place.entry did
     misses-page port slot shape place did on now same is none =
@@ -264,7 +264,7 @@ module _ (env : Env) (words_at : ℕ → List ℕ) where
         let at = on.shaped.passing.at in
         let τ = at.table in
         let number = hash_in env mix G port τ in
-        let is_there = at-there env mix whole.tables slot at in
+        let is_there = at-there at in
         let shape_is = on.shaped.shape_is in
         let number_is = hash_in-words env mix words G whole port slot shape at shape_is in
         let ends = way_ends τ number is_there on.to.nested place same on.to.way none in

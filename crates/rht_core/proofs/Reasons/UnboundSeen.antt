@@ -18,7 +18,7 @@ use Rattle.rht_core.specs.Traces.{Did}
 use Rattle.rht_core.specs.ResizeCauses.{IsUnboundAt, SawNoneBehind, Loaded, MissesPage}
 use Rattle.rht_stands.specs.StandsFor.{page_word, bucket_in, stands_for}
 use Rattle.rht_ghost.proofs.Theory.Ghosts.{Ghost, none-some}
-use Rattle.rht_ghost.proofs.Theory.Wholes.{place_at, hash_in, home, word_index, Whole, IsAt, at-on, at-there}
+use Rattle.rht_ghost.proofs.Theory.Wholes.{place_at, hash_in, home, word_index, Whole, IsAt, at-there}
 use Rattle.rht_ghost.proofs.Theory.Passed.{hash-below, unbound_at_last, unbound_missing}
 use Rattle.rht_ghost.proofs.Theory.Knowledge.{IsOnWay, IsAtHome, IsMissed}
 use Rattle.rht_ghost.proofs.Theory.Steps.{owners_in, mem}
@@ -65,19 +65,19 @@ module _ (env : Env) (mix : ℕ → ℕ → ℕ → ℕ) (words : List ℕ) (G :
   -- a table whose future is none is the last one
   no_future : (slot : ℕ) (at : IsAt G slot) → slot_of (M (Slot slot FutureWord)) ≡ None → at.table + 1 ≡ G.attached
   no_future slot at none =
-      none_last env mix M G whole at.table (at-on env mix whole.tables slot at) at.attached
+      none_last env mix M G whole at.table at.on at.attached
       (ap (λ s. slot_of (M (Slot s FutureWord))) at.slot_is ∙ none)
 
   -- behind a walk of the port's bucket in vain
-  pub unbound-walked : (c port slot place word : ℕ) (shape : Option ℕ) → IsAtHome env mix G port slot shape place
+  pub unbound-walked : (c port slot place word : ℕ) (shape : Option ℕ) → IsAtHome env mix c G port slot shape place
       → IsMissed env mix c M G place word port → slot_of (M (Slot slot FutureWord)) ≡ None → stands_for env.geometry words port ≡ []
   unbound-walked c port slot place word shape at missed none =
       no_owner port (unbound_at_last env mix M G whole port at.passing.at.table (word_index env mix place) at.passing.passed at.here
       missed.none missed.lock.still (no_future slot at.passing.at none))
 
   -- before the entries are looked at
-  pub unbound-early : (words_at : ℕ → List ℕ) (from port slot shape : ℕ) (place : PlaceModel) (early : Option ℕ)
-      → IsOnWay env mix G port slot shape place early → words ≡ words_at from → BucketsStay env mix words_at G from
+  pub unbound-early : {c : ℕ} (words_at : ℕ → List ℕ) (from port slot shape : ℕ) (place : PlaceModel) (early : Option ℕ)
+      → IsOnWay env mix c G port slot shape place early → words ≡ words_at from → BucketsStay env mix words_at G from
       → slot_of (M (Slot slot FutureWord)) ≡ None
       → (stands_for env.geometry (words_at from) port ≡ []) ⊎ IsThereFrom env.geometry words_at mix port slot shape from
   unbound-early words_at from port slot shape place early on now stay none = go (home env mix G port τ) refl
@@ -95,7 +95,7 @@ module _ (env : Env) (mix : ℕ → ℕ → ℕ → ℕ) (words : List ℕ) (G :
           (no_owner port (unbound_missing env mix M G whole port τ on.shaped.passing.passed here (no_future slot at none))))
       go (Some j) here =
           let number = hash_in env mix G port τ in
-          let stays = stay τ number j (at-there env mix whole.tables slot at) (hash-below env mix M G whole port τ) here in
+          let stays = stay τ number j (at-there at) (hash-below env mix M G whole port τ) here in
           inr (λ i later gone.
           let seed : word_at env.geometry (words_at i) (Slot slot SeedWord) ≡ (G.table τ).seed =
           ap (λ s. word_at env.geometry (words_at i) (Slot s SeedWord)) (sym at.slot_is) ∙ stays.1 i later in

@@ -58,14 +58,14 @@ module _ (env : Env) (words_at : ℕ → List ℕ) (mix : ℕ → ℕ → ℕ �
   SeesNone = SeesNoFuture env.geometry words_at mix port
 
   -- where the future of the table is loaded and names none, it is 0, and the port is bound nowhere or its bucket there
-  early-told : (words : List ℕ) (G : Ghost) → Whole env mix (mem env mix words) G
+  early-told : (c : ℕ) (words : List ℕ) (G : Ghost) → Whole env mix (mem env mix words) G
       → (m : LocateModel) (did : Did) → words ≡ words_at did.index → BucketsStay env mix words_at G did.index
       → m.table < 8
       → m.geometry ≡ env.geometry → did.old ≡ old_of words did.op → (state : LocateAt)
       → did.op ≡ locate_plan_at m.geometry m.table state
-      → TableMeans env mix G (known_locate port m.table state)
+      → TableMeans env mix c G (known_locate port m.table state)
       → TellsNone env.geometry SeesNone m.table state did
-  early-told words G whole m did now stay within same found (locates.Early shape place) plan means = λ none.
+  early-told c words G whole m did now stay within same found (locates.Early shape place) plan means = λ none.
       let loads : did.op ≡ Load (place_of env.geometry (Slot m.table FutureWord)) =
       plan ∙ ap (λ (h : Geometry). Load (place_of h (Slot m.table FutureWord))) same in
       let word : did.old ≡ mem env mix words (Slot m.table FutureWord) = found ∙ ap (old_of words) loads in
@@ -78,7 +78,7 @@ module _ (env : Env) (words_at : ℕ → List ℕ) (mix : ℕ → ℕ → ℕ �
         unbound = unbound-early env mix words G whole words_at did.index port m.table shape place None means now stay
             (sym (ap slot_of word) ∙ none);
       }
-  early-told words G whole m did now stay within same found _ plan means = tt
+  early-told c words G whole m did now stay within same found _ plan means = tt
 
   -- what the operations behind the load of a table's shape see before that of an entry, where the future was
   -- this
@@ -102,13 +102,13 @@ module _ (env : Env) (words_at : ℕ → List ℕ) (mix : ℕ → ℕ → ℕ �
   MissedNext table (m, Go) steps = Unit {0}
   MissedNext table (m, Done there) steps = MissedAt table there.shape there.bucket steps
 
-  module _ (words : List ℕ) (G : Ghost) (whole : Whole env mix (mem env mix words) G) (m : LocateModel)
+  module _ (c : ℕ) (words : List ℕ) (G : Ghost) (whole : Whole env mix (mem env mix words) G) (m : LocateModel)
       (steps : List Did) (did : Did) (now : words ≡ words_at did.index)
       (found : did.old ≡ old_of words did.op) where
     -- the load of an entry that leads to none
     load_missed : (shape : ℕ) (place : PlaceModel) → place.geometry ≡ env.geometry → did.op ≡ place_plan place
         → page_of place.geometry.pages did.old ≡ None
-        → TableMeans env mix G (OnWay port m.table shape place None)
+        → TableMeans env mix c G (OnWay port m.table shape place None)
         → WalkedSeeing env.geometry m.table shape (SeesEntry m.table shape None) steps
         → MissedAt m.table shape (buckets.Missing place None) (steps ++ did ∷ [])
     load_missed shape place same plan none on walked =
@@ -133,7 +133,7 @@ module _ (env : Env) (words_at : ℕ → List ℕ) (mix : ℕ → ℕ → ℕ �
         (no_key-behind env.geometry did there loads (omega arith)) seen) walked
 
     entry-missed : (shape : ℕ) (early : Option ℕ) (place : PlaceModel) → place.geometry ≡ env.geometry
-        → did.op ≡ place_plan place → TableMeans env mix G (OnWay port m.table shape place early)
+        → did.op ≡ place_plan place → TableMeans env mix c G (OnWay port m.table shape place early)
         → WalkedSeeing env.geometry m.table shape (SeesEntry m.table shape early) steps
         → (page : Option ℕ) → page_of place.geometry.pages did.old ≡ page
         → let next = entry_seen place page in
@@ -149,7 +149,7 @@ module _ (env : Env) (words_at : ℕ → List ℕ) (mix : ℕ → ℕ → ℕ �
 
     located-missed : (state : LocateAt) → IsLocateAtIn env.geometry state
         → did.op ≡ locate_plan_at m.geometry m.table state
-        → TableMeans env mix G (known_locate port m.table state)
+        → TableMeans env mix c G (known_locate port m.table state)
         → WalkedAt env.geometry SeesNone m.table state steps
         → MissedNext m.table (locate_after_at mix port m state did.old) (steps ++ did ∷ [])
     located-missed locates.Shape within plan means walked = tt
@@ -198,11 +198,11 @@ module _ (env : Env) (words_at : ℕ → List ℕ) (mix : ℕ → ℕ → ℕ �
       (locate-walked env.geometry SeesNone mix port locate locate.at steps did within.at_in
       within.table_in
       does.planned
-      (early-told does.words does.ghost does.whole locate did now.now now.stay within.table_in within.geometry_same does.found
+      (early-told does.caller does.words does.ghost does.whole locate did now.now now.stay within.table_in within.geometry_same does.found
       locate.at does.planned
       does.knows.knowing.means.table)
       saw)
-      (located-missed does.words does.ghost does.whole locate steps did now.now does.found locate.at within.at_in
+      (located-missed does.caller does.words does.ghost does.whole locate steps did now.now does.found locate.at within.at_in
       does.planned
       does.knows.knowing.means.table saw)
 

@@ -44,7 +44,7 @@ use Rattle.rht_core.specs.ResizeCauses.{FindsSlotsTaken, AreSlotsTaken, AreRunsT
 use Rattle.rht_core.specs.Seen.{TurnsSection}
 use Rattle.rht_core.specs.WorkCauses.{StoresOther, SawNoTableDue}
 use Rattle.rht_ghost.proofs.Theory.Ghosts.{index_at}
-use Rattle.rht_ghost.proofs.Theory.Wholes.{force-there, current-there, IsAt, one_table}
+use Rattle.rht_ghost.proofs.Theory.Wholes.{force-there, current-there, current-at, one_table}
 use Rattle.rht_ghost.proofs.Theory.Steps.{mem}
 use Rattle.rht_ghost.proofs.Theory.Knowns.{Onward, Rooted}
 use Rattle.rht_ghost.proofs.Theory.Knowledge.{WorkMeans}
@@ -119,12 +119,8 @@ module _ (env : Env) (mix : ℕ → ℕ → ℕ → ℕ) where
   other_last emptying h slot did does same =
       let G = does.ghost in
       let is = does.knows.knowing.means.work.more in
-      let root : IsAt G slot = record {
-        table = G.current;
-        attached = does.whole.tables.current_in;
-        slot_is = is.next.empties.followed.root_is ∙ same;
-      } in
-      let both = one_table env mix does.whole.tables slot root is.aim_is.at in
+      let root = current-at env mix does.whole.tables slot (is.next.empties.followed.root_is ∙ same) in
+      let both = one_table root is.aim_is.at in
       let later = is.aim_is.later in
       absurd (omega (arith, both, later))
 

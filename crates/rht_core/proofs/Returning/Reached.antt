@@ -15,7 +15,7 @@ use Rattle.rht_stands.specs.StandsFor.{shape_of, bucket_in}
 use Rattle.rht_core.specs.TablePages.{IsPageOfTable}
 use Rattle.rht_core.proofs.Counting.TablePages.{pages_in_words}
 use Rattle.rht_ghost.proofs.Theory.Ghosts.{Ghost, NodeHeld, SlotOwner, SlotHeld, PageHeld, PageOwner, PageOf, has_table, is_first, held_not_used, seat-first}
-use Rattle.rht_ghost.proofs.Theory.Wholes.{place_at, Whole, AreThereFrom, IsAt}
+use Rattle.rht_ghost.proofs.Theory.Wholes.{place_at, Whole, AreThereFrom, IsAt, current-at, there_behind}
 use Rattle.rht_ghost.proofs.Theory.SeatedLinks.{next_of, link-next_of, head-seated}
 use Rattle.rht_ghost.proofs.Theory.Steps.{mem}
 use Rattle.rht_core.proofs.Meaning.TablesInForce.{current_slot, next_named}
@@ -66,7 +66,12 @@ module _ (env : Env) (mix : ℕ → ℕ → ℕ → ℕ) (words : List ℕ) (G :
       next_named env mix words G whole meets.at.table next (meets-there slot meets) meets.at.attached
       (subst (λ s. slot_of (mem env mix words (Slot s FutureWord)) ≡ Some next) (sym meets.at.slot_is) leads) in
       record {
-        at = record { table = meets.at.table + 1; attached = named.attached; slot_is = named.slot_is };
+        at = record {
+          table = meets.at.table + 1;
+          attached = named.attached;
+          slot_is = named.slot_is;
+          on = there_behind G meets.at.table (meets-there slot meets);
+        };
         since = λ τ from. let before = meets.since τ from in omega (arith, before);
       }
 
@@ -74,11 +79,7 @@ module _ (env : Env) (mix : ℕ → ℕ → ℕ → ℕ) (words : List ℕ) (G :
   pub reaches-table : (slot : ℕ) → ReachesTable env.geometry words at slot → MeetsTable G r slot
   reaches-table slot (at_table s there) = AllByRecursion-In (MeetsTable G r) s at.tables stands.tables there
   reaches-table slot (at_current none) = record {
-    at = record {
-      table = G.current;
-      attached = whole.tables.current_in;
-      slot_is = sym (current_slot env mix words G whole);
-    };
+    at = current-at env mix whole.tables slot (sym (current_slot env mix words G whole));
     since = right.low;
   }
   reaches-table slot (by_future s next reached leads) = next_table s next (reaches-table s reached) leads

@@ -45,7 +45,7 @@ IsBack env mix c G G' (TableIn slot) = ⊥
 module _ (env : Env) (mix : ℕ → ℕ → ℕ → ℕ) (c : ℕ) (words : List ℕ) (G G' : Ghost) (op : Op)
     (whole : Whole env mix (mem env mix words) G) (made : Made env mix c (mem env mix words) G (mem env mix (applied words op)) G') where
   grow : TablesGrow env mix G G'
-  grow = (made.others (suc c) (λ e. absurd (omega arith))).tables.grow
+  grow = (made.others (suc c) (λ e. absurd (omega arith))).tables.all
 
   -- ---- a caller has what becomes free
 

@@ -55,8 +55,8 @@ module _ {env : Env} {mix : ℕ → ℕ → ℕ → ℕ} {words_at : ℕ → Lis
       let moving = ap (λ (x : Holding). x.moving) does.holds in
       absurd (let e = sym step.may.still_then ∙ moving in cc)
   kept_by (Opens d) returns ready does =
-      inr (turn_section step false true refl (subst (λ c. c < 16) ready does.within)
-      (does.turns ∙ ap (λ c. Add (place_of env.geometry (Section c)) 1) ready) does.outside does.holds)
+      inr (turn_section step false true refl (subst (λ c. c < 16) ready.0 does.within)
+      (does.turns ∙ ap (λ c. Add (place_of env.geometry (Section c)) 1) ready.0) does.outside does.holds)
   kept_by (Closes d) returns ready does =
       inr (turn_section step true false refl (subst (λ c. c < 16) ready does.within)
       (does.turns ∙ ap (λ c. Add (place_of env.geometry (Section c)) 1) ready) does.inside does.holds)

@@ -1,5 +1,5 @@
 -- Each operation of a walk that has shown each owner that it loaded leads on so, or it has to begin anew.
-use Rattle.std.proofs.Common.{◌≡◌, ◌⊎◌, ℕ, ◌+◌, ◌<◌, ◌≤◌, nat_lt, nat_le, Bool, true, List, [], ◌∷◌, ◌++◌, length, Option, Some, None, refl, sym, ◌∙◌, ap, subst, inl, inr, arith}
+use Rattle.std.proofs.Common.{◌≡◌, ◌⊎◌, ℕ, ◌+◌, ◌/◌, ◌<◌, ◌≤◌, nat_lt, nat_le, Bool, true, List, [], ◌∷◌, ◌++◌, length, Option, Some, None, refl, sym, ◌∙◌, ap, subst, inl, inr, arith}
 use Rattle.std.specs.Prelude.{◌==◌}
 use Rattle.std.specs.List.{AllByRecursion}
 use Rattle.std.proofs.lemmas.Bool.{cond_both, eqb-true}
@@ -33,7 +33,7 @@ use Rattle.rht_ghost.proofs.Pieces.TableLoads.{LeadsBehind, future_leads}
 use Rattle.rht_ghost.proofs.Theory.Ghosts.{Ghost, index_at, table_of_page, table_at, some-same}
 use Rattle.rht_ghost.proofs.Theory.SeatedLinks.{link_of-one}
 use Rattle.rht_ghost.proofs.Theory.Steps.{mem}
-use Rattle.rht_ghost.proofs.Theory.Wholes.{chain_of, key_of, hash_in, place_at, word_index, index-place_at, Whole}
+use Rattle.rht_ghost.proofs.Theory.Wholes.{chain_of, key_of, hash_in, place_at, word_index, index-place_at, Whole, IsThere}
 use Rattle.rht_core.proofs.Finding.BucketHeads.{bucket_right}
 use Rattle.rht_core.proofs.Finding.Falling.{one_place}
 use Rattle.rht_core.proofs.Finding.Places.{Places, PlacesRight}
@@ -240,7 +240,8 @@ module _ (env : Env) (mix : ℕ → ℕ → ℕ → ℕ) (seen : ℕ → Bool) (
           let table = ap table_of_page out.of in
           let later = out.later in
           out_so (chain_of M m) (leads_out env mix M G P now whole right of_ports τ out.bucket out.at (chain_of M m)
-          (omega (arith, table, later)) (key_of M m) (of_ports.homes out.bucket m out.at out.is)
+          (omega (arith, table, later)) (subst (IsThere G) (sym table) (whole.pages.there (out.bucket / 64) out.table out.of))
+          (key_of M m) (of_ports.homes out.bucket m out.at out.is)
           (ends_or_leads env mix M G P now whole right of_ports out.bucket m out.at out.is))
       link_so m (inr is) =
           way_so (chain_of M m) is.at (ends_or_leads env mix M G P now whole right of_ports j m is.at is.is)

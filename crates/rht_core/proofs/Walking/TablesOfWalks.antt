@@ -26,7 +26,7 @@ module _ (env : Env) (mix : ℕ → ℕ → ℕ → ℕ) (words : List ℕ) (G :
     same_table = index_is env mix (mem env mix words) G whole visit.table walked.of
 
     pub walked_there : IsThere G τ
-    walked_there = subst (IsThere G) (sym same_table) (at-there env mix whole.tables visit.table walked.of)
+    walked_there = subst (IsThere G) (sym same_table) (at-there walked.of)
 
     pub walked_number : visit.bucket < size_of (unpacked (G.table τ).shape)
     walked_number =

@@ -117,7 +117,7 @@ module _ (env : Env) (mix : ℕ → ℕ → ℕ → ℕ) where
 
     -- tables have different slots
     slot_differs : (σ : ℕ) → IsThere G σ → (G.table σ).slot ≡ last → σ ≡ τ
-    slot_differs σ here = one_slot env mix G σ τ here there
+    slot_differs σ here = one_slot G σ τ here there
 
     other_word : (s : ℕ) (w : SlotWord) → s < 8 → IsSlotWord w → Slot s w ≢ Slot last FutureWord
         → M' (Slot s w) ≡ M (Slot s w)
@@ -259,12 +259,6 @@ module _ (env : Env) (mix : ℕ → ℕ → ℕ → ℕ) where
             let was = whole.tables.force σ from before in
             ap (λ (t : Table). slots t.slot) (table_same σ before)
             ∙ attached_kept.slots (G.table σ).slot (ap has_table was) ∙ was
-      ];
-      there = λ σ k. elim (cases_eq σ G.attached) [
-        | inl e ↦ live-there env mix G' σ (new_live σ e)
-        | inr ne ↦
-            let before : σ < G.attached = omega (arith, k, ne) in
-            there_kept env mix G tables (G.attached + 1) slots page attached_kept σ before (whole.tables.there σ before)
       ];
       each = λ σ now. elim (cases_eq σ G.attached) [
         | inl e ↦ subst (TableRight env mix M' G') (sym e) new_table

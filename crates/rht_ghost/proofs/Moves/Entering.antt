@@ -216,7 +216,6 @@ module _ (env : Env) (mix : ℕ → ℕ → ℕ → ℕ) where
       current_in = whole.tables.current_in;
       current_is = write.others CurrentTable tt (λ e. cc) ∙ whole.tables.current_is ∙ sym (slot_same G.current);
       force = λ σ from l. ap G.slot (slot_same σ) ∙ whole.tables.force σ from l;
-      there = λ σ l. there_kept env mix G tables G.attached G.slot page entered_kept σ l (whole.tables.there σ l);
       each = λ σ now.
           let s = (G.table σ).slot in
           let there : IsThere G σ = record {

@@ -7,8 +7,8 @@ use Rattle.rht_words.proofs.Memory.{Memory, IsWrite}
 use Rattle.rht_words.proofs.ChainLemmas.{IsSegment-members}
 use Rattle.rht_ghost.proofs.Theory.Ghosts.{Ghost, First, Leaving, SlotOwner, SlotHeld, Live, lock_bit, state_word, has_table, index_at, table_of_slot, table_at, is_used, seat_of}
 use Rattle.rht_ghost.proofs.Theory.Wholes.{AreRetired, list_of, key_of, TablesRight, PagesRight, OutRight, MovingRight, IsLeavingAt, Owned, Whole, IsThere}
-use Rattle.rht_ghost.proofs.Theory.Passed.{TablesGrow, Passed-stays, same-TableStays}
-use Rattle.rht_ghost.proofs.Theory.Reliance.{TablesStay}
+use Rattle.rht_ghost.proofs.Theory.Passed.{TablesGrow, same-TableStays}
+use Rattle.rht_ghost.proofs.Theory.Reliance.{TablesStay, all_stay}
 use Rattle.rht_ghost.proofs.Theory.Frames.{Others, Made, UsedStay, used_stay, seat_stays, chains_stay, passes_same, stale_write, same_owners}
 use Rattle.rht_ghost.proofs.Theory.WholeFrames.{no_bucket, BucketRight-frame, arena_stays}
 use Rattle.rht_ghost.proofs.Theory.Departures.{with_standing}
@@ -88,7 +88,6 @@ module _ (env : Env) (mix : ℕ → ℕ → ℕ → ℕ) where
         current_in = is.current_in;
         current_is = is.current_is;
         force = λ τ from l. is.slots.live τ l from;
-        there = λ τ l. restated_there τ (whole.tables.there τ l);
         each = λ τ now.
             let s = (G.table τ).slot in
             let has = sym (is.slots.has s) ∙ now.has_slot in
@@ -253,15 +252,13 @@ module _ (env : Env) (mix : ℕ → ℕ → ℕ → ℕ) where
       }
 
       pub restated_stay : TablesStay env mix G after
-      restated_stay = record {
-        grow = restated_grow;
-        passed = Passed-stays env mix M G after whole restated_grow (passes_same env mix M G after whole (record {
-          armed = λ j c at. at;
-          out = λ j. refl;
-          bound = λ port. refl;
-          used = λ n used. refl;
-        }));
-      }
+      restated_stay =
+          all_stay env mix M G after whole restated_grow (passes_same env mix M G after whole (record {
+            armed = λ j c at. at;
+            out = λ j. refl;
+            bound = λ port. refl;
+            used = λ n used. refl;
+          }))
 
       restated_others : Others env mix d M G M' after
       restated_others c ne = record {

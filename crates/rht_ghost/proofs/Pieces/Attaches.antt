@@ -75,7 +75,7 @@ module _ (env : Env) (mix : ℕ → ℕ → ℕ → ℕ) (c : ℕ) where
         let M' = mem env mix (applied words op) in
         let made = knows.means.making in
         let τ = at.table in
-        let there = at-there env mix whole.tables last at in
+        let there = at-there at in
         let l : last < 8 = subst (λ s. s < 8) at.slot_is (whole.tables.each τ there).slot_in in
         let value : word_after (old_of words op) op ≡ future_of slot = ap (λ w. cond (w == 0) (future_of slot) w) found in
         let write : IsWrite env.geometry M M' (Slot (G.table τ).slot FutureWord) (future_of slot) =

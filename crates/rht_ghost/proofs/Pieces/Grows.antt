@@ -86,7 +86,7 @@ module _ (env : Env) (mix : ℕ → ℕ → ℕ → ℕ) (c : ℕ) (h : Holding)
 
   -- more of the table
   knows_more : (table more : KnownTable) (pages : List ℕ) (making : KnownMaking) (M : Memory) (G : Ghost)
-      → knows_that table pages making M G → TableMeans env mix G more → knows_that more pages making M G
+      → knows_that table pages making M G → TableMeans env mix c G more → knows_that more pages making M G
   knows_more table more pages making M G knows means = record {
     only = knows.only;
     means = record {
@@ -99,9 +99,9 @@ module _ (env : Env) (mix : ℕ → ℕ → ℕ → ℕ) (c : ℕ) (h : Holding)
   }
 
   module _ (words : List ℕ) (G : Ghost) (all : length words ≡ words_in env.geometry) (whole : Whole env mix (mem env mix words) G)
-      (j : ℕ) (usable : TableMeans env mix G near → IsOpenEntry env G j)
-      (leads : (M : Memory) (G' : Ghost) (page : ℕ) → Whole env mix M G' → TableMeans env mix G' near → LeadsTo G' j page
-      → TableMeans env mix G' (behind page)) where
+      (j : ℕ) (usable : TableMeans env mix c G near → IsOpenEntry env G j)
+      (leads : (M : Memory) (G' : Ghost) (page : ℕ) → Whole env mix M G' → TableMeans env mix c G' near → LeadsTo G' j page
+      → TableMeans env mix c G' (behind page)) where
     abbrev M : Memory
     M = mem env mix words
 

@@ -1,20 +1,23 @@
--- A caller opens its read section before it reads a table, and closes it once it has done so: it then knows what it knew before.
-use Rattle.std.proofs.Common.{◌≡◌, ℕ, ◌+◌, ◌%◌, ◌^◌, ◌<◌, List, length, Bool, true, false, refl, arith}
+-- A caller opens its read section before it knows anything of a table, and closes it once it does so no more: it then knows what it knew
+-- before, and in its section it may come to the tables from the current one on.
+use Rattle.std.proofs.Common.{◌≡◌, ℕ, ◌+◌, ◌%◌, ◌^◌, ◌<◌, List, length, Option, Some, None, Bool, true, false, refl, sym, subst, arith}
 use Rattle.rht_words.specs.declared.env.Env.{Env}
 use Rattle.rht_words.specs.declared.op.Op.{Op}
 use Rattle.rht_words.specs.declared.op.Op.TheVariants.{Add}
 use Rattle.rht_words.specs.Operations.{applied}
 use Rattle.rht_words.specs.Places.{Section, place_of, words_in}
 use Rattle.rht_words.proofs.Memory.{Memory, IsWrite, is_write}
-use Rattle.rht_ghost.proofs.Theory.Ghosts.{Ghost}
+use Rattle.rht_ghost.proofs.Theory.Ghosts.{Ghost, put-same, with_from}
 use Rattle.rht_ghost.proofs.Theory.Wholes.{Whole}
-use Rattle.rht_ghost.proofs.Theory.Knowns.{Known}
-use Rattle.rht_ghost.proofs.Theory.Knowledge.{Knowing}
-use Rattle.rht_ghost.proofs.Theory.KnowledgeKept.{Knowing-rely}
+use Rattle.rht_ghost.proofs.Theory.Knowns.{Known, Nowhere}
+use Rattle.rht_ghost.proofs.Theory.Knowledge.{Knowing, ReadsFrom, outside-none, TableMeans}
+use Rattle.rht_ghost.proofs.Theory.KnowledgeKept.{Means-rely, Only-rely}
 use Rattle.rht_ghost.proofs.Theory.Steps.{Opens, Closes, Holding, mem, SilentStep, silent}
-use Rattle.rht_ghost.proofs.Moves.Sections.{turn_section, turn_own}
+use Rattle.rht_ghost.proofs.Moves.Sections.{turn_section, turn_rely}
+use Rattle.rht_ghost.proofs.Theory.Reliance.{Rely}
+use Rattle.rht_ghost.proofs.Theory.Frames.{Made}
 
-module _ (env : Env) (mix : ℕ → ℕ → ℕ → ℕ) (c : ℕ) (h : Holding) (known : Known) where
+module _ (env : Env) (mix : ℕ → ℕ → ℕ → ℕ) (c : ℕ) (h : Holding) (known : Known) (nowhere : known.table ≡ Nowhere) where
   -- what the call holds in its section, or out of it, and what the caller knows then
   abbrev pub holding : Bool → Holding
   holding section = record h { section = section }
@@ -41,22 +44,38 @@ module _ (env : Env) (mix : ℕ → ℕ → ℕ → ℕ) (c : ℕ) (h : Holding)
     write = is_write env.geometry words (Section c) turning all within refl
 
     -- what it knew it still knows, in its section and out of it
-    known_then : (was now : Bool) → knowing was M G → knowing now M' G
-    known_then was now knows =
-        let then = Knowing-rely env mix c M M' G G (holding was) known whole
-        (turn_own env mix c ((M (Section c) + 1) % 2 ^ 64) M M' G whole write) knows in
-        record { only = then.only; means = then.means }
+    module _ (was now : Bool) (from : Option ℕ) (reads : ReadsFrom now from G.current) where
+      abbrev G' : Ghost
+      G' = with_from G c from
+
+      turned : Made env mix c M G M' G'
+      turned = turn_section env mix c ((M (Section c) + 1) % 2 ^ 64) from M M' G whole write
+
+      rely : Rely env mix c M G M' G'
+      rely = turn_rely env mix c ((M (Section c) + 1) % 2 ^ 64) from M M' G whole write c
+
+      reads_then : ReadsFrom now (G'.from c) G'.current
+      reads_then = subst (λ f. ReadsFrom now f G.current) (sym (put-same G.from c from)) reads
+
+      known_then : knowing was M G → knowing now M' G'
+      known_then knows = record {
+        only = Only-rely env mix c M M' G G' whole rely h.node h.lock h.second h.raised h.slot h.pages h.worker was now reads_then
+            knows.only;
+        means = Means-rely env mix c M M' G G' whole rely known (subst (TableMeans env mix c G') (sym nowhere) tt) knows.means;
+      }
 
     pub open_step : knowing false M G
         → SilentStep env mix c words G turning (holding false) (holding true) (knowing true)
     open_step knows =
-        silent env mix c words G turning (holding false) (holding true) (knowing true) (Opens c) whole refl tt
-        (turn_section env mix c ((M (Section c) + 1) % 2 ^ 64) M M' G whole write)
-        (record { within = within; turns = refl; outside = refl; holds = refl }) (known_then false true knows)
+        silent env mix c words G turning (holding false) (holding true) (knowing true) (Opens c) whole
+        (refl, outside-none (G.from c) G.current knows.only.reads) tt
+        (turned false true (Some G.current) (omega arith))
+        (record { within = within; turns = refl; outside = refl; holds = refl })
+        (known_then false true (Some G.current) (omega arith) knows)
 
     pub close_step : knowing true M G
         → SilentStep env mix c words G turning (holding true) (holding false) (knowing false)
     close_step knows =
         silent env mix c words G turning (holding true) (holding false) (knowing false) (Closes c) whole refl tt
-        (turn_section env mix c ((M (Section c) + 1) % 2 ^ 64) M M' G whole write)
-        (record { within = within; turns = refl; inside = refl; holds = refl }) (known_then true false knows)
+        (turned true false None tt)
+        (record { within = within; turns = refl; inside = refl; holds = refl }) (known_then true false None tt knows)

@@ -378,7 +378,7 @@ module _ (env : Env) (mix : ℕ → ℕ → ℕ → ℕ) (c : ℕ) (h : Holding)
         = subst (λ v. IsWrite env.geometry M M' (PageWord j) v) (exchanged here)
         (is_write env.geometry words (PageWord j) op all (index-within env mix place at.bucket) (sym is)) in
         let taken = take_lock env mix c j found M M' G whole (index-within env mix place at.bucket)
-        (home-bucket env mix M G whole port at.passing.at.table j (at-there env mix whole.tables slot at.passing.at) at.here) here
+        (home-bucket env mix M G whole port at.passing.at.table j (at-there at.passing.at) at.here) here
         even write in
         let b = held_by (G.bucket j) (Some c) in
         silent env mix c words G op (holding None) (holding (Some place))

@@ -74,10 +74,10 @@ module _ (env : Env) (mix : ℕ → ℕ → ℕ → ℕ) (c : ℕ) (h : Holding)
 
     -- what is held with another holder of the bucket
     held_only : (j : ℕ) (lock after holder : Option ℕ) → HasOnly env mix c G h.node lock h.second h.raised h.slot
-        h.pages h.worker
+        h.pages h.worker h.section
         → (holder ≡ Some c → (after ≡ Some (place_at env mix j)) ⊎ (h.second ≡ Some (place_at env mix j)))
         → ((i : ℕ) → (i ≡ j → ⊥) → lock ≡ Some (place_at env mix i) → after ≡ Some (place_at env mix i))
-        → HasOnly env mix c (with_holder G j holder) h.node after h.second h.raised h.slot h.pages h.worker
+        → HasOnly env mix c (with_holder G j holder) h.node after h.second h.raised h.slot h.pages h.worker h.section
     held_only j lock after holder only here elsewhere = record {
       nodes = only.nodes;
       locks = put-all (λ i b. b.holder ≡ Some c → (after ≡ Some (place_at env mix i))
@@ -90,6 +90,7 @@ module _ (env : Env) (mix : ℕ → ℕ → ℕ → ℕ) (c : ℕ) (h : Holding)
       slots = only.slots;
       pages_in = only.pages_in;
       works = only.works;
+      reads = only.reads;
     }
 
     exchanged_word : (found : ℕ) (place : ℕ) → word_after found (Exchange place found (found + 1)) ≡ found + 1

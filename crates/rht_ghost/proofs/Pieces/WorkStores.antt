@@ -98,7 +98,7 @@ module _ (env : Env) (mix : ℕ → ℕ → ℕ → ℕ) (c : ℕ) (h : Holding)
         (take_work env mix c M (after op) G whole found write).1 tt worked.made
         (record { taking = refl; free = found; idle = refl; holds = refl })
         (knows_so (at_work true false) Works (after op) _ (worker_only env mix c G h.node None None h.raised h.slot h.pages
-        false knows.only (Some c) true (λ e. refl)) worked.means)
+        false h.section knows.only (Some c) true (λ e. refl)) worked.means)
 
     -- where another caller has it nothing changes
     pub lose_work_step : old_of words (work_exchange env mix) ≢ 0 → knowing false false NoWork M G
@@ -120,7 +120,7 @@ module _ (env : Env) (mix : ℕ → ℕ → ℕ → ℕ) (c : ℕ) (h : Holding)
         silent env mix c words G op (at_work true moving) (at_work false false) (knowing false false NoWork) GivesWork
         whole works.0 tt worked.made (record { giving = refl; has = refl; holds = refl })
         (knows_so (at_work false false) NoWork (after op) _ (worker_only env mix c G h.node None None h.raised h.slot
-        h.pages true knows.only None false (λ e. absurd (cc))) worked.means)
+        h.pages true h.section knows.only None false (λ e. absurd (cc))) worked.means)
 
     -- a load from which on entries are silent, and after which this is known
     pub begin_moving_step : (op : Op) (known more : KnownWork) → word_after (old_of words op) op ≡ old_of words op
@@ -150,6 +150,7 @@ module _ (env : Env) (mix : ℕ → ℕ → ℕ → ℕ) (c : ℕ) (h : Holding)
       slots = only.slots;
       pages_in = only.pages_in;
       works = only.works;
+      reads = only.reads;
     }
 
     -- the lock of a bucket at which the work stops is dropped
@@ -284,7 +285,7 @@ module _ (env : Env) (mix : ℕ → ℕ → ℕ → ℕ) (c : ℕ) (h : Holding)
           (Leaves j (word_index env mix place) entry.node nodes) whole can tt worked.made
           (record { on = refl; moves = moves; holds = refl })
           (knows_so held (TakesOut root at entry place word) (after op) _
-          (left_only env mix c G h.node (Some at.place) (Some place) h.raised h.slot h.pages h.worker knows.only j nodes
+          (left_only env mix c G h.node (Some at.place) (Some place) h.raised h.slot h.pages h.worker h.section knows.only j nodes
           entry.node) worked.means)
 
       -- it is the first one there, and that bucket is unlocked
@@ -307,7 +308,7 @@ module _ (env : Env) (mix : ℕ → ℕ → ℕ → ℕ) (c : ℕ) (h : Holding)
           (working (Some at.place) None (HasBrought root at entry)) (Arrives j i entry.node) whole can tt worked.made
           (record { on = sym there; moves = moves; has = ap Some (sym there); holds = refl })
           (knows_so (holding (Some at.place) None) (HasBrought root at entry) (after op) _
-          (arrived_only env mix c G h.node (Some at.place) (Some place) h.raised h.slot h.pages h.worker knows.only i
+          (arrived_only env mix c G h.node (Some at.place) (Some place) h.raised h.slot h.pages h.worker h.section knows.only i
           entry.node place refl there) worked.means)
 
       cut_written : (j place : ℕ) (before : Option ℕ) → place_at env mix j ≡ place → j < 64 * env.geometry.pages
@@ -347,7 +348,7 @@ module _ (env : Env) (mix : ℕ → ℕ → ℕ → ℕ) (c : ℕ) (h : Holding)
             holds = refl;
           })
           (knows_so held more (after op) _
-          (cut_only env mix c G h.node (Some at.place) None h.raised h.slot h.pages h.worker knows.only j before)
+          (cut_only env mix c G h.node (Some at.place) None h.raised h.slot h.pages h.worker h.section knows.only j before)
           worked.means)
 
       -- ---- tables
@@ -367,7 +368,7 @@ module _ (env : Env) (mix : ℕ → ℕ → ℕ → ℕ) (c : ℕ) (h : Holding)
           Publishes whole (can_publish env mix c M G whole works root count is size) tt worked.made
           (record { on = refl; moves = moves; holds = refl })
           (knows_so (holding None None) (LeavesBehind root.root) (after op) _
-          (published_only env mix c G h.node None None h.raised h.slot h.pages h.worker knows.only) worked.means)
+          (published_only env mix c G h.node None None h.raised h.slot h.pages h.worker h.section knows.only) worked.means)
 
       -- and the one that was left behind is retired
       pub retire_step : (slot : ℕ) → working None None (LeavesBehind slot) M G
@@ -387,4 +388,4 @@ module _ (env : Env) (mix : ℕ → ℕ → ℕ → ℕ) (c : ℕ) (h : Holding)
           (can_retire env mix c M G whole slot works is) tt worked.made
           (record { within = within; retiring = refl; moves = moves; holds = refl })
           (knows_so (holding None None) Works (after op) _
-          (retired_only env mix c G h.node None None h.raised h.slot h.pages h.worker knows.only slot) worked.means)
+          (retired_only env mix c G h.node None None h.raised h.slot h.pages h.worker h.section knows.only slot) worked.means)

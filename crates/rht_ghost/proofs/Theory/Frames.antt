@@ -7,9 +7,9 @@ use Rattle.rht_words.specs.Members.{In}
 use Rattle.rht_words.proofs.Memory.{Memory, IsWrite}
 use Rattle.rht_ghost.proofs.Theory.Ghosts.{Table, Bucket, has_table, table_of_slot, Owner, Free, First, Leaving, Ghost, is_taken_by, is_used, IsUsed, seat_of, seat_in, seat, seat-used, Taken, HasSeat, is_listed, put-other, with_owner, IsListedNode, seat-listed}
 use Rattle.rht_ghost.proofs.Theory.Wholes.{chain_of, key_of, Whole, IsThere, seated_at, out-seated}
-use Rattle.rht_ghost.proofs.Theory.Passed.{same-TableStays, TablesGrow, PassesStay, Passed-stays}
+use Rattle.rht_ghost.proofs.Theory.Passed.{same-TableStays, TablesGrow, PassesStay}
 use Rattle.rht_ghost.proofs.Theory.Knowledge.{HasNode, IsEmptied}
-use Rattle.rht_ghost.proofs.Theory.Reliance.{TablesStay, HoldingsStay, WorkStays, WordStays, ChainsStay, bound_used, Rely}
+use Rattle.rht_ghost.proofs.Theory.Reliance.{TablesStay, all_stay, HoldingsStay, WorkStays, WordStays, ChainsStay, bound_used, Rely}
 
 -- a node behind a port's first one gets the link that this one has, which leads to first nodes then
 pub record IsLed (M : Memory) (G : Ghost) (M' : Memory) (G' : Ghost) (n : ℕ) : Type 0 where
@@ -180,10 +180,7 @@ module _ (env : Env) (mix : ℕ → ℕ → ℕ → ℕ) where
 
   pub tables_stay : (M : Memory) (G G' : Ghost) → Whole env mix M G → SameTables G G' → PassesStay env mix G G'
       → TablesStay env mix G G'
-  tables_stay M G G' whole same passes = record {
-    grow = same_grow G G' same;
-    passed = Passed-stays env mix M G G' whole (same_grow G G' same) passes;
-  }
+  tables_stay M G G' whole same = all_stay env mix M G G' whole (same_grow G G' same)
 
   -- who has nodes doesn't matter for tables, nor what buckets and ports have, nor who has raised the count
   pub same_tables : (G : Ghost) (bucket : ℕ → Bucket) (node : ℕ → Owner) (bound : ℕ → List ℕ) (raised : ℕ

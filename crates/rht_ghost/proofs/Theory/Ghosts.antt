@@ -129,7 +129,7 @@ pub data SlotOwner : Type 0 where
 -- Tables by the order in which they were attached, how many there were, and which of them is the current one. Buckets by the
 -- index of their word among those of all pages, nodes, pages and slots by their numbers, what is bound by ports, and for each
 -- caller whether it has raised the count of ports for a node that it hasn't linked yet, or has still to
--- lower it for one that it has taken out
+-- lower it for one that it has taken out; and of each that has its read section open, which table was the current one when it was opened
 pub record Ghost : Type 0 where
   pub table : ℕ → Table
   pub attached : ℕ
@@ -141,6 +141,7 @@ pub record Ghost : Type 0 where
   pub slot : ℕ → SlotOwner
   pub worker : Option ℕ
   pub raised : ℕ → Bool
+  pub from : ℕ → Option ℕ
 
 -- the state word of a slot
 abbrev pub state_word : SlotOwner → ℕ
@@ -383,6 +384,10 @@ with_owner G n owner = record G { node = put G.node n owner }
 -- a caller that has raised the count, or has no longer
 abbrev pub with_raised : Ghost → ℕ → Bool → Ghost
 with_raised G d now = record G { raised = put G.raised d now }
+
+-- a caller that has opened its section, or closed it
+abbrev pub with_from : Ghost → ℕ → Option ℕ → Ghost
+with_from G d from = record G { from = put G.from d from }
 
 -- a slot with another owner
 abbrev pub with_slot : Ghost → ℕ → SlotOwner → Ghost

@@ -12,11 +12,11 @@ use Rattle.rht_words.proofs.Members.{in-middle}
 use Rattle.rht_nest.specs.Place.{PlaceModel}
 use Rattle.rht_ghost.proofs.Theory.Ghosts.{Ghost, seat-used}
 use Rattle.rht_ghost.proofs.Theory.Wholes.{retired_stay, key_of, word_index, home, out-seated, Whole, IsAt, current-there}
-use Rattle.rht_ghost.proofs.Theory.Passed.{place-table, TableStays, TablesGrow, table_at-grows, home-stays, at-stays}
+use Rattle.rht_ghost.proofs.Theory.Passed.{place-table, IsSameTable, GrowsFrom, table_at-from, home-from, at-from}
 use Rattle.rht_ghost.proofs.Theory.Knowns.{KnownAim, NoAim, Onward, From, Beyond, KnownRehash, KnownPlace, Follows, Nears, Faces, KnownEntry, InBucket, Bare, AtEntry, AtTail, Aims, Brings, Empties, LeavesBehind, HasBrought, HasMade, HasPages, HasTaken, Known, KnownMaking, KnownWork, MakesNothing, NoWork, Rooted, TakesOut, Works, last_of}
-use Rattle.rht_ghost.proofs.Theory.Knowledge.{AimMeans, IsWayIn, IsRooted, IsFollowed, IsNearing, IsFacing, IsLeftBehind, IsNext, IsInBucket, IsBare, IsAim, IsAiming, IsWorking, HasLock, HasOnly, HasSlot, IsBringing, IsBrought, IsEmptying, IsEntry, IsOutOf, IsRoot, IsTail, IsTakenOut, IsTarget, Knowing, MakingMeans, Means, WorkMeans, bucket_at}
+use Rattle.rht_ghost.proofs.Theory.Knowledge.{AimMeans, IsWayIn, IsRooted, IsFollowed, IsNearing, IsFacing, IsLeftBehind, IsNext, IsInBucket, IsBare, IsAim, IsAiming, IsWorking, HasLock, HasOnly, ReadsFrom, ReadsFrom-later, HasSlot, IsBringing, IsBrought, IsEmptying, IsEntry, IsOutOf, IsRoot, IsTail, IsTakenOut, IsTarget, Knowing, MakingMeans, Means, TableMeans, WorkMeans, bucket_at}
 use Rattle.rht_ghost.proofs.Theory.Reliance.{HoldingsStay, Rely, WordStays, WorkStays, members_used}
-use Rattle.rht_ghost.proofs.Theory.WaysStay.{IsWayIn-stay}
+use Rattle.rht_ghost.proofs.Theory.WaysStay.{IsWayIn-from}
 use Rattle.rht_ghost.proofs.Theory.KnowledgeStays.{BucketMeans-own, NodeMeans-stay, TableMeans-stay}
 
 module _ (env : Env) (mix : ℕ → ℕ → ℕ → ℕ) where
@@ -59,7 +59,9 @@ module _ (env : Env) (mix : ℕ → ℕ → ℕ → ℕ) where
 
   -- what a caller that does the work needs of a step, its own or another's, so that it knows still what it knew
   pub record KeepsWork (c : ℕ) (M : Memory) (G : Ghost) (M' : Memory) (G' : Ghost) : Type 0 where
-    pub grow : TablesGrow env mix G G'
+    pub low : ℕ
+    pub current : low ≤ G.current
+    pub grow : GrowsFrom env mix low G G'
     pub locks : (j : ℕ) → (G.bucket j).holder ≡ Some c → G'.bucket j ≡ G.bucket j
     pub keys : WordStays env mix KeyWord M G M'
     pub work : G.worker ≡ Some c → WorkStays env mix c M G M' G'
@@ -71,8 +73,11 @@ module _ (env : Env) (mix : ℕ → ℕ → ℕ → ℕ) where
     stays = keeps.work works
 
     -- what is said of the current table stays
-    root-stays : TableStays G.page G.current (G.table G.current) (G'.table G'.current)
+    root-stays : IsSameTable (G.table G.current) (G'.table G'.current)
     root-stays = rw stays.current (keeps.grow.tables G.current whole.tables.current_in)
+
+    root-place : (number j : ℕ) → (G.table G.current).place number ≡ Some j → (G'.table G'.current).place number ≡ Some j
+    root-place number j is = rw stays.current (keeps.grow.places G.current number j whole.tables.current_in keeps.current is)
 
     within-stays : (number : ℕ) → number ≤ size_of (unpacked (G.table G.current).shape)
         → number ≤ size_of (unpacked (G'.table G'.current).shape)
@@ -108,7 +113,7 @@ module _ (env : Env) (mix : ℕ → ℕ → ℕ → ℕ) where
       followed = IsFollowed-stay root.root root.future is.followed;
       shape_is = root-stays.shape ∙ is.shape_is;
       within = within-stays count is.within;
-      each = λ b j l at. elim (keeps.grow.placed G.current b j whole.tables.current_in
+      each = λ b j l at. elim (keeps.grow.placed G.current b j whole.tables.current_in keeps.current
           (ap (λ τ. (G'.table τ).place b) (sym stays.current) ∙ at)) [
             | inl was ↦
                 let there = place-table env mix M G whole G.current b j (current-there env mix whole.tables)
@@ -139,11 +144,11 @@ module _ (env : Env) (mix : ℕ → ℕ → ℕ → ℕ) where
     AimMeans-stay NoAim is = tt
     AimMeans-stay Onward is = omega (arith, is, stays.current, keeps.grow.attached)
     AimMeans-stay (From slot) is = record {
-      at = at-stays env mix G G' keeps.grow slot is.at;
+      at = at-from env mix keeps.low G G' keeps.grow slot is.at (let low = keeps.current in omega (arith, low, is.from));
       from = omega (arith, is.from, stays.current);
     }
     AimMeans-stay (Beyond slot shape seed) is = record {
-      at = at-stays env mix G G' keeps.grow slot is.at;
+      at = at-from env mix keeps.low G G' keeps.grow slot is.at (let low = keeps.current in omega (arith, low, is.later));
       later = omega (arith, is.later, stays.current);
       shape_is = known-shape_stays slot shape is.at is.shape_is;
       flat = is.flat;
@@ -167,7 +172,7 @@ module _ (env : Env) (mix : ℕ → ℕ → ℕ → ℕ) where
       empties = IsEmptying-stay root number is.empties;
       below = below-stays number is.below;
       to = subst (λ τ. IsWayIn env mix G' number τ place) (sym stays.current)
-          (IsWayIn-stay env mix G G' keeps.grow number G.current place whole.tables.current_in is.to);
+          (IsWayIn-from env mix keeps.low G G' keeps.grow number G.current place whole.tables.current_in keeps.current is.to);
     }
 
     IsFacing-stay : (root : KnownRehash) (number place : ℕ) → IsFacing env mix G root number place
@@ -176,7 +181,7 @@ module _ (env : Env) (mix : ℕ → ℕ → ℕ → ℕ) where
       empties = IsEmptying-stay root number is.empties;
       below = below-stays number is.below;
       bucket = is.bucket;
-      here = root-stays.places number (word_index env mix place) is.here;
+      here = root-place number (word_index env mix place) is.here;
     }
 
     IsNext-stay : (root : KnownRehash) (at : KnownPlace) → IsNext env mix c G root at → IsNext env mix c G' root at
@@ -184,7 +189,7 @@ module _ (env : Env) (mix : ℕ → ℕ → ℕ → ℕ) where
       empties = IsEmptying-stay root at.number is.empties;
       below = below-stays at.number is.below;
       lock = lock-stays at.place at.word is.lock;
-      here = root-stays.places at.number (word_index env mix at.place) is.here;
+      here = root-place at.number (word_index env mix at.place) is.here;
     }
 
     IsInBucket-stay : (root : KnownRehash) (at : KnownPlace) (aim : KnownAim) → IsInBucket env mix c G root at aim
@@ -227,7 +232,8 @@ module _ (env : Env) (mix : ℕ → ℕ → ℕ → ℕ) where
       later = omega (arith, is.later, stays.current);
       attached = omega (arith, is.attached, keeps.grow.attached);
       here = ap (λ k. home env mix G' k is.table) key
-          ∙ home-stays env mix G G' keeps.grow (key_of M entry) is.table (word_index env mix place) is.attached is.here;
+          ∙ home-from env mix keeps.low G G' keeps.grow (key_of M entry) is.table (word_index env mix place) is.attached
+          (let low = keeps.current in omega (arith, low, is.later)) is.here;
     }
 
     IsTarget-stay : (entry place word : ℕ) → key_of M' entry ≡ key_of M entry → IsTarget env mix c M G entry place word
@@ -301,7 +307,7 @@ module _ (env : Env) (mix : ℕ → ℕ → ℕ → ℕ) where
               arith,
               is.further.later,
               stays.current,
-              table_at-grows env mix G G' keeps.grow bucket,
+              table_at-from env mix keeps.low G G' keeps.grow bucket (let low = keeps.current in omega (arith, low, is.further.later)),
             );
           };
         }
@@ -356,10 +362,10 @@ module _ (env : Env) (mix : ℕ → ℕ → ℕ → ℕ) where
 
   -- what is known outlives a step of anybody else, and so does that there is nothing more
   module _ (c : ℕ) (M M' : Memory) (G G' : Ghost) (whole : Whole env mix M G) (rely : Rely env mix c M G M' G') where
-    pub Means-rely : (known : Known) → Means env mix c M G known → Means env mix c M' G' known
-    Means-rely known means = record {
+    pub Means-rely : (known : Known) → TableMeans env mix c G' known.table → Means env mix c M G known → Means env mix c M' G' known
+    Means-rely known table means = record {
       node = NodeMeans-stay env mix c M M' G G' rely.nodes rely.words known.node means.node;
-      table = TableMeans-stay env mix c M M' G G' rely.tables known.table means.table;
+      table = table;
       bucket = BucketMeans-own env mix c M M' G G' (members_used env mix M G whole) rely.locks rely.lists rely.chains rely.keys
           rely.owners rely.taken rely.tables rely.unbound known.bucket
           (λ node has. (
@@ -369,26 +375,39 @@ module _ (env : Env) (mix : ℕ → ℕ → ℕ → ℕ) where
           )) means.bucket;
       making = MakingMeans-stay c M M' G G' rely.holdings known.making means.making;
       work = WorkMeans-stay c M M' G G' whole
-          (record { grow = rely.tables.grow; locks = rely.locks; keys = rely.keys; work = rely.work }) known.work
+          (record {
+            low = rely.tables.low;
+            current = rely.tables.current;
+            grow = rely.tables.grow;
+            locks = rely.locks;
+            keys = rely.keys;
+            work = rely.work;
+          }) known.work
           means.work;
     }
 
     pub Only-rely : (has lock second : Option ℕ) (raised : Bool) (slot : Option ℕ) (pages : List ℕ)
-        (worker : Bool) → HasOnly env mix c G has lock second raised slot pages worker
-        → HasOnly env mix c G' has lock second raised slot pages worker
-    Only-rely has lock second raised slot pages worker only = record {
+        (worker was now : Bool) → ReadsFrom now (G'.from c) G'.current
+        → HasOnly env mix c G has lock second raised slot pages worker was
+        → HasOnly env mix c G' has lock second raised slot pages worker now
+    Only-rely has lock second raised slot pages worker was now reads only = record {
       nodes = λ n held. only.nodes n (rely.no_node n held);
       locks = λ j holds. only.locks j (rely.no_lock j holds);
       raising = rely.raised ∙ only.raising;
       slots = λ s held. only.slots s (rely.holdings.no_slot s held);
       pages_in = λ p held. only.pages_in p (rely.holdings.no_page p held);
       works = λ works. only.works (rely.no_work works);
+      reads = reads;
     }
 
+  -- so all that it knows does, where it has its section open, or not, as before
   pub Knowing-rely : {A : Type 0} → (c : ℕ) (M M' : Memory) (G G' : Ghost) (h : held.Held A)
-      (known : Known) → Whole env mix M G
+      (known : Known) → Whole env mix M G → G'.from c ≡ G.from c
       → Rely env mix c M G M' G' → Knowing env mix c h known M G → Knowing env mix c h known M' G'
-  Knowing-rely c M M' G G' h known whole rely knows = record {
-    only = Only-rely c M M' G G' whole rely h.node h.lock h.second h.raised h.slot h.pages h.worker knows.only;
-    means = Means-rely c M M' G G' whole rely known knows.means;
+  Knowing-rely c M M' G G' h known whole from rely knows = record {
+    only = Only-rely c M M' G G' whole rely h.node h.lock h.second h.raised h.slot h.pages h.worker h.section h.section
+        (subst (λ f. ReadsFrom h.section f G'.current) (sym from)
+        (ReadsFrom-later h.section (G.from c) G.current G'.current rely.tables.grow.current knows.only.reads)) knows.only;
+    means = Means-rely c M M' G G' whole rely known (TableMeans-stay env mix c M M' G G' from rely.tables known.table knows.means.table)
+        knows.means;
   }

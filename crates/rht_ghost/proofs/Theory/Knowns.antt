@@ -25,11 +25,10 @@ pub record KnownNode : Type 0 where
 -- Of the way to a port's bucket: nothing, or that none of the tables before the one in this slot binds the port; the table's
 -- shape; that the way to the bucket leads over entries, at which of them it stands, and which table is behind, where one is known to be; and at
 -- which place the port's bucket is, whether the shape is known or not.
--- Of a table, for whatever port: which slot it has, and its shape.
+-- Of a table, for whatever port: which slot it has.
 pub data KnownTable : Type 0 where
   Nowhere : KnownTable
   InSlot : ℕ → KnownTable
-  WithShape : ℕ → ℕ → KnownTable
   Passes : ℕ → ℕ → KnownTable
   Shaped : ℕ → ℕ → ℕ → KnownTable
   OnWay : ℕ → ℕ → ℕ → PlaceModel → Option ℕ → KnownTable

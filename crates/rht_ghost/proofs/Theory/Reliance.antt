@@ -1,21 +1,45 @@
 -- What a caller can count on at a step of anybody else.
-use Rattle.std.proofs.Common.{◌≡◌, ℕ, ◌+◌, ◌<◌, List, [], ◌∷◌, Some, refl, ap, inl, inr}
+use Rattle.std.proofs.Common.{◌≡◌, ℕ, ◌+◌, ◌<◌, ◌≤◌, List, [], ◌∷◌, Option, Some, None, refl, ap, inl, inr, arith}
 use Rattle.rht_words.specs.declared.env.Env.{Env}
 use Rattle.rht_words.specs.Places.{Slot, SlotWord, IsSlotWord, Node, NodeWord, ChainLink, KeyWord, OwnerWord}
 use Rattle.rht_words.proofs.Memory.{Memory}
 use Rattle.rht_words.specs.Members.{In}
 use Rattle.rht_ghost.proofs.Theory.Ghosts.{NodeHeld, Leaving, PageHeld, SlotHeld, Live, Ghost, is_used, is_taken_by, IsUsed, seat-used, table_at}
 use Rattle.rht_ghost.proofs.Theory.Wholes.{chain_of, key_of, seated_at, Whole}
-use Rattle.rht_ghost.proofs.Theory.Passed.{Passed, TablesGrow}
-use Rattle.rht_ghost.proofs.Theory.Knowledge.{ArmedFor, HasNode, HasSlot, IsEmptied}
+use Rattle.rht_ghost.proofs.Theory.Passed.{Passed, Passed-stays, PassesStay, TablesGrow, GrowsFrom, grows_from}
+use Rattle.rht_ghost.proofs.Theory.Knowledge.{ArmedFor, HasNode, HasSlot, IsEmptied, IsSince}
 
 module _ (env : Env) (mix : ℕ → ℕ → ℕ → ℕ) where
   -- ---- what a caller can count on at a step of anybody else
 
-  -- the tables that there are stay what they are, others may come, and what was passed stays passed
+  -- From a table on that isn't behind the current one, nor behind one to which an open section may come, the tables that there are stay
+  -- what they are, others may come, and what was passed stays passed. No table is given back yet: so all that there are stay.
   pub record TablesStay (G G' : Ghost) : Type 0 where
-    pub grow : TablesGrow env mix G G'
-    pub passed : (port τ : ℕ) → Passed env mix G port τ → Passed env mix G' port τ
+    pub low : ℕ
+    pub current : low ≤ G.current
+    pub sections : (c first : ℕ) → G.from c ≡ Some first → low ≤ first
+    pub grow : GrowsFrom env mix low G G'
+    pub passed : (port τ : ℕ) → low ≤ τ → Passed env mix G port τ → Passed env mix G' port τ
+    pub all : TablesGrow env mix G G'
+
+  -- a table to which a caller's section comes is one that stays
+  pub since-low : {G G' : Ghost} (stay : TablesStay G G') (c τ : ℕ) → IsSince (G.from c) τ → stay.low ≤ τ
+  since-low {G} {G'} stay c τ = go (G.from c) refl
+    where
+      go : (from : Option ℕ) → G.from c ≡ from → IsSince from τ → stay.low ≤ τ
+      go None is since = absurd since
+      go (Some first) is since = let low = stay.sections c first is in omega (arith, low, since)
+
+  -- so it is of an operation that gives back none
+  pub all_stay : (M : Memory) (G G' : Ghost) → Whole env mix M G → TablesGrow env mix G G' → PassesStay env mix G G' → TablesStay G G'
+  all_stay M G G' whole grow passes = record {
+    low = 0;
+    current = omega arith;
+    sections = λ c first is. omega arith;
+    grow = grows_from env mix G G' grow;
+    passed = λ port τ from. Passed-stays env mix M G G' whole grow passes port τ;
+    all = grow;
+  }
 
   -- the slots and the pages that it has, with the words of the slots; and nobody gives it any
   pub record HoldingsStay (c : ℕ) (M : Memory) (G : Ghost) (M' : Memory) (G' : Ghost) : Type 0 where
@@ -100,6 +124,8 @@ module _ (env : Env) (mix : ℕ → ℕ → ℕ → ℕ) where
   pub record MembersUsed (G : Ghost) : Type 0 where
     pub member : (j node : ℕ) → In node (G.bucket j).nodes → IsUsedNode G node
     pub bound : (port node : ℕ) → In node (G.bound port) → IsUsedNode G node
+    -- and a bucket in which a bind is armed is one of a table in force
+    pub armed : (j c : ℕ) → (G.bucket j).armed ≡ Some c → G.current ≤ table_at G j
 
   pub members_used : (M : Memory) (G : Ghost) → Whole env mix M G → MembersUsed G
   members_used M G whole = record {
@@ -107,4 +133,5 @@ module _ (env : Env) (mix : ℕ → ℕ → ℕ → ℕ) where
         let first = whole.owned.member j node i in
         ((whole.owned.first_at node j first).among, ap is_used first);
     bound = λ port node i. bound_used M G whole port (G.bound port) refl node i;
+    armed = λ j c is. (whole.moving.armed j c is).current;
   }

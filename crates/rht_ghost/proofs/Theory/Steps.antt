@@ -1,6 +1,7 @@
 -- What one operation of a caller makes of the words, the ghost, what its call holds, and what it knows.
 use Rattle.std.proofs.Common.{◌≡◌, ◌≢◌, ◌⊎◌, ◌↔◌, ℕ, suc, ◌+◌, ◌%◌, ◌<◌, ◌≤◌, List, [], ◌∷◌, map, Option, Some, None, Bool, true, false, refl, sym, ◌∙◌, ap, subst, inl, inr, arith}
 use Rattle.std.specs.Int.{bit_at}
+use Rattle.std.proofs.lemmas.Bool.{cases_eq}
 use Rattle.std.proofs.lemmas.List.{set-get_or}
 use Rattle.rht_words.specs.declared.env.Env.{Env}
 use Rattle.rht_words.specs.declared.geometry.Geometry.{Geometry}
@@ -21,7 +22,7 @@ use Rattle.rht_model.specs.Multimap.{Multimap, Agree}
 use Rattle.rht_model.specs.Answers.{Answer, is_change}
 use Rattle.rht_arena.specs.Laws.{map_place, map_bit, IsTaking}
 use Rattle.rht_words.specs.TableWords.{IsTableWord}
-use Rattle.rht_ghost.proofs.Theory.Ghosts.{put, put-all, Owner, Free, NodeHeld, First, Leaving, Taken, PageFree, PageHeld, SlotFree, SlotHeld, Ghost, is_taken_by, with_holder, with_armed, with_owner, with_raised, with_slot, has_bit, with_pages, made_table, with_table}
+use Rattle.rht_ghost.proofs.Theory.Ghosts.{put, put-same, put-other, put-all, Owner, Free, NodeHeld, First, Leaving, Taken, PageFree, PageHeld, SlotFree, SlotHeld, Ghost, is_taken_by, with_holder, with_armed, with_owner, with_raised, with_from, with_slot, has_bit, with_pages, made_table, with_table}
 use Rattle.rht_ghost.proofs.Theory.Wholes.{place_at, outs, Whole}
 use Rattle.rht_ghost.proofs.Theory.Reliance.{bound_used}
 use Rattle.rht_ghost.proofs.Theory.Frames.{Made, still}
@@ -381,8 +382,8 @@ module _ (env : Env) (mix : ℕ → ℕ → ℕ → ℕ) where
   ghost_after c (CutsOff j entry before) G = cut_off G j before
   ghost_after c Publishes G = published G
   ghost_after c (Retires s) G = retired G s
-  ghost_after c (Opens d) G = G
-  ghost_after c (Closes d) G = G
+  ghost_after c (Opens d) G = with_from G d (Some G.current)
+  ghost_after c (Closes d) G = with_from G d None
   ghost_after c (ReturnsNode n) G = with_owner G n Free
 
   -- the words as a memory
@@ -427,9 +428,35 @@ module _ (env : Env) (mix : ℕ → ℕ → ℕ → ℕ) where
   ReadyFor c M G (CutsOff j entry before) = CanCut env mix c j entry before G
   ReadyFor c M G Publishes = CanPublish env mix c G
   ReadyFor c M G (Retires s) = CanRetire env mix c s G
-  ReadyFor c M G (Opens d) = d ≡ c
+  ReadyFor c M G (Opens d) = (d ≡ c) × (G.from c ≡ None)
   ReadyFor c M G (Closes d) = d ≡ c
   ReadyFor c M G (ReturnsNode n) = G.node n ≡ Taken c
+
+  -- a move opens no other caller's section, and closes none
+  pub other_sections : (c k : ℕ) (move : Move) (M : Memory) (G : Ghost) → ReadyFor c M G move → k ≢ c
+      → (ghost_after c move G).from k ≡ G.from k
+  other_sections c k (Opens d) M G ready other = put-other G.from d (Some G.current) k (λ e. other (e ∙ ready.0))
+  other_sections c k (Closes d) M G mine other = put-other G.from d None k (λ e. other (e ∙ mine))
+  other_sections c k _ M G ready other = refl
+
+  -- a caller's section stays open or closed, with its first table, or is opened at the current one, or closed
+  abbrev pub SectionTurns : ℕ → Ghost → Ghost → Type 0
+  SectionTurns k G G' =
+      (G'.from k ≡ G.from k) ⊎ ((G.from k ≡ None) × (G'.from k ≡ Some G'.current)) ⊎ (G'.from k ≡ None)
+
+  pub section_turns : (c k : ℕ) (move : Move) (M : Memory) (G : Ghost) → ReadyFor c M G move
+      → SectionTurns k G (ghost_after c move G)
+  section_turns c k (Opens d) M G ready =
+      let first = Some G.current in
+      elim (cases_eq k d) [
+        | inl e ↦ inr (inl (ap G.from (e ∙ ready.0) ∙ ready.1, ap (put G.from d first) e ∙ put-same G.from d first))
+        | inr ne ↦ inl (put-other G.from d first k ne)
+      ]
+  section_turns c k (Closes d) M G ready = elim (cases_eq k d) [
+    | inl e ↦ inr (inr (ap (put G.from d None) e ∙ put-same G.from d None))
+    | inr ne ↦ inl (put-other G.from d None k ne)
+  ]
+  section_turns c k _ M G ready = inl refl
 
   -- which operation the move is, and how what the call holds changes by it
   abbrev pub Does : Move → Op → ℕ → Holding → Holding → Type 0

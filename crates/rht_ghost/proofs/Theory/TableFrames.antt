@@ -12,10 +12,10 @@ use Rattle.rht_ghost.proofs.Theory.Ghosts.{has_entries, Table, blank_bucket, Pag
 use Rattle.rht_ghost.proofs.Theory.Wholes.{key_of, list_of, home, future_in, IsNoBucket, PlacedRight, EntriesRight, TableRight, TablesRight, SlotsRight, PagesRight, MovingRight, OutRight, IsHomeOf, IsFirstAt, IsLeavingAt, Owned, Whole, seated_at, IsThere, there-attached}
 use Rattle.rht_nest.specs.Tables.{table_seed}
 use Rattle.rht_ghost.proofs.Theory.Entries.{PlacedRight-pages}
-use Rattle.rht_ghost.proofs.Theory.Passed.{held-bucket, member-bucket, home-stays, TableStays, same-TableStays, TablesGrow, PassesStay, Passed-stays}
+use Rattle.rht_ghost.proofs.Theory.Passed.{held-bucket, member-bucket, home-stays, TableStays, same-TableStays, TablesGrow, grows_from, PassesStay}
 use Rattle.rht_ghost.proofs.Theory.Knowns.{Known, KnownMaking}
 use Rattle.rht_ghost.proofs.Theory.Knowledge.{MakingMeans, Knowing}
-use Rattle.rht_ghost.proofs.Theory.Reliance.{TablesStay, HoldingsStay, WorkStays, members_used, Rely}
+use Rattle.rht_ghost.proofs.Theory.Reliance.{TablesStay, all_stay, HoldingsStay, WorkStays, members_used, Rely}
 use Rattle.rht_ghost.proofs.Theory.KnowledgeStays.{NodeMeans-stay, TableMeans-stay, BucketMeans-own}
 use Rattle.rht_ghost.proofs.Theory.KnowledgeKept.{WorkMeans-stay}
 use Rattle.rht_ghost.proofs.Theory.Frames.{passes_same, chains_stay}
@@ -131,10 +131,7 @@ module _ (env : Env) (mix : ℕ → ℕ → ℕ → ℕ) where
     })
 
     pub kept_stay : TablesStay env mix G G'
-    kept_stay = record {
-      grow = kept_grow;
-      passed = Passed-stays env mix M G G' whole kept_grow kept_passes;
-    }
+    kept_stay = all_stay env mix M G G' whole kept_grow kept_passes
 
     pub node_word : (n : ℕ) (w : NodeWord) → n < env.geometry.nodes → M' (Node n w) ≡ M (Node n w)
     node_word n w l = write.others (Node n w) l (apart.nodes n w)
@@ -385,11 +382,12 @@ module _ (env : Env) (mix : ℕ → ℕ → ℕ → ℕ) where
         slots = slots_in;
         pages_in = pages_in;
         works = knows.only.works;
+        reads = knows.only.reads;
       };
       means = record {
         node = NodeMeans-stay env mix c M M' G G' (λ n has. has.mine) (λ n has w. node_word n w has.among)
             known.node knows.means.node;
-        table = TableMeans-stay env mix c M M' G G' kept_stay known.table knows.means.table;
+        table = TableMeans-stay env mix c M M' G G' refl kept_stay known.table knows.means.table;
         bucket = BucketMeans-own env mix c M M' G G' (members_used env mix M G whole) (λ j h. refl) (λ j n h i. refl)
             (chains_stay env mix c M M' G a v whole write (λ n used. apart.nodes n ChainLink))
             (λ n l used. node_word n KeyWord l) (λ n l used. node_word n OwnerWord l) (λ n. refl) kept_stay
@@ -398,7 +396,9 @@ module _ (env : Env) (mix : ℕ → ℕ → ℕ → ℕ) where
             knows.means.bucket;
         making = means;
         work = WorkMeans-stay env mix c M M' G G' whole (record {
-          grow = kept_grow;
+          low = 0;
+          current = omega arith;
+          grow = grows_from env mix G G' kept_grow;
           locks = λ j h. refl;
           keys = λ n l used. node_word n KeyWord l;
           work = work_kept c;
@@ -450,7 +450,6 @@ module _ (env : Env) (mix : ℕ → ℕ → ℕ → ℕ) where
         current_is = write.others CurrentTable tt apart.current ∙ right.current_is;
         force = λ τ from l.
             let live = right.force τ from l in kept.slots (G.table τ).slot (ap has_table live) ∙ live;
-        there = λ τ l. there_kept G G.table G.attached slot page kept τ l (right.there τ l);
         each = λ τ now.
             let s = (G.table τ).slot in
             let owner = back s now.has_slot in

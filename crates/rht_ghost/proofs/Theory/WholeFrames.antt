@@ -55,7 +55,6 @@ module _ (env : Env) (mix : ℕ → ℕ → ℕ → ℕ) where
         current_in = right.current_in;
         current_is = right.current_is;
         force = right.force;
-        there = λ τ l. let t = right.there τ l in record { has_slot = t.has_slot; index = t.index };
         each = λ τ t. let r = right.each τ (record { has_slot = t.has_slot; index = t.index }) in record {
           slot_in = r.slot_in;
           shape_is = r.shape_is;
@@ -84,7 +83,6 @@ module _ (env : Env) (mix : ℕ → ℕ → ℕ → ℕ) where
     current_in = right.current_in;
     current_is = write.others CurrentTable tt apart.current ∙ right.current_is;
     force = right.force;
-    there = right.there;
     each = λ τ there. TableRight-write M M' G a v τ write apart there (right.each τ there);
     slots = right.slots;
   })

@@ -47,11 +47,31 @@ pub record IsThere (G : Ghost) (τ : ℕ) : Type 0 where
 abbrev pub AreThereFrom : Ghost → ℕ → Type 0
 AreThereFrom G τ = (σ : ℕ) → τ ≤ σ → σ < G.attached → IsThere G σ
 
--- which of the tables that were attached it is that a slot has, or had
+pub there_behind : (G : Ghost) (τ : ℕ) → AreThereFrom G τ → AreThereFrom G (τ + 1)
+there_behind G τ on σ later = on σ (omega (arith, later))
+
+-- which of the tables that were attached it is that a slot has: it is there, and so is each one behind it
 pub record IsAt (G : Ghost) (slot : ℕ) : Type 0 where
   pub table : ℕ
   pub attached : table < G.attached
   pub slot_is : (G.table table).slot ≡ slot
+  pub on : AreThereFrom G table
+
+pub at-there : {G : Ghost} {slot : ℕ} (at : IsAt G slot) → IsThere G at.table
+at-there {G} {slot} at = at.on at.table (omega arith) at.attached
+
+-- the tables that have these slots aren't before this one
+abbrev pub AreFrom : ℕ → Ghost → List ℕ → Type 0
+AreFrom low G slots = (slot : ℕ) → In slot slots → (at : IsAt G slot) → low ≤ at.table
+
+-- no other table that is there has a slot that one has
+pub one_slot : (G : Ghost) (τ σ : ℕ) → IsThere G τ → IsThere G σ → (G.table τ).slot ≡ (G.table σ).slot → τ ≡ σ
+one_slot G τ σ there other same = sym there.index ∙ ap (index_at G) same ∙ other.index
+
+-- so at each moment a slot has one table
+pub one_table : {G : Ghost} {slot : ℕ} (at more : IsAt G slot) → more.table ≡ at.table
+one_table {G} {slot} at more =
+    one_slot G more.table at.table (at-there more) (at-there at) (more.slot_is ∙ sym at.slot_is)
 
 module _ (env : Env) (mix : ℕ → ℕ → ℕ → ℕ) where
   -- the place of the word of a bucket, and which of the words of all pages stands at a place
@@ -139,12 +159,11 @@ module _ (env : Env) (mix : ℕ → ℕ → ℕ → ℕ) where
     pub attached : index_at G s < G.attached
     pub slot : (G.table (index_at G s)).slot ≡ s
 
-  -- The tables from the current one on are in use. Each table that was attached is there, and each that is there is right.
+  -- The tables from the current one on are in use, and each that is there is right.
   pub record TablesRight (M : Memory) (G : Ghost) : Type 0 where
     pub current_in : G.current < G.attached
     pub current_is : M CurrentTable ≡ (G.table G.current).slot
     pub force : (τ : ℕ) → G.current ≤ τ → τ < G.attached → G.slot (G.table τ).slot ≡ Live τ
-    pub there : (τ : ℕ) → τ < G.attached → IsThere G τ
     pub each : (τ : ℕ) → IsThere G τ → TableRight M G τ
     pub slots : (s : ℕ) → has_table (G.slot s) ≡ true → SlotIsOf G s
 
@@ -167,29 +186,19 @@ module _ (env : Env) (mix : ℕ → ℕ → ℕ → ℕ) where
       let of = (tables.slots s has).slot in
       record { has_slot = ap (λ t. has_table (G.slot t)) of ∙ has; index = ap (index_at G) of }
 
-  -- one that a caller knows by its slot is there, and those behind it are
-  pub at-on : {M : Memory} {G : Ghost} → TablesRight M G → (slot : ℕ) (at : IsAt G slot) → AreThereFrom G at.table
-  at-on {M} {G} tables slot at σ from = tables.there σ
-
-  pub at-there : {M : Memory} {G : Ghost} → TablesRight M G → (slot : ℕ) (at : IsAt G slot) → IsThere G at.table
-  at-there {M} {G} tables slot at = at-on tables slot at at.table (omega arith) at.attached
-
+  -- one that a caller knows by its slot is right
   pub at-right : {M : Memory} {G : Ghost} → TablesRight M G → (slot : ℕ) (at : IsAt G slot) → TableRight M G at.table
-  at-right {M} {G} tables slot at = tables.each at.table (at-there tables slot at)
+  at-right {M} {G} tables slot at = tables.each at.table (at-there at)
+
+  -- so is the current one known
+  abbrev pub current-at : {M : Memory} {G : Ghost} → TablesRight M G → (slot : ℕ) → (G.table G.current).slot ≡ slot → IsAt G slot
+  current-at {M} {G} tables slot is =
+      record { table = G.current; attached = tables.current_in; slot_is = is; on = force-there tables }
 
   -- it was attached
   pub there-attached : {M : Memory} {G : Ghost} → TablesRight M G → (τ : ℕ) → IsThere G τ → τ < G.attached
   there-attached {M} {G} tables τ there =
       let of = tables.slots (G.table τ).slot there.has_slot in omega (arith, of.attached, there.index)
-
-  -- and no other one has its slot
-  pub one_slot : (G : Ghost) (τ σ : ℕ) → IsThere G τ → IsThere G σ → (G.table τ).slot ≡ (G.table σ).slot → τ ≡ σ
-  one_slot G τ σ there other same = sym there.index ∙ ap (index_at G) same ∙ other.index
-
-  -- at each moment a slot has one table
-  pub one_table : {M : Memory} {G : Ghost} → TablesRight M G → (slot : ℕ) (at more : IsAt G slot) → more.table ≡ at.table
-  one_table {M} {G} tables slot at more =
-      one_slot G more.table at.table (at-there tables slot more) (at-there tables slot at) (more.slot_is ∙ sym at.slot_is)
 
   -- The state word of each slot says who has it, and the work lock is set exactly while a caller has it. While none has it each table
   -- before the current one that has a slot is retired.
