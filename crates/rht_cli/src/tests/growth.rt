@@ -298,7 +298,7 @@ fn tables_come_back(rt: HostRuntime) -> Result<(), Fail> {
 /// In a table of 256 buckets, in the pages 0 to 3 of seven, 40 ports are bound, and a work moves them to one
 /// of 64, in page 4. The first one comes back with the next work, so its pages stay taken when 26 further
 /// ports are bound. The bind of port 65 attaches a table of 128, which is nested for that: its top page is
-/// page 5, and its page for the odd buckets page 6. What is done then is the rest of each script.
+/// page 5, and its page for the odd buckets page 6.
 const BEGUN: [Part; 4] = [
     Part::Lines(
         1,
@@ -315,59 +315,59 @@ const BEGUN_TEXT: [Part; 3] = [
     Part::Lines(26, "1: bound\n"),
 ];
 
+/// Asserts that the script which begins so, and has the rest behind that, is answered by the text of the rest
+/// behind that of the beginning.
+fn assert_begun<R: Threads + Wait + Sync + Abort>(
+    rt: &R,
+    alloc: Global,
+    rest: &[Part],
+    text_of_rest: &[Part],
+) -> Result<(), Fail> {
+    let mut script = written(alloc, &BEGUN)?;
+    script.push_str(&written(alloc, rest)?)?;
+    let mut text = written(alloc, &BEGUN_TEXT)?;
+    text.push_str(&written(alloc, text_of_rest)?)?;
+    let left = run_on(rt, alloc, &["run"], &script, WHOLE)?;
+    assert_left(rt, &left, 0, &text, "", &script);
+    Ok(())
+}
+
 #[test]
 fn nested_tables_come_back(rt: HostRuntime) -> Result<(), Fail> {
     use Part::{Lines, Pairs};
     let alloc = rt.alloc();
-    let [table, first, work, second] = BEGUN;
-    let [bound, moved, more] = BEGUN_TEXT;
-    let cases: [(&[Part], &[Part]); 2] = [
-        // No page is left for the bucket of 66, which is even. The first work puts a flat table of 128 behind
-        // the nested one, in the pages 0 and 1, and the second one empties that.
-        (
-            &[
-                table,
-                first,
-                work,
-                second,
-                Lines(
-                    1,
-                    "1 bind 66 66\n1 find 66\n1 work\n1 work\n1 work\n1 find 65\n1 bind 66 66\n",
-                ),
-            ],
-            &[
-                bound,
-                moved,
-                more,
-                Lines(
-                    1,
-                    "1: notable 128\n1: missing\n1: moved again\n1: moved\n1: idle\n1: found 65\n1: bound\n",
-                ),
-                Pairs("port ", Ports(0, 1, 67), ": "),
-                Lines(1, "size 128 keys 67\n"),
-            ],
-        ),
-        // With 37 ports left the table of 128 is to shrink, once it is the current one: of its buckets 38 are
-        // three tenths, and 37 * 3 / 2 = 55.
-        (
-            &[
-                table,
-                first,
-                work,
-                second,
-                Pairs("1 release ", Ports(0, 1, 29), " "),
-                Lines(4, "1 work\n"),
-            ],
-            &[
-                bound,
-                moved,
-                more,
-                Lines(29, "1: released\n"),
-                Lines(1, "1: moved again\n1: moved again\n1: moved\n1: idle\n"),
-                Pairs("port ", Ports(29, 1, 37), ": "),
-                Lines(1, "size 64 keys 37\n"),
-            ],
-        ),
-    ];
-    assert_cases(&rt, alloc, &cases)
+    // No page is left for the bucket of 66, which is even. The first work puts a flat table of 128 behind
+    // the nested one, in the pages 0 and 1, and the second one empties that.
+    assert_begun(
+        &rt,
+        alloc,
+        &[Lines(
+            1,
+            "1 bind 66 66\n1 find 66\n1 work\n1 work\n1 work\n1 find 65\n1 bind 66 66\n",
+        )],
+        &[
+            Lines(
+                1,
+                "1: notable 128\n1: missing\n1: moved again\n1: moved\n1: idle\n1: found 65\n1: bound\n",
+            ),
+            Pairs("port ", Ports(0, 1, 67), ": "),
+            Lines(1, "size 128 keys 67\n"),
+        ],
+    )?;
+    // With 37 ports left the table of 128 is to shrink, once it is the current one: of its buckets 38 are
+    // three tenths, and 37 * 3 / 2 = 55.
+    assert_begun(
+        &rt,
+        alloc,
+        &[
+            Pairs("1 release ", Ports(0, 1, 29), " "),
+            Lines(4, "1 work\n"),
+        ],
+        &[
+            Lines(29, "1: released\n"),
+            Lines(1, "1: moved again\n1: moved again\n1: moved\n1: idle\n"),
+            Pairs("port ", Ports(29, 1, 37), ": "),
+            Lines(1, "size 64 keys 37\n"),
+        ],
+    )
 }
